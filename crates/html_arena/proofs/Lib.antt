@@ -1,0 +1,12 @@
+pub mod Climb
+pub mod Edits
+pub mod Forest
+pub mod Made
+pub mod Move
+pub mod Shape
+pub mod Siblings
+pub mod CodePoints
+pub mod Walk
+pub mod Whole
+pub mod Laws
+pub mod Empty

@@ -1,0 +1,218 @@
+-- What callers see of an arena: its nodes and, for each, its parent and the list of its children.
+use Rattle.std.specs.Prelude.{◌≡◌, ℕ, zero, suc, ◌+◌, ◌<◌, ◌≤◌, Bool, true, false, min, ◌^◌, ◌-◌, List, [], ◌∷◌, ◌++◌, length, Option, Some, None, slice_index_or, slice_set}
+use Rattle.html_names.specs.declared.Tag.{Tag}
+use Rattle.html_names.specs.declared.Tag.TheVariants.{Other}
+use Rattle.html_arena.specs.declared.text.Attr.{Attr}
+use Rattle.html_arena.specs.declared.data.ElementData.{ElementData}
+use Rattle.html_arena.specs.declared.data.Mark.{Mark}
+use Rattle.html_arena.specs.declared.data.Kind.{Kind}
+use Rattle.html_arena.specs.declared.data.Kind.TheVariants as kind
+use Rattle.html_arena.specs.declared.data.Mark.TheVariants.{OnStack, InList}
+use Rattle.html_arena.specs.declared.data.NodeData.{NodeData}
+use Rattle.html_arena.specs.declared.data.NodeData.TheVariants.{Document, Contents, Element, Text, Comment, Doctype}
+use Rattle.html_arena.specs.declared.arena.Limits.{Limits}
+use Rattle.html_arena.specs.Siblings.{has, Distinct, put_before, without}
+use Rattle.html_arena.specs.Tags.{same_tag}
+
+pub record Tree : Type 0 where
+  pub labels : List NodeData
+  pub parents : List (Option ℕ)
+  pub children : List (List ℕ)
+  pub held : ℕ
+  pub steps : ℕ
+  pub limits : Option Limits
+
+abbrev pub empty_tree : Option Limits → Tree
+empty_tree l = record { labels = []; parents = []; children = []; held = 0; steps = 0; limits = l }
+
+abbrev pub parent_of : Tree → ℕ → Option ℕ
+parent_of t x = slice_index_or t.parents x None
+
+abbrev pub children_of : Tree → ℕ → List ℕ
+children_of t x = slice_index_or t.children x []
+
+-- k more, up to the greatest number of 128 bits
+abbrev pub more : ℕ → ℕ → ℕ
+more n k = min (n + k) (2 ^ 128 - 1)
+
+-- the proper ancestors of x, the nearest first, at most `fuel` of them
+abbrev pub ancestors_within : ℕ → List (Option ℕ) → Option ℕ → List ℕ
+ancestors_within zero ps o = []
+ancestors_within (suc fuel) ps None = []
+ancestors_within (suc fuel) ps (Some p) = p ∷ ancestors_within fuel ps (slice_index_or ps p None)
+
+abbrev pub ancestors : Tree → ℕ → List ℕ
+ancestors t x = ancestors_within (length t.labels) t.parents (parent_of t x)
+
+-- each step to a parent, up to a node without one
+abbrev pub Climbs : Tree → ℕ → List ℕ → Type 0
+Climbs t x [] = parent_of t x ≡ None
+Climbs t x (p ∷ above) = (parent_of t x ≡ Some p) × Climbs t p above
+
+-- Each node has at most one parent, stands exactly once in that parent's list of children and in no other list,
+-- and is fewer steps below a node without a parent than there are nodes.
+pub record WellFormed (t : Tree) : Type 0 where
+  pub as_many_parents : length t.parents ≡ length t.labels
+  pub as_many_lists : length t.children ≡ length t.labels
+  pub child_in : (p x : ℕ) → has x (children_of t p) ≡ true → x < length t.labels
+  pub child_has_parent : (p x : ℕ) → has x (children_of t p) ≡ true → parent_of t x ≡ Some p
+  pub parent_has_child : (p x : ℕ) → parent_of t x ≡ Some p → has x (children_of t p) ≡ true
+  pub parent_in : (p x : ℕ) → parent_of t x ≡ Some p → p < length t.labels
+  pub once : (p : ℕ) → Distinct (children_of t p)
+  pub climbs : (x : ℕ) → x < length t.labels → (above : List ℕ) × Climbs t x above × (length above < length t.labels)
+
+-- c is the child of p, whose list is xs
+abbrev pub placed : Tree → ℕ → ℕ → List ℕ → Tree
+placed t c p xs = record t { parents = slice_set t.parents c (Some p); children = slice_set t.children p xs; steps = more t.steps 1 }
+
+-- c is added at the end of p's children
+abbrev pub appended : Tree → ℕ → ℕ → Tree
+appended t p c = placed t c p (children_of t p ++ c ∷ [])
+
+-- c is put just before n, among the children of n's parent
+abbrev pub inserted : Tree → ℕ → ℕ → Option ℕ → Tree
+inserted t c n None = t
+inserted t c n (Some p) = placed t c p (put_before c n (children_of t p))
+
+-- c is taken out of its parent's children, if it has a parent
+abbrev pub detached : Tree → ℕ → Option ℕ → Tree
+detached t c None = record t { steps = more t.steps 1 }
+detached t c (Some p) = record t { parents = slice_set t.parents c None; children = slice_set t.children p (without c (children_of t p)); steps = more t.steps 1 }
+
+-- what stands beside x among the children of its parent
+abbrev pub sibling : (ℕ → List ℕ → Option ℕ) → Option ℕ → Tree → ℕ → Option ℕ
+sibling side None t x = None
+sibling side (Some p) t x = side x (children_of t p)
+
+-- a new node stands alone, and holds h code points
+abbrev pub added : Tree → NodeData → ℕ → Tree
+added t d h = record t { labels = t.labels ++ d ∷ []; parents = t.parents ++ None ∷ []; children = t.children ++ [] ∷ []; held = more t.held h; steps = more t.steps 1 }
+
+abbrev pub label_of : Tree → ℕ → NodeData
+label_of t x = slice_index_or t.labels x Document
+
+abbrev pub IsText : NodeData → Type 0
+IsText (Text s) = Unit {0}
+IsText _ = ⊥
+
+abbrev pub IsElement : NodeData → Type 0
+IsElement (Element e) = Unit {0}
+IsElement _ = ⊥
+
+-- a clone has the name, the attributes and the origin of its original
+abbrev pub cloned : NodeData → NodeData
+cloned (Element e) = Element (record e { is_clone = true; contents = None; on_stack = false; in_list = false })
+cloned Document = Document
+cloned (Contents h) = Contents h
+cloned (Text s) = Text s
+cloned (Comment d i) = Comment d i
+cloned (Doctype n p s i) = Doctype n p s i
+
+-- a text with one more code point
+abbrev pub with_char : NodeData → ℕ → NodeData
+with_char (Text s) c = Text (s ++ c ∷ [])
+with_char Document c = Document
+with_char (Contents h) c = Contents h
+with_char (Element e) c = Element e
+with_char (Comment d i) c = Comment d i
+with_char (Doctype n p s i) c = Doctype n p s i
+
+abbrev pub texted : Tree → ℕ → ℕ → Tree
+texted t x c = record t { labels = slice_set t.labels x (with_char (label_of t x) c); held = more t.held 1; steps = more t.steps 1 }
+
+-- n steps, one after another
+abbrev pub each_more : ℕ → ℕ → ℕ
+each_more s zero = s
+each_more s (suc n) = more (each_more s n) 1
+
+-- c, a child of `from`, becomes the last child of `to`
+abbrev pub reparented : Tree → ℕ → ℕ → ℕ → Tree
+reparented t c from to = record (appended (detached t c (Some from)) to c) { steps = more t.steps 1 }
+
+-- each of the nodes has the parent p
+abbrev pub all_under : ℕ → List ℕ → List (Option ℕ) → List (Option ℕ)
+all_under p [] ps = ps
+all_under p (c ∷ cs) ps = all_under p cs (slice_set ps c (Some p))
+
+-- `from` keeps the children `rest`, and those before them are now the last children of `to`
+abbrev pub moved_in_part : Tree → ℕ → ℕ → List ℕ → List ℕ → Tree
+moved_in_part t from to done rest =
+    record t {
+      parents = all_under to done t.parents;
+      children = slice_set (slice_set t.children from rest) to (children_of t to ++ done);
+      steps = each_more t.steps (length done);
+    }
+
+-- the children of `from` are the last children of `to`
+abbrev pub moved : Tree → ℕ → ℕ → Tree
+moved t from to = moved_in_part t from to (children_of t from) []
+
+-- of the children that t0 has under `from`, some are moved to `to` and the rest are still there
+pub record InPart (t0 t : Tree) (from to : ℕ) : Type 0 where
+  pub done : List ℕ
+  pub rest : List ℕ
+  pub split : children_of t0 from ≡ done ++ rest
+  pub is : t ≡ moved_in_part t0 from to done rest
+
+-- what an element has; other nodes have no name, and the tag of a name that no rule knows
+abbrev pub name_of : NodeData → List ℕ
+name_of (Element e) = e.name
+name_of _ = []
+
+abbrev pub tag_in : NodeData → Tag
+tag_in (Element e) = e.tag
+tag_in _ = Other
+
+abbrev pub attrs_of : NodeData → List Attr
+attrs_of (Element e) = e.attrs
+attrs_of _ = []
+
+abbrev pub contents_in : NodeData → Option ℕ
+contents_in (Element e) = e.contents
+contents_in _ = None
+
+abbrev pub mark_in : Mark → NodeData → Bool
+mark_in OnStack (Element e) = e.on_stack
+mark_in InList (Element e) = e.in_list
+mark_in m _ = false
+
+abbrev pub with_mark : Mark → Bool → NodeData → NodeData
+with_mark OnStack b (Element e) = Element (record e { on_stack = b })
+with_mark InList b (Element e) = Element (record e { in_list = b })
+with_mark m b d = d
+
+abbrev pub tag_at : Tree → ℕ → Tag
+tag_at t x = tag_in (label_of t x)
+
+abbrev pub contents_at : Tree → ℕ → Option ℕ
+contents_at t x = contents_in (label_of t x)
+
+-- x is an element of this name
+abbrev pub named : Tree → Tag → ℕ → Bool
+named t g x = same_tag (tag_at t x) g
+
+abbrev pub marked : Tree → Mark → ℕ → Bool
+marked t m x = mark_in m (label_of t x)
+
+abbrev pub with_marked : Tree → Mark → ℕ → Bool → Tree
+with_marked t m x b = record t { labels = slice_set t.labels x (with_mark m b (label_of t x)) }
+
+abbrev pub kind_in : NodeData → Kind
+kind_in Document = kind.Document
+kind_in (Contents h) = kind.Contents
+kind_in (Element e) = kind.Element
+kind_in (Text s) = kind.Text
+kind_in (Comment s i) = kind.Comment
+kind_in (Doctype n p s i) = kind.Doctype
+
+-- the name of an element or a doctype
+abbrev pub name_in : NodeData → List ℕ
+name_in (Element e) = e.name
+name_in (Doctype (Some n) p s i) = n
+name_in _ = []
+
+-- the data of a text or a comment
+abbrev pub text_in : NodeData → List ℕ
+text_in (Text s) = s
+text_in (Comment s i) = s
+text_in _ = []

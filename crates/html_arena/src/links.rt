@@ -1,0 +1,50 @@
+// The links of the nodes of a tree: each node names its parent, its first and last child, and its neighbours.
+ghost use Rattle.std.specs.Prelude.{◌≡◌, ℕ, ◌+◌, ◌^◌, ◌<◌, ◌≤◌, vec_len, None, Some, Option};
+
+use std::marker::Model;
+
+/// The number of a node, counted from 0 in the order in which nodes are made.
+#[derive(Debug, PartialEq, Eq)]
+pub struct NodeId(u64);
+
+impl Model for NodeId {
+    ghost Value = { ℕ };
+
+    ghost view = { λ id. id.0 };
+
+    ghost inverse = { λ n. record { 0 = n } };
+}
+
+impl Clone for NodeId {
+    fn clone(&self) -> Result<Self, std::alloc::AllocError> {
+        Ok(*self)
+    }
+}
+
+impl Copy for NodeId {}
+
+impl NodeId {
+    pub fn index(self) -> usize
+        ensures { result ≡ self }
+    {
+        self.0 as usize
+    }
+
+    pub fn at(index: usize) -> NodeId
+        ensures { result ≡ index }
+    {
+        NodeId(index as u64)
+    }
+}
+
+#[derive(Clone, Copy)]
+pub struct Links {
+    pub parent: Option<NodeId>,
+    pub first_child: Option<NodeId>,
+    pub last_child: Option<NodeId>,
+    pub previous: Option<NodeId>,
+    pub next: Option<NodeId>,
+}
+
+// The writes of links, each as a function of every node's number.
+pub mod writes;
