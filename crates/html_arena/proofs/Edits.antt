@@ -1,5 +1,5 @@
 -- Each operation of an arena is one edit of the tree that callers see.
-use Rattle.std.proofs.Common.{◌≡◌, ◌≢◌, ℕ, zero, suc, ◌+◌, ◌<◌, ◌≤◌, Bool, true, false, cond, eqb, List, [], ◌∷◌, ◌++◌, length, map, get_or, set, Option, Some, None, ◌⊎◌, inl, inr, refl, sym, ◌∙◌, ap, subst, arith, rules, tests}
+use Rattle.std.proofs.Common.{◌≡◌, ◌≢◌, ℕ, zero, suc, ◌+◌, ◌<◌, ◌≤◌, Bool, true, false, cond, eqb, List, [], ◌∷◌, ◌++◌, length, map, get_or, set, Option, Some, None, IfSome, ◌⊎◌, inl, inr, refl, sym, ◌∙◌, ap, subst, arith, rules, tests}
 use Rattle.std.proofs.lemmas.List.{append-nil}
 use Rattle.html_arena.specs.declared.links.Links.{Links}
 use Rattle.html_arena.specs.declared.data.NodeData.{NodeData}
@@ -12,6 +12,10 @@ use Rattle.html_arena.specs.Whole.{parents_in, children_in, tree_of, IsWhole}
 use Rattle.html_arena.proofs.Siblings.{cases_eqb, cases_bool, eqb-apart, eqb-self, has-first, has-last, has-insert, split_at, without-split, put_before-split, after-here, before-here, has-after, has-before, has-tail, Distinct-remove, has-append}
 use Rattle.html_arena.proofs.Whole.{parents_in-at, children_in-at, linked_whole, linked_children, linked_parents, unlinked_whole, unlinked_children, unlinked_parents, ascent, below_option}
 use Rattle.html_arena.proofs.Climb.{Ascends-same}
+
+pub if_some : (o : Option ℕ) (n : ℕ) → ((x : ℕ) → o ≡ Some x → x < n) → IfSome o (λ x. x < n)
+if_some None n h = tt
+if_some (Some x) n h = h x refl
 
 cases_option : (o : Option ℕ) → (o ≡ None) ⊎ ((y : ℕ) × (o ≡ Some y))
 cases_option None = inl refl

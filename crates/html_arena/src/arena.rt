@@ -1,5 +1,5 @@
 // The nodes of a page: what they are, and their links.
-ghost use Rattle.std.specs.Prelude.{◌≡◌, ◌≢◌, ℕ, ◌+◌, ◌-◌, ◌<◌, ◌≤◌, List, [], ◌∷◌, ◌++◌, length, Option, Some, None, OnOk, OnErr, IfOk, IfErr, Ok, false, vec_len, slice_index_or, chars};
+ghost use Rattle.std.specs.Prelude.{◌≡◌, ◌≢◌, ℕ, ◌+◌, ◌-◌, ◌<◌, ◌≤◌, List, [], ◌∷◌, ◌++◌, length, Option, Some, None, OnOk, OnErr, IfOk, IfErr, IfSome, Ok, false, vec_len, slice_index_or, chars};
 ghost use Rattle.html_arena.specs.Tree.{Tree, empty_tree, parent_of, children_of, ancestors, appended, inserted, detached, sibling, more, added, WellFormed, label_of, IsText, IsElement, cloned, texted, reparented, moved, tag_at, named, contents_at, marked, with_marked, kind_in, name_in, text_in};
 ghost use Rattle.std.specs.List.{sum_by};
 ghost use Rattle.html_arena.specs.Make.{CanMake, made_weight, made};
@@ -98,7 +98,7 @@ impl Arena {
     pub fn parent(&self, node: NodeId) -> Option<NodeId>
         requires { node < length self.now.labels }
         ensures value { result ≡ parent_of self.now node }
-        ensures in_arena { (p : ℕ) → result ≡ Some p → p < length self.now.labels }
+        ensures in_arena { IfSome result (λ p. p < length self.now.labels) }
     {
         place_of(&self.links, node).parent
     }
@@ -106,6 +106,7 @@ impl Arena {
     pub fn first_child(&self, node: NodeId) -> Option<NodeId>
         requires { node < length self.now.labels }
         ensures value { result ≡ first_of (children_of self.now node) }
+        ensures in_arena { IfSome result (λ c. c < length self.now.labels) }
         ensures child { (c : ℕ) → result ≡ Some c → (c < length self.now.labels) × (parent_of self.now c ≡ Some node) }
     {
         place_of(&self.links, node).first_child
@@ -130,7 +131,7 @@ impl Arena {
     pub fn next(&self, node: NodeId) -> Option<NodeId>
         requires { node < length self.now.labels }
         ensures value { result ≡ sibling after (parent_of self.now node) self.now node }
-        ensures in_arena { (x : ℕ) → result ≡ Some x → x < length self.now.labels }
+        ensures in_arena { IfSome result (λ x. x < length self.now.labels) }
     {
         place_of(&self.links, node).next
     }

@@ -1,0 +1,24 @@
+-- The command line, as clap sees it.
+use Rattle.std.specs.Prelude.{codes, true}
+use Rattle.clap.specs.Words.{App, Rule, Text, new_app, new_rule, with_rule, with_subcommand}
+
+-- `INPUT`
+abbrev pub input_rule : Rule
+input_rule = new_rule (codes "INPUT")
+
+-- a command on one page
+abbrev pub page_app : Text → App
+page_app name = with_rule (new_app name) input_rule
+
+-- the program, with no command: one is wanted, and `help` is none
+abbrev pub empty_line : App
+empty_line = record (new_app (codes "html_cmd")) {
+  top = record (new_app (codes "html_cmd")).top {
+    subcommand_required = true;
+    disable_help_subcommand = true;
+  };
+}
+
+-- the whole line
+unfoldable pub line : App
+line = with_subcommand empty_line (page_app (codes "tree")).top

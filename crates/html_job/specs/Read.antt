@@ -1,0 +1,31 @@
+-- What a job says of the words.
+use Rattle.std.specs.Prelude.{◌≢◌, ◌≡◌, List, [], Some, option_map, codes}
+use Rattle.clap.specs.Words.{Row, Text, fault_of, first_of, subcommand_of}
+use Rattle.html_job.specs.Line.{line}
+use Rattle.html_job.specs.declared.jobs.Command.{Command}
+use Rattle.html_job.specs.declared.jobs.Command.TheVariants.{Tree}
+use Rattle.html_job.specs.declared.jobs.Job.{Job}
+use Rattle.html_job.specs.declared.jobs.JobFault.{JobFault}
+use Rattle.html_job.specs.declared.jobs.JobFault.TheVariants.{Words, OutOfMemory}
+
+-- the word of a command
+abbrev pub name_of : Command → Text
+name_of Tree = codes "tree"
+
+-- the job has what stands in the rows of its command
+pub record Reads (job : Job) (rows : List Row) : Type 0 where
+  pub input : option_map (λ s. s.now) job.input ≡ first_of (codes "INPUT") rows
+
+-- the job is that of the words: clap's matches have its command, with these rows
+abbrev pub IsJobOf : Job → List Text → Type 0
+IsJobOf job words = (rows : List Row) × (subcommand_of line words ≡ Some (name_of job.command, rows))
+    × Reads job rows
+
+-- the words are wrong, or ask for help
+abbrev pub IsWords : JobFault → Type 0
+IsWords (Words text) = Unit {0}
+IsWords OutOfMemory = ⊥
+
+-- clap refuses the words
+abbrev pub IsRefused : List Text → Type 0
+IsRefused words = fault_of line words ≢ []

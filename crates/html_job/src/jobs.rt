@@ -1,0 +1,58 @@
+//! What the words of the command line ask for.
+
+ghost use Rattle.std.specs.Prelude.{◌≡◌, ◌≢◌, IfSome, IsNone};
+ghost use Rattle.html_job.specs.Read.{name_of};
+ghost use Rattle.html_job.specs.declared.jobs.Command.{Command as CommandType};
+
+use std::alloc::AllocError;
+use thiserror::Error;
+
+/// What the program is to do.
+#[derive(Clone, Copy, Debug, PartialEq, Eq)]
+pub enum Command {
+    /// Print the tree of a page.
+    Tree,
+}
+
+/// A command with its options and files, as text borrowed from the words.
+#[derive(Debug, Drop)]
+pub struct Job<'a> {
+    pub command: Command,
+    /// The file of the page. `-`, or none, is standard input.
+    pub input: Option<&'a str>,
+}
+
+/// Why the words are no job.
+#[derive(Debug, Drop, Error)]
+pub enum JobFault {
+    /// The words are wrong, or ask for help: the text for the user.
+    #[error("{0}")]
+    Words(String),
+    /// There is no memory to read the words.
+    #[error("out of memory")]
+    OutOfMemory,
+}
+
+impl Command {
+    /// The command of a name.
+    pub(crate) fn named(name: &str) -> Option<Command>
+        ensures some { IfSome result (λ c. name_of c ≡ name.now) }
+        ensures none { IsNone result → (c : CommandType) → name_of c ≢ name.now }
+    {
+        match name {
+            "tree" => Some(Command::Tree),
+            _ => None,
+        }
+    }
+}
+
+impl From<AllocError> for JobFault {
+    ghost use Rattle.std.specs.Prelude.{◌≡◌};
+    ghost use Rattle.html_job.specs.declared.jobs.JobFault.TheVariants.{OutOfMemory};
+
+    ghost from_gives = { λ _ e. e ≡ OutOfMemory };
+
+    fn from(_: AllocError) -> JobFault {
+        JobFault::OutOfMemory
+    }
+}

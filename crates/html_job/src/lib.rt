@@ -1,0 +1,11 @@
+//! The words of the command line, read as a job.
+#![tactic(auto)]
+
+mod jobs;
+mod line;
+#[cfg(test)]
+mod tests;
+mod words;
+
+pub use jobs::{Command, Job, JobFault};
+pub use words::job;

@@ -1,0 +1,38 @@
+//! The command line, for clap.
+
+ghost use Rattle.std.specs.Prelude.{◌≡◌, IfOk, codes, true, false};
+ghost use Rattle.clap.specs.Words.{app_of, rule_of};
+ghost use Rattle.clap.specs.declared.builder.command.Command.TheViews.{out-Command as fields_of};
+ghost use Rattle.html_job.specs.Line.{input_rule, page_app, line};
+
+use clap::{Arg, Command};
+use std::alloc::{AllocError, Global};
+
+/// The file of the page.
+fn input<'a>(alloc: Global) -> Arg<'a>
+    ensures rule { rule_of result ≡ input_rule }
+    ensures local { result.global ≡ false }
+{
+    Arg::new(alloc, "INPUT").help("The page, or - for standard input")
+}
+
+/// A command on one page.
+fn page_command<'a>(alloc: Global, name: &'a str, about: &'a str) -> Result<Command<'a>, AllocError>
+    ensures app { IfOk result (λ c. app_of c ≡ page_app name.entry.now) }
+    ensures local { IfOk result (λ c. (fields_of c).has_globals ≡ false) }
+{
+    Command::new(alloc, name).about(about).arg(input(alloc))
+}
+
+/// The whole command line.
+pub(crate) fn line<'a>(alloc: Global) -> Result<Command<'a>, AllocError>
+    ensures app { IfOk result (λ c. app_of c ≡ line) }
+    ensures local { IfOk result (λ c. (fields_of c).has_globals ≡ false) }
+{
+    let tree = page_command(alloc, "tree", "Print the tree of a page")?;
+    Command::new(alloc, "html_cmd")
+        .about("Reads HTML pages")
+        .subcommand_required(true)
+        .disable_help_subcommand(true)
+        .subcommand(tree)
+}

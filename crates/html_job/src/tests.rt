@@ -1,0 +1,52 @@
+use super::*;
+use std::alloc::Global;
+use std::test::Fail;
+
+/// The text for the user, where the words are no job.
+fn refusal(alloc: Global, words: &[&str]) -> Option<String> {
+    match job(alloc, words) {
+        Err(JobFault::Words(text)) => Some(text),
+        Ok(_) | Err(JobFault::OutOfMemory) => None,
+    }
+}
+
+#[test]
+fn tree(rt: HostRuntime) -> Result<(), Fail> {
+    let rows: [(&[&str], Option<&str>); 3] = [
+        (&["html_cmd", "tree"], None),
+        (&["html_cmd", "tree", "-"], Some("-")),
+        (&["html_cmd", "tree", "page.html"], Some("page.html")),
+    ];
+    for (words, input) in rows {
+        let job = job(rt.alloc(), words)?;
+        assert_eq!(rt; job.command, Command::Tree);
+        assert_eq!(rt; job.input, input);
+    }
+    Ok(())
+}
+
+#[test]
+fn words_that_are_no_job(rt: HostRuntime) -> Result<(), Fail> {
+    let rows: [(&[&str], &str); 6] = [
+        (&["html_cmd", "--help"], "Usage: html_cmd <COMMAND>"),
+        (
+            &["html_cmd", "tree", "--help"],
+            "Usage: html_cmd tree [INPUT]",
+        ),
+        (&["html_cmd"], "requires a subcommand"),
+        (&["html_cmd", "help"], "unrecognized subcommand 'help'"),
+        (&["html_cmd", "leaf"], "unrecognized subcommand 'leaf'"),
+        (
+            &["html_cmd", "tree", "a", "b"],
+            "unexpected argument 'b' found",
+        ),
+    ];
+    for (words, part) in rows {
+        let text = refusal(rt.alloc(), words);
+        let Some(text) = text else {
+            panic!(rt; "{words:?} is a job");
+        };
+        assert!(rt; text.contains(part), "{words:?}: {text}");
+    }
+    Ok(())
+}

@@ -1,0 +1,78 @@
+//! Reading the words.
+
+ghost use Rattle.std.specs.Prelude.{◌≡◌, ◌≢◌, [], true, IfOk, IfErr, OnOk, map, option_map};
+ghost use Rattle.clap.specs.Words.{first_of, found_of, kind_of, rows_of, fault_of, subcommand_of, subcommand_rows_of, has_subcommand};
+ghost use Rattle.html_job.specs.Line.{line};
+ghost use Rattle.html_job.specs.Read.{IsJobOf, Reads, IsWords, IsRefused};
+
+use crate::jobs::{Command, Job, JobFault};
+use crate::line::line;
+use clap::error::ErrorKind;
+use clap::{ArgMatches, Error};
+use std::alloc::Global;
+use std::convert::AsStr;
+
+/// The job that the words ask for. The first word is the program's name.
+///
+/// # Errors
+///
+/// `Words` where the words are refused, or ask for help, with the text to show; `OutOfMemory` where there is no
+/// memory to read them, or for that text.
+pub fn job<'a, S: AsStr>(alloc: Global, words: &'a [S]) -> Result<Job<'a>, JobFault>
+    ensures ok { IfOk result (λ j. IsJobOf j (map S.text words.entry.now)) }
+    ensures taken { OnOk result (fault_of line (map S.text words.entry.now) ≡ []) }
+    ensures refused { IfErr result (λ e. IsWords e → IsRefused (map S.text words.entry.now)) }
+{
+    let matches = matched(alloc, words)?;
+    let Some((name, rest)) = matches.subcommand() else {
+        unreachable!()
+    };
+    let Some(command) = Command::named(name) else {
+        unreachable!()
+    };
+    Ok(job_of(command, rest))
+}
+
+/// What clap makes of the words.
+fn matched<'a, S: AsStr>(alloc: Global, words: &'a [S]) -> Result<ArgMatches<'a>, JobFault>
+    ensures matches { IfOk result (λ m. subcommand_rows_of m ≡ subcommand_of line (map S.text words.entry.now)) }
+    ensures met { IfOk result (λ m. has_subcommand m ≡ true) }
+    ensures taken { OnOk result (fault_of line (map S.text words.entry.now) ≡ []) }
+    ensures refused { IfErr result (λ e. IsWords e → fault_of line (map S.text words.entry.now) ≢ []) }
+{
+    match line(alloc)?.try_get_matches_from(words) {
+        Ok(matches) => Ok(matches),
+        Err(error) => Err(fault(alloc, &error)),
+    }
+}
+
+/// The job of a command with these matches.
+fn job_of<'a>(command: Command, matches: &ArgMatches<'a>) -> Job<'a>
+    ensures command { result.command ≡ command }
+    ensures reads { Reads result (rows_of (found_of matches.entry.now)) }
+{
+    Job {
+        command,
+        input: text(matches, "INPUT"),
+    }
+}
+
+/// The text that stands at an argument.
+fn text<'a>(matches: &ArgMatches<'a>, name: &str) -> Option<&'a str>
+    ensures { option_map (λ s. s.now) result ≡ first_of name.now (rows_of (found_of matches.now)) }
+{
+    matches.get_str(name)
+}
+
+/// What an error of clap says.
+fn fault(alloc: Global, error: &Error) -> JobFault
+    ensures { IsWords result → kind_of error.now ≢ ErrorKind.OutOfMemory }
+{
+    if matches!(error.kind(), ErrorKind::OutOfMemory) {
+        return JobFault::OutOfMemory;
+    }
+    match error.to_string(alloc) {
+        Ok(text) => JobFault::Words(text),
+        Err(_) => JobFault::OutOfMemory,
+    }
+}

@@ -1,0 +1,29 @@
+-- What the program tells where there is no page.
+use Rattle.std.specs.Prelude.{ℕ, ◌++◌, List, codes, decimal}
+use Rattle.html_page.specs.declared.error.Foreign.{Foreign}
+use Rattle.html_page.specs.declared.error.Foreign.TheVariants.{Svg, Math}
+use Rattle.html_page.specs.declared.error.ParseError.{ParseError}
+use Rattle.html_page.specs.declared.error.ParseError.TheVariants.{OutOfMemory, InputTooLong, ForeignContent, BadContext, Read, Write, Stopped, NodeBudget, HeldBudget, NotYet}
+
+abbrev pub foreign_text : Foreign → List ℕ
+foreign_text Svg = codes "svg"
+foreign_text Math = codes "math"
+
+-- the program's status: 3 where a file or a stream failed, 1 for a refusal
+abbrev pub status_of : ParseError → ℕ
+status_of Read = 3
+status_of Write = 3
+status_of _ = 1
+
+-- the line that tells why, without its end
+abbrev pub line_of : ParseError → List ℕ → List ℕ
+line_of OutOfMemory input = codes "refused: out of memory"
+line_of InputTooLong input = codes "refused: input too long"
+line_of (ForeignContent name at) input = codes "refused: foreign " ++ foreign_text name ++ codes " at " ++ decimal at
+line_of BadContext input = codes "refused: bad context"
+line_of Read input = codes "fault: cannot read " ++ input
+line_of Write input = codes "fault: cannot write"
+line_of Stopped input = codes "refused: stopped"
+line_of (NodeBudget at) input = codes "refused: node budget at " ++ decimal at
+line_of (HeldBudget at) input = codes "refused: held budget at " ++ decimal at
+line_of (NotYet at) input = codes "refused: not yet at " ++ decimal at

@@ -1,0 +1,14 @@
+//! What the program does with a job: it reads a page, prints it, and tells how that ended.
+#![tactic(auto)]
+
+mod line;
+mod refusal;
+mod running;
+mod status;
+#[cfg(test)]
+mod tests;
+mod tree;
+
+pub use refusal::{Refusal, outcome};
+pub use running::{run, tell};
+pub use status::{DONE, FILE_FAULT, REFUSED, WRONG_WORDS};
