@@ -43,7 +43,7 @@ escaped-char : (c : ℕ) → IsTextChar c → escaped_in_text c ≡ c ∷ []
 unfolding escaped_in_text
 escaped-char c h =
     let a : eqb c 38 ≡ false = grind (arith, nat_tests, h.not_amp) in
-    let b : eqb c 160 ≡ false = grind (arith, nat_tests, h.ascii) in
+    let b : eqb c 160 ≡ false = grind (arith, nat_tests, h.not_nbsp) in
     let d : eqb c 60 ≡ false = grind (arith, nat_tests, h.not_lt) in
     let e : eqb c 62 ≡ false = grind (arith, nat_tests, h.not_gt) in
     rw (a, b, d, e) refl

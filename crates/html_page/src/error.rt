@@ -1,5 +1,6 @@
 //! Why there is no page.
 
+use html_input::InputError;
 use std::alloc::AllocError;
 use thiserror::Error;
 
@@ -31,7 +32,7 @@ pub enum ParseError {
     /// The writer failed. Not answered yet.
     #[error("cannot write")]
     Write,
-    /// An earlier call was refused. Not answered yet.
+    /// An earlier piece was refused.
     #[error("stopped")]
     Stopped,
     /// One node more than the budget allows, for the token at `at`. Not answered yet.
@@ -53,5 +54,20 @@ impl From<AllocError> for ParseError {
 
     fn from(_error: AllocError) -> Self {
         ParseError::OutOfMemory
+    }
+}
+
+impl From<InputError> for ParseError {
+    ghost use Rattle.std.specs.Prelude.{◌≡◌};
+    ghost use Rattle.html_page.specs.Causes.{cause_of};
+
+    ghost from_gives = { λ e f. f ≡ cause_of e };
+
+    fn from(error: InputError) -> Self {
+        match error {
+            InputError::OutOfMemory => ParseError::OutOfMemory,
+            InputError::InputTooLong => ParseError::InputTooLong,
+            InputError::Stopped => ParseError::Stopped,
+        }
     }
 }

@@ -1,6 +1,6 @@
 //! Small pages through the public call.
 
-use crate::{MAX_INPUT, ParseError, parse};
+use crate::{FailAt, LIMIT, Page, ParseError, Parser, parse, parse_from};
 use std::alloc::Global;
 use std::test::Fail;
 
@@ -63,14 +63,113 @@ fn greater_than_in_text(rt: HostRuntime) {
 }
 
 #[test]
+fn texts_beyond_ascii(rt: HostRuntime) -> Result<(), Fail> {
+    let bytes = "<!DOCTYPE html><html><head></head><body>é€😀</body></html>".as_bytes();
+    let page = parse(rt.alloc(), bytes)?;
+    assert_eq!(rt; page.n, 57);
+    assert_eq!(rt; page.arena.len(), 6);
+    let bytes = "<!DOCTYPE html><html><head></head><body>é\u{A0}</body></html>".as_bytes();
+    assert_eq!(rt; refusal(rt.alloc(), bytes), not_yet(41));
+    Ok(())
+}
+
+#[test]
+fn ends_of_lines(rt: HostRuntime) -> Result<(), Fail> {
+    let bytes = b"\xEF\xBB\xBF<!DOCTYPE html><html><head></head><body>a\r\nb\r</body></html>";
+    let page = parse(rt.alloc(), bytes)?;
+    assert_eq!(rt; page.n, 59);
+    assert_eq!(rt; page.arena.len(), 6);
+    Ok(())
+}
+
+#[test]
 fn too_long_input(rt: HostRuntime) -> Result<(), Fail> {
     let mut bytes = Vec::new(rt.alloc());
-    bytes.resize(MAX_INPUT, b'a')?;
+    bytes.resize(LIMIT as usize, b'a')?;
     assert_eq!(rt; refusal(rt.alloc(), bytes.as_slice()), not_yet(0));
     bytes.push(b'a')?;
     assert_eq!(rt;
         refusal(rt.alloc(), bytes.as_slice()),
         Some(ParseError::InputTooLong)
     );
+    Ok(())
+}
+
+#[test]
+fn stops_after_a_refused_piece(rt: HostRuntime) -> Result<(), Fail> {
+    let mut bytes = Vec::new(rt.alloc());
+    bytes.resize(LIMIT as usize + 1, b'a')?;
+    let mut parser = Parser::document(rt.alloc());
+    assert_eq!(rt;
+        parser.feed(bytes.as_slice()),
+        Err(ParseError::InputTooLong)
+    );
+    assert_eq!(rt; parser.feed(b"a"), Err(ParseError::Stopped));
+    assert_eq!(rt; parser.finish().err(), Some(ParseError::Stopped));
+    Ok(())
+}
+
+/// The page of an input that is fed a byte at a time.
+fn parse_by_bytes(alloc: Global, bytes: &[u8]) -> Result<Page, ParseError> {
+    let mut parser = Parser::document(alloc);
+    for byte in bytes {
+        parser.feed(&[*byte])?;
+    }
+    parser.finish()
+}
+
+/// The inputs of the other tests, with the places up to which they could still become a page.
+const REFUSED: [(&[u8], u64); 5] = [
+    (b"", 0),
+    (
+        b"<!DOCTYPE html><html><head></head><body><p>Hi</p></body></html>",
+        41,
+    ),
+    (b"<!DOCTYPE html><html><head></head><body><div>Hi", 47),
+    (
+        b"<!DOCTYPE html><html><head></head><body><div>Hi</div></body></html>x",
+        67,
+    ),
+    (
+        b"<!DOCTYPE html><html><head></head><body><div>H></div></body></html>",
+        46,
+    ),
+];
+
+#[test]
+fn cut_after_every_byte(rt: HostRuntime) -> Result<(), Fail> {
+    let page = parse_by_bytes(rt.alloc(), SHORT_GREETING)?;
+    assert_eq!(rt; page.n, 67);
+    assert_eq!(rt; page.arena.len(), 7);
+    for (bytes, at) in REFUSED {
+        assert_eq!(rt; parse_by_bytes(rt.alloc(), bytes).err(), not_yet(at));
+    }
+    Ok(())
+}
+
+#[test]
+fn read_a_byte_at_a_time(rt: HostRuntime) -> Result<(), Fail> {
+    let alloc = rt.alloc();
+    let mut reader = FailAt::new(alloc, SHORT_GREETING.to_vec(alloc)?, 1000, 1);
+    let page = parse_from(alloc, &mut reader)?;
+    assert_eq!(rt; page.n, 67);
+    assert_eq!(rt; page.arena.len(), 7);
+    for (bytes, at) in REFUSED {
+        let mut reader = FailAt::new(alloc, bytes.to_vec(alloc)?, 1000, 1);
+        assert_eq!(rt; parse_from(alloc, &mut reader).err(), not_yet(at));
+    }
+    Ok(())
+}
+
+#[test]
+fn reader_that_fails(rt: HostRuntime) -> Result<(), Fail> {
+    let alloc = rt.alloc();
+    for calls in 0..8 {
+        let mut reader = FailAt::new(alloc, SHORT_GREETING.to_vec(alloc)?, calls, 10);
+        assert_eq!(rt;
+            parse_from(alloc, &mut reader).err(),
+            Some(ParseError::Read)
+        );
+    }
     Ok(())
 }

@@ -1,58 +1,38 @@
 //! One job, over any reader and writers.
 
-ghost use Rattle.std.specs.Prelude.{◌≡◌, ◌<◌, IfOk, IfSome, length};
+ghost use Rattle.std.specs.Prelude.{◌≡◌, ◌<◌, IfSome, length};
 ghost use Rattle.html_run.specs.Outcome.{status_of};
-ghost use Rattle.html_page.specs.Parsed.{IsPageOf};
+ghost use Rattle.html_input.specs.Decode.{decode};
 ghost use Rattle.html_page.specs.Small.{IsSmallText};
 
 use crate::refusal::outcome;
 use crate::status::DONE;
 use crate::tree::print_tree;
 use html_job::{Command, Job};
-use html_page::{Page, ParseError, parse};
+use html_page::{Page, ParseError, Source, parse_from};
 use std::alloc::Global;
 use std::io;
-use std::io::{ErrorKind, Read, Write};
+use std::io::Write;
 
-/// Does the job and answers the program's status. It reads the whole of `reader` before it writes anything. What went
+/// Does the job and answers the program's status. It reads `reader` to its end before it writes anything. What went
 /// wrong is told in one line on `faults`; where that fails too, by the status alone.
-pub fn run<R: Read, W: Write, F: Write>(
+pub fn run<R: Source, W: Write, F: Write>(
     alloc: Global,
     job: &Job<'_>,
     reader: &mut R,
     writer: &mut W,
     faults: &mut F,
 ) -> u8
-    ensures done { result ≡ DONE → IfSome (R.remaining reader.old) IsSmallText }
+    ensures done { result ≡ DONE → IfSome (R.remaining reader.old) (λ bytes. IsSmallText (decode bytes)) }
     ensures status { result < 4 }
 {
     let input = job.input.unwrap_or("-");
-    match page_of(alloc, reader) {
+    match parse_from(alloc, reader) {
         Ok(page) => match write_answer(job.command, &page, writer) {
             Ok(()) => DONE,
             Err(_) => tell(&ParseError::Write, input, faults),
         },
         Err(error) => tell(&error, input, faults),
-    }
-}
-
-/// The page that the reader gives.
-fn page_of<R: Read>(alloc: Global, reader: &mut R) -> Result<Page, ParseError>
-    ensures root { IfOk result (λ page. page.root < length page.arena.labels) }
-    ensures page { IfOk result (λ page. IfSome (R.remaining reader.old) (λ bytes. IsPageOf bytes page)) }
-{
-    let mut bytes = Vec::new(alloc);
-    match reader.read_to_end(&mut bytes) {
-        Ok(_) => parse(alloc, bytes.as_slice()),
-        Err(error) => Err(read_error(&error)),
-    }
-}
-
-/// What a failed read is to the user: a want of memory, or a file that can't be read.
-fn read_error(error: &io::Error) -> ParseError {
-    match error.kind() {
-        ErrorKind::OutOfMemory => ParseError::OutOfMemory,
-        _ => ParseError::Read,
     }
 }
 

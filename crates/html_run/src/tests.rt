@@ -1,7 +1,7 @@
 use super::*;
 use crate::tree::print_tree;
 use html_job::{Command, Job};
-use html_page::{Foreign, ParseError};
+use html_page::{Foreign, OverRead, ParseError};
 use std::alloc::{AllocError, Global};
 use std::io;
 use std::io::{ErrorKind, Read, Write};
@@ -60,7 +60,7 @@ fn tree_of(alloc: Global, bytes: &[u8]) -> Result<(u8, Vec<u8>, Vec<u8>), AllocE
         command: Command::Tree,
         input: None,
     };
-    let mut reader = bytes;
+    let mut reader = OverRead::new(bytes);
     let mut written = Vec::new(alloc);
     let mut faults = Vec::new(alloc);
     let status = run(alloc, &job, &mut reader, &mut written, &mut faults);
@@ -165,11 +165,11 @@ fn tells_a_failed_read(rt: HostRuntime) -> Result<(), Fail> {
             command: Command::Tree,
             input: Some("page.html"),
         };
-        let mut reader = FailAt {
+        let mut reader = OverRead::new(FailAt {
             bytes: PAGE.to_vec(rt.alloc())?,
             at: 0,
             calls,
-        };
+        });
         let mut written = Vec::new(rt.alloc());
         let mut faults = Vec::new(rt.alloc());
         let status = run(rt.alloc(), &job, &mut reader, &mut written, &mut faults);
@@ -190,7 +190,7 @@ fn tells_a_failed_write(rt: HostRuntime) -> Result<(), Fail> {
             command: Command::Tree,
             input: None,
         };
-        let mut reader = PAGE;
+        let mut reader = OverRead::new(PAGE);
         let mut writer = FailAt {
             bytes: Vec::new(rt.alloc()),
             at: 0,

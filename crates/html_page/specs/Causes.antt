@@ -1,0 +1,10 @@
+-- Refusals of the layers below, as the parser tells them.
+use Rattle.html_input.specs.declared.error.InputError.{InputError}
+use Rattle.html_input.specs.declared.error.InputError.TheVariants as input
+use Rattle.html_page.specs.declared.error.ParseError.{ParseError}
+use Rattle.html_page.specs.declared.error.ParseError.TheVariants.{OutOfMemory, InputTooLong, Stopped}
+
+abbrev pub cause_of : InputError → ParseError
+cause_of input.OutOfMemory = OutOfMemory
+cause_of input.InputTooLong = InputTooLong
+cause_of input.Stopped = Stopped

@@ -1,0 +1,13 @@
+-- A parser, and the bytes that it was fed.
+use Rattle.std.specs.Prelude.{◌≡◌, ℕ, List, false, true}
+use Rattle.html_input.specs.Fed.{Fed}
+use Rattle.html_input.specs.declared.decoder.TheConstants.{LIMIT}
+use Rattle.html_page.specs.declared.parser.Parser.{Parser}
+
+-- it was fed these bytes, and refused none
+abbrev pub IsFed : Parser → List ℕ → Type 0
+IsFed p bytes = Fed LIMIT false p.decoder bytes p.text.items
+
+-- it refused a piece
+abbrev pub IsStopped : Parser → Type 0
+IsStopped p = p.decoder.is_stopped ≡ true

@@ -1,0 +1,72 @@
+//! Bytes in pieces to a page.
+
+ghost use Rattle.std.specs.Prelude.{◌≡◌, ◌++◌, ◌+◌, ◌*◌, ◌^◌, ◌≤◌, ◌↔◌, List, ℕ, [], OnOk, OnErr, IfOk, IfErr, Err, length};
+ghost use Rattle.html_page.specs.Parsed.{IsPageOf, IsCause, IsFeedCause};
+
+use crate::error::ParseError;
+use crate::page::{Page, read_page};
+use html_input::Decoder;
+use std::alloc::Global;
+
+/// A parser that takes its input in pieces, cut anywhere. Once it refused a piece it takes no more.
+#[derive(Drop)]
+pub struct Parser {
+    alloc: Global,
+    pub(crate) decoder: Decoder,
+    pub(crate) text: Vec<char>,
+}
+
+impl Parser {
+    ghost use Rattle.html_page.specs.Fed.{IsFed, IsStopped};
+
+    /// A parser of a document.
+    pub fn document(alloc: Global) -> Parser
+        ensures { IsFed result [] }
+    {
+        Parser {
+            alloc,
+            decoder: Decoder::new(),
+            text: Vec::new(alloc),
+        }
+    }
+
+    /// Takes a piece of the input.
+    pub fn feed(&mut self, piece: &[u8]) -> Result<(), ParseError>
+        ensures fed { OnOk result ((bytes : List ℕ) → IsFed self.old bytes → IsFed self.new (bytes ++ piece.now)) }
+        ensures few { OnOk result ((bytes : List ℕ) → IsFed self.old bytes → length bytes + length piece.now ≤ 2 ^ 33) }
+        ensures cause { IfErr result (λ e. (bytes : List ℕ) → IsFed self.old bytes → IsFeedCause (bytes ++ piece.now) e) }
+        ensures refused { OnErr result (IsStopped self.new) }
+        ensures stopped { (result ≡ Err ParseError.Stopped) ↔ IsStopped self.old }
+    {
+        self.decoder.feed(piece, &mut self.text)?;
+        Ok(())
+    }
+
+    /// Ends the input: the page of all that was fed.
+    pub fn finish(self) -> Result<Page, ParseError>
+        ensures page { IfOk result (λ page. (bytes : List ℕ) → IsFed self bytes → IsPageOf bytes page) }
+        ensures cause { IfErr result (λ e. (bytes : List ℕ) → IsFed self bytes → IsCause bytes e) }
+        ensures stopped { IsStopped self → result ≡ Err ParseError.Stopped }
+    {
+        let Parser {
+            alloc,
+            mut decoder,
+            mut text,
+        } = self;
+        decoder.finish(&mut text)?;
+        let page = read_page(alloc, text.as_slice(), decoder.count())?;
+        Ok(page)
+    }
+}
+
+/// The page of an input. An input of more code points than `LIMIT` is refused as too long. What is no small page's text is
+/// refused with the length of the longest front of its text with which some small page begins.
+pub fn parse(alloc: Global, bytes: &[u8]) -> Result<Page, ParseError>
+    ensures page { IfOk result (IsPageOf bytes.now) }
+    ensures cause { IfErr result (IsCause bytes.now) }
+{
+    let mut parser = Parser::document(alloc);
+    parser.feed(bytes)?;
+    let page = parser.finish()?;
+    Ok(page)
+}
