@@ -1,35 +1,61 @@
--- What callers see of an arena: its nodes and, for each, its parent and the list of its children.
-use Rattle.std.specs.Prelude.{◌≡◌, ℕ, zero, suc, ◌+◌, ◌<◌, ◌≤◌, Bool, true, false, min, ◌^◌, ◌-◌, List, [], ◌∷◌, ◌++◌, length, Option, Some, None, slice_index_or, slice_set}
-use Rattle.html_names.specs.declared.Tag.{Tag}
-use Rattle.html_names.specs.declared.Tag.TheVariants.{Other}
-use Rattle.html_arena.specs.declared.text.Attr.{Attr}
-use Rattle.html_arena.specs.declared.data.ElementData.{ElementData}
-use Rattle.html_arena.specs.declared.data.Mark.{Mark}
-use Rattle.html_arena.specs.declared.data.Kind.{Kind}
-use Rattle.html_arena.specs.declared.data.Kind.TheVariants as kind
-use Rattle.html_arena.specs.declared.data.Mark.TheVariants.{OnStack, InList}
+-- What callers see of an arena: a node tree of the DOM (4.2), as its nodes and, for each, its parent and the list of its children.
+use Rattle.std.specs.Prelude.{◌≡◌, ℕ, zero, suc, ◌+◌, ◌*◌, ◌<◌, ◌≤◌, Bool, true, false, cond, min, ◌^◌, ◌-◌, List, [], ◌∷◌, ◌++◌, length, Option, Some, None, slice_index_or, slice_set}
+use Rattle.html_names.specs.declared.tag.Tag.{Tag}
+use Rattle.html_names.specs.Tags.{is_same}
+use Rattle.html_names.specs.Names.{tag_of}
+use Rattle.html_tokens.specs.declared.attributes.Attr.{Attr}
 use Rattle.html_arena.specs.declared.data.NodeData.{NodeData}
-use Rattle.html_arena.specs.declared.data.NodeData.TheVariants.{Document, Contents, Element, Text, Comment, Doctype}
+use Rattle.html_arena.specs.declared.data.NodeData.TheVariants.{Document, Contents}
+use Rattle.html_arena.specs.declared.marks.Mark.{Mark}
+use Rattle.html_arena.specs.declared.marks.Marks.{Marks}
 use Rattle.html_arena.specs.declared.arena.Limits.{Limits}
+use Rattle.html_arena.specs.Data.{label_in, tag_in, name_in, contents_in, host_in, with_char, with_attrs, attrs_in}
+use Rattle.html_arena.specs.Marks.{no_marks, has_mark, with_mark}
+use Rattle.html_arena.specs.Merge.{lacking, merged}
 use Rattle.html_arena.specs.Siblings.{has, Distinct, put_before, without}
-use Rattle.html_arena.specs.Tags.{same_tag}
+use Rattle.html_arena.specs.Templates.{Templates}
+use Rattle.html_arena.specs.Weight.{attrs_weight, capped}
 
+-- each column has one entry a node, at the node's number
 pub record Tree : Type 0 where
   pub labels : List NodeData
   pub parents : List (Option ℕ)
   pub children : List (List ℕ)
+  pub marks : List Marks
   pub held : ℕ
   pub steps : ℕ
   pub limits : Option Limits
 
 abbrev pub empty_tree : Option Limits → Tree
-empty_tree l = record { labels = []; parents = []; children = []; held = 0; steps = 0; limits = l }
+empty_tree l = record { labels = []; parents = []; children = []; marks = []; held = 0; steps = 0; limits = l }
+
+abbrev pub label_of : Tree → ℕ → NodeData
+label_of t x = label_in t.labels x
 
 abbrev pub parent_of : Tree → ℕ → Option ℕ
 parent_of t x = slice_index_or t.parents x None
 
 abbrev pub children_of : Tree → ℕ → List ℕ
 children_of t x = slice_index_or t.children x []
+
+abbrev pub marks_of : Tree → ℕ → Marks
+marks_of t x = slice_index_or t.marks x no_marks
+
+abbrev pub tag_at : Tree → ℕ → Tag
+tag_at t x = tag_in (label_of t x)
+
+abbrev pub contents_at : Tree → ℕ → Option ℕ
+contents_at t x = contents_in (label_of t x)
+
+abbrev pub host_at : Tree → ℕ → Option ℕ
+host_at t x = host_in (label_of t x)
+
+-- x is an element of this tag
+abbrev pub named : Tree → Tag → ℕ → Bool
+named t g x = is_same (tag_at t x) g
+
+abbrev pub marked : Tree → Mark → ℕ → Bool
+marked t m x = has_mark m (marks_of t x)
 
 -- k more, up to the greatest number of 128 bits
 abbrev pub more : ℕ → ℕ → ℕ
@@ -50,16 +76,45 @@ Climbs t x [] = parent_of t x ≡ None
 Climbs t x (p ∷ above) = (parent_of t x ≡ Some p) × Climbs t p above
 
 -- Each node has at most one parent, stands exactly once in that parent's list of children and in no other list,
--- and is fewer steps below a node without a parent than there are nodes.
+-- and is fewer steps below a node without a parent than there are nodes. Each template has one Contents node,
+-- each Contents node one template, and no parent. Each element has the tag of its name.
 pub record WellFormed (t : Tree) : Type 0 where
   pub as_many_parents : length t.parents ≡ length t.labels
   pub as_many_lists : length t.children ≡ length t.labels
+  pub as_many_marks : length t.marks ≡ length t.labels
   pub child_in : (p x : ℕ) → has x (children_of t p) ≡ true → x < length t.labels
   pub child_has_parent : (p x : ℕ) → has x (children_of t p) ≡ true → parent_of t x ≡ Some p
   pub parent_has_child : (p x : ℕ) → parent_of t x ≡ Some p → has x (children_of t p) ≡ true
   pub parent_in : (p x : ℕ) → parent_of t x ≡ Some p → p < length t.labels
   pub once : (p : ℕ) → Distinct (children_of t p)
   pub climbs : (x : ℕ) → x < length t.labels → (above : List ℕ) × Climbs t x above × (length above < length t.labels)
+  pub templates : Templates t.labels
+  pub contents_alone : (x h : ℕ) → host_at t x ≡ Some h → parent_of t x ≡ None
+  pub tagged : (x : ℕ) → tag_at t x ≡ tag_of (name_in (label_of t x))
+
+-- a new node stands alone, and holds h code points
+abbrev pub added : Tree → NodeData → ℕ → Tree
+added t d h =
+    record t {
+      labels = t.labels ++ d ∷ [];
+      parents = t.parents ++ None ∷ [];
+      children = t.children ++ [] ∷ [];
+      marks = t.marks ++ no_marks ∷ [];
+      held = more t.held h;
+      steps = more t.steps 1;
+    }
+
+-- a new template stands alone, and so does its Contents node, the next one; both are made in one step
+abbrev pub added_template : Tree → NodeData → ℕ → Tree
+added_template t d h =
+    record t {
+      labels = t.labels ++ d ∷ Contents (length t.labels) ∷ [];
+      parents = t.parents ++ None ∷ None ∷ [];
+      children = t.children ++ [] ∷ [] ∷ [];
+      marks = t.marks ++ no_marks ∷ no_marks ∷ [];
+      held = more t.held h;
+      steps = more t.steps 1;
+    }
 
 -- c is the child of p, whose list is xs
 abbrev pub placed : Tree → ℕ → ℕ → List ℕ → Tree
@@ -84,41 +139,22 @@ abbrev pub sibling : (ℕ → List ℕ → Option ℕ) → Option ℕ → Tree �
 sibling side None t x = None
 sibling side (Some p) t x = side x (children_of t p)
 
--- a new node stands alone, and holds h code points
-abbrev pub added : Tree → NodeData → ℕ → Tree
-added t d h = record t { labels = t.labels ++ d ∷ []; parents = t.parents ++ None ∷ []; children = t.children ++ [] ∷ []; held = more t.held h; steps = more t.steps 1 }
-
-abbrev pub label_of : Tree → ℕ → NodeData
-label_of t x = slice_index_or t.labels x Document
-
-abbrev pub IsText : NodeData → Type 0
-IsText (Text s) = Unit {0}
-IsText _ = ⊥
-
-abbrev pub IsElement : NodeData → Type 0
-IsElement (Element e) = Unit {0}
-IsElement _ = ⊥
-
--- a clone has the name, the attributes and the origin of its original
-abbrev pub cloned : NodeData → NodeData
-cloned (Element e) = Element (record e { is_clone = true; contents = None; on_stack = false; in_list = false })
-cloned Document = Document
-cloned (Contents h) = Contents h
-cloned (Text s) = Text s
-cloned (Comment d i) = Comment d i
-cloned (Doctype n p s i) = Doctype n p s i
-
--- a text with one more code point
-abbrev pub with_char : NodeData → ℕ → NodeData
-with_char (Text s) c = Text (s ++ c ∷ [])
-with_char Document c = Document
-with_char (Contents h) c = Contents h
-with_char (Element e) c = Element e
-with_char (Comment d i) c = Comment d i
-with_char (Doctype n p s i) c = Doctype n p s i
-
+-- a text has one more code point
 abbrev pub texted : Tree → ℕ → ℕ → Tree
 texted t x c = record t { labels = slice_set t.labels x (with_char (label_of t x) c); held = more t.held 1; steps = more t.steps 1 }
+
+-- an element has, after its own attributes, those of a later tag whose names it lacked; each name was compared with each
+abbrev pub with_merged : Tree → ℕ → List Attr → Tree
+with_merged t x later =
+    record t {
+      labels = slice_set t.labels x (with_attrs (label_of t x) (merged (attrs_in (label_of t x)) later));
+      held = more t.held (capped (attrs_weight (lacking (attrs_in (label_of t x)) later)));
+      steps = more t.steps (length (attrs_in (label_of t x)) * length later);
+    }
+
+-- a mark is set or cleared, which is no step
+abbrev pub with_marked : Tree → Mark → ℕ → Bool → Tree
+with_marked t m x b = record t { marks = slice_set t.marks x (with_mark m b (marks_of t x)) }
 
 -- n steps, one after another
 abbrev pub each_more : ℕ → ℕ → ℕ
@@ -153,66 +189,3 @@ pub record InPart (t0 t : Tree) (from to : ℕ) : Type 0 where
   pub rest : List ℕ
   pub split : children_of t0 from ≡ done ++ rest
   pub is : t ≡ moved_in_part t0 from to done rest
-
--- what an element has; other nodes have no name, and the tag of a name that no rule knows
-abbrev pub name_of : NodeData → List ℕ
-name_of (Element e) = e.name
-name_of _ = []
-
-abbrev pub tag_in : NodeData → Tag
-tag_in (Element e) = e.tag
-tag_in _ = Other
-
-abbrev pub attrs_of : NodeData → List Attr
-attrs_of (Element e) = e.attrs
-attrs_of _ = []
-
-abbrev pub contents_in : NodeData → Option ℕ
-contents_in (Element e) = e.contents
-contents_in _ = None
-
-abbrev pub mark_in : Mark → NodeData → Bool
-mark_in OnStack (Element e) = e.on_stack
-mark_in InList (Element e) = e.in_list
-mark_in m _ = false
-
-abbrev pub with_mark : Mark → Bool → NodeData → NodeData
-with_mark OnStack b (Element e) = Element (record e { on_stack = b })
-with_mark InList b (Element e) = Element (record e { in_list = b })
-with_mark m b d = d
-
-abbrev pub tag_at : Tree → ℕ → Tag
-tag_at t x = tag_in (label_of t x)
-
-abbrev pub contents_at : Tree → ℕ → Option ℕ
-contents_at t x = contents_in (label_of t x)
-
--- x is an element of this name
-abbrev pub named : Tree → Tag → ℕ → Bool
-named t g x = same_tag (tag_at t x) g
-
-abbrev pub marked : Tree → Mark → ℕ → Bool
-marked t m x = mark_in m (label_of t x)
-
-abbrev pub with_marked : Tree → Mark → ℕ → Bool → Tree
-with_marked t m x b = record t { labels = slice_set t.labels x (with_mark m b (label_of t x)) }
-
-abbrev pub kind_in : NodeData → Kind
-kind_in Document = kind.Document
-kind_in (Contents h) = kind.Contents
-kind_in (Element e) = kind.Element
-kind_in (Text s) = kind.Text
-kind_in (Comment s i) = kind.Comment
-kind_in (Doctype n p s i) = kind.Doctype
-
--- the name of an element or a doctype
-abbrev pub name_in : NodeData → List ℕ
-name_in (Element e) = e.name
-name_in (Doctype (Some n) p s i) = n
-name_in _ = []
-
--- the data of a text or a comment
-abbrev pub text_in : NodeData → List ℕ
-text_in (Text s) = s
-text_in (Comment s i) = s
-text_in _ = []

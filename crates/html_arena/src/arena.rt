@@ -1,44 +1,77 @@
 // The nodes of a page: what they are, and their links.
-ghost use Rattle.std.specs.Prelude.{◌≡◌, ◌≢◌, ℕ, ◌+◌, ◌-◌, ◌<◌, ◌≤◌, List, [], ◌∷◌, ◌++◌, length, Option, Some, None, OnOk, OnErr, IfOk, IfErr, IfSome, Ok, false, vec_len, slice_index_or, chars};
-ghost use Rattle.html_arena.specs.Tree.{Tree, empty_tree, parent_of, children_of, ancestors, appended, inserted, detached, sibling, more, added, WellFormed, label_of, IsText, IsElement, cloned, texted, reparented, moved, tag_at, named, contents_at, marked, with_marked, kind_in, name_in, text_in};
+ghost use Rattle.std.specs.Prelude.{◌≡◌, ◌≢◌, ℕ, ◌+◌, ◌<◌, ◌≤◌, List, [], ◌∷◌, ◌++◌, length, Option, Some, None, OnOk, OnErr, IfOk, IfErr, IfSome, Ok, false, true, vec_len};
 ghost use Rattle.std.specs.List.{sum_by};
-ghost use Rattle.html_arena.specs.Make.{CanMake, made_weight, made};
-ghost use Rattle.html_arena.specs.Weight.{weight, capped};
+ghost use Rattle.std.specs.Str.{chars};
+ghost use Rattle.html_names.specs.Names.{tag_of};
+ghost use Rattle.html_names.specs.Sets.{is_formatting, is_template};
 ghost use Rattle.html_arena.specs.Budget.{budget, RefusedBy};
-ghost use Rattle.html_arena.specs.Siblings.{has, first_of, last_of, before, after};
+ghost use Rattle.html_arena.specs.Data.{IsElement, IsLone, IsText, attrs_in, cloned, contents_in, host_in, is_clone_in, is_linkable, kind_in, name_in, origin_in, tag_in, text_in, with_attrs, with_char};
+ghost use Rattle.html_arena.specs.Laws.{IsGrown, IsLinked, IsMoved, IsRelabelled, IsUnlinked};
+ghost use Rattle.html_arena.specs.Make.{CanMake, label_for, made, made_weight, makes_child, nodes_made, plain_element, template_element};
+ghost use Rattle.html_arena.specs.Merge.{lacking, merged};
+ghost use Rattle.html_arena.specs.Siblings.{after, before, first_of, has, last_of, put_before};
+ghost use Rattle.html_arena.specs.Tree.{Tree, WellFormed, added, added_template, ancestors, appended, children_of, detached, empty_tree, inserted, label_of, marked, more, moved, named, parent_of, reparented, sibling, tag_at, texted, with_marked, with_merged};
+ghost use Rattle.html_arena.specs.Weight.{attrs_weight, capped, weight};
 
+use crate::attributes::{SharedAttrs, lacking_held, merge};
 use crate::data::{
-    ElementData, Kind, Mark, NewNode, NodeData, clone_of, contents_of_node, has_mark, held_of,
-    kind_of_node, name_of_node, push_char, same_tags, set_mark_of, tag_of_node, text_of_node,
+    ElementData, Kind, NewNode, NodeData, Origin, clone_of, element_held, held_of, label_at,
+    push_char, set_attrs,
 };
+use crate::links::NodeId;
+use crate::links::packed::PackedLinks;
 use crate::links::writes::{link, place_of, unlink};
-use crate::links::{Links, NodeId};
+use crate::marks::{Mark, Marks};
 use crate::room::{push_node, reserve};
-use crate::text::Str;
+use html_charref::Str;
 use html_names::Tag;
-use std::alloc::Global;
+use html_tokens::{Attr, Attrs};
+use std::alloc::{AllocError, Global};
 use std::marker::Model;
+use thiserror::Error;
 
-/// Why a node was not made; the arena is then as it was.
-#[derive(Clone, Copy)]
+/// Why a node was not made or changed; the arena is then as it was.
+#[derive(Clone, Copy, Debug, PartialEq, Eq, Error)]
 pub enum ArenaError {
+    #[error("out of memory")]
     OutOfMemory,
+    #[error("the next node would pass the limit on nodes")]
     NodeBudget,
+    #[error("the next code points would pass the limit on held code points")]
     HeldBudget,
 }
 
-/// How many nodes and held code points an arena may have.
-#[derive(Clone, Copy)]
+impl From<AllocError> for ArenaError {
+    ghost use Rattle.std.specs.Prelude.{◌≡◌};
+    ghost use Rattle.html_arena.specs.declared.arena.ArenaError.TheVariants.{OutOfMemory};
+
+    ghost from_gives = { λ _ e. e ≡ OutOfMemory };
+
+    fn from(_e: AllocError) -> ArenaError {
+        ArenaError::OutOfMemory
+    }
+}
+
+/// How many nodes and how many held code points an arena may have, and how many code points an input.
+#[derive(Clone, Copy, Debug, PartialEq, Eq)]
 pub struct Limits {
     pub nodes: u64,
     pub held: u64,
+    pub code_points: u64,
 }
 
-/// A forest of nodes, seen as lists of children.
+/// What the work on an arena has cost so far; it stays at the greatest number once there.
+#[derive(Clone, Copy, Debug, PartialEq, Eq)]
+pub struct Meter {
+    pub steps: u128,
+}
+
+/// A forest of nodes, seen as the columns of a tree: labels, parents, lists of children, and marks.
 #[derive(Drop)]
 pub struct Arena {
-    links: Vec<Links>,
-    data: Vec<NodeData>,
+    links: Vec<PackedLinks>,
+    nodes: Vec<NodeData>,
+    marks: Vec<Marks>,
     held: u128,
     steps: u128,
     limits: Option<Limits>,
@@ -49,56 +82,187 @@ impl Model for Arena {
 
     ghost Value = { Tree };
 
-    ghost use Rattle.html_arena.specs.Whole.{tree_of, IsWhole};
+    ghost use Rattle.html_arena.specs.Whole.{IsArena, tree_of};
 
-    ghost view = { λ a. tree_of a.links.items a.data.items a.held a.steps a.limits };
+    ghost view = { λ a. tree_of a.links.items a.nodes.items a.marks.items a.held a.steps a.limits };
 
-    ghost invariant = { λ a. IsWhole a.links.items a.data.items a.held };
+    ghost invariant = { λ a. IsArena a.links.items a.nodes.items a.marks.items a.held };
 }
 
 impl Arena {
-    /// An arena without nodes and without a budget.
+    /// The bytes that a node takes in the arena's own lists, without the texts and attributes that it points to.
+    pub const NODE_BYTES: usize = size_of::<PackedLinks>()
+        + size_of::<NodeData>()
+        + size_of::<Marks>();
+
+    /// An arena without nodes and without a budget, which takes no memory.
     pub fn new(alloc: Global) -> Arena
         ensures { result ≡ empty_tree None }
     {
         Arena {
             links: Vec::new(alloc),
-            data: Vec::new(alloc),
+            nodes: Vec::new(alloc),
+            marks: Vec::new(alloc),
             held: 0,
             steps: 0,
             limits: None,
         }
     }
 
-    /// An arena without nodes, within limits.
+    /// An arena without nodes, within limits, which takes no memory.
     pub fn within(alloc: Global, limits: Limits) -> Arena
         ensures { result ≡ empty_tree (Some limits) }
     {
         Arena {
             links: Vec::new(alloc),
-            data: Vec::new(alloc),
+            nodes: Vec::new(alloc),
+            marks: Vec::new(alloc),
             held: 0,
             steps: 0,
             limits: Some(limits),
         }
     }
 
-    pub fn len(&self) -> usize
+    /// The number of nodes.
+    pub fn len(&self) -> u64
         ensures { result ≡ length self.now.labels }
     {
-        self.data.len()
+        self.nodes.len() as u64
     }
 
+    /// Whether there is no node.
+    pub fn is_empty(&self) -> bool
+        ensures yes { result ≡ true → self.now.labels ≡ [] }
+        ensures no { result ≡ false → 0 < length self.now.labels }
+    {
+        self.nodes.is_empty()
+    }
+
+    /// The code points of the names, attributes, texts, comments and doctype ids of all nodes, clones as if each had its own.
     pub fn held(&self) -> u128
         ensures { result ≡ self.now.held }
     {
         self.held
     }
 
+    /// What the work on the arena has cost so far.
+    pub fn meter(&self) -> Meter
+        ensures { result.steps ≡ self.now.steps }
+    {
+        Meter { steps: self.steps }
+    }
+
+    /// Charges steps, up to the greatest number.
+    pub fn charge(&mut self, steps: u128)
+        ensures { self.new ≡ record self.old { steps = more self.old.steps steps } }
+    {
+        self.steps = self.steps.saturating_add(steps);
+    }
+
+    /// A law of every arena: its nodes form a forest, and what they hold is counted.
+    pub fn forest(&self)
+        ensures well_formed { WellFormed self.now }
+        ensures held { self.now.held ≡ capped (sum_by weight self.now.labels) }
+    {
+        let _ = &self.links;
+    }
+}
+
+impl Arena {
+    /// Makes `child` the last child of `parent`.
+    pub fn append(&mut self, parent: NodeId, child: NodeId)
+        requires parent_in { parent < length self.old.labels }
+        requires child_in { child < length self.old.labels }
+        requires linkable { is_linkable (label_of self.old child) ≡ true }
+        requires alone { parent_of self.old child ≡ None }
+        requires not_above { has child (parent ∷ ancestors self.old parent) ≡ false }
+        ensures appended { self.new ≡ appended self.old parent child }
+        ensures linked { IsLinked self.old self.new child parent (children_of self.old parent ++ child ∷ []) }
+    {
+        self.forest();
+        self.link_last(parent, child);
+        self.forest();
+    }
+
+    /// Puts `child` just before `next`, which has a parent.
+    pub fn insert_before(&mut self, child: NodeId, next: NodeId)
+        requires next_in { next < length self.old.labels }
+        requires child_in { child < length self.old.labels }
+        requires linkable { is_linkable (label_of self.old child) ≡ true }
+        requires alone { parent_of self.old child ≡ None }
+        requires not_above { has child (next ∷ ancestors self.old next) ≡ false }
+        requires has_parent { parent_of self.old next ≢ None }
+        ensures inserted { self.new ≡ inserted self.old child next (parent_of self.old next) }
+        ensures linked { IfSome (parent_of self.old next) (λ p. IsLinked self.old self.new child p (put_before child next (children_of self.old p))) }
+    {
+        self.forest();
+        self.link_before(child, next);
+        self.forest();
+    }
+
+    /// Takes `node` out of its parent's children, if it has a parent.
+    pub fn detach(&mut self, node: NodeId)
+        requires { node < length self.old.labels }
+        ensures detached { self.new ≡ detached self.old node (parent_of self.old node) }
+        ensures unlinked { IsUnlinked self.old self.new node }
+    {
+        self.forest();
+        self.unlink_node(node);
+        self.forest();
+    }
+
+    /// Makes a node that stands alone; a template with its Contents node, the next one.
+    pub fn make(&mut self, new: NewNode) -> Result<NodeId, ArenaError>
+        requires { CanMake self.old new }
+        ensures id { IfOk result (λ id. id ≡ length self.old.labels) }
+        ensures within { OnOk result (budget self.old (nodes_made new) (made_weight self.old new) ≡ Ok tt) }
+        ensures made { OnOk result (self.new ≡ made self.old new) }
+        ensures grown { OnOk result (IsGrown self.old self.new (nodes_made new)) }
+        ensures label { IfOk result (λ id. label_of self.new id ≡ label_for self.old new) }
+        ensures child { IfOk result (λ id. is_linkable (label_of self.new id) ≡ makes_child new) }
+        ensures refused { OnErr result (self.new ≡ self.old) }
+        ensures cause { IfErr result (λ e. RefusedBy (budget self.old (nodes_made new) (made_weight self.old new)) e) }
+    {
+        self.forest();
+        let made = self.make_node(new);
+        self.forest();
+        made
+    }
+
+    /// Adds a code point to a text.
+    pub fn append_text(&mut self, node: NodeId, c: char) -> Result<(), ArenaError>
+        requires node_in { node < length self.old.labels }
+        requires is_text { IsText (label_of self.old node) }
+        ensures within { OnOk result (budget self.old 0 1 ≡ Ok tt) }
+        ensures added { OnOk result (self.new ≡ texted self.old node c) }
+        ensures relabelled { OnOk result (IsRelabelled self.old self.new node (with_char (label_of self.old node) c)) }
+        ensures still_text { IsText (label_of self.new node) }
+        ensures refused { OnErr result (self.new ≡ self.old) }
+        ensures cause { IfErr result (λ e. RefusedBy (budget self.old 0 1) e) }
+    {
+        self.push_text(node, c)
+    }
+
+    /// Gives an element those attributes of a later tag of its name whose names it lacks, after its own.
+    pub fn merge_attrs(&mut self, element: NodeId, attrs: Attrs) -> Result<(), ArenaError>
+        requires node_in { element < length self.old.labels }
+        requires is_element { IsElement (label_of self.old element) }
+        ensures within { OnOk result (budget self.old 0 (capped (attrs_weight (lacking (attrs_in (label_of self.old element)) attrs))) ≡ Ok tt) }
+        ensures merged { OnOk result (self.new ≡ with_merged self.old element attrs) }
+        ensures relabelled { OnOk result (IsRelabelled self.old self.new element (with_attrs (label_of self.old element) (merged (attrs_in (label_of self.old element)) attrs))) }
+        ensures refused { OnErr result (self.new ≡ self.old) }
+        ensures cause { IfErr result (λ e. RefusedBy (budget self.old 0 (capped (attrs_weight (lacking (attrs_in (label_of self.old element)) attrs)))) e) }
+    {
+        self.merge_later(element, attrs)
+    }
+}
+
+impl Arena {
+    /// The node whose child this is.
     pub fn parent(&self, node: NodeId) -> Option<NodeId>
         requires { node < length self.now.labels }
         ensures value { result ≡ parent_of self.now node }
-        ensures in_arena { IfSome result (λ p. p < length self.now.labels) }
+        ensures parent { IfSome result (λ p. p < length self.now.labels) }
     {
         place_of(&self.links, node).parent
     }
@@ -106,15 +270,15 @@ impl Arena {
     pub fn first_child(&self, node: NodeId) -> Option<NodeId>
         requires { node < length self.now.labels }
         ensures value { result ≡ first_of (children_of self.now node) }
-        ensures in_arena { IfSome result (λ c. c < length self.now.labels) }
-        ensures child { (c : ℕ) → result ≡ Some c → (c < length self.now.labels) × (parent_of self.now c ≡ Some node) }
+        ensures child { IfSome result (λ c. (c < length self.now.labels) × (parent_of self.now c ≡ Some node)) }
     {
         place_of(&self.links, node).first_child
     }
 
     pub fn last_child(&self, node: NodeId) -> Option<NodeId>
         requires { node < length self.now.labels }
-        ensures { result ≡ last_of (children_of self.now node) }
+        ensures value { result ≡ last_of (children_of self.now node) }
+        ensures child { IfSome result (λ c. (c < length self.now.labels) × (parent_of self.now c ≡ Some node)) }
     {
         place_of(&self.links, node).last_child
     }
@@ -122,7 +286,8 @@ impl Arena {
     /// The node just before this one, among the children of its parent.
     pub fn previous(&self, node: NodeId) -> Option<NodeId>
         requires { node < length self.now.labels }
-        ensures { result ≡ sibling before (parent_of self.now node) self.now node }
+        ensures value { result ≡ sibling before (parent_of self.now node) self.now node }
+        ensures sibling { IfSome result (λ x. (x < length self.now.labels) × (parent_of self.now x ≡ parent_of self.now node)) }
     {
         place_of(&self.links, node).previous
     }
@@ -131,15 +296,16 @@ impl Arena {
     pub fn next(&self, node: NodeId) -> Option<NodeId>
         requires { node < length self.now.labels }
         ensures value { result ≡ sibling after (parent_of self.now node) self.now node }
-        ensures in_arena { IfSome result (λ x. x < length self.now.labels) }
+        ensures sibling { IfSome result (λ x. (x < length self.now.labels) × (parent_of self.now x ≡ parent_of self.now node)) }
     {
         place_of(&self.links, node).next
     }
 
-    /// Makes `child` the last child of `parent`.
-    pub fn append(&mut self, parent: NodeId, child: NodeId)
+    /// Links `child` last under `parent`.
+    fn link_last(&mut self, parent: NodeId, child: NodeId)
         requires parent_in { parent < length self.old.labels }
         requires child_in { child < length self.old.labels }
+        requires linkable { is_linkable (label_of self.old child) ≡ true }
         requires alone { parent_of self.old child ≡ None }
         requires not_above { has child (parent ∷ ancestors self.old parent) ≡ false }
         ensures { self.new ≡ appended self.old parent child }
@@ -149,10 +315,11 @@ impl Arena {
         self.steps = self.steps.saturating_add(1);
     }
 
-    /// Puts `child` just before `next`, which has a parent.
-    pub fn insert_before(&mut self, child: NodeId, next: NodeId)
+    /// Links `child` just before `next`, which has a parent.
+    fn link_before(&mut self, child: NodeId, next: NodeId)
         requires next_in { next < length self.old.labels }
         requires child_in { child < length self.old.labels }
+        requires linkable { is_linkable (label_of self.old child) ≡ true }
         requires alone { parent_of self.old child ≡ None }
         requires not_above { has child (next ∷ ancestors self.old next) ≡ false }
         requires has_parent { parent_of self.old next ≢ None }
@@ -165,8 +332,8 @@ impl Arena {
         }
     }
 
-    /// Takes `node` out of its parent's children, if it has a parent.
-    pub fn detach(&mut self, node: NodeId)
+    /// Unlinks `node` from its parent, if it has one.
+    fn unlink_node(&mut self, node: NodeId)
         requires { node < length self.old.labels }
         ensures { self.new ≡ detached self.old node (parent_of self.old node) }
     {
@@ -193,212 +360,6 @@ impl Arena {
         false
     }
 
-    /// Charges steps, up to the greatest number.
-    pub fn charge(&mut self, steps: u128)
-        ensures { self.new ≡ record self.old { steps = more self.old.steps steps } }
-    {
-        self.steps = self.steps.saturating_add(steps);
-    }
-
-    pub fn steps(&self) -> u128
-        ensures { result ≡ self.now.steps }
-    {
-        self.steps
-    }
-
-    /// Whether so many more nodes and held code points are within the limits.
-    fn room_for(&self, nodes: u128, held: u128) -> Result<(), ArenaError>
-        requires { nodes < 4 }
-        ensures { result ≡ budget self.now nodes held }
-    {
-        match self.limits {
-            None => Ok(()),
-            Some(limits) => {
-                if self.data.len() as u128 + nodes > limits.nodes as u128 {
-                    Err(ArenaError::NodeBudget)
-                } else if self.held.saturating_add(held) > limits.held as u128 {
-                    Err(ArenaError::HeldBudget)
-                } else {
-                    Ok(())
-                }
-            }
-        }
-    }
-
-    /// Makes a node that stands alone.
-    pub fn make(&mut self, new: NewNode) -> Result<NodeId, ArenaError>
-        requires { CanMake self.old new }
-        ensures id { IfOk result (λ id. id ≡ length self.old.labels) }
-        ensures within { OnOk result (budget self.old 1 (made_weight self.old new) ≡ Ok tt) }
-        ensures made { OnOk result (self.new ≡ made self.old new) }
-        ensures refused { OnErr result (self.new ≡ self.old) }
-        ensures cause { IfErr result (λ e. RefusedBy (budget self.old 1 (made_weight self.old new)) e) }
-    {
-        match new {
-            NewNode::Document => self.add(NodeData::Document),
-            NewNode::Element {
-                name,
-                tag,
-                attrs,
-                origin,
-            } => self.add(NodeData::Element(ElementData {
-                name,
-                tag,
-                attrs,
-                origin,
-                is_clone: false,
-                contents: None,
-                on_stack: false,
-                in_list: false,
-            })),
-            NewNode::CloneOf(node) => self.make_clone(node),
-            NewNode::Text => {
-                let text = Str::new(*self.links.allocator());
-                self.add(NodeData::Text { text })
-            }
-            NewNode::Comment { text, token } => self.add(NodeData::Comment { text, token }),
-            NewNode::Doctype {
-                name,
-                public,
-                system,
-                token,
-            } => self.add(NodeData::Doctype {
-                name,
-                public,
-                system,
-                token,
-            }),
-        }
-    }
-
-    /// Makes a clone of an element.
-    fn make_clone(&mut self, node: NodeId) -> Result<NodeId, ArenaError>
-        requires node_in { node < length self.old.labels }
-        requires element { IsElement (label_of self.old node) }
-        ensures id { IfOk result (λ id. id ≡ length self.old.labels) }
-        ensures within { OnOk result (budget self.old 1 (capped (weight (cloned (label_of self.old node)))) ≡ Ok tt) }
-        ensures made { OnOk result (self.new ≡ added self.old (cloned (label_of self.old node)) (capped (weight (cloned (label_of self.old node))))) }
-        ensures refused { OnErr result (self.new ≡ self.old) }
-        ensures cause { IfErr result (λ e. RefusedBy (budget self.old 1 (capped (weight (cloned (label_of self.old node))))) e) }
-    {
-        let original = &self.data[node.index()];
-        let held = held_of(original);
-        self.room_for(1, held)?;
-        match clone_of(original) {
-            Ok(copy) => self.add(copy),
-            Err(_) => Err(ArenaError::OutOfMemory),
-        }
-    }
-
-    /// Adds a node that stands alone.
-    fn add(&mut self, node: NodeData) -> Result<NodeId, ArenaError>
-        ensures id { IfOk result (λ id. id ≡ length self.old.labels) }
-        ensures within { OnOk result (budget self.old 1 (capped (weight node)) ≡ Ok tt) }
-        ensures made { OnOk result (self.new ≡ added self.old node (capped (weight node))) }
-        ensures refused { OnErr result (self.new ≡ self.old) }
-        ensures cause { IfErr result (λ e. RefusedBy (budget self.old 1 (capped (weight node))) e) }
-    {
-        let held = held_of(&node);
-        self.room_for(1, held)?;
-        reserve(&mut self.links, &mut self.data, 1)?;
-        let id = NodeId::at(self.data.len());
-        push_node(&mut self.links, &mut self.data, node);
-        self.held = self.held.saturating_add(held);
-        self.steps = self.steps.saturating_add(1);
-        Ok(id)
-    }
-
-    /// A law of every arena: its nodes form a forest.
-    pub fn forest(&self)
-        ensures well_formed { WellFormed self.now }
-        ensures held { self.now.held ≡ capped (sum_by weight self.now.labels) }
-    {
-        let _ = &self.links;
-    }
-
-    /// Adds a code point to a text.
-    pub fn append_text(&mut self, node: NodeId, c: char) -> Result<(), ArenaError>
-        requires node_in { node < length self.old.labels }
-        requires is_text { IsText (label_of self.old node) }
-        ensures within { OnOk result (budget self.old 0 1 ≡ Ok tt) }
-        ensures added { OnOk result (self.new ≡ texted self.old node c) }
-        ensures refused { OnErr result (self.new ≡ self.old) }
-        ensures cause { IfErr result (λ e. RefusedBy (budget self.old 0 1) e) }
-    {
-        self.room_for(0, 1)?;
-        let text = &mut self.data[node.index()];
-        if push_char(text, c).is_err() {
-            return Err(ArenaError::OutOfMemory);
-        }
-        self.held = self.held.saturating_add(1);
-        self.steps = self.steps.saturating_add(1);
-        Ok(())
-    }
-
-    /// The tag of a node; that of no rule for a node that is no element.
-    pub fn tag(&self, node: NodeId) -> Tag
-        requires { node < length self.now.labels }
-        ensures { result ≡ tag_at self.now node }
-    {
-        tag_of_node(&self.data[node.index()])
-    }
-
-    pub fn kind(&self, node: NodeId) -> Kind
-        requires { node < length self.now.labels }
-        ensures { result ≡ kind_in (label_of self.now node) }
-    {
-        kind_of_node(&self.data[node.index()])
-    }
-
-    /// The name of an element or a doctype, else the empty text.
-    pub fn name(&self, node: NodeId) -> &str
-        requires { node < length self.now.labels }
-        ensures { chars result.now ≡ name_in (label_of self.now node) }
-    {
-        name_of_node(&self.data[node.index()])
-    }
-
-    /// The data of a text or a comment, else the empty text.
-    pub fn text(&self, node: NodeId) -> &str
-        requires { node < length self.now.labels }
-        ensures { chars result.now ≡ text_in (label_of self.now node) }
-    {
-        text_of_node(&self.data[node.index()])
-    }
-
-    /// Whether a node is an element of this tag.
-    pub fn is_named(&self, node: NodeId, tag: Tag) -> bool
-        requires { node < length self.now.labels }
-        ensures { result ≡ named self.now tag node }
-    {
-        same_tags(tag_of_node(&self.data[node.index()]), tag)
-    }
-
-    /// A template's contents.
-    pub fn contents(&self, node: NodeId) -> Option<NodeId>
-        requires { node < length self.now.labels }
-        ensures { result ≡ contents_at self.now node }
-    {
-        contents_of_node(&self.data[node.index()])
-    }
-
-    /// Whether an element has a mark.
-    pub fn marked(&self, node: NodeId, mark: Mark) -> bool
-        requires { node < length self.now.labels }
-        ensures { result ≡ marked self.now mark node }
-    {
-        has_mark(&self.data[node.index()], mark)
-    }
-
-    /// Sets or clears a mark of an element.
-    pub fn set_mark(&mut self, node: NodeId, mark: Mark, on: bool)
-        requires { node < length self.old.labels }
-        ensures { self.new ≡ with_marked self.old mark node on }
-    {
-        let data = &mut self.data[node.index()];
-        set_mark_of(data, mark, on);
-    }
-
     /// Moves `child` from `from`, its parent, to the end of the children of `to`.
     fn move_child(&mut self, child: NodeId, from: NodeId, to: NodeId)
         requires child_in { child < length self.old.labels }
@@ -420,11 +381,340 @@ impl Arena {
         requires from_in { from < length self.old.labels }
         requires to_in { to < length self.old.labels }
         requires not_below { has from (to ∷ ancestors self.old to) ≡ false }
-        ensures { self.new ≡ moved self.old from to }
+        ensures moved { self.new ≡ moved self.old from to }
+        ensures laws { IsMoved self.old self.new from to }
     {
         self.forest();
         while let Some(child) = self.first_child(from) {
             self.move_child(child, from, to);
         }
+        self.forest();
+    }
+}
+
+impl Arena {
+    /// Whether so many more nodes and held code points are within the limits.
+    fn room_for(&self, nodes: u128, held: u128) -> Result<(), ArenaError>
+        requires { nodes < 4 }
+        ensures { result ≡ budget self.now nodes held }
+    {
+        match self.limits {
+            None => Ok(()),
+            Some(limits) => {
+                if self.nodes.len() as u128 + nodes > limits.nodes as u128 {
+                    Err(ArenaError::NodeBudget)
+                } else if self.held.saturating_add(held) > limits.held as u128 {
+                    Err(ArenaError::HeldBudget)
+                } else {
+                    Ok(())
+                }
+            }
+        }
+    }
+
+    /// Makes a node that stands alone; a template with its Contents node, the next one.
+    fn make_node(&mut self, new: NewNode) -> Result<NodeId, ArenaError>
+        requires { CanMake self.old new }
+        ensures id { IfOk result (λ id. id ≡ length self.old.labels) }
+        ensures within { OnOk result (budget self.old (nodes_made new) (made_weight self.old new) ≡ Ok tt) }
+        ensures made { OnOk result (self.new ≡ made self.old new) }
+        ensures refused { OnErr result (self.new ≡ self.old) }
+        ensures cause { IfErr result (λ e. RefusedBy (budget self.old (nodes_made new) (made_weight self.old new)) e) }
+    {
+        match new {
+            NewNode::Document => self.add(NodeData::Document),
+            NewNode::Element {
+                name,
+                attrs,
+                origin,
+            } => {
+                let tag = Tag::of(name.as_str());
+                if tag.is_template() {
+                    self.make_template(name, tag, attrs, origin)
+                } else {
+                    self.make_element(name, tag, attrs, origin)
+                }
+            }
+            NewNode::CloneOf(node) => self.make_clone(node),
+            NewNode::Text => {
+                let text = Str::new(*self.links.allocator());
+                self.add(NodeData::Text { text })
+            }
+            NewNode::Comment { text, token } => self.add(NodeData::Comment { text, token }),
+            NewNode::Doctype {
+                name,
+                public,
+                system,
+                token,
+            } => self.add(NodeData::Doctype {
+                name,
+                public,
+                system,
+                token,
+            }),
+        }
+    }
+
+    /// Makes an element that is no template.
+    fn make_element(
+        &mut self,
+        name: Str,
+        tag: Tag,
+        attrs: Attrs,
+        origin: Origin,
+    ) -> Result<NodeId, ArenaError>
+        requires tag_is { tag ≡ tag_of name }
+        requires no_template { is_template tag ≡ false }
+        ensures id { IfOk result (λ id. id ≡ length self.old.labels) }
+        ensures within { OnOk result (budget self.old 1 (capped (weight (plain_element name tag attrs origin))) ≡ Ok tt) }
+        ensures made { OnOk result (self.new ≡ added self.old (plain_element name tag attrs origin) (capped (weight (plain_element name tag attrs origin)))) }
+        ensures refused { OnErr result (self.new ≡ self.old) }
+        ensures cause { IfErr result (λ e. RefusedBy (budget self.old 1 (capped (weight (plain_element name tag attrs origin)))) e) }
+    {
+        let held = element_held(&name, attrs.as_slice());
+        self.room_for(1, held)?;
+        let attrs = SharedAttrs::of(attrs)?;
+        let element = NodeData::Element(ElementData {
+            name,
+            tag,
+            attrs,
+            origin,
+            is_clone: false,
+            contents: None,
+        });
+        self.place(element, held)
+    }
+
+    /// Makes a template and its contents.
+    fn make_template(
+        &mut self,
+        name: Str,
+        tag: Tag,
+        attrs: Attrs,
+        origin: Origin,
+    ) -> Result<NodeId, ArenaError>
+        requires tag_is { tag ≡ tag_of name }
+        requires template { is_template tag ≡ true }
+        ensures id { IfOk result (λ id. id ≡ length self.old.labels) }
+        ensures within { OnOk result (budget self.old 2 (capped (weight (template_element (length self.old.labels) name tag attrs origin))) ≡ Ok tt) }
+        ensures made { OnOk result (self.new ≡ added_template self.old (template_element (length self.old.labels) name tag attrs origin) (capped (weight (template_element (length self.old.labels) name tag attrs origin)))) }
+        ensures refused { OnErr result (self.new ≡ self.old) }
+        ensures cause { IfErr result (λ e. RefusedBy (budget self.old 2 (capped (weight (template_element (length self.old.labels) name tag attrs origin)))) e) }
+    {
+        let held = element_held(&name, attrs.as_slice());
+        self.room_for(2, held)?;
+        let attrs = SharedAttrs::of(attrs)?;
+        reserve(&mut self.links, &mut self.nodes, &mut self.marks, 2)?;
+        let template = NodeId::at(self.nodes.len());
+        let contents = NodeId::at(self.nodes.len() + 1);
+        let element = NodeData::Element(ElementData {
+            name,
+            tag,
+            attrs,
+            origin,
+            is_clone: false,
+            contents: Some(contents),
+        });
+        push_node(&mut self.links, &mut self.nodes, &mut self.marks, element);
+        push_node(
+            &mut self.links,
+            &mut self.nodes,
+            &mut self.marks,
+            NodeData::Contents { host: template },
+        );
+        self.held = self.held.saturating_add(held);
+        self.steps = self.steps.saturating_add(1);
+        Ok(template)
+    }
+
+    /// Makes a clone of an element.
+    fn make_clone(&mut self, node: NodeId) -> Result<NodeId, ArenaError>
+        requires node_in { node < length self.old.labels }
+        requires formatting { is_formatting (tag_at self.old node) ≡ true }
+        ensures id { IfOk result (λ id. id ≡ length self.old.labels) }
+        ensures within { OnOk result (budget self.old 1 (capped (weight (cloned (label_of self.old node)))) ≡ Ok tt) }
+        ensures made { OnOk result (self.new ≡ added self.old (cloned (label_of self.old node)) (capped (weight (cloned (label_of self.old node))))) }
+        ensures refused { OnErr result (self.new ≡ self.old) }
+        ensures cause { IfErr result (λ e. RefusedBy (budget self.old 1 (capped (weight (cloned (label_of self.old node))))) e) }
+    {
+        let original = label_at(&self.nodes, node);
+        let held = held_of(original);
+        self.room_for(1, held)?;
+        let copy = clone_of(original)?;
+        self.place(copy, held)
+    }
+
+    /// Adds a node that stands alone, within the budget.
+    fn add(&mut self, node: NodeData) -> Result<NodeId, ArenaError>
+        requires lone { IsLone node }
+        ensures id { IfOk result (λ id. id ≡ length self.old.labels) }
+        ensures within { OnOk result (budget self.old 1 (capped (weight node)) ≡ Ok tt) }
+        ensures made { OnOk result (self.new ≡ added self.old node (capped (weight node))) }
+        ensures refused { OnErr result (self.new ≡ self.old) }
+        ensures cause { IfErr result (λ e. RefusedBy (budget self.old 1 (capped (weight node))) e) }
+    {
+        let held = held_of(&node);
+        self.room_for(1, held)?;
+        self.place(node, held)
+    }
+
+    /// Adds a node that stands alone and holds so many code points.
+    fn place(&mut self, node: NodeData, held: u128) -> Result<NodeId, ArenaError>
+        requires lone { IsLone node }
+        requires held { held ≡ capped (weight node) }
+        ensures id { IfOk result (λ id. id ≡ length self.old.labels) }
+        ensures made { OnOk result (self.new ≡ added self.old node (capped (weight node))) }
+        ensures refused { OnErr result (self.new ≡ self.old) }
+        ensures cause { IfErr result (λ e. e ≡ ArenaError.OutOfMemory) }
+    {
+        reserve(&mut self.links, &mut self.nodes, &mut self.marks, 1)?;
+        let id = NodeId::at(self.nodes.len());
+        push_node(&mut self.links, &mut self.nodes, &mut self.marks, node);
+        self.held = self.held.saturating_add(held);
+        self.steps = self.steps.saturating_add(1);
+        Ok(id)
+    }
+
+    fn push_text(&mut self, node: NodeId, c: char) -> Result<(), ArenaError>
+        requires node_in { node < length self.old.labels }
+        requires is_text { IsText (label_of self.old node) }
+        ensures within { OnOk result (budget self.old 0 1 ≡ Ok tt) }
+        ensures added { OnOk result (self.new ≡ texted self.old node c) }
+        ensures refused { OnErr result (self.new ≡ self.old) }
+        ensures cause { IfErr result (λ e. RefusedBy (budget self.old 0 1) e) }
+    {
+        self.room_for(0, 1)?;
+        push_char(&mut self.nodes, node, c)?;
+        self.held = self.held.saturating_add(1);
+        self.steps = self.steps.saturating_add(1);
+        Ok(())
+    }
+
+    fn merge_later(&mut self, element: NodeId, attrs: Attrs) -> Result<(), ArenaError>
+        requires node_in { element < length self.old.labels }
+        requires is_element { IsElement (label_of self.old element) }
+        ensures within { OnOk result (budget self.old 0 (capped (attrs_weight (lacking (attrs_in (label_of self.old element)) attrs))) ≡ Ok tt) }
+        ensures merged { OnOk result (self.new ≡ with_merged self.old element attrs) }
+        ensures refused { OnErr result (self.new ≡ self.old) }
+        ensures cause { IfErr result (λ e. RefusedBy (budget self.old 0 (capped (attrs_weight (lacking (attrs_in (label_of self.old element)) attrs)))) e) }
+    {
+        let held = lacking_held(label_at(&self.nodes, element).attrs(), attrs.as_slice());
+        self.room_for(0, held)?;
+        let own = label_at(&self.nodes, element).attrs();
+        let steps = own.len() as u128 * attrs.len() as u128;
+        let all = merge(*self.links.allocator(), own, attrs)?;
+        set_attrs(&mut self.nodes, element, all);
+        self.held = self.held.saturating_add(held);
+        self.steps = self.steps.saturating_add(steps);
+        Ok(())
+    }
+}
+
+impl Arena {
+    /// What a node is, apart from its links.
+    pub fn node(&self, node: NodeId) -> &NodeData
+        requires { node < length self.now.labels }
+        ensures { result.now ≡ label_of self.now node }
+    {
+        label_at(&self.nodes, node)
+    }
+
+    pub fn kind(&self, node: NodeId) -> Kind
+        requires { node < length self.now.labels }
+        ensures { result ≡ kind_in (label_of self.now node) }
+    {
+        label_at(&self.nodes, node).kind()
+    }
+
+    /// The name of an element; empty for other nodes.
+    pub fn name(&self, node: NodeId) -> &str
+        requires { node < length self.now.labels }
+        ensures { chars result.now ≡ name_in (label_of self.now node) }
+    {
+        label_at(&self.nodes, node).name()
+    }
+
+    /// The tag of an element's name; `Other` for other nodes.
+    pub fn tag(&self, node: NodeId) -> Tag
+        requires { node < length self.now.labels }
+        ensures value { result ≡ tag_at self.now node }
+        ensures of_name { result ≡ tag_of (name_in (label_of self.now node)) }
+    {
+        label_at(&self.nodes, node).tag()
+    }
+
+    /// Whether a node is an element of this tag.
+    pub fn is_named(&self, node: NodeId, tag: Tag) -> bool
+        requires { node < length self.now.labels }
+        ensures { result ≡ named self.now tag node }
+    {
+        label_at(&self.nodes, node).tag().is(tag)
+    }
+
+    /// The attributes of an element; none for other nodes.
+    pub fn attrs(&self, node: NodeId) -> &[Attr]
+        requires { node < length self.now.labels }
+        ensures { result.now ≡ attrs_in (label_of self.now node) }
+    {
+        label_at(&self.nodes, node).attrs()
+    }
+
+    /// The text of a Text node, or the data of a comment; empty for other nodes.
+    pub fn text(&self, node: NodeId) -> &str
+        requires { node < length self.now.labels }
+        ensures { chars result.now ≡ text_in (label_of self.now node) }
+    {
+        label_at(&self.nodes, node).text()
+    }
+
+    /// Where a node comes from.
+    pub fn origin(&self, node: NodeId) -> Origin
+        requires { node < length self.now.labels }
+        ensures { result ≡ origin_in (label_of self.now node) }
+    {
+        label_at(&self.nodes, node).origin()
+    }
+
+    /// Whether a node was made as a clone of another.
+    pub fn is_clone(&self, node: NodeId) -> bool
+        requires { node < length self.now.labels }
+        ensures { result ≡ is_clone_in (label_of self.now node) }
+    {
+        label_at(&self.nodes, node).is_clone()
+    }
+
+    /// The Contents node of a template.
+    pub fn contents(&self, node: NodeId) -> Option<NodeId>
+        requires { node < length self.now.labels }
+        ensures value { result ≡ contents_in (label_of self.now node) }
+        ensures contents { IfSome result (λ c. (c < length self.now.labels) × (host_in (label_of self.now c) ≡ Some node)) }
+    {
+        label_at(&self.nodes, node).contents()
+    }
+
+    /// The template of a Contents node.
+    pub fn host(&self, node: NodeId) -> Option<NodeId>
+        requires { node < length self.now.labels }
+        ensures value { result ≡ host_in (label_of self.now node) }
+        ensures template { IfSome result (λ x. (x < length self.now.labels) × (contents_in (label_of self.now x) ≡ Some node)) }
+    {
+        label_at(&self.nodes, node).host()
+    }
+
+    /// Whether a node has a mark.
+    pub fn marked(&self, node: NodeId, mark: Mark) -> bool
+        requires { node < length self.now.labels }
+        ensures { result ≡ marked self.now mark node }
+    {
+        self.marks[node.index()].has(mark)
+    }
+
+    /// Sets or clears a mark of a node.
+    pub fn set_mark(&mut self, node: NodeId, mark: Mark, on: bool)
+        requires { node < length self.old.labels }
+        ensures { self.new ≡ with_marked self.old mark node on }
+    {
+        let marks = &mut self.marks[node.index()];
+        *marks = marks.with(mark, on);
     }
 }

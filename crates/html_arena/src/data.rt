@@ -1,23 +1,25 @@
 // What a node is, apart from its links.
-ghost use Rattle.std.specs.Prelude.{◌≡◌, ℕ, OnOk, OnErr, IfOk, length, chars};
-ghost use Rattle.html_arena.specs.Tree.{IsText, with_char, IsElement, cloned, tag_in, contents_in, mark_in, with_mark, kind_in, name_in, text_in};
-ghost use Rattle.html_arena.specs.Tags.{number, same_tag};
+ghost use Rattle.std.specs.Prelude.{◌≡◌, ◌+◌, ◌<◌, [], OnOk, OnErr, IfOk, length, slice_set};
+ghost use Rattle.std.specs.Str.{chars};
+ghost use Rattle.html_names.specs.Sets.{is_formatting};
+ghost use Rattle.html_arena.specs.Data.{IsText, IsElement, attrs_in, cloned, contents_in, host_in, is_clone_in, kind_in, label_in, name_in, origin_in, tag_in, text_in, with_attrs, with_char};
 ghost use Rattle.html_arena.specs.Weight.{weight, attrs_weight, optional_weight, capped};
 
+use crate::attributes::{SharedAttrs, attrs_held};
 use crate::links::NodeId;
-use crate::text::{Attr, Attrs, Str};
+use html_charref::Str;
 use html_names::Tag;
+use html_tokens::{Attr, Attrs};
 use std::alloc::AllocError;
 
-/// Where an element comes from.
-#[derive(Clone, Copy)]
+/// Where a node comes from: the token of this number, a rule of tree construction, or neither.
+#[derive(Clone, Copy, Debug, PartialEq, Eq)]
 pub enum Origin {
     Token(u64),
     Implied,
     Nothing,
 }
 
-/// What a node is.
 #[derive(Clone, Copy, Debug, PartialEq, Eq)]
 pub enum Kind {
     Document,
@@ -28,30 +30,24 @@ pub enum Kind {
     Doctype,
 }
 
-/// What a mark on an element tells.
-#[derive(Clone, Copy)]
-pub enum Mark {
-    OnStack,
-    InList,
-}
-
 /// An element without its links.
 #[derive(Drop)]
 pub struct ElementData {
     pub name: Str,
+    /// The tag of the name.
     pub tag: Tag,
-    pub attrs: Attrs,
+    pub attrs: SharedAttrs,
     pub origin: Origin,
     pub is_clone: bool,
+    /// The Contents node of a template.
     pub contents: Option<NodeId>,
-    pub on_stack: bool,
-    pub in_list: bool,
 }
 
 /// A node without its links.
 #[derive(Drop)]
 pub enum NodeData {
     Document,
+    /// The content of a template, its host.
     Contents {
         host: NodeId,
     },
@@ -77,11 +73,12 @@ pub enum NewNode {
     Document,
     Element {
         name: Str,
-        tag: Tag,
         attrs: Attrs,
         origin: Origin,
     },
+    /// A clone of an element that has a formatting name, without its children.
     CloneOf(NodeId),
+    /// An empty text.
     Text,
     Comment {
         text: Str,
@@ -103,7 +100,7 @@ pub fn clone_of(node: &NodeData) -> Result<NodeData, AllocError>
     let NodeData::Element(original) = node else {
         return Err(AllocError);
     };
-    let name = original.name.copy()?;
+    let name = original.name.clone()?;
     let attrs = original.attrs.share()?;
     Ok(NodeData::Element(ElementData {
         name,
@@ -112,13 +109,28 @@ pub fn clone_of(node: &NodeData) -> Result<NodeData, AllocError>
         origin: original.origin,
         is_clone: true,
         contents: None,
-        on_stack: false,
-        in_list: false,
     }))
 }
 
+/// The node of this number.
+pub fn label_at(nodes: &Vec<NodeData>, node: NodeId) -> &NodeData
+    requires { node < length nodes.now.items }
+    ensures { result.now ≡ label_in nodes.now.items node }
+{
+    &nodes[node.index()]
+}
+
 /// Adds a code point to a text.
-pub fn push_char(node: &mut NodeData, c: char) -> Result<(), AllocError>
+pub fn push_char(nodes: &mut Vec<NodeData>, node: NodeId, c: char) -> Result<(), AllocError>
+    requires node_in { node < length nodes.old.items }
+    requires is_text { IsText (label_in nodes.old.items node) }
+    ensures ok { OnOk result (nodes.new.items ≡ slice_set nodes.old.items node (with_char (label_in nodes.old.items node) c)) }
+    ensures err { OnErr result (nodes.new.items ≡ nodes.old.items) }
+{
+    push_to_text(&mut nodes[node.index()], c)
+}
+
+fn push_to_text(node: &mut NodeData, c: char) -> Result<(), AllocError>
     requires { IsText node.old }
     ensures ok { OnOk result (node.new ≡ with_char node.old c) }
     ensures err { OnErr result (node.new ≡ node.old) }
@@ -129,17 +141,20 @@ pub fn push_char(node: &mut NodeData, c: char) -> Result<(), AllocError>
     Ok(())
 }
 
-/// The code points of the names and values of attributes.
-fn attrs_held(attrs: &[Attr]) -> u128
-    ensures { result ≡ capped (attrs_weight attrs.now) }
+/// Gives an element other attributes.
+pub fn set_attrs(nodes: &mut Vec<NodeData>, node: NodeId, attrs: SharedAttrs)
+    requires { node < length nodes.old.items }
+    ensures { nodes.new.items ≡ slice_set nodes.old.items node (with_attrs (label_in nodes.old.items node) attrs) }
 {
-    let mut held: u128 = 0;
-    for attr in attrs {
-        let name = attr.name.len() as u128;
-        let value = attr.value.len() as u128;
-        held = held.saturating_add(name + value);
+    set_attrs_of(&mut nodes[node.index()], attrs);
+}
+
+fn set_attrs_of(node: &mut NodeData, attrs: SharedAttrs)
+    ensures { node.new ≡ with_attrs node.old attrs }
+{
+    if let NodeData::Element(element) = node {
+        element.attrs = attrs;
     }
-    held
 }
 
 /// The code points of a text that may be absent.
@@ -152,6 +167,13 @@ fn optional_held(text: &Option<Str>) -> u128
     }
 }
 
+/// The code points that an element of this name and these attributes holds.
+pub fn element_held(name: &Str, attrs: &[Attr]) -> u128
+    ensures { result ≡ capped (length name.now + attrs_weight attrs.now) }
+{
+    attrs_held(attrs).saturating_add(name.len() as u128)
+}
+
 /// The code points that a node holds, as if it shared none.
 pub fn held_of(node: &NodeData) -> u128
     ensures { result ≡ capped (weight node.now) }
@@ -159,9 +181,7 @@ pub fn held_of(node: &NodeData) -> u128
     match node {
         NodeData::Document => 0,
         NodeData::Contents { .. } => 0,
-        NodeData::Element(element) => attrs_held(element.attrs.as_slice()).saturating_add(
-            element.name.len() as u128,
-        ),
+        NodeData::Element(element) => element_held(&element.name, element.attrs.as_slice()),
         NodeData::Text { text } => text.len() as u128,
         NodeData::Comment { text, .. } => text.len() as u128,
         NodeData::Doctype {
@@ -178,108 +198,106 @@ pub fn held_of(node: &NodeData) -> u128
     }
 }
 
-/// Whether an element has a mark.
-pub fn has_mark(node: &NodeData, mark: Mark) -> bool
-    ensures { result ≡ mark_in mark node.now }
+/// The empty text.
+fn no_text() -> &'static str
+    ensures { chars result.now ≡ [] }
 {
-    match node {
-        NodeData::Element(element) => match mark {
-            Mark::OnStack => element.on_stack,
-            Mark::InList => element.in_list,
-        },
-        _ => false,
-    }
+    ""
 }
 
-/// Sets or clears a mark of an element.
-pub fn set_mark_of(node: &mut NodeData, mark: Mark, on: bool)
-    ensures { node.new ≡ with_mark mark on node.old }
-{
-    if let NodeData::Element(element) = node {
-        match mark {
-            Mark::OnStack => element.on_stack = on,
-            Mark::InList => element.in_list = on,
+impl NodeData {
+    pub fn kind(&self) -> Kind
+        ensures { result ≡ kind_in self.now }
+    {
+        match self {
+            NodeData::Document => Kind::Document,
+            NodeData::Contents { .. } => Kind::Contents,
+            NodeData::Element(_) => Kind::Element,
+            NodeData::Text { .. } => Kind::Text,
+            NodeData::Comment { .. } => Kind::Comment,
+            NodeData::Doctype { .. } => Kind::Doctype,
         }
     }
-}
 
-/// Whether the tags are the same.
-pub fn same_tags(one: Tag, other: Tag) -> bool
-    ensures { result ≡ same_tag one other }
-{
-    number_of(one) == number_of(other)
-}
-
-fn number_of(tag: Tag) -> u8
-    ensures { result ≡ number tag }
-{
-    tag as u8
-}
-
-/// The tag of a node.
-pub fn tag_of_node(node: &NodeData) -> Tag
-    ensures { result ≡ tag_in node.now }
-{
-    match node {
-        NodeData::Element(element) => element.tag,
-        _ => Tag::Other,
+    /// The name of an element; empty for other nodes.
+    pub fn name(&self) -> &str
+        ensures { chars result.now ≡ name_in self.now }
+    {
+        match self {
+            NodeData::Element(element) => element.name.as_str(),
+            _ => no_text(),
+        }
     }
-}
 
-/// A template's contents.
-pub fn contents_of_node(node: &NodeData) -> Option<NodeId>
-    ensures { result ≡ contents_in node.now }
-{
-    match node {
-        NodeData::Element(element) => element.contents,
-        _ => None,
+    /// The tag of an element's name; `Other` for other nodes.
+    pub fn tag(&self) -> Tag
+        ensures { result ≡ tag_in self.now }
+    {
+        match self {
+            NodeData::Element(element) => element.tag,
+            _ => Tag::Other,
+        }
     }
-}
 
-/// What a node is.
-pub fn kind_of_node(node: &NodeData) -> Kind
-    ensures { result ≡ kind_in node.now }
-{
-    match node {
-        NodeData::Document => Kind::Document,
-        NodeData::Contents { .. } => Kind::Contents,
-        NodeData::Element(_) => Kind::Element,
-        NodeData::Text { .. } => Kind::Text,
-        NodeData::Comment { .. } => Kind::Comment,
-        NodeData::Doctype { .. } => Kind::Doctype,
+    /// The attributes of an element; none for other nodes.
+    pub fn attrs(&self) -> &[Attr]
+        ensures { result.now ≡ attrs_in self.now }
+    {
+        match self {
+            NodeData::Element(element) => element.attrs.as_slice(),
+            _ => &[],
+        }
     }
-}
 
-/// The name of an element or a doctype, else the empty text.
-#[tactic(auto, using(crate::proofs::Empty::chars_nil))]
-pub fn name_of_node(node: &NodeData) -> &str
-    ensures { chars result.now ≡ name_in node.now }
-{
-    match node {
-        NodeData::Element(element) => element.name.as_str(),
-        NodeData::Doctype {
-            name: Some(name),
-            ..
-        } => name.as_str(),
-        NodeData::Doctype { name: None, .. } => "",
-        NodeData::Document => "",
-        NodeData::Contents { .. } => "",
-        NodeData::Text { .. } => "",
-        NodeData::Comment { .. } => "",
+    /// The text of a Text node, or the data of a comment; empty for other nodes.
+    pub fn text(&self) -> &str
+        ensures { chars result.now ≡ text_in self.now }
+    {
+        match self {
+            NodeData::Text { text } | NodeData::Comment { text, .. } => text.as_str(),
+            _ => no_text(),
+        }
     }
-}
 
-/// The data of a text or a comment, else the empty text.
-#[tactic(auto, using(crate::proofs::Empty::chars_nil))]
-pub fn text_of_node(node: &NodeData) -> &str
-    ensures { chars result.now ≡ text_in node.now }
-{
-    match node {
-        NodeData::Text { text } => text.as_str(),
-        NodeData::Comment { text, .. } => text.as_str(),
-        NodeData::Document => "",
-        NodeData::Contents { .. } => "",
-        NodeData::Element(_) => "",
-        NodeData::Doctype { .. } => "",
+    /// Where the node comes from: the token of a comment or a doctype is its own.
+    pub fn origin(&self) -> Origin
+        ensures { result ≡ origin_in self.now }
+    {
+        match self {
+            NodeData::Element(element) => element.origin,
+            NodeData::Comment { token, .. } => Origin::Token(*token),
+            NodeData::Doctype { token, .. } => Origin::Token(*token),
+            _ => Origin::Nothing,
+        }
+    }
+
+    /// Whether the node was made as a clone of another.
+    pub fn is_clone(&self) -> bool
+        ensures { result ≡ is_clone_in self.now }
+    {
+        match self {
+            NodeData::Element(element) => element.is_clone,
+            _ => false,
+        }
+    }
+
+    /// The Contents node of a template.
+    pub fn contents(&self) -> Option<NodeId>
+        ensures { result ≡ contents_in self.now }
+    {
+        match self {
+            NodeData::Element(element) => element.contents,
+            _ => None,
+        }
+    }
+
+    /// The template of a Contents node.
+    pub fn host(&self) -> Option<NodeId>
+        ensures { result ≡ host_in self.now }
+    {
+        match self {
+            NodeData::Contents { host } => Some(*host),
+            _ => None,
+        }
     }
 }

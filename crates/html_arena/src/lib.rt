@@ -2,12 +2,19 @@
 #![tactic(auto)]
 
 mod arena;
+mod attributes;
 mod data;
 mod links;
+mod marks;
 mod room;
-mod text;
+mod walk;
 
-pub use arena::{Arena, ArenaError, Limits};
-pub use data::{ElementData, Kind, Mark, NewNode, NodeData, Origin};
+#[cfg(test)]
+mod tests;
+
+pub use arena::{Arena, ArenaError, Limits, Meter};
+pub use attributes::SharedAttrs;
+pub use data::{ElementData, Kind, NewNode, NodeData, Origin};
 pub use links::NodeId;
-pub use text::{Attr, Attrs, Str};
+pub use marks::{Mark, Marks};
+pub use walk::{Event, Show, Walk};

@@ -4,7 +4,7 @@ ghost use Rattle.std.specs.Prelude.{◌≡◌, ℕ, ◌+◌, ◌^◌, ◌<◌, �
 use std::marker::Model;
 
 /// The number of a node, counted from 0 in the order in which nodes are made.
-#[derive(Debug, PartialEq, Eq)]
+#[derive(PartialEq, Eq, PartialOrd, Ord, Hash, Debug)]
 pub struct NodeId(u64);
 
 impl Model for NodeId {
@@ -24,12 +24,14 @@ impl Clone for NodeId {
 impl Copy for NodeId {}
 
 impl NodeId {
+    /// The number, as an index.
     pub fn index(self) -> usize
         ensures { result ≡ self }
     {
         self.0 as usize
     }
 
+    /// The node of this number.
     pub fn at(index: usize) -> NodeId
         ensures { result ≡ index }
     {
@@ -37,6 +39,7 @@ impl NodeId {
     }
 }
 
+/// The links of one node.
 #[derive(Clone, Copy)]
 pub struct Links {
     pub parent: Option<NodeId>,
@@ -45,6 +48,9 @@ pub struct Links {
     pub previous: Option<NodeId>,
     pub next: Option<NodeId>,
 }
+
+// Links in half the room.
+pub mod packed;
 
 // The writes of links, each as a function of every node's number.
 pub mod writes;

@@ -1,48 +1,183 @@
-use Rattle.std.specs.Prelude.{ℕ, List, codes, if◌then◌else◌, ◌==◌, length}
+-- The names of the known elements, and the tag that a name has.
+use Rattle.std.specs.Prelude.{ℕ, Bool, true, false, List, [], ◌∷◌, codes, if◌then◌else◌, ◌==◌, length}
 use Rattle.std.specs.Str.{bytes_eq}
-use Rattle.html_names.specs.declared.Tag.{Tag}
-use Rattle.html_names.specs.declared.Tag.TheVariants.{A, Address, Applet, Area, Article, Aside, B, Base, Basefont, Bgsound, Big, Blockquote, Body, Br, Button, Caption, Center, Code, Col, Colgroup, Dd, Details, Dialog, Dir, Div, Dl, Dt, Em, Embed, Fieldset, Figcaption, Figure, Font, Footer, Form, Frame, Frameset, H1, H2, H3, H4, H5, H6, Head, Header, Hgroup, Hr, Html, I, Iframe, Image, Img, Input, Keygen, Li, Link, Listing, Main, Marquee, Math, Menu, Meta, Nav, Nobr, Noembed, Noframes, Noscript, Object, Ol, Optgroup, Option, P, Param, Plaintext, Pre, Rb, Rp, Rt, Rtc, Ruby, S, Script, Search, Section, Select, Small, Source, Strike, Strong, Style, Summary, Svg, Table, Tbody, Td, Template, Textarea, Tfoot, Th, Thead, Title, Tr, Track, Tt, U, Ul, Wbr, Xmp, Other}
+use Rattle.html_names.specs.declared.tag.Tag.{Tag}
+use Rattle.html_names.specs.declared.tag.Tag.TheVariants as tag
 
-abbrev pub tag_of_1 : List ℕ → Tag
-tag_of_1 name =
-    if bytes_eq name (codes "a") then A else (if bytes_eq name (codes "b") then B else (if bytes_eq name (codes "i") then I else (if bytes_eq name (codes "p") then P else (if bytes_eq name (codes "s") then S else (if bytes_eq name (codes "u") then U else (Other))))))
+-- the name of a known element; `Other` has none
+abbrev pub name_of : Tag → List ℕ
+name_of tag.A = codes "a"
+name_of tag.Address = codes "address"
+name_of tag.Applet = codes "applet"
+name_of tag.Area = codes "area"
+name_of tag.Article = codes "article"
+name_of tag.Aside = codes "aside"
+name_of tag.B = codes "b"
+name_of tag.Base = codes "base"
+name_of tag.Basefont = codes "basefont"
+name_of tag.Bgsound = codes "bgsound"
+name_of tag.Big = codes "big"
+name_of tag.Blockquote = codes "blockquote"
+name_of tag.Body = codes "body"
+name_of tag.Br = codes "br"
+name_of tag.Button = codes "button"
+name_of tag.Caption = codes "caption"
+name_of tag.Center = codes "center"
+name_of tag.Code = codes "code"
+name_of tag.Col = codes "col"
+name_of tag.Colgroup = codes "colgroup"
+name_of tag.Dd = codes "dd"
+name_of tag.Details = codes "details"
+name_of tag.Dialog = codes "dialog"
+name_of tag.Dir = codes "dir"
+name_of tag.Div = codes "div"
+name_of tag.Dl = codes "dl"
+name_of tag.Dt = codes "dt"
+name_of tag.Em = codes "em"
+name_of tag.Embed = codes "embed"
+name_of tag.Fieldset = codes "fieldset"
+name_of tag.Figcaption = codes "figcaption"
+name_of tag.Figure = codes "figure"
+name_of tag.Font = codes "font"
+name_of tag.Footer = codes "footer"
+name_of tag.Form = codes "form"
+name_of tag.Frame = codes "frame"
+name_of tag.Frameset = codes "frameset"
+name_of tag.H1 = codes "h1"
+name_of tag.H2 = codes "h2"
+name_of tag.H3 = codes "h3"
+name_of tag.H4 = codes "h4"
+name_of tag.H5 = codes "h5"
+name_of tag.H6 = codes "h6"
+name_of tag.Head = codes "head"
+name_of tag.Header = codes "header"
+name_of tag.Hgroup = codes "hgroup"
+name_of tag.Hr = codes "hr"
+name_of tag.Html = codes "html"
+name_of tag.I = codes "i"
+name_of tag.Iframe = codes "iframe"
+name_of tag.Image = codes "image"
+name_of tag.Img = codes "img"
+name_of tag.Input = codes "input"
+name_of tag.Keygen = codes "keygen"
+name_of tag.Li = codes "li"
+name_of tag.Link = codes "link"
+name_of tag.Listing = codes "listing"
+name_of tag.Main = codes "main"
+name_of tag.Marquee = codes "marquee"
+name_of tag.Math = codes "math"
+name_of tag.Menu = codes "menu"
+name_of tag.Meta = codes "meta"
+name_of tag.Nav = codes "nav"
+name_of tag.Nobr = codes "nobr"
+name_of tag.Noembed = codes "noembed"
+name_of tag.Noframes = codes "noframes"
+name_of tag.Noscript = codes "noscript"
+name_of tag.Object = codes "object"
+name_of tag.Ol = codes "ol"
+name_of tag.Optgroup = codes "optgroup"
+name_of tag.Option = codes "option"
+name_of tag.P = codes "p"
+name_of tag.Param = codes "param"
+name_of tag.Plaintext = codes "plaintext"
+name_of tag.Pre = codes "pre"
+name_of tag.Rb = codes "rb"
+name_of tag.Rp = codes "rp"
+name_of tag.Rt = codes "rt"
+name_of tag.Rtc = codes "rtc"
+name_of tag.Ruby = codes "ruby"
+name_of tag.S = codes "s"
+name_of tag.Script = codes "script"
+name_of tag.Search = codes "search"
+name_of tag.Section = codes "section"
+name_of tag.Select = codes "select"
+name_of tag.Small = codes "small"
+name_of tag.Source = codes "source"
+name_of tag.Strike = codes "strike"
+name_of tag.Strong = codes "strong"
+name_of tag.Style = codes "style"
+name_of tag.Summary = codes "summary"
+name_of tag.Svg = codes "svg"
+name_of tag.Table = codes "table"
+name_of tag.Tbody = codes "tbody"
+name_of tag.Td = codes "td"
+name_of tag.Template = codes "template"
+name_of tag.Textarea = codes "textarea"
+name_of tag.Tfoot = codes "tfoot"
+name_of tag.Th = codes "th"
+name_of tag.Thead = codes "thead"
+name_of tag.Title = codes "title"
+name_of tag.Tr = codes "tr"
+name_of tag.Track = codes "track"
+name_of tag.Tt = codes "tt"
+name_of tag.U = codes "u"
+name_of tag.Ul = codes "ul"
+name_of tag.Wbr = codes "wbr"
+name_of tag.Xmp = codes "xmp"
+name_of tag.Other = []
 
-abbrev pub tag_of_2 : List ℕ → Tag
-tag_of_2 name =
-    if bytes_eq name (codes "br") then Br else (if bytes_eq name (codes "dd") then Dd else (if bytes_eq name (codes "dl") then Dl else (if bytes_eq name (codes "dt") then Dt else (if bytes_eq name (codes "em") then Em else (if bytes_eq name (codes "h1") then H1 else (if bytes_eq name (codes "h2") then H2 else (if bytes_eq name (codes "h3") then H3 else (if bytes_eq name (codes "h4") then H4 else (if bytes_eq name (codes "h5") then H5 else (if bytes_eq name (codes "h6") then H6 else (if bytes_eq name (codes "hr") then Hr else (if bytes_eq name (codes "li") then Li else (if bytes_eq name (codes "ol") then Ol else (if bytes_eq name (codes "rb") then Rb else (if bytes_eq name (codes "rp") then Rp else (if bytes_eq name (codes "rt") then Rt else (if bytes_eq name (codes "td") then Td else (if bytes_eq name (codes "th") then Th else (if bytes_eq name (codes "tr") then Tr else (if bytes_eq name (codes "tt") then Tt else (if bytes_eq name (codes "ul") then Ul else (Other))))))))))))))))))))))
+abbrev pub is_known : Tag → Bool
+is_known tag.Other = false
+is_known _ = true
 
-abbrev pub tag_of_3 : List ℕ → Tag
-tag_of_3 name =
-    if bytes_eq name (codes "big") then Big else (if bytes_eq name (codes "col") then Col else (if bytes_eq name (codes "dir") then Dir else (if bytes_eq name (codes "div") then Div else (if bytes_eq name (codes "img") then Img else (if bytes_eq name (codes "nav") then Nav else (if bytes_eq name (codes "pre") then Pre else (if bytes_eq name (codes "rtc") then Rtc else (if bytes_eq name (codes "svg") then Svg else (if bytes_eq name (codes "wbr") then Wbr else (if bytes_eq name (codes "xmp") then Xmp else (Other)))))))))))
+-- a name and its tag
+pub record Row : Type 0 where
+  pub name : List ℕ
+  pub tag : Tag
 
-abbrev pub tag_of_4 : List ℕ → Tag
-tag_of_4 name =
-    if bytes_eq name (codes "area") then Area else (if bytes_eq name (codes "base") then Base else (if bytes_eq name (codes "body") then Body else (if bytes_eq name (codes "code") then Code else (if bytes_eq name (codes "font") then Font else (if bytes_eq name (codes "form") then Form else (if bytes_eq name (codes "head") then Head else (if bytes_eq name (codes "html") then Html else (if bytes_eq name (codes "link") then Link else (if bytes_eq name (codes "main") then Main else (if bytes_eq name (codes "math") then Math else (if bytes_eq name (codes "menu") then Menu else (if bytes_eq name (codes "meta") then Meta else (if bytes_eq name (codes "nobr") then Nobr else (if bytes_eq name (codes "ruby") then Ruby else (Other)))))))))))))))
+abbrev pub row : Tag → Row
+row t = record { name = name_of t; tag = t }
 
-abbrev pub tag_of_5 : List ℕ → Tag
-tag_of_5 name =
-    if bytes_eq name (codes "aside") then Aside else (if bytes_eq name (codes "embed") then Embed else (if bytes_eq name (codes "frame") then Frame else (if bytes_eq name (codes "image") then Image else (if bytes_eq name (codes "input") then Input else (if bytes_eq name (codes "param") then Param else (if bytes_eq name (codes "small") then Small else (if bytes_eq name (codes "style") then Style else (if bytes_eq name (codes "table") then Table else (if bytes_eq name (codes "tbody") then Tbody else (if bytes_eq name (codes "tfoot") then Tfoot else (if bytes_eq name (codes "thead") then Thead else (if bytes_eq name (codes "title") then Title else (if bytes_eq name (codes "track") then Track else (Other))))))))))))))
+-- the tag of the first row with this name, or `Other`
+abbrev pub look_up : List ℕ → List Row → Tag
+look_up name [] = tag.Other
+look_up name (r ∷ rows) = if bytes_eq name r.name then r.tag else look_up name rows
 
-abbrev pub tag_of_6 : List ℕ → Tag
-tag_of_6 name =
-    if bytes_eq name (codes "applet") then Applet else (if bytes_eq name (codes "button") then Button else (if bytes_eq name (codes "center") then Center else (if bytes_eq name (codes "dialog") then Dialog else (if bytes_eq name (codes "figure") then Figure else (if bytes_eq name (codes "footer") then Footer else (if bytes_eq name (codes "header") then Header else (if bytes_eq name (codes "hgroup") then Hgroup else (if bytes_eq name (codes "iframe") then Iframe else (if bytes_eq name (codes "keygen") then Keygen else (if bytes_eq name (codes "object") then Object else (if bytes_eq name (codes "option") then Option else (if bytes_eq name (codes "script") then Script else (if bytes_eq name (codes "search") then Search else (if bytes_eq name (codes "select") then Select else (if bytes_eq name (codes "source") then Source else (if bytes_eq name (codes "strike") then Strike else (if bytes_eq name (codes "strong") then Strong else (Other))))))))))))))))))
+-- the known names of 1 letter
+abbrev pub rows_1 : List Row
+rows_1 = row tag.A ∷ row tag.B ∷ row tag.I ∷ row tag.P ∷ row tag.S ∷ row tag.U ∷ []
 
-abbrev pub tag_of_7 : List ℕ → Tag
-tag_of_7 name =
-    if bytes_eq name (codes "address") then Address else (if bytes_eq name (codes "article") then Article else (if bytes_eq name (codes "bgsound") then Bgsound else (if bytes_eq name (codes "caption") then Caption else (if bytes_eq name (codes "details") then Details else (if bytes_eq name (codes "listing") then Listing else (if bytes_eq name (codes "marquee") then Marquee else (if bytes_eq name (codes "noembed") then Noembed else (if bytes_eq name (codes "section") then Section else (if bytes_eq name (codes "summary") then Summary else (Other))))))))))
+-- the known names of 2 letters
+abbrev pub rows_2 : List Row
+rows_2 = row tag.Br ∷ row tag.Dd ∷ row tag.Dl ∷ row tag.Dt ∷ row tag.Em ∷ row tag.H1 ∷ row tag.H2 ∷ row tag.H3 ∷ row tag.H4 ∷ row tag.H5 ∷ row tag.H6 ∷ row tag.Hr ∷ row tag.Li ∷ row tag.Ol ∷ row tag.Rb ∷ row tag.Rp ∷ row tag.Rt ∷ row tag.Td ∷ row tag.Th ∷ row tag.Tr ∷ row tag.Tt ∷ row tag.Ul ∷ []
 
-abbrev pub tag_of_8 : List ℕ → Tag
-tag_of_8 name =
-    if bytes_eq name (codes "basefont") then Basefont else (if bytes_eq name (codes "colgroup") then Colgroup else (if bytes_eq name (codes "fieldset") then Fieldset else (if bytes_eq name (codes "frameset") then Frameset else (if bytes_eq name (codes "noframes") then Noframes else (if bytes_eq name (codes "noscript") then Noscript else (if bytes_eq name (codes "optgroup") then Optgroup else (if bytes_eq name (codes "template") then Template else (if bytes_eq name (codes "textarea") then Textarea else (Other)))))))))
+-- the known names of 3 letters
+abbrev pub rows_3 : List Row
+rows_3 = row tag.Big ∷ row tag.Col ∷ row tag.Dir ∷ row tag.Div ∷ row tag.Img ∷ row tag.Nav ∷ row tag.Pre ∷ row tag.Rtc ∷ row tag.Svg ∷ row tag.Wbr ∷ row tag.Xmp ∷ []
 
-abbrev pub tag_of_9 : List ℕ → Tag
-tag_of_9 name =
-    if bytes_eq name (codes "plaintext") then Plaintext else (Other)
+-- the known names of 4 letters
+abbrev pub rows_4 : List Row
+rows_4 = row tag.Area ∷ row tag.Base ∷ row tag.Body ∷ row tag.Code ∷ row tag.Font ∷ row tag.Form ∷ row tag.Head ∷ row tag.Html ∷ row tag.Link ∷ row tag.Main ∷ row tag.Math ∷ row tag.Menu ∷ row tag.Meta ∷ row tag.Nobr ∷ row tag.Ruby ∷ []
 
-abbrev pub tag_of_10 : List ℕ → Tag
-tag_of_10 name =
-    if bytes_eq name (codes "blockquote") then Blockquote else (if bytes_eq name (codes "figcaption") then Figcaption else (Other))
+-- the known names of 5 letters
+abbrev pub rows_5 : List Row
+rows_5 = row tag.Aside ∷ row tag.Embed ∷ row tag.Frame ∷ row tag.Image ∷ row tag.Input ∷ row tag.Param ∷ row tag.Small ∷ row tag.Style ∷ row tag.Table ∷ row tag.Tbody ∷ row tag.Tfoot ∷ row tag.Thead ∷ row tag.Title ∷ row tag.Track ∷ []
 
-abbrev pub tag_of : List ℕ → Tag
-tag_of name =
-    if length name == 1 then tag_of_1 name else (if length name == 2 then tag_of_2 name else (if length name == 3 then tag_of_3 name else (if length name == 4 then tag_of_4 name else (if length name == 5 then tag_of_5 name else (if length name == 6 then tag_of_6 name else (if length name == 7 then tag_of_7 name else (if length name == 8 then tag_of_8 name else (if length name == 9 then tag_of_9 name else (if length name == 10 then tag_of_10 name else (Other))))))))))
+-- the known names of 6 letters
+abbrev pub rows_6 : List Row
+rows_6 = row tag.Applet ∷ row tag.Button ∷ row tag.Center ∷ row tag.Dialog ∷ row tag.Figure ∷ row tag.Footer ∷ row tag.Header ∷ row tag.Hgroup ∷ row tag.Iframe ∷ row tag.Keygen ∷ row tag.Object ∷ row tag.Option ∷ row tag.Script ∷ row tag.Search ∷ row tag.Select ∷ row tag.Source ∷ row tag.Strike ∷ row tag.Strong ∷ []
+
+-- the known names of 7 letters
+abbrev pub rows_7 : List Row
+rows_7 = row tag.Address ∷ row tag.Article ∷ row tag.Bgsound ∷ row tag.Caption ∷ row tag.Details ∷ row tag.Listing ∷ row tag.Marquee ∷ row tag.Noembed ∷ row tag.Section ∷ row tag.Summary ∷ []
+
+-- the known names of 8 letters
+abbrev pub rows_8 : List Row
+rows_8 = row tag.Basefont ∷ row tag.Colgroup ∷ row tag.Fieldset ∷ row tag.Frameset ∷ row tag.Noframes ∷ row tag.Noscript ∷ row tag.Optgroup ∷ row tag.Template ∷ row tag.Textarea ∷ []
+
+-- the known names of 9 letters
+abbrev pub rows_9 : List Row
+rows_9 = row tag.Plaintext ∷ []
+
+-- the known names of 10 letters
+abbrev pub rows_10 : List Row
+rows_10 = row tag.Blockquote ∷ row tag.Figcaption ∷ []
+
+-- the known names of so many letters
+abbrev pub rows_of : ℕ → List Row
+rows_of k =
+    if k == 1 then rows_1 else (if k == 2 then rows_2 else (if k == 3 then rows_3 else (if k == 4 then rows_4 else (if k == 5 then rows_5 else (if k == 6 then rows_6 else (if k == 7 then rows_7 else (if k == 8 then rows_8 else (if k == 9 then rows_9 else (if k == 10 then rows_10 else ([]))))))))))
+
+-- the tag that a name has
+unfoldable pub tag_of : List ℕ → Tag
+tag_of name = look_up name (rows_of (length name))

@@ -1,394 +1,342 @@
-use Rattle.std.specs.Prelude.{Bool, true, false}
-use Rattle.html_names.specs.declared.Tag.{Tag}
-use Rattle.html_names.specs.declared.Tag.TheVariants.{A, Address, Applet, Area, Article, Aside, B, Base, Basefont, Bgsound, Big, Blockquote, Body, Br, Button, Caption, Center, Code, Col, Colgroup, Dd, Details, Dialog, Dir, Div, Dl, Dt, Em, Embed, Fieldset, Figcaption, Figure, Font, Footer, Form, Frame, Frameset, H1, H2, H3, H4, H5, H6, Head, Header, Hgroup, Hr, Html, I, Iframe, Image, Img, Input, Keygen, Li, Link, Listing, Main, Marquee, Math, Menu, Meta, Nav, Nobr, Noembed, Noframes, Noscript, Object, Ol, Optgroup, Option, P, Param, Plaintext, Pre, Rb, Rp, Rt, Rtc, Ruby, S, Script, Search, Section, Select, Small, Source, Strike, Strong, Style, Summary, Svg, Table, Tbody, Td, Template, Textarea, Tfoot, Th, Thead, Title, Tr, Track, Tt, U, Ul, Wbr, Xmp, Other}
+-- The sets of elements that tree construction and serialising tell apart (13.2.4, 13.2.6 and 13.3 of the HTML standard).
+use Rattle.std.specs.Prelude.{Bool, true, false, not, ◌||◌}
+use Rattle.html_names.specs.declared.tag.Tag.{Tag}
+use Rattle.html_names.specs.declared.tag.Tag.TheVariants as tag
+use Rattle.html_names.specs.declared.sets.Scope.{Scope}
+use Rattle.html_names.specs.declared.sets.Scope.TheVariants as scope
 
--- One of the special names.
-abbrev pub is_special : Tag → Bool
-is_special Address = true
-is_special Applet = true
-is_special Area = true
-is_special Article = true
-is_special Aside = true
-is_special Base = true
-is_special Basefont = true
-is_special Bgsound = true
-is_special Blockquote = true
-is_special Body = true
-is_special Br = true
-is_special Button = true
-is_special Caption = true
-is_special Center = true
-is_special Col = true
-is_special Colgroup = true
-is_special Dd = true
-is_special Details = true
-is_special Dir = true
-is_special Div = true
-is_special Dl = true
-is_special Dt = true
-is_special Embed = true
-is_special Fieldset = true
-is_special Figcaption = true
-is_special Figure = true
-is_special Footer = true
-is_special Form = true
-is_special Frame = true
-is_special Frameset = true
-is_special H1 = true
-is_special H2 = true
-is_special H3 = true
-is_special H4 = true
-is_special H5 = true
-is_special H6 = true
-is_special Head = true
-is_special Header = true
-is_special Hgroup = true
-is_special Hr = true
-is_special Html = true
-is_special Iframe = true
-is_special Img = true
-is_special Input = true
-is_special Keygen = true
-is_special Li = true
-is_special Link = true
-is_special Listing = true
-is_special Main = true
-is_special Marquee = true
-is_special Menu = true
-is_special Meta = true
-is_special Nav = true
-is_special Noembed = true
-is_special Noframes = true
-is_special Noscript = true
-is_special Object = true
-is_special Ol = true
-is_special P = true
-is_special Param = true
-is_special Plaintext = true
-is_special Pre = true
-is_special Script = true
-is_special Search = true
-is_special Section = true
-is_special Select = true
-is_special Source = true
-is_special Style = true
-is_special Summary = true
-is_special Table = true
-is_special Tbody = true
-is_special Td = true
-is_special Template = true
-is_special Textarea = true
-is_special Tfoot = true
-is_special Th = true
-is_special Thead = true
-is_special Title = true
-is_special Tr = true
-is_special Track = true
-is_special Ul = true
-is_special Wbr = true
-is_special Xmp = true
-is_special _ = false
-
--- One of the formatting names.
+-- Formatting elements (13.2.4.2, the stack of open elements: the categories of elements).
 abbrev pub is_formatting : Tag → Bool
-is_formatting A = true
-is_formatting B = true
-is_formatting Big = true
-is_formatting Code = true
-is_formatting Em = true
-is_formatting Font = true
-is_formatting I = true
-is_formatting Nobr = true
-is_formatting S = true
-is_formatting Small = true
-is_formatting Strike = true
-is_formatting Strong = true
-is_formatting Tt = true
-is_formatting U = true
+is_formatting tag.A = true
+is_formatting tag.B = true
+is_formatting tag.Big = true
+is_formatting tag.Code = true
+is_formatting tag.Em = true
+is_formatting tag.Font = true
+is_formatting tag.I = true
+is_formatting tag.Nobr = true
+is_formatting tag.S = true
+is_formatting tag.Small = true
+is_formatting tag.Strike = true
+is_formatting tag.Strong = true
+is_formatting tag.Tt = true
+is_formatting tag.U = true
 is_formatting _ = false
 
--- Ends the default scope.
-abbrev pub is_scope_end : Tag → Bool
-is_scope_end Applet = true
-is_scope_end Caption = true
-is_scope_end Html = true
-is_scope_end Marquee = true
-is_scope_end Object = true
-is_scope_end Table = true
-is_scope_end Td = true
-is_scope_end Template = true
-is_scope_end Th = true
-is_scope_end _ = false
+-- Special elements (13.2.4.2).
+abbrev pub is_special : Tag → Bool
+is_special tag.Address = true
+is_special tag.Applet = true
+is_special tag.Area = true
+is_special tag.Article = true
+is_special tag.Aside = true
+is_special tag.Base = true
+is_special tag.Basefont = true
+is_special tag.Bgsound = true
+is_special tag.Blockquote = true
+is_special tag.Body = true
+is_special tag.Br = true
+is_special tag.Button = true
+is_special tag.Caption = true
+is_special tag.Center = true
+is_special tag.Col = true
+is_special tag.Colgroup = true
+is_special tag.Dd = true
+is_special tag.Details = true
+is_special tag.Dir = true
+is_special tag.Div = true
+is_special tag.Dl = true
+is_special tag.Dt = true
+is_special tag.Embed = true
+is_special tag.Fieldset = true
+is_special tag.Figcaption = true
+is_special tag.Figure = true
+is_special tag.Footer = true
+is_special tag.Form = true
+is_special tag.Frame = true
+is_special tag.Frameset = true
+is_special tag.H1 = true
+is_special tag.H2 = true
+is_special tag.H3 = true
+is_special tag.H4 = true
+is_special tag.H5 = true
+is_special tag.H6 = true
+is_special tag.Head = true
+is_special tag.Header = true
+is_special tag.Hgroup = true
+is_special tag.Hr = true
+is_special tag.Html = true
+is_special tag.Iframe = true
+is_special tag.Img = true
+is_special tag.Input = true
+is_special tag.Keygen = true
+is_special tag.Li = true
+is_special tag.Link = true
+is_special tag.Listing = true
+is_special tag.Main = true
+is_special tag.Marquee = true
+is_special tag.Menu = true
+is_special tag.Meta = true
+is_special tag.Nav = true
+is_special tag.Noembed = true
+is_special tag.Noframes = true
+is_special tag.Noscript = true
+is_special tag.Object = true
+is_special tag.Ol = true
+is_special tag.P = true
+is_special tag.Param = true
+is_special tag.Plaintext = true
+is_special tag.Pre = true
+is_special tag.Script = true
+is_special tag.Search = true
+is_special tag.Section = true
+is_special tag.Select = true
+is_special tag.Source = true
+is_special tag.Style = true
+is_special tag.Summary = true
+is_special tag.Table = true
+is_special tag.Tbody = true
+is_special tag.Td = true
+is_special tag.Template = true
+is_special tag.Textarea = true
+is_special tag.Tfoot = true
+is_special tag.Th = true
+is_special tag.Thead = true
+is_special tag.Title = true
+is_special tag.Tr = true
+is_special tag.Track = true
+is_special tag.Ul = true
+is_special tag.Wbr = true
+is_special tag.Xmp = true
+is_special _ = false
 
--- Its end tag may be implied.
+-- Elements whose end tags are implied (13.2.6.3).
 abbrev pub is_implied : Tag → Bool
-is_implied Dd = true
-is_implied Dt = true
-is_implied Li = true
-is_implied Optgroup = true
-is_implied Option = true
-is_implied P = true
-is_implied Rb = true
-is_implied Rp = true
-is_implied Rt = true
-is_implied Rtc = true
+is_implied tag.Dd = true
+is_implied tag.Dt = true
+is_implied tag.Li = true
+is_implied tag.Optgroup = true
+is_implied tag.Option = true
+is_implied tag.P = true
+is_implied tag.Rb = true
+is_implied tag.Rp = true
+is_implied tag.Rt = true
+is_implied tag.Rtc = true
 is_implied _ = false
 
--- Its end tag may be implied thoroughly.
+-- Elements whose end tags are implied thoroughly (13.2.6.3).
 abbrev pub is_implied_thoroughly : Tag → Bool
-is_implied_thoroughly Caption = true
-is_implied_thoroughly Colgroup = true
-is_implied_thoroughly Dd = true
-is_implied_thoroughly Dt = true
-is_implied_thoroughly Li = true
-is_implied_thoroughly Optgroup = true
-is_implied_thoroughly Option = true
-is_implied_thoroughly P = true
-is_implied_thoroughly Rb = true
-is_implied_thoroughly Rp = true
-is_implied_thoroughly Rt = true
-is_implied_thoroughly Rtc = true
-is_implied_thoroughly Tbody = true
-is_implied_thoroughly Td = true
-is_implied_thoroughly Tfoot = true
-is_implied_thoroughly Th = true
-is_implied_thoroughly Thead = true
-is_implied_thoroughly Tr = true
+is_implied_thoroughly tag.Caption = true
+is_implied_thoroughly tag.Colgroup = true
+is_implied_thoroughly tag.Dd = true
+is_implied_thoroughly tag.Dt = true
+is_implied_thoroughly tag.Li = true
+is_implied_thoroughly tag.Optgroup = true
+is_implied_thoroughly tag.Option = true
+is_implied_thoroughly tag.P = true
+is_implied_thoroughly tag.Rb = true
+is_implied_thoroughly tag.Rp = true
+is_implied_thoroughly tag.Rt = true
+is_implied_thoroughly tag.Rtc = true
+is_implied_thoroughly tag.Tbody = true
+is_implied_thoroughly tag.Td = true
+is_implied_thoroughly tag.Tfoot = true
+is_implied_thoroughly tag.Th = true
+is_implied_thoroughly tag.Thead = true
+is_implied_thoroughly tag.Tr = true
 is_implied_thoroughly _ = false
 
--- A block.
+-- Blocks (13.2.6.4.7, in body: the start tags from address to ul that close a p).
 abbrev pub is_block : Tag → Bool
-is_block Address = true
-is_block Article = true
-is_block Aside = true
-is_block Blockquote = true
-is_block Center = true
-is_block Details = true
-is_block Dialog = true
-is_block Dir = true
-is_block Div = true
-is_block Dl = true
-is_block Fieldset = true
-is_block Figcaption = true
-is_block Figure = true
-is_block Footer = true
-is_block Header = true
-is_block Hgroup = true
-is_block Main = true
-is_block Menu = true
-is_block Nav = true
-is_block Ol = true
-is_block Search = true
-is_block Section = true
-is_block Summary = true
-is_block Ul = true
+is_block tag.Address = true
+is_block tag.Article = true
+is_block tag.Aside = true
+is_block tag.Blockquote = true
+is_block tag.Center = true
+is_block tag.Details = true
+is_block tag.Dialog = true
+is_block tag.Dir = true
+is_block tag.Div = true
+is_block tag.Dl = true
+is_block tag.Fieldset = true
+is_block tag.Figcaption = true
+is_block tag.Figure = true
+is_block tag.Footer = true
+is_block tag.Header = true
+is_block tag.Hgroup = true
+is_block tag.Main = true
+is_block tag.Menu = true
+is_block tag.Nav = true
+is_block tag.Ol = true
+is_block tag.Search = true
+is_block tag.Section = true
+is_block tag.Summary = true
+is_block tag.Ul = true
 is_block _ = false
 
--- Belongs into the head.
+-- What is handed to the rules of the head (13.2.6.4.7, in body).
 abbrev pub is_headish : Tag → Bool
-is_headish Base = true
-is_headish Basefont = true
-is_headish Bgsound = true
-is_headish Link = true
-is_headish Meta = true
-is_headish Noframes = true
-is_headish Script = true
-is_headish Style = true
-is_headish Template = true
-is_headish Title = true
+is_headish tag.Base = true
+is_headish tag.Basefont = true
+is_headish tag.Bgsound = true
+is_headish tag.Link = true
+is_headish tag.Meta = true
+is_headish tag.Noframes = true
+is_headish tag.Script = true
+is_headish tag.Style = true
+is_headish tag.Template = true
+is_headish tag.Title = true
 is_headish _ = false
 
--- Its end tag is not ignored before the body.
-abbrev pub is_page_part : Tag → Bool
-is_page_part Body = true
-is_page_part Br = true
-is_page_part Head = true
-is_page_part Html = true
-is_page_part _ = false
+-- Headings (13.2.6.4.7, in body).
+abbrev pub is_heading : Tag → Bool
+is_heading tag.H1 = true
+is_heading tag.H2 = true
+is_heading tag.H3 = true
+is_heading tag.H4 = true
+is_heading tag.H5 = true
+is_heading tag.H6 = true
+is_heading _ = false
 
--- Its start tag may be misplaced.
-abbrev pub is_placed : Tag → Bool
-is_placed Caption = true
-is_placed Col = true
-is_placed Colgroup = true
-is_placed Frame = true
-is_placed Frameset = true
-is_placed Head = true
-is_placed Tbody = true
-is_placed Td = true
-is_placed Tfoot = true
-is_placed Th = true
-is_placed Thead = true
-is_placed Tr = true
-is_placed _ = false
+-- Elements that serialise as void (13.3, serialising HTML fragments).
+abbrev pub is_void : Tag → Bool
+is_void tag.Area = true
+is_void tag.Base = true
+is_void tag.Basefont = true
+is_void tag.Bgsound = true
+is_void tag.Br = true
+is_void tag.Col = true
+is_void tag.Embed = true
+is_void tag.Frame = true
+is_void tag.Hr = true
+is_void tag.Img = true
+is_void tag.Input = true
+is_void tag.Keygen = true
+is_void tag.Link = true
+is_void tag.Meta = true
+is_void tag.Param = true
+is_void tag.Source = true
+is_void tag.Track = true
+is_void tag.Wbr = true
+is_void _ = false
 
--- A line feed just after its start tag is dropped.
-abbrev pub takes_newline : Tag → Bool
-takes_newline Listing = true
-takes_newline Pre = true
-takes_newline Textarea = true
-takes_newline _ = false
+-- Elements whose texts are written without escapes (13.3, scripting disabled).
+abbrev pub is_raw_text : Tag → Bool
+is_raw_text tag.Iframe = true
+is_raw_text tag.Noembed = true
+is_raw_text tag.Noframes = true
+is_raw_text tag.Plaintext = true
+is_raw_text tag.Script = true
+is_raw_text tag.Style = true
+is_raw_text tag.Xmp = true
+is_raw_text _ = false
 
--- Its attributes may be merged.
-abbrev pub is_merged : Tag → Bool
-is_merged Body = true
-is_merged Html = true
-is_merged _ = false
+-- Elements whose start tag switches the tokenizer to RCDATA (13.2.6.2 and 13.2.6.4).
+abbrev pub is_rcdata : Tag → Bool
+is_rcdata tag.Textarea = true
+is_rcdata tag.Title = true
+is_rcdata _ = false
 
--- html.
-abbrev pub is_html : Tag → Bool
-is_html Html = true
-is_html _ = false
+-- Elements whose start tag switches the tokenizer to RAWTEXT (13.2.6.2 and 13.2.6.4, scripting disabled).
+abbrev pub is_rawtext : Tag → Bool
+is_rawtext tag.Iframe = true
+is_rawtext tag.Noembed = true
+is_rawtext tag.Noframes = true
+is_rawtext tag.Style = true
+is_rawtext tag.Xmp = true
+is_rawtext _ = false
 
--- frameset.
-abbrev pub is_frameset : Tag → Bool
-is_frameset Frameset = true
-is_frameset _ = false
-
--- template.
-abbrev pub is_template : Tag → Bool
-is_template Template = true
-is_template _ = false
-
--- Not dropped in framesets.
-abbrev pub is_in_frameset : Tag → Bool
-is_in_frameset Html = true
-is_in_frameset Noframes = true
-is_in_frameset _ = false
-
--- A void element of the head.
-abbrev pub is_head_void : Tag → Bool
-is_head_void Base = true
-is_head_void Basefont = true
-is_head_void Bgsound = true
-is_head_void Link = true
-is_head_void Meta = true
-is_head_void _ = false
-
--- A text element of the head.
-abbrev pub is_head_text : Tag → Bool
-is_head_text Noframes = true
-is_head_text Script = true
-is_head_text Style = true
-is_head_text Title = true
-is_head_text _ = false
-
--- A cell.
-abbrev pub is_cell : Tag → Bool
-is_cell Td = true
-is_cell Th = true
-is_cell _ = false
-
--- A section of a table.
-abbrev pub is_section : Tag → Bool
-is_section Tbody = true
-is_section Tfoot = true
-is_section Thead = true
-is_section _ = false
-
--- A row.
-abbrev pub is_row : Tag → Bool
-is_row Tr = true
-is_row _ = false
-
--- A column.
-abbrev pub is_col : Tag → Bool
-is_col Col = true
-is_col _ = false
-
--- A table.
-abbrev pub is_table : Tag → Bool
-is_table Table = true
-is_table _ = false
-
--- Text in it is fostered.
+-- Targets of foster parenting (13.2.6.1).
 abbrev pub is_fostering : Tag → Bool
-is_fostering Table = true
-is_fostering Tbody = true
-is_fostering Tfoot = true
-is_fostering Thead = true
-is_fostering Tr = true
+is_fostering tag.Table = true
+is_fostering tag.Tbody = true
+is_fostering tag.Tfoot = true
+is_fostering tag.Thead = true
+is_fostering tag.Tr = true
 is_fostering _ = false
 
--- Taken by the rules of the head in a table.
-abbrev pub is_table_head : Tag → Bool
-is_table_head Script = true
-is_table_head Style = true
-is_table_head Template = true
-is_table_head _ = false
+-- Cells (13.2.6.4.15, in cell).
+abbrev pub is_cell : Tag → Bool
+is_cell tag.Td = true
+is_cell tag.Th = true
+is_cell _ = false
 
--- Its end tag is ignored in a table.
-abbrev pub is_ignored_end : Tag → Bool
-is_ignored_end Body = true
-is_ignored_end Caption = true
-is_ignored_end Col = true
-is_ignored_end Colgroup = true
-is_ignored_end Html = true
-is_ignored_end Tbody = true
-is_ignored_end Td = true
-is_ignored_end Tfoot = true
-is_ignored_end Th = true
-is_ignored_end Thead = true
-is_ignored_end Tr = true
-is_ignored_end _ = false
+-- Sections of a table (13.2.6.4.13, in table body).
+abbrev pub is_section : Tag → Bool
+is_section tag.Tbody = true
+is_section tag.Tfoot = true
+is_section tag.Thead = true
+is_section _ = false
 
--- Ends a row.
-abbrev pub is_row_end : Tag → Bool
-is_row_end Caption = true
-is_row_end Col = true
-is_row_end Colgroup = true
-is_row_end Tbody = true
-is_row_end Tfoot = true
-is_row_end Thead = true
-is_row_end Tr = true
-is_row_end _ = false
-
--- Where a table is cleared to.
+-- Table context (13.2.6.4.9, in table).
 abbrev pub is_table_context : Tag → Bool
-is_table_context Html = true
-is_table_context Table = true
-is_table_context Template = true
+is_table_context tag.Html = true
+is_table_context tag.Table = true
+is_table_context tag.Template = true
 is_table_context _ = false
 
--- Where a section is cleared to.
-abbrev pub is_body_context : Tag → Bool
-is_body_context Html = true
-is_body_context Tbody = true
-is_body_context Template = true
-is_body_context Tfoot = true
-is_body_context Thead = true
-is_body_context _ = false
+-- Table body context (13.2.6.4.13, in table body).
+abbrev pub is_section_context : Tag → Bool
+is_section_context tag.Html = true
+is_section_context tag.Tbody = true
+is_section_context tag.Template = true
+is_section_context tag.Tfoot = true
+is_section_context tag.Thead = true
+is_section_context _ = false
 
--- Where a row is cleared to.
+-- Table row context (13.2.6.4.14, in row).
 abbrev pub is_row_context : Tag → Bool
-is_row_context Html = true
-is_row_context Template = true
-is_row_context Tr = true
+is_row_context tag.Html = true
+is_row_context tag.Template = true
+is_row_context tag.Tr = true
 is_row_context _ = false
 
--- Ends a select.
-abbrev pub is_select_end : Tag → Bool
-is_select_end Input = true
-is_select_end Keygen = true
-is_select_end Textarea = true
-is_select_end _ = false
+-- The template element (4.12.3).
+abbrev pub is_template : Tag → Bool
+is_template tag.Template = true
+is_template _ = false
 
--- Not dropped in a select.
-abbrev pub is_select_part : Tag → Bool
-is_select_part Hr = true
-is_select_part Html = true
-is_select_part Optgroup = true
-is_select_part Option = true
-is_select_part Script = true
-is_select_part Template = true
-is_select_part _ = false
+-- Ends of the default scope (13.2.4.2, has an element in scope).
+abbrev pub ends_default_scope : Tag → Bool
+ends_default_scope tag.Applet = true
+ends_default_scope tag.Caption = true
+ends_default_scope tag.Html = true
+ends_default_scope tag.Marquee = true
+ends_default_scope tag.Object = true
+ends_default_scope tag.Table = true
+ends_default_scope tag.Td = true
+ends_default_scope tag.Template = true
+ends_default_scope tag.Th = true
+ends_default_scope _ = false
 
--- A heading.
-abbrev pub is_heading : Tag → Bool
-is_heading H1 = true
-is_heading H2 = true
-is_heading H3 = true
-is_heading H4 = true
-is_heading H5 = true
-is_heading H6 = true
-is_heading _ = false
+-- Ends of the list item scope, beside those of the default scope (13.2.4.2).
+abbrev pub is_list : Tag → Bool
+is_list tag.Ol = true
+is_list tag.Ul = true
+is_list _ = false
+
+-- Ends of the table scope (13.2.4.2).
+abbrev pub ends_table_scope : Tag → Bool
+ends_table_scope tag.Html = true
+ends_table_scope tag.Table = true
+ends_table_scope tag.Template = true
+ends_table_scope _ = false
+
+-- What does not end the select scope (13.2.4.2).
+abbrev pub is_option : Tag → Bool
+is_option tag.Optgroup = true
+is_option tag.Option = true
+is_option _ = false
+
+-- A button, which ends the button scope.
+abbrev pub is_button : Tag → Bool
+is_button tag.Button = true
+is_button _ = false
+
+-- Which elements end a search through the stack of open elements for one in this scope (13.2.4.2).
+abbrev pub ends_scope : Scope → Tag → Bool
+ends_scope scope.Default t = ends_default_scope t
+ends_scope scope.ListItem t = ends_default_scope t || is_list t
+ends_scope scope.Button t = ends_default_scope t || is_button t
+ends_scope scope.Table t = ends_table_scope t
+ends_scope scope.Select t = not (is_option t)

@@ -4,74 +4,63 @@ use Rattle.std.proofs.lemmas.Bool.Decides.{nat_tests}
 use Rattle.std.proofs.lemmas.List.{get_or_append_left, get_or_push, length_push, get_or-set_same, get_or-set_other, length-set}
 use Rattle.html_arena.specs.declared.data.NodeData.{NodeData}
 use Rattle.html_arena.specs.declared.data.NodeData.TheVariants as node
-use Rattle.html_arena.specs.Siblings.{has}
-use Rattle.html_arena.specs.Tree.{Tree, WellFormed, label_of, parent_of, children_of, contents_in, ancestors_within, ancestors, added, appended, texted, with_char, IsText}
+use Rattle.html_arena.specs.declared.data.NewNode.{NewNode}
+use Rattle.html_arena.specs.declared.data.NewNode.TheVariants.{Document, Element, CloneOf, Text, Comment, Doctype}
+use Rattle.html_arena.specs.Laws.{IsGrown, IsLinked}
+use Rattle.html_arena.specs.Make.{has_contents}
+use Rattle.html_arena.specs.Make.{label_for as node_for}
+use Rattle.html_arena.specs.Tree.{Tree, label_of, children_of, texted}
+use Rattle.html_arena.specs.Data.{contents_in, cloned, with_char, IsText}
 use Rattle.std.specs.Str.{chars}
+use Rattle.html_names.specs.Names.{tag_of}
+use Rattle.html_names.specs.Sets.{is_template}
 use Rattle.html_page.specs.Plain.{name_of}
 use Rattle.html_page.specs.declared.plain.PlainName.{PlainName}
 use Rattle.html_page.specs.declared.plain.PlainName.TheVariants.{Div, Span, Section, Article, B, I, Em, Strong}
 use Rattle.html_page.specs.Label.{label_for}
 use Rattle.html_page.specs.Open.{IsAdded, IsFilled}
 
--- a place past the end reads as the default does
-push-default : {X : Type 0} (xs : List X) (d : X) (i : ℕ) → get_or (xs ++ d ∷ []) i d ≡ get_or xs i d
-push-default [] d zero = refl
-push-default [] d (suc i) = refl
-push-default (x ∷ xs) d zero = refl
-push-default (x ∷ xs) d (suc i) = push-default xs d i
-
 apart : (a b : ℕ) → b < a → eqb a b ≡ false
 apart a b h = grind (arith, nat_tests)
 
-not-self : (a b : ℕ) → b < a → a ≢ b
-not-self a b h e = omega (arith, h, e)
+same : (a : ℕ) → eqb a a ≡ true
+same a = grind (arith, nat_tests)
 
--- ancestors are nodes, and so not the next one
-ancestors-below : (n : ℕ) (ps : List (Option ℕ)) (bound : ℕ) (o : Option ℕ) → ((x p : ℕ) → get_or ps x None ≡ Some p → p < bound) → ((p : ℕ) → o ≡ Some p → p < bound) →
-    has bound (ancestors_within n ps o) ≡ false
-ancestors-below zero ps bound o all here = refl
-ancestors-below (suc n) ps bound None all here = refl
-ancestors-below (suc n) ps bound (Some p) all here =
-    let a : eqb bound p ≡ false = apart bound p (here p refl) in
-    rw a (ancestors-below n ps bound (get_or ps p None) all (λ q e. all p q e))
+unlike : (a b : ℕ) → a ≢ b → eqb a b ≡ false
+unlike a b h = grind (arith, nat_tests)
 
-module _ (t : Tree) (d : NodeData) (h : ℕ) (w : WellFormed t) where
-  abbrev one : Tree
-  one = added t d h
+-- what is made and is no template has no contents
+pub no-contents : (t : Tree) (n : NewNode) → has_contents n ≡ false → contents_in (node_for t n) ≡ None
+no-contents t Document h = refl
+no-contents t (Element n a o) h = rw h refl
+no-contents t (CloneOf x) h = cloned-contents (label_of t x)
+  where
+    cloned-contents : (d : NodeData) → contents_in (cloned d) ≡ None
+    cloned-contents node.Document = refl
+    cloned-contents (node.Contents x) = refl
+    cloned-contents (node.Element e) = refl
+    cloned-contents (node.Text s) = refl
+    cloned-contents (node.Comment s i) = refl
+    cloned-contents (node.Doctype n p s i) = refl
+no-contents t Text h = refl
+no-contents t (Comment s i) h = refl
+no-contents t (Doctype n p s i) h = refl
 
-  pub new-alone : parent_of one (length t.labels) ≡ None
-  new-alone = get_or_push t.parents None None (length t.labels) w.as_many_parents
+-- a node was made, and is now its parent's last child
+module _ (old mid new : Tree) (d : NodeData) (p : ℕ) (g : IsGrown old mid 1) (l : IsLinked mid new (length old.labels) p (children_of mid p ++ length old.labels ∷ []))
+    (labels_are : new.labels ≡ mid.labels) (label_is : label_of mid (length old.labels) ≡ d) where
+  relabel : (k : ℕ) → label_of new k ≡ label_of mid k
+  relabel k = ap (λ ls. get_or ls k node.Document) labels_are
 
-  parents-below : (x p : ℕ) → get_or (t.parents ++ None ∷ []) x None ≡ Some p → p < length t.labels
-  parents-below x p e = w.parent_in p x (sym (push-default t.parents None x) ∙ e)
-
-  pub new-not_above : (p : ℕ) → p < length t.labels → has (length t.labels) (p ∷ ancestors one p) ≡ false
-  new-not_above p b =
-      let a : eqb (length t.labels) p ≡ false = apart (length t.labels) p b in
-      rw a (ancestors-below (length one.labels) one.parents (length t.labels) (parent_of one p) parents-below (λ q e. parents-below p q e))
-
-  one-children : (k : ℕ) → children_of one k ≡ children_of t k
-  one-children k = push-default t.children [] k
-
-  pub is-added : (p : ℕ) → p < length t.labels → contents_in d ≡ None → IsAdded t (appended one p (length t.labels)) p (label_for d)
-  is-added p b n = record {
-    longer = length_push t.labels d;
-    parent_children =
-        get_or-set_same one.children p (children_of one p ++ length t.labels ∷ []) [] (omega (arith, length_push t.children [], w.as_many_lists, b))
-        ∙ ap (λ l. l ++ length t.labels ∷ []) (one-children p);
-    new_label = record { label_is = ap label_for new; no_contents = ap contents_in new ∙ n };
-    new_children =
-        get_or-set_other one.children p (length t.labels) (children_of one p ++ length t.labels ∷ []) [] (not-self (length t.labels) p b)
-        ∙ get_or_push t.children [] [] (length t.labels) w.as_many_lists;
-    same_labels = λ k l. get_or_append_left t.labels (d ∷ []) node.Document k l;
-    same_children = λ k l ne. get_or-set_other one.children p k (children_of one p ++ length t.labels ∷ []) [] ne ∙ one-children k;
+  pub is-added : p < length old.labels → contents_in d ≡ None → IsAdded old new p (label_for d)
+  is-added b n = record {
+    longer = ap length labels_are ∙ g.longer;
+    parent_children = l.children_are p ∙ rw (same p) (ap (λ xs. xs ++ length old.labels ∷ []) (g.same_children p));
+    new_label = record { label_is = ap label_for (relabel (length old.labels) ∙ label_is); no_contents = ap contents_in (relabel (length old.labels) ∙ label_is) ∙ n };
+    new_children = l.children_are (length old.labels) ∙ rw (apart (length old.labels) p b) (g.no_children (length old.labels) (omega arith));
+    same_labels = λ k h. relabel k ∙ g.same_label k h;
+    same_children = λ k h ne. l.children_are k ∙ rw (unlike k p ne) (g.same_children k);
   }
-    where
-      new : label_of (appended one p (length t.labels)) (length t.labels) ≡ d
-      new = get_or_push t.labels d node.Document (length t.labels) refl
-
-pub is-new : (t : Tree) (d : NodeData) (h p : ℕ) → label_of (appended (added t d h) p (length t.labels)) (length t.labels) ≡ d
-is-new t d h p = get_or_push t.labels d node.Document (length t.labels) refl
 
 -- a node with more text
 pub filled-more : (old new : Tree) (x c : ℕ) (s more : List ℕ) → x < length old.labels → label_of old x ≡ node.Text s → IsFilled old new x more →
@@ -122,6 +111,30 @@ chars-head = refl
 pub chars-body : chars (codes "body") ≡ codes "body"
 unfolding chars
 chars-body = refl
+
+-- no element of a small page is a template
+pub html-not_template : is_template (tag_of (codes "html")) ≡ false
+unfolding tag_of
+html-not_template = refl
+
+pub head-not_template : is_template (tag_of (codes "head")) ≡ false
+unfolding tag_of
+head-not_template = refl
+
+pub body-not_template : is_template (tag_of (codes "body")) ≡ false
+unfolding tag_of
+body-not_template = refl
+
+pub name-not_template : (n : PlainName) → is_template (tag_of (name_of n)) ≡ false
+unfolding tag_of
+name-not_template Div = refl
+name-not_template Span = refl
+name-not_template Section = refl
+name-not_template Article = refl
+name-not_template B = refl
+name-not_template I = refl
+name-not_template Em = refl
+name-not_template Strong = refl
 
 pub chars-name : (n : PlainName) → chars (name_of n) ≡ name_of n
 unfolding chars

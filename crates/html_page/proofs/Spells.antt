@@ -2,11 +2,12 @@
 use Rattle.std.proofs.Common.{◌≡◌, ℕ, ◌≤◌, Bool, true, false, eqb, List, [], ◌∷◌, ◌++◌, length, take, codes, refl, sym, ap, ◌∙◌, subst, append-nil, append_assoc, arith}
 use Rattle.std.specs.List.{AllByRecursion, flat_map}
 use Rattle.std.proofs.lemmas.Bool.Decides.{nat_tests}
-use Rattle.html_page.specs.Forest.{Forest}
-use Rattle.html_page.specs.Forest.Forest.{empty, tree}
+use Rattle.html_arena.specs.Forest.{Forest}
+use Rattle.html_arena.specs.Forest.Forest.{empty, tree}
 use Rattle.html_page.specs.Label.{Label}
 use Rattle.html_page.specs.Label.Label.{document, doctype, element, text, comment}
 use Rattle.html_page.specs.Html.{html_of, start_tag, end_tag, is_void_name, is_raw_name, escaped_in_text}
+use Rattle.html_names.specs.Names.{tag_of}
 use Rattle.html_page.specs.Plain.{name_of, page_of}
 use Rattle.html_page.specs.Small.{IsTextChar, IsSmallForest, IsSmall, IsSmallText, IsSmallFront, IsLongestFront}
 use Rattle.html_page.specs.Scan.{plain_tag}
@@ -18,7 +19,7 @@ use Rattle.html_page.proofs.Pieces.{spelt, IsPlainName}
 use Rattle.html_page.proofs.Follows.{prolog, epilog, page_text, IsText, IsFront}
 
 name-not_void : (n : PlainName) → is_void_name (name_of n) ≡ false
-unfolding is_void_name
+unfolding is_void_name tag_of
 name-not_void Div = refl
 name-not_void Span = refl
 name-not_void Section = refl
@@ -29,7 +30,7 @@ name-not_void Em = refl
 name-not_void Strong = refl
 
 name-not_raw : (n : PlainName) → is_raw_name (name_of n) ≡ false
-unfolding is_raw_name
+unfolding is_raw_name tag_of
 name-not_raw Div = refl
 name-not_raw Span = refl
 name-not_raw Section = refl
@@ -74,7 +75,7 @@ html-small p (tree (doctype n q s) k r) after h = absurd h
 html-small p (tree (comment s) k r) after h = absurd h
 
 html-page_of : (p : Profile) (content : Forest Label) → html_of p false (page_of content) ≡ prolog ++ (html_of p false content ++ epilog)
-unfolding is_void_name is_raw_name
+unfolding is_void_name is_raw_name tag_of
 html-page_of p content =
     ap (λ x. prolog ++ x)
     (append-nil ((html_of p false content ++ codes "</body>") ++ codes "</html>") ∙ append_assoc (html_of p false content) (codes "</body>") (codes "</html>"))

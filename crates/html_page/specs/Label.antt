@@ -1,6 +1,6 @@
 -- What a node is to a reader of the tree (DOM, 4.2: documents, document types, elements, texts and comments).
 use Rattle.std.specs.Prelude.{ℕ, List, Option}
-use Rattle.html_arena.specs.declared.text.Attr.{Attr}
+use Rattle.html_tokens.specs.declared.attributes.Attr.{Attr}
 use Rattle.html_arena.specs.declared.data.NodeData.{NodeData}
 use Rattle.html_arena.specs.declared.data.NodeData.TheVariants as node
 

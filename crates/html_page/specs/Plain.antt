@@ -1,9 +1,10 @@
 -- Plain pages: their text has one tree, by rules that any reader of HTML knows.
 use Rattle.std.specs.Prelude.{◌≡◌, ◌≢◌, ℕ, Bool, true, false, List, [], codes, Some, None}
 use Rattle.std.specs.List.{AllByRecursion}
-use Rattle.html_arena.specs.declared.text.Attr.{Attr}
-use Rattle.html_page.specs.Forest.{Forest, single}
-use Rattle.html_page.specs.Forest.Forest.{empty, tree}
+use Rattle.html_tokens.specs.declared.attributes.Attr.{Attr}
+use Rattle.html_arena.specs.Forest.{Forest}
+use Rattle.html_page.specs.Forest.{single}
+use Rattle.html_arena.specs.Forest.Forest.{empty, tree}
 use Rattle.html_page.specs.Label.{Label}
 use Rattle.html_page.specs.Label.Label.{document, doctype, element, text}
 use Rattle.html_page.specs.declared.plain.PlainName.{PlainName}

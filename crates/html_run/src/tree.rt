@@ -2,11 +2,12 @@
 
 ghost use Rattle.std.specs.Prelude.{◌≡◌, ◌<◌, ◌++◌, ◌∷◌, [], List, ℕ, IfSome, OnOk, chars, length};
 ghost use Rattle.std.specs.Io.KnownBytes.{Appends};
-ghost use Rattle.html_arena.specs.Tree.{kind_in, label_of, name_in, text_in};
-ghost use Rattle.html_run.specs.Line.{line_of};
+ghost use Rattle.html_arena.specs.Data.{kind_in, text_in};
+ghost use Rattle.html_arena.specs.Tree.{label_of};
+ghost use Rattle.html_run.specs.Line.{line_of, shown_name};
 
 use crate::line::NodeLine;
-use html_page::{Arena, NodeId};
+use html_page::{Arena, NodeData, NodeId};
 use std::io;
 use std::io::Write;
 
@@ -60,14 +61,32 @@ fn next_upward(arena: &Arena, node: NodeId, indent: &mut u64) -> Option<NodeId>
 fn print_node<W: Write>(out: &mut W, arena: &Arena, node: NodeId, indent: u64) -> io::Result<()>
     requires { node < length arena.now.labels }
     ensures { OnOk result ((name : List ℕ) × (text : List ℕ)
-        × (chars name ≡ name_in (label_of arena.now node)) × (chars text ≡ text_in (label_of arena.now node))
+        × (chars name ≡ shown_name (label_of arena.now node)) × (chars text ≡ text_in (label_of arena.now node))
         × Appends (W.contents out.old) (W.contents out.new) (line_of indent (kind_in (label_of arena.now node)) name text ++ 10 ∷ [])) }
 {
     let line = NodeLine {
         indent,
         kind: arena.kind(node),
-        name: arena.name(node),
+        name: name_of(arena.node(node)),
         text: arena.text(node),
     };
     writeln!(out, "{line}")
+}
+
+/// The name of an element or a doctype, else the empty text.
+#[tactic(auto, using(crate::proofs::Empty::chars_nil))]
+fn name_of(node: &NodeData) -> &str
+    ensures { chars result.now ≡ shown_name node.now }
+{
+    match node {
+        NodeData::Element(element) => element.name.as_str(),
+        NodeData::Doctype {
+            name: Some(name), ..
+        } => name.as_str(),
+        NodeData::Doctype { name: None, .. } => "",
+        NodeData::Document => "",
+        NodeData::Contents { .. } => "",
+        NodeData::Text { .. } => "",
+        NodeData::Comment { .. } => "",
+    }
 }

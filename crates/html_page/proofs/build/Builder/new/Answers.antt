@@ -1,14 +1,24 @@
-use Rattle.std.proofs.Common.{◌≡◌, ℕ, ◌+◌, [], length, refl, ap, ◌∙◌, sym, subst, arith, codes, Some, None, reverse}
-use Rattle.std.specs.Str.{chars}
+use Rattle.std.proofs.Common.{◌≡◌, ℕ, List, ◌+◌, [], length, refl, ap, ◌∙◌, sym, subst, arith, codes, Some, None, reverse}
+use Rattle.html_names.specs.Names.{tag_of}
+use Rattle.html_names.specs.Sets.{is_template}
 use Rattle.html_arena.specs.Tree.{Tree, children_of, empty_tree}
 use Rattle.html_arena.specs.Make.{made}
 use Rattle.html_arena.specs.declared.data.NewNode.TheVariants.{Document}
 use Rattle.html_page.specs.Label.Label.{document, doctype, element}
-use Rattle.html_page.specs.Forest.Forest.{empty}
+use Rattle.html_arena.specs.Forest.Forest.{empty}
 use Rattle.html_page.specs.Open.{IsAdded, IsLabelled}
-use Rattle.html_page.proofs.Added.{chars-html, chars-head, chars-body}
+use Rattle.html_page.proofs.Added.{chars-html, chars-head, chars-body, html-not_template, head-not_template, body-not_template}
 use Rattle.html_page.proofs.Builds.{IsOpen, Open-page}
 use Rattle.html_page.proofs.build.Builder.new.Goals as goal
+
+pub add_element-requires-clause-no_template : goal.add_element-requires-clause-no_template
+add_element-requires-clause-no_template c = ap (λ (s : List ℕ). is_template (tag_of s)) chars-html ∙ html-not_template
+
+pub add_element-requires-2-clause-no_template : goal.add_element-requires-2-clause-no_template
+add_element-requires-2-clause-no_template c = ap (λ (s : List ℕ). is_template (tag_of s)) chars-head ∙ head-not_template
+
+pub add_element-requires-3-clause-no_template : goal.add_element-requires-3-clause-no_template
+add_element-requires-3-clause-no_template c = ap (λ (s : List ℕ). is_template (tag_of s)) chars-body ∙ body-not_template
 
 pub returns-clause-building : goal.returns-clause-building
 returns-clause-building c =

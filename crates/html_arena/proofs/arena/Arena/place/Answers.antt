@@ -1,0 +1,31 @@
+use Rattle.std.proofs.Common.{◌≡◌, List, [], ◌∷◌, ◌++◌, ◌∙◌, ap}
+use Rattle.html_arena.specs.Links.{blank}
+use Rattle.html_arena.specs.Marks.{no_marks}
+use Rattle.html_arena.specs.Tree.{more}
+use Rattle.html_arena.proofs.Made.{added_is}
+use Rattle.html_arena.proofs.Labels.{grown}
+use Rattle.html_arena.proofs.arena.Arena.place.Goals as goal
+
+pub invariant_of-self-2 : goal.invariant_of-self-2
+invariant_of-self-2 c =
+    let b = added_is _ _ _ _ _ c.self.inside.limits c.self.invariant.whole _ c.self.view_is _ _ _ c.args.node _ _
+    (c.push_node.ensures.links ∙ ap (λ v. v ++ blank ∷ []) c.reserve.ensures.links)
+    (c.push_node.ensures.nodes ∙ ap (λ v. v ++ c.args.node ∷ []) c.reserve.ensures.nodes)
+    (c.push_node.ensures.marks ∙ ap (λ v. v ++ no_marks ∷ []) c.reserve.ensures.marks)
+    (c.saturating_add-self-inside.ensures ∙ ap (more c.self.inside.held) c.requires.held) c.saturating_add-self-inside-2.ensures in
+    record {
+      whole = b.0;
+      labelled = grown _ _ _ c.self.invariant.labelled _ _ _ c.args.node no_marks c.requires.lone
+          (c.push_node.ensures.links ∙ ap (λ v. v ++ blank ∷ []) c.reserve.ensures.links)
+          (c.push_node.ensures.nodes ∙ ap (λ v. v ++ c.args.node ∷ []) c.reserve.ensures.nodes)
+          (c.push_node.ensures.marks ∙ ap (λ v. v ++ no_marks ∷ []) c.reserve.ensures.marks);
+    }
+
+pub returns-clause-made : goal.returns-clause-made
+returns-clause-made c =
+    let b = added_is _ _ _ _ _ c.self.inside.limits c.self.invariant.whole _ c.self.view_is _ _ _ c.args.node _ _
+    (c.push_node.ensures.links ∙ ap (λ v. v ++ blank ∷ []) c.reserve.ensures.links)
+    (c.push_node.ensures.nodes ∙ ap (λ v. v ++ c.args.node ∷ []) c.reserve.ensures.nodes)
+    (c.push_node.ensures.marks ∙ ap (λ v. v ++ no_marks ∷ []) c.reserve.ensures.marks)
+    (c.saturating_add-self-inside.ensures ∙ ap (more c.self.inside.held) c.requires.held) c.saturating_add-self-inside-2.ensures in
+    b.1

@@ -1,0 +1,11 @@
+-- Attributes that are shared, as their list.
+use Rattle.std.specs.Prelude.{List, [], Option, Some, None}
+use Rattle.std.specs.Rc.{rc_slice_items}
+use Rattle.std.specs.declared.rc.RcSlice.{RcSlice}
+use Rattle.std.specs.declared.alloc.Global.{Global}
+use Rattle.html_tokens.specs.declared.attributes.Attr.{Attr}
+
+-- no share is kept of the empty list
+abbrev pub items_in : Option (RcSlice Attr Global) → List Attr
+items_in None = []
+items_in (Some list) = rc_slice_items list

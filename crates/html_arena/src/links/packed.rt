@@ -1,0 +1,112 @@
+// The links of one node in 40 bytes: no arena has a node of the greatest number, so that number stands for none.
+ghost use Rattle.std.specs.Prelude.{◌≡◌, ◌-◌, ◌^◌, Option};
+ghost use Rattle.html_arena.specs.Links.{IsBelow, blank};
+ghost use Rattle.html_arena.specs.Packed.{unpacked};
+
+use super::{Links, NodeId};
+use std::marker::Model;
+
+/// The number that stands for no node.
+const NONE: u64 = u64::MAX;
+
+/// Links as numbers, seen as links.
+#[derive(Drop)]
+pub struct PackedLinks {
+    parent: u64,
+    first_child: u64,
+    last_child: u64,
+    previous: u64,
+    next: u64,
+}
+
+impl Model for PackedLinks {
+    ghost use Rattle.html_arena.specs.declared.links.Links.{Links};
+
+    ghost Value = { Links };
+
+    ghost use Rattle.html_arena.specs.Packed.{unpacked};
+
+    ghost view = { λ p. record { parent = unpacked p.parent; first_child = unpacked p.first_child; last_child = unpacked p.last_child; previous = unpacked p.previous; next = unpacked p.next } };
+}
+
+fn pack(link: Option<NodeId>) -> u64
+    requires { IsBelow (2 ^ 64 - 1) link }
+    ensures { unpacked result ≡ link }
+{
+    match link {
+        Some(node) => node.index() as u64,
+        None => NONE,
+    }
+}
+
+fn unpack(packed: u64) -> Option<NodeId>
+    ensures { result ≡ unpacked packed }
+{
+    if packed == NONE {
+        None
+    } else {
+        Some(NodeId::at(packed as usize))
+    }
+}
+
+impl PackedLinks {
+    /// The links of a node that stands alone.
+    pub fn none() -> PackedLinks
+        ensures { result ≡ blank }
+    {
+        PackedLinks {
+            parent: NONE,
+            first_child: NONE,
+            last_child: NONE,
+            previous: NONE,
+            next: NONE,
+        }
+    }
+
+    pub fn unpacked(&self) -> Links
+        ensures { result ≡ self.now }
+    {
+        Links {
+            parent: unpack(self.parent),
+            first_child: unpack(self.first_child),
+            last_child: unpack(self.last_child),
+            previous: unpack(self.previous),
+            next: unpack(self.next),
+        }
+    }
+
+    pub fn set_parent(&mut self, to: Option<NodeId>)
+        requires { IsBelow (2 ^ 64 - 1) to }
+        ensures { self.new ≡ record self.old { parent = to } }
+    {
+        self.parent = pack(to);
+    }
+
+    pub fn set_first_child(&mut self, to: Option<NodeId>)
+        requires { IsBelow (2 ^ 64 - 1) to }
+        ensures { self.new ≡ record self.old { first_child = to } }
+    {
+        self.first_child = pack(to);
+    }
+
+    pub fn set_last_child(&mut self, to: Option<NodeId>)
+        requires { IsBelow (2 ^ 64 - 1) to }
+        ensures { self.new ≡ record self.old { last_child = to } }
+    {
+        self.last_child = pack(to);
+    }
+
+    pub fn set_previous(&mut self, to: Option<NodeId>)
+        requires { IsBelow (2 ^ 64 - 1) to }
+        ensures { self.new ≡ record self.old { previous = to } }
+    {
+        self.previous = pack(to);
+    }
+
+    pub fn set_next(&mut self, to: Option<NodeId>)
+        requires { IsBelow (2 ^ 64 - 1) to }
+        ensures { self.new ≡ record self.old { next = to } }
+    {
+        self.next = pack(to);
+    }
+}

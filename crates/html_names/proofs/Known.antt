@@ -1,0 +1,197 @@
+-- A name that has a known tag is that tag's name, and so is ASCII.
+use Rattle.std.proofs.Common.{◌≡◌, ℕ, Bool, true, false, cond, ◌==◌, List, [], ◌∷◌, ◌⊎◌, inl, inr, refl, sym, ◌∙◌, ap, subst, ◌&&◌, length, ◌++◌, ◌<◌, arith}
+use Rattle.std.specs.Prelude.{nat_lt}
+use Rattle.std.proofs.lemmas.Bool.Decides.{nat_tests}
+use Rattle.std.specs.Str.{bytes_eq, chars, encode_utf8_all, IsUtf8}
+use Rattle.std.proofs.lemmas.Slice.Eq.{bytes_eq-Decides}
+use Rattle.std.proofs.lemmas.Str.{chars_from_encodes, encode_ascii, encodes-chars}
+use Rattle.html_names.specs.declared.tag.Tag.{Tag}
+use Rattle.html_names.specs.declared.tag.Tag.TheVariants as tag
+use Rattle.html_names.specs.Names.{Row, row, name_of, is_known, look_up, rows_of, tag_of}
+
+cases_bool : (b : Bool) → (b ≡ true) ⊎ (b ≡ false)
+cases_bool true = inl refl
+cases_bool false = inr refl
+
+-- each row has its tag's own name
+abbrev are_named : List Row → Bool
+are_named [] = true
+are_named (r ∷ rows) = bytes_eq r.name (name_of r.tag) && are_named rows
+
+and_first : (a b : Bool) → a && b ≡ true → a ≡ true
+and_first true b e = refl
+and_first false b e = e
+
+and_rest : (a b : Bool) → a && b ≡ true → b ≡ true
+and_rest true b e = e
+and_rest false b e = absurd cc
+
+look_up-known : (name : List ℕ) (rows : List Row) → are_named rows ≡ true → is_known (look_up name rows) ≡ true → name ≡ name_of (look_up name rows)
+look_up-known name [] h k = absurd cc
+look_up-known name (r ∷ rows) h k = elim (cases_bool (bytes_eq name r.name)) [
+  | inl e ↦
+      let here : name ≡ r.name = (bytes_eq-Decides name r.name).0 e in
+      let own : r.name ≡ name_of r.tag = (bytes_eq-Decides r.name (name_of r.tag)).0 (and_first _ _ h) in
+      rw e (here ∙ own)
+  | inr e ↦ (let later : is_known (look_up name rows) ≡ true = rw e at k in rw e (look_up-known name rows (and_rest _ _ h) later))
+]
+
+rows_of-named : (k : ℕ) → are_named (rows_of k) ≡ true
+rows_of-named k =
+    elim (cases_bool (k == 1)) [ inl e ↦ rw e refl | inr e ↦ rw e (elim (cases_bool (k == 2)) [ inl e ↦ rw e refl | inr e ↦ rw e (elim (cases_bool (k == 3)) [ inl e ↦ rw e refl | inr e ↦ rw e (elim (cases_bool (k == 4)) [ inl e ↦ rw e refl | inr e ↦ rw e (elim (cases_bool (k == 5)) [ inl e ↦ rw e refl | inr e ↦ rw e (elim (cases_bool (k == 6)) [ inl e ↦ rw e refl | inr e ↦ rw e (elim (cases_bool (k == 7)) [ inl e ↦ rw e refl | inr e ↦ rw e (elim (cases_bool (k == 8)) [ inl e ↦ rw e refl | inr e ↦ rw e (elim (cases_bool (k == 9)) [ inl e ↦ rw e refl | inr e ↦ rw e (elim (cases_bool (k == 10)) [ inl e ↦ rw e refl | inr e ↦ rw e (refl) ]) ]) ]) ]) ]) ]) ]) ]) ]) ]
+
+pub tag_of-known : (name : List ℕ) → is_known (tag_of name) ≡ true → name ≡ name_of (tag_of name)
+unfolding tag_of
+tag_of-known name k = look_up-known name (rows_of (length name)) (rows_of-named (length name)) k
+
+ascii_below : (c : ℕ) → nat_lt c 128 ≡ true → c < 128
+ascii_below c h = grind (arith, nat_tests)
+
+-- all below 128
+abbrev is_ascii : List ℕ → Bool
+is_ascii [] = true
+is_ascii (c ∷ cs) = nat_lt c 128 && is_ascii cs
+
+encodes-ascii : (cs : List ℕ) → is_ascii cs ≡ true → encode_utf8_all cs ≡ cs
+encodes-ascii [] h = refl
+encodes-ascii (c ∷ cs) h =
+    let b : c < 128 = ascii_below c (and_first _ _ h) in
+    ap (λ l. l ++ encode_utf8_all cs) (encode_ascii c b) ∙ ap (λ l. c ∷ l) (encodes-ascii cs (and_rest _ _ h))
+
+name_of-ascii : (t : Tag) → is_ascii (name_of t) ≡ true
+name_of-ascii tag.A = refl
+name_of-ascii tag.Address = refl
+name_of-ascii tag.Applet = refl
+name_of-ascii tag.Area = refl
+name_of-ascii tag.Article = refl
+name_of-ascii tag.Aside = refl
+name_of-ascii tag.B = refl
+name_of-ascii tag.Base = refl
+name_of-ascii tag.Basefont = refl
+name_of-ascii tag.Bgsound = refl
+name_of-ascii tag.Big = refl
+name_of-ascii tag.Blockquote = refl
+name_of-ascii tag.Body = refl
+name_of-ascii tag.Br = refl
+name_of-ascii tag.Button = refl
+name_of-ascii tag.Caption = refl
+name_of-ascii tag.Center = refl
+name_of-ascii tag.Code = refl
+name_of-ascii tag.Col = refl
+name_of-ascii tag.Colgroup = refl
+name_of-ascii tag.Dd = refl
+name_of-ascii tag.Details = refl
+name_of-ascii tag.Dialog = refl
+name_of-ascii tag.Dir = refl
+name_of-ascii tag.Div = refl
+name_of-ascii tag.Dl = refl
+name_of-ascii tag.Dt = refl
+name_of-ascii tag.Em = refl
+name_of-ascii tag.Embed = refl
+name_of-ascii tag.Fieldset = refl
+name_of-ascii tag.Figcaption = refl
+name_of-ascii tag.Figure = refl
+name_of-ascii tag.Font = refl
+name_of-ascii tag.Footer = refl
+name_of-ascii tag.Form = refl
+name_of-ascii tag.Frame = refl
+name_of-ascii tag.Frameset = refl
+name_of-ascii tag.H1 = refl
+name_of-ascii tag.H2 = refl
+name_of-ascii tag.H3 = refl
+name_of-ascii tag.H4 = refl
+name_of-ascii tag.H5 = refl
+name_of-ascii tag.H6 = refl
+name_of-ascii tag.Head = refl
+name_of-ascii tag.Header = refl
+name_of-ascii tag.Hgroup = refl
+name_of-ascii tag.Hr = refl
+name_of-ascii tag.Html = refl
+name_of-ascii tag.I = refl
+name_of-ascii tag.Iframe = refl
+name_of-ascii tag.Image = refl
+name_of-ascii tag.Img = refl
+name_of-ascii tag.Input = refl
+name_of-ascii tag.Keygen = refl
+name_of-ascii tag.Li = refl
+name_of-ascii tag.Link = refl
+name_of-ascii tag.Listing = refl
+name_of-ascii tag.Main = refl
+name_of-ascii tag.Marquee = refl
+name_of-ascii tag.Math = refl
+name_of-ascii tag.Menu = refl
+name_of-ascii tag.Meta = refl
+name_of-ascii tag.Nav = refl
+name_of-ascii tag.Nobr = refl
+name_of-ascii tag.Noembed = refl
+name_of-ascii tag.Noframes = refl
+name_of-ascii tag.Noscript = refl
+name_of-ascii tag.Object = refl
+name_of-ascii tag.Ol = refl
+name_of-ascii tag.Optgroup = refl
+name_of-ascii tag.Option = refl
+name_of-ascii tag.P = refl
+name_of-ascii tag.Param = refl
+name_of-ascii tag.Plaintext = refl
+name_of-ascii tag.Pre = refl
+name_of-ascii tag.Rb = refl
+name_of-ascii tag.Rp = refl
+name_of-ascii tag.Rt = refl
+name_of-ascii tag.Rtc = refl
+name_of-ascii tag.Ruby = refl
+name_of-ascii tag.S = refl
+name_of-ascii tag.Script = refl
+name_of-ascii tag.Search = refl
+name_of-ascii tag.Section = refl
+name_of-ascii tag.Select = refl
+name_of-ascii tag.Small = refl
+name_of-ascii tag.Source = refl
+name_of-ascii tag.Strike = refl
+name_of-ascii tag.Strong = refl
+name_of-ascii tag.Style = refl
+name_of-ascii tag.Summary = refl
+name_of-ascii tag.Svg = refl
+name_of-ascii tag.Table = refl
+name_of-ascii tag.Tbody = refl
+name_of-ascii tag.Td = refl
+name_of-ascii tag.Template = refl
+name_of-ascii tag.Textarea = refl
+name_of-ascii tag.Tfoot = refl
+name_of-ascii tag.Th = refl
+name_of-ascii tag.Thead = refl
+name_of-ascii tag.Title = refl
+name_of-ascii tag.Tr = refl
+name_of-ascii tag.Track = refl
+name_of-ascii tag.Tt = refl
+name_of-ascii tag.U = refl
+name_of-ascii tag.Ul = refl
+name_of-ascii tag.Wbr = refl
+name_of-ascii tag.Xmp = refl
+name_of-ascii tag.Other = refl
+
+encodes-name_of : (t : Tag) → encode_utf8_all (name_of t) ≡ name_of t
+encodes-name_of t = encodes-ascii (name_of t) (name_of-ascii t)
+
+unknown : (t : Tag) → is_known t ≡ false → t ≡ tag.Other
+unknown tag.Other e = refl
+unknown _ e = absurd cc
+
+module _ (f : List ℕ → Tag) (known : (name : List ℕ) → is_known (f name) ≡ true → name ≡ name_of (f name)) where
+  -- of a text's bytes and of its code points
+  both_ways : (bs : List ℕ) → IsUtf8 bs → f bs ≡ f (chars bs)
+  both_ways bs u = elim (cases_bool (is_known (f bs))) [
+    | inl k ↦
+        let n = known bs k in
+        let e : encode_utf8_all (name_of (f bs)) ≡ bs = encodes-name_of (f bs) ∙ sym n in
+        ap f (n ∙ chars_from_encodes (name_of (f bs)) bs u e)
+    | inr k ↦ elim (cases_bool (is_known (f (chars bs)))) [
+      | inl l ↦
+          let n = known (chars bs) l in
+          let e : chars bs ≡ encode_utf8_all (chars bs) = n ∙ sym (encodes-name_of (f (chars bs))) ∙ ap encode_utf8_all (sym n) in
+          sym (ap f (e ∙ encodes-chars bs u))
+      | inr l ↦ unknown (f bs) k ∙ sym (unknown (f (chars bs)) l)
+    ]
+  ]
+
+pub tag_of-chars : (bs : List ℕ) → IsUtf8 bs → tag_of bs ≡ tag_of (chars bs)
+tag_of-chars bs u = both_ways tag_of tag_of-known bs u

@@ -1,0 +1,100 @@
+// The attributes of a tag.
+ghost use Rattle.std.specs.Prelude.{◌≡◌, ◌∷◌, [], ◌++◌, IfOk, OnErr, OnOk, length};
+
+use html_charref::Str;
+use smallvec::SmallVec;
+use std::alloc::{AllocError, Global};
+use std::default::MadeWith;
+use std::marker::Model;
+
+/// An attribute: its name, and its value, which is empty where none was written.
+#[derive(Debug, Drop)]
+pub struct Attr {
+    pub name: Str,
+    pub value: Str,
+}
+
+impl Clone for Attr {
+    ghost is_clone = { λ attr copy. copy ≡ attr };
+
+    fn clone(&self) -> Result<Attr, AllocError>
+        ensures cases { IfOk result (λ copy. copy ≡ self.now) }
+    {
+        let name = self.name.clone()?;
+        let value = self.value.clone()?;
+        Ok(Attr { name, value })
+    }
+}
+
+// The blank that an unused inline place holds.
+impl MadeWith<Global> for Attr {
+    fn made_with(alloc: Global) -> Attr {
+        Attr {
+            name: Str::new(alloc),
+            value: Str::new(alloc),
+        }
+    }
+}
+
+/// Attributes in order, seen as their list; up to four take no memory of their own.
+#[derive(Drop)]
+pub struct Attrs {
+    pub list: SmallVec<Attr, 4>,
+}
+
+impl Model for Attrs {
+    ghost use Rattle.std.specs.Prelude.{List};
+    ghost use Rattle.html_tokens.specs.declared.attributes.Attr.{Attr};
+
+    ghost Value = { List Attr };
+
+    ghost view = { λ a. a.list.items };
+}
+
+impl Attrs {
+    /// No attributes, which takes no memory.
+    pub fn new(alloc: Global) -> Attrs
+        ensures { result ≡ [] }
+    {
+        Attrs {
+            list: SmallVec::new(alloc),
+        }
+    }
+
+    /// Adds an attribute at the end, or leaves the list as it was.
+    pub fn push(&mut self, attr: Attr) -> Result<(), AllocError>
+        ensures ok { OnOk result (self.new ≡ self.old ++ attr ∷ []) }
+        ensures err { OnErr result (self.new ≡ self.old) }
+    {
+        self.list.push(attr)?;
+        Ok(())
+    }
+
+    /// The attributes of a `Vec`, which takes no memory.
+    pub fn from_vec(attrs: Vec<Attr>) -> Attrs
+        ensures { result ≡ attrs.items }
+    {
+        Attrs {
+            list: SmallVec::from_vec(attrs),
+        }
+    }
+
+    pub fn len(&self) -> usize
+        ensures { result ≡ length self.now }
+    {
+        self.list.len()
+    }
+
+    pub fn as_slice(&self) -> &[Attr]
+        ensures { result.now ≡ self.now }
+    {
+        self.list.as_slice()
+    }
+
+    /// The attributes as a `Vec`.
+    pub fn into_vec(self) -> Result<Vec<Attr>, AllocError>
+        ensures { IfOk result (λ attrs. attrs.items ≡ self) }
+    {
+        Ok(self.list.into_vec()?)
+    }
+}

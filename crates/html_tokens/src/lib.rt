@@ -1,0 +1,6 @@
+//! Tokens of HTML.
+#![tactic(auto)]
+
+mod attributes;
+
+pub use attributes::{Attr, Attrs};
