@@ -1,1 +1,12 @@
 pub mod Texts
+pub mod NumberLemmas
+pub mod Names
+pub mod Rows
+pub mod LongestLemmas
+pub mod Steps
+pub mod Spelling
+pub mod EntityLemmas
+pub mod TableLemmas
+pub mod CoreLemmas
+pub mod Maximum
+pub mod FirstBad

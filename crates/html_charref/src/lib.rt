@@ -1,6 +1,16 @@
-//! Texts as lists of code points, which names, values, comments and ids are.
+//! Character references: the table of named ones, the numbers of numeric ones, and texts as lists of code points.
 #![tactic(auto)]
 
+mod number;
+mod read;
+mod table;
+#[cfg(test)]
+mod tests;
 mod text;
+mod walk;
 
+pub use number::{Base, RefFault, add_digit, numeric};
+pub use read::EntityError;
+pub use table::{EntityTable, RefText, Row};
 pub use text::Str;
+pub use walk::{Step, Walk};

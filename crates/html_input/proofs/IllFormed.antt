@@ -1,5 +1,5 @@
 -- What is ill-formed stays so, whatever follows the byte that shows it.
-use Rattle.std.proofs.Common.{◌≡◌, ◌⊎◌, ℕ, ◌+◌, ◌-◌, ◌*◌, ◌<◌, ◌≤◌, Bool, true, false, List, [], ◌∷◌, ◌++◌, length, take, drop, refl, sym, ap, subst, ◌∙◌, arith, length-append, length-take, append_assoc, take-append-drop, take-take, get_or-take, ⊎_elim, inl, inr, IsUtf8, Some, None}
+use Rattle.std.proofs.Common.{◌≡◌, ◌⊎◌, ℕ, ◌+◌, ◌-◌, ◌*◌, ◌<◌, ◌≤◌, Bool, true, false, List, [], ◌∷◌, ◌++◌, length, take, drop, refl, sym, ap, subst, ◌∙◌, arith, length-append, length-take, append_assoc, take-append-drop, take-take, get_or-take, ⊎_elim, inl, inr, IsUtf8, Option, Some, None}
 use Rattle.std.specs.Prelude.{◌==◌, if◌then◌else◌, slice_index, nat_lt, nat_le, ◌&&◌, unwrap_or}
 use Rattle.std.proofs.lemmas.Bool.{cases_Bool, cases_lt, cond-true, cond-false, true≢false, and_parts}
 use Rattle.std.proofs.lemmas.Bool.Decides.{nat_tests}
@@ -105,18 +105,6 @@ len_shown bs k h =
     (λ (few : length bs ≤ 1). let e = at_one bs first (omega arith) in cc) (cases_lt 1 (length bs)))
     (λ (no : first_fits bs ≡ false). inl (let e = at_first bs some no in cc, some, no)) (cases_Bool (first_fits bs)))
     (λ (none : length bs ≤ 0). let e = at_none bs (omega arith) in cc) (cases_lt 0 (length bs))
-
--- bytes that may still begin a character are at most three
-pub none_few : (bs : List ℕ) → utf8_error_len bs ≡ None → length bs ≤ 3
-none_few bs h =
-    ⊎_elim (λ (all : 3 < length bs).
-    ⊎_elim (λ (first : first_fits bs ≡ true).
-    ⊎_elim (λ (second : second_fits bs ≡ true).
-    ⊎_elim (λ (third : third_fits bs ≡ true). let e = at_fourth bs all first second third in cc)
-    (λ (no : third_fits bs ≡ false). let e = at_third bs (omega arith) first second no in cc) (cases_Bool (third_fits bs)))
-    (λ (no : second_fits bs ≡ false). let e = at_second bs (omega arith) first no in cc) (cases_Bool (second_fits bs)))
-    (λ (no : first_fits bs ≡ false). let e = at_first bs (omega arith) no in cc) (cases_Bool (first_fits bs)))
-    (λ (few : length bs ≤ 3). few) (cases_lt 3 (length bs))
 
 -- the bytes up to the one that shows it
 same_at : (bs more : List ℕ) (j i : ℕ) → i < j → i < length bs → slice_index (take j bs ++ more) i ≡ slice_index bs i
@@ -317,3 +305,24 @@ shown_by_next bs b k some none h =
     ⊎_elim (λ (many : 3 < length bs).
     refused 3 (at_fourth bs many (first_same ws bs (same 0 some) ∙ a.2) (second_same ws bs (same 0 some) (same 1 (omega arith)) ∙ a.3) (third_same ws bs (same 2 (omega arith)) ∙ a.4)))
     (λ (few : length bs ≤ 3). omega arith) (cases_lt 3 (length bs))))) (len_shown ws k h)
+
+-- bytes that end within a character are few
+none_short : (bs : List ℕ) → utf8_error_len bs ≡ None → length bs ≤ 3
+none_short bs h = ⊎_elim
+    (λ (all : 3 < length bs).
+    ⊎_elim (λ (first : first_fits bs ≡ true).
+    ⊎_elim (λ (second : second_fits bs ≡ true).
+    ⊎_elim (λ (third : third_fits bs ≡ true). let e = at_fourth bs all first second third in cc)
+    (λ (no : third_fits bs ≡ false). let e = at_third bs (omega arith) first second no in cc) (cases_Bool (third_fits bs)))
+    (λ (no : second_fits bs ≡ false). let e = at_second bs (omega arith) first no in cc) (cases_Bool (second_fits bs)))
+    (λ (no : first_fits bs ≡ false). let e = at_first bs (omega arith) no in cc) (cases_Bool (first_fits bs)))
+    (λ (few : length bs ≤ 3). few)
+    (cases_lt 3 (length bs))
+
+-- the part that one U+FFFD stands for
+pub part_range : (bs : List ℕ) → 0 < length bs → (0 < utf8_invalid_len bs) × (utf8_invalid_len bs ≤ 3)
+part_range bs some = at (utf8_error_len bs) refl
+  where
+    at : (o : Option ℕ) → utf8_error_len bs ≡ o → (0 < unwrap_or o (length bs)) × (unwrap_or o (length bs) ≤ 3)
+    at None e = (some, none_short bs e)
+    at (Some k) e = let range = shown_range bs k (len_shown bs k e) in (range.0, omega (arith, range.2))

@@ -1,6 +1,6 @@
 pub mod Endings
 pub mod Seams
-pub mod Sizes
 pub mod IllFormed
+pub mod Lengths
 pub mod Steps
 pub mod Feeding

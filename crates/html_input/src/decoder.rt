@@ -1,14 +1,15 @@
 //! The decoder: bytes in pieces to text.
-ghost use Rattle.std.specs.Prelude.{◌≡◌, ℕ, ◌+◌, ◌*◌, ◌<◌, ◌≤◌, List, [], ◌∷◌, ◌++◌, length, drop, min, false, true, OnOk, OnErr, IfOk, IfErr, Err, Bool, ◌↔◌, ◌≢◌};
+ghost use Rattle.std.specs.Prelude.{◌≡◌, ℕ, ◌+◌, ◌*◌, ◌<◌, ◌≤◌, List, [], ◌∷◌, ◌++◌, length, drop, min, false, true, OnOk, OnErr, IfOk, IfErr, Err, Bool, ◌↔◌, ◌≢◌, slice_index};
 ghost use Rattle.html_input.specs.Added.{added};
 ghost use Rattle.html_input.specs.Decode.{decode, code_points};
 
 use crate::error::InputError;
 use crate::normaliser::Normaliser;
+use crate::plain::plain_len;
 use crate::unsettled::Unsettled;
 use simdutf8::compat::from_utf8;
 
-/// The greatest number of code points that is decoded.
+/// The greatest number of code points that is decoded, counted before ends of lines are normalised and without the mark.
 pub const LIMIT: u64 = 16_777_216;
 
 // UTF-8 is tested in blocks, which are short behind ill-formed bytes, so that no byte is read again many times.
@@ -16,7 +17,7 @@ const SHORTEST_BLOCK: usize = 32;
 
 const LONGEST_BLOCK: usize = 4096;
 
-// Behind a block that was read to its end, the next one is longer.
+// Behind a block that was read to its end, or a run as long, the next block is longer.
 fn next_reach(reach: usize, read: usize) -> usize
     ensures { 0 < result }
 {
@@ -29,6 +30,9 @@ fn next_reach(reach: usize, read: usize) -> usize
     }
 }
 
+/// The way from the bytes of a page, in any pieces, to its text: UTF-8 in which each maximal ill-formed part is one
+/// U+FFFD, without a byte order mark at the start, and with a line feed for CR LF and for CR alone. Between calls it
+/// holds at most three bytes.
 #[derive(Drop)]
 pub struct Decoder {
     pub(crate) unsettled: Unsettled,
@@ -38,7 +42,7 @@ pub struct Decoder {
 
 impl Decoder {
     ghost use Rattle.html_input.specs.Unsettled.{bytes_of};
-    ghost use Rattle.html_input.specs.Fed.{Fed, Decodes, pending_of, without_last};
+    ghost use Rattle.html_input.specs.Fed.{Fed, Decodes, IsStopped, pending_of, without_last};
     ghost use Rattle.html_input.specs.Settles.{Settles, Moves, IsTooLong};
 
     /// A decoder of at most `LIMIT` code points.
@@ -59,15 +63,17 @@ impl Decoder {
         }
     }
 
-    /// How many code points the settled bytes have.
+    /// How many code points the bytes fed have, those still unsettled aside: before ends of lines were normalised, and
+    /// without the mark. After a refused call nothing is said of it.
     pub fn count(&self) -> u64
-        ensures { (limit : ℕ) (finished : Bool) (bytes text : List ℕ) → Fed limit finished self.now bytes text
+        ensures settled { (limit : ℕ) (finished : Bool) (bytes text : List ℕ) → Fed limit finished self.now bytes text
             → result ≡ length (code_points (without_last (pending_of self.now) bytes)) }
+        ensures all { (limit : ℕ) (bytes text : List ℕ) → Fed limit true self.now bytes text → result ≡ length (code_points bytes) }
     {
         self.normaliser.count
     }
 
-    /// How many code points were put out.
+    /// How many code points were put out: the index of the next one in the text. After a refused call nothing is said of it.
     pub fn next_place(&self) -> u64
         ensures { (limit : ℕ) (finished : Bool) (bytes text : List ℕ) → Fed limit finished self.now bytes text
             → result ≡ length text }
@@ -75,27 +81,37 @@ impl Decoder {
         self.normaliser.put_out
     }
 
-    /// How many of the bytes fed are unsettled.
+    /// How many of the bytes fed are unsettled, since they begin a character and do not end it: at most three.
     pub fn pending(&self) -> u32
         ensures is { result ≡ pending_of self.now }
         ensures few { result ≤ 3 }
+
+        // What may be said of the decoder at any time.
+        ensures decodes { (limit : ℕ) (finished : Bool) (bytes text : List ℕ) → Fed limit finished self.now bytes text
+            → Decodes limit (pending_of self.now) bytes text }
     {
         self.unsettled.len() as u32
     }
 
-    /// Decodes a piece, and puts its text behind `out`.
+    /// Decodes a piece of the input, and puts its text behind `out`.
+    ///
+    /// A refused call leaves `out` as it was, and every later call answers `Stopped`. `InputTooLong`: with this piece the
+    /// code points are more than the limit.
     pub fn feed(&mut self, piece: &[u8], out: &mut Vec<char>) -> Result<(), InputError>
         ensures kept { out.new.items ≡ out.old.items ++ added out.old.items out.new.items }
         ensures fed { OnOk result ((limit : ℕ) (bytes text : List ℕ) → Fed limit false self.old bytes text
             → Fed limit false self.new (bytes ++ piece.now) (text ++ added out.old.items out.new.items)) }
         ensures decoded { OnOk result ((limit : ℕ) (bytes text : List ℕ) → Fed limit false self.old bytes text
             → Decodes limit (pending_of self.new) (bytes ++ piece.now) (text ++ added out.old.items out.new.items)) }
-        ensures few { OnOk result ((limit : ℕ) (bytes text : List ℕ) → Fed limit false self.old bytes text
-            → length bytes + length piece.now ≤ 4 * limit + 7) }
+        ensures bounded { OnOk result ((limit : ℕ) (bytes text : List ℕ) → Fed limit false self.old bytes text
+            → length (bytes ++ piece.now) ≤ 4 * limit + 7) }
+
+        // However the bytes go on, they are too long.
         ensures too_long { IfErr result (λ e. (e ≡ InputError.InputTooLong) → (limit : ℕ) (bytes text : List ℕ)
             → Fed limit false self.old bytes text → (more : List ℕ) → limit < length (code_points (bytes ++ piece.now ++ more))) }
-        ensures refused { OnErr result ((out.new.items ≡ out.old.items) × (self.new.is_stopped ≡ true)) }
-        ensures stopped { (result ≡ Err InputError.Stopped) ↔ (self.old.is_stopped ≡ true) }
+        ensures refused { OnErr result ((out.new.items ≡ out.old.items) × IsStopped self.new) }
+        ensures stopped { (result ≡ Err InputError.Stopped) ↔ IsStopped self.old }
+        ensures running { (limit : ℕ) (bytes text : List ℕ) → Fed limit false self.old bytes text → result ≢ Err InputError.Stopped }
     {
         if self.is_stopped {
             return Err(InputError::Stopped);
@@ -109,18 +125,21 @@ impl Decoder {
         outcome
     }
 
-    /// Ends the input: bytes that are still unsettled are one U+FFFD.
+    /// Ends the input: bytes that are still unsettled are one U+FFFD, which may be one code point too many. Every later
+    /// call answers `Stopped`.
     pub fn finish(&mut self, out: &mut Vec<char>) -> Result<(), InputError>
         ensures kept { out.new.items ≡ out.old.items ++ added out.old.items out.new.items }
         ensures fed { OnOk result ((limit : ℕ) (bytes text : List ℕ) → Fed limit false self.old bytes text
             → Fed limit true self.new bytes (text ++ added out.old.items out.new.items)) }
         ensures decoded { OnOk result ((limit : ℕ) (bytes text : List ℕ) → Fed limit false self.old bytes text
             → (text ++ added out.old.items out.new.items ≡ decode bytes) × (length (code_points bytes) ≤ limit)) }
+        ensures settled { OnOk result (pending_of self.new ≡ 0) }
         ensures too_long { IfErr result (λ e. (e ≡ InputError.InputTooLong) → (limit : ℕ) (bytes text : List ℕ)
             → Fed limit false self.old bytes text → limit < length (code_points bytes)) }
         ensures refused { OnErr result (out.new.items ≡ out.old.items) }
-        ensures after { self.new.is_stopped ≡ true }
-        ensures stopped { (result ≡ Err InputError.Stopped) ↔ (self.old.is_stopped ≡ true) }
+        ensures after { IsStopped self.new }
+        ensures stopped { (result ≡ Err InputError.Stopped) ↔ IsStopped self.old }
+        ensures running { (limit : ℕ) (bytes text : List ℕ) → Fed limit false self.old bytes text → result ≢ Err InputError.Stopped }
     {
         if self.is_stopped {
             return Err(InputError::Stopped);
@@ -131,6 +150,27 @@ impl Decoder {
         }
         self.unsettled = Unsettled::new();
         self.normaliser.read(char::REPLACEMENT_CHARACTER, out)
+    }
+
+    /// Decodes a front of bytes that begin with ASCII, behind no unsettled ones: how many were read.
+    fn decode_ascii(&mut self, bytes: &[u8], out: &mut Vec<char>) -> Result<usize, InputError>
+        requires { (bytes_of self.old.unsettled ≡ []) × (0 < length bytes.now) × (slice_index bytes.now 0 < 128) }
+        ensures kept { out.new.items ≡ out.old.items ++ added out.old.items out.new.items }
+        ensures limit { self.new.normaliser.limit ≡ self.old.normaliser.limit }
+        ensures running { self.new.is_stopped ≡ self.old.is_stopped }
+        ensures count { IfOk result (λ k. (0 < k) × (k ≤ length bytes.now)) }
+        ensures moves { IfOk result (λ k. Moves self.old.normaliser self.new.normaliser bytes.now
+            (bytes_of self.new.unsettled ++ drop k bytes.now) (added out.old.items out.new.items)) }
+        ensures err { IfErr result (λ e. (e ≡ InputError.InputTooLong) → IsTooLong self.old.normaliser bytes.now) }
+        ensures cause { IfErr result (λ e. e ≢ InputError.Stopped) }
+    {
+        let len = plain_len(bytes);
+        if len == 0 || self.normaliser.is_after_return() {
+            self.normaliser.read(char::from(bytes[0]), out)?;
+            return Ok(1);
+        }
+        self.normaliser.read_plain(&bytes[..len], out)?;
+        Ok(len)
     }
 
     /// Decodes bytes behind no unsettled ones, as far as a block reaches: how many were read.
@@ -171,6 +211,31 @@ impl Decoder {
                     }
                 }
             }
+        }
+    }
+
+    /// Decodes a front of the bytes, behind no unsettled ones: how many were read.
+    fn decode_front(
+        &mut self,
+        bytes: &[u8],
+        reach: usize,
+        out: &mut Vec<char>,
+    ) -> Result<usize, InputError>
+        requires { (bytes_of self.old.unsettled ≡ []) × (0 < length bytes.now) × (0 < reach) }
+        ensures kept { out.new.items ≡ out.old.items ++ added out.old.items out.new.items }
+        ensures limit { self.new.normaliser.limit ≡ self.old.normaliser.limit }
+        ensures running { self.new.is_stopped ≡ self.old.is_stopped }
+        ensures count { IfOk result (λ k. (0 < k) × (k ≤ length bytes.now)) }
+        ensures moves { IfOk result (λ k. Moves self.old.normaliser self.new.normaliser bytes.now
+            (bytes_of self.new.unsettled ++ drop k bytes.now) (added out.old.items out.new.items)) }
+        ensures err { IfErr result (λ e. (e ≡ InputError.InputTooLong) → IsTooLong self.old.normaliser bytes.now) }
+        ensures cause { IfErr result (λ e. e ≢ InputError.Stopped) }
+    {
+        // Where bytes were ill-formed, more are likely to be, so that runs of ASCII are not worth a search.
+        if reach > SHORTEST_BLOCK && bytes[0].is_ascii() {
+            self.decode_ascii(bytes, out)
+        } else {
+            self.decode_block(bytes, reach, out)
         }
     }
 
@@ -229,7 +294,7 @@ impl Decoder {
         while at < bytes.len() {
             let rest = &bytes[at..];
             at += if self.unsettled.is_empty() {
-                let read = self.decode_block(rest, reach, out)?;
+                let read = self.decode_front(rest, reach, out)?;
                 reach = next_reach(reach, read);
                 read
             } else {

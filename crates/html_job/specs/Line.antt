@@ -1,6 +1,10 @@
 -- The command line, as clap sees it.
-use Rattle.std.specs.Prelude.{codes, true}
+use Rattle.std.specs.Prelude.{Some, codes, true}
 use Rattle.clap.specs.Words.{App, Rule, Text, new_app, new_rule, with_rule, with_subcommand}
+
+-- `--NAME VALUE`
+abbrev pub option_rule : Text → Rule
+option_rule name = record (new_rule name) { long = Some name; value_names = 1 }
 
 -- `INPUT`
 abbrev pub input_rule : Rule
@@ -8,7 +12,7 @@ input_rule = new_rule (codes "INPUT")
 
 -- a command on one page
 abbrev pub page_app : Text → App
-page_app name = with_rule (new_app name) input_rule
+page_app name = with_rule (with_rule (new_app name) (option_rule (codes "entities"))) input_rule
 
 -- the program, with no command: one is wanted, and `help` is none
 abbrev pub empty_line : App

@@ -14,6 +14,7 @@ name_of Tree = codes "tree"
 
 -- the job has what stands in the rows of its command
 pub record Reads (job : Job) (rows : List Row) : Type 0 where
+  pub entities : option_map (λ s. s.now) job.entities ≡ first_of (codes "entities") rows
   pub input : option_map (λ s. s.now) job.input ≡ first_of (codes "INPUT") rows
 
 -- the job is that of the words: clap's matches have its command, with these rows

@@ -18,6 +18,8 @@ pub enum Command {
 #[derive(Debug, Drop)]
 pub struct Job<'a> {
     pub command: Command,
+    /// The file of named character references. None is the table of five names.
+    pub entities: Option<&'a str>,
     /// The file of the page. `-`, or none, is standard input.
     pub input: Option<&'a str>,
 }

@@ -3,10 +3,21 @@
 ghost use Rattle.std.specs.Prelude.{◌≡◌, IfOk, codes, true, false};
 ghost use Rattle.clap.specs.Words.{app_of, rule_of};
 ghost use Rattle.clap.specs.declared.builder.command.Command.TheViews.{out-Command as fields_of};
-ghost use Rattle.html_job.specs.Line.{input_rule, page_app, line};
+ghost use Rattle.html_job.specs.Line.{option_rule, input_rule, page_app, line};
 
 use clap::{Arg, Command};
 use std::alloc::{AllocError, Global};
+
+/// `--NAME VALUE`
+fn text_option<'a>(alloc: Global, name: &'a str, value: &'a str, help: &'a str) -> Arg<'a>
+    ensures rule { rule_of result ≡ option_rule name.entry.now }
+    ensures local { result.global ≡ false }
+{
+    Arg::new(alloc, name)
+        .long(name)
+        .value_name(value)
+        .help(help)
+}
 
 /// The file of the page.
 fn input<'a>(alloc: Global) -> Arg<'a>
@@ -21,7 +32,16 @@ fn page_command<'a>(alloc: Global, name: &'a str, about: &'a str) -> Result<Comm
     ensures app { IfOk result (λ c. app_of c ≡ page_app name.entry.now) }
     ensures local { IfOk result (λ c. (fields_of c).has_globals ≡ false) }
 {
-    Command::new(alloc, name).about(about).arg(input(alloc))
+    let entities = text_option(
+        alloc,
+        "entities",
+        "FILE",
+        "Named character references, as the standard publishes them in JSON; without it five names",
+    );
+    Command::new(alloc, name)
+        .about(about)
+        .arg(entities)?
+        .arg(input(alloc))
 }
 
 /// The whole command line.

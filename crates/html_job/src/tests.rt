@@ -21,7 +21,19 @@ fn tree(rt: HostRuntime) -> Result<(), Fail> {
         let job = job(rt.alloc(), words)?;
         assert_eq!(rt; job.command, Command::Tree);
         assert_eq!(rt; job.input, input);
+        assert_eq!(rt; job.entities, None);
     }
+    Ok(())
+}
+
+#[test]
+fn entities_of_a_file(rt: HostRuntime) -> Result<(), Fail> {
+    let job = job(
+        rt.alloc(),
+        &["html_cmd", "tree", "--entities", "entities.json", "page.html"],
+    )?;
+    assert_eq!(rt; job.entities, Some("entities.json"));
+    assert_eq!(rt; job.input, Some("page.html"));
     Ok(())
 }
 
@@ -31,7 +43,7 @@ fn words_that_are_no_job(rt: HostRuntime) -> Result<(), Fail> {
         (&["html_cmd", "--help"], "Usage: html_cmd <COMMAND>"),
         (
             &["html_cmd", "tree", "--help"],
-            "Usage: html_cmd tree [INPUT]",
+            "Usage: html_cmd tree [OPTIONS] [INPUT]",
         ),
         (&["html_cmd"], "requires a subcommand"),
         (&["html_cmd", "help"], "unrecognized subcommand 'help'"),

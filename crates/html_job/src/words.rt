@@ -53,6 +53,7 @@ fn job_of<'a>(command: Command, matches: &ArgMatches<'a>) -> Job<'a>
 {
     Job {
         command,
+        entities: text(matches, "entities"),
         input: text(matches, "INPUT"),
     }
 }

@@ -67,14 +67,6 @@ newlines-few (c ∷ cs) =
     (λ (no : c == 13 ≡ false). subst P (sym (cond-false _ _ _ no)) (omega (arith, rest)))
     (cases_Bool (c == 13))
 
--- the count of a decoder that has ended its input
-pub count-all : (d : Decoder) (bytes text : List ℕ) → Fed LIMIT true d bytes text → (result : ℕ)
-    → ((limit : ℕ) (finished : Bool) (bytes text : List ℕ) → Fed limit finished d bytes text → result ≡ length (code_points (without_last (pending_of d) bytes)))
-    → result ≡ length (code_points bytes)
-count-all d bytes text f result counts =
-    counts LIMIT true bytes text f
-    ∙ ap (λ (b : List ℕ). length (code_points b)) (ap (λ (n : ℕ). without_last n bytes) (ap (λ (l : List ℕ). length l) (f.all refl)) ∙ take_all (length bytes - 0) bytes (omega arith))
-
 pub text-page : (text bytes : List ℕ) (n : ℕ) (page : Page) → IsTextPage text n page → text ≡ decode bytes → n ≡ length (code_points bytes) → length (code_points bytes) ≤ LIMIT → IsPageOf bytes page
 text-page text bytes n page h same count few =
     let g : IsTextPage (decode bytes) n page = subst (λ (t : List ℕ). IsTextPage t n page) same h in

@@ -1,6 +1,7 @@
 -- A parser, and the bytes that it was fed.
-use Rattle.std.specs.Prelude.{◌≡◌, ℕ, List, false, true}
+use Rattle.std.specs.Prelude.{ℕ, List, false}
 use Rattle.html_input.specs.Fed.{Fed}
+use Rattle.html_input.specs.Fed.{IsStopped as HasStopped}
 use Rattle.html_input.specs.declared.decoder.TheConstants.{LIMIT}
 use Rattle.html_page.specs.declared.parser.Parser.{Parser}
 
@@ -10,4 +11,4 @@ IsFed p bytes = Fed LIMIT false p.decoder bytes p.text.items
 
 -- it refused a piece
 abbrev pub IsStopped : Parser → Type 0
-IsStopped p = p.decoder.is_stopped ≡ true
+IsStopped p = HasStopped p.decoder

@@ -5,26 +5,30 @@ ghost use Rattle.html_page.specs.Parsed.{IsPageOf, IsCause, IsFeedCause};
 
 use crate::error::ParseError;
 use crate::page::{Page, read_page};
+use html_charref::EntityTable;
 use html_input::Decoder;
 use std::alloc::Global;
 
-/// A parser that takes its input in pieces, cut anywhere. Once it refused a piece it takes no more.
+/// A parser that takes its input in pieces, cut anywhere. Once it refused a piece it takes no more. It reads named
+/// character references by a table, which it borrows; no page that it reads today has one.
 #[derive(Drop)]
-pub struct Parser {
+pub struct Parser<'a> {
     alloc: Global,
+    table: &'a EntityTable,
     pub(crate) decoder: Decoder,
     pub(crate) text: Vec<char>,
 }
 
-impl Parser {
+impl<'a> Parser<'a> {
     ghost use Rattle.html_page.specs.Fed.{IsFed, IsStopped};
 
     /// A parser of a document.
-    pub fn document(alloc: Global) -> Parser
+    pub fn document(alloc: Global, table: &'a EntityTable) -> Parser<'a>
         ensures { IsFed result [] }
     {
         Parser {
             alloc,
+            table,
             decoder: Decoder::new(),
             text: Vec::new(alloc),
         }
@@ -44,14 +48,15 @@ impl Parser {
 
     /// Ends the input: the page of all that was fed.
     pub fn finish(self) -> Result<Page, ParseError>
-        ensures page { IfOk result (λ page. (bytes : List ℕ) → IsFed self bytes → IsPageOf bytes page) }
-        ensures cause { IfErr result (λ e. (bytes : List ℕ) → IsFed self bytes → IsCause bytes e) }
-        ensures stopped { IsStopped self → result ≡ Err ParseError.Stopped }
+        ensures page { IfOk result (λ page. (bytes : List ℕ) → IsFed self.entry bytes → IsPageOf bytes page) }
+        ensures cause { IfErr result (λ e. (bytes : List ℕ) → IsFed self.entry bytes → IsCause bytes e) }
+        ensures stopped { IsStopped self.entry → result ≡ Err ParseError.Stopped }
     {
         let Parser {
             alloc,
             mut decoder,
             mut text,
+            ..
         } = self;
         decoder.finish(&mut text)?;
         let page = read_page(alloc, text.as_slice(), decoder.count())?;
@@ -61,11 +66,11 @@ impl Parser {
 
 /// The page of an input. An input of more code points than `LIMIT` is refused as too long. What is no small page's text is
 /// refused with the length of the longest front of its text with which some small page begins.
-pub fn parse(alloc: Global, bytes: &[u8]) -> Result<Page, ParseError>
+pub fn parse(alloc: Global, table: &EntityTable, bytes: &[u8]) -> Result<Page, ParseError>
     ensures page { IfOk result (IsPageOf bytes.now) }
     ensures cause { IfErr result (IsCause bytes.now) }
 {
-    let mut parser = Parser::document(alloc);
+    let mut parser = Parser::document(alloc, table);
     parser.feed(bytes)?;
     let page = parser.finish()?;
     Ok(page)

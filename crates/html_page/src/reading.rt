@@ -9,6 +9,7 @@ ghost use Rattle.html_page.specs.Reading.{IsPieceCause, IsReaderCause};
 use crate::error::ParseError;
 use crate::page::Page;
 use crate::parser::Parser;
+use html_charref::EntityTable;
 use html_device::Source;
 use std::alloc::Global;
 
@@ -16,19 +17,23 @@ use std::alloc::Global;
 const READ_SIZE: usize = 4096;
 
 /// The page of all that a reader has. Any fault of the reader is `Read`, an interruption too.
-pub fn parse_from<S: Source>(alloc: Global, reader: &mut S) -> Result<Page, ParseError>
+pub fn parse_from<S: Source>(
+    alloc: Global,
+    table: &EntityTable,
+    reader: &mut S,
+) -> Result<Page, ParseError>
     ensures page { IfOk result (λ page. (bytes : List ℕ) × Consumes (S.remaining reader.old) (S.remaining reader.new) bytes × IsPageOf bytes page) }
     ensures end { OnOk result (IsAtEnd (S.remaining reader.new)) }
     ensures cause { IfErr result (IsReaderCause (S.remaining reader.old) (S.remaining reader.new) (S.failed reader.new)) }
 {
-    let mut parser = Parser::document(alloc);
+    let mut parser = Parser::document(alloc, table);
     feed_from(&mut parser, reader)?;
     let page = parser.finish()?;
     Ok(page)
 }
 
 /// Feeds a new parser all that a reader has.
-fn feed_from<S: Source>(parser: &mut Parser, reader: &mut S) -> Result<(), ParseError>
+fn feed_from<S: Source>(parser: &mut Parser<'_>, reader: &mut S) -> Result<(), ParseError>
     requires { IsFed parser.old [] }
     ensures fed { OnOk result ((bytes : List ℕ) × Consumes (S.remaining reader.old) (S.remaining reader.new) bytes × IsFed parser.new bytes) }
     ensures end { OnOk result (IsAtEnd (S.remaining reader.new)) }

@@ -1,6 +1,6 @@
 //! Small pages through the public call.
 
-use crate::{FailAt, LIMIT, Page, ParseError, Parser, parse, parse_from};
+use crate::{EntityTable, FailAt, LIMIT, Page, ParseError, Parser, parse, parse_from};
 use std::alloc::Global;
 use std::test::Fail;
 
@@ -8,7 +8,10 @@ const SHORT_GREETING: &[u8] =
     b"<!DOCTYPE html><html><head></head><body><div>Hi</div></body></html>";
 
 fn refusal(alloc: Global, bytes: &[u8]) -> Option<ParseError> {
-    parse(alloc, bytes).err()
+    let Ok(table) = EntityTable::core(alloc) else {
+        return None;
+    };
+    parse(alloc, &table, bytes).err()
 }
 
 fn not_yet(at: u64) -> Option<ParseError> {
@@ -17,7 +20,8 @@ fn not_yet(at: u64) -> Option<ParseError> {
 
 #[test]
 fn short_greeting(rt: HostRuntime) -> Result<(), Fail> {
-    let page = parse(rt.alloc(), SHORT_GREETING)?;
+    let table = EntityTable::core(rt.alloc())?;
+    let page = parse(rt.alloc(), &table, SHORT_GREETING)?;
     assert_eq!(rt; page.n, 67);
     assert_eq!(rt; page.arena.len(), 7);
     Ok(())
@@ -25,8 +29,10 @@ fn short_greeting(rt: HostRuntime) -> Result<(), Fail> {
 
 #[test]
 fn elements_and_texts(rt: HostRuntime) -> Result<(), Fail> {
+    let table = EntityTable::core(rt.alloc())?;
     let page = parse(
         rt.alloc(),
+        &table,
         b"<!DOCTYPE html><html><head></head><body>a<b>c<i></i></b><em>d</em></body></html>",
     )?;
     assert_eq!(rt; page.arena.len(), 11);
@@ -65,7 +71,8 @@ fn greater_than_in_text(rt: HostRuntime) {
 #[test]
 fn texts_beyond_ascii(rt: HostRuntime) -> Result<(), Fail> {
     let bytes = "<!DOCTYPE html><html><head></head><body>é€😀</body></html>".as_bytes();
-    let page = parse(rt.alloc(), bytes)?;
+    let table = EntityTable::core(rt.alloc())?;
+    let page = parse(rt.alloc(), &table, bytes)?;
     assert_eq!(rt; page.n, 57);
     assert_eq!(rt; page.arena.len(), 6);
     let bytes = "<!DOCTYPE html><html><head></head><body>é\u{A0}</body></html>".as_bytes();
@@ -76,7 +83,8 @@ fn texts_beyond_ascii(rt: HostRuntime) -> Result<(), Fail> {
 #[test]
 fn ends_of_lines(rt: HostRuntime) -> Result<(), Fail> {
     let bytes = b"\xEF\xBB\xBF<!DOCTYPE html><html><head></head><body>a\r\nb\r</body></html>";
-    let page = parse(rt.alloc(), bytes)?;
+    let table = EntityTable::core(rt.alloc())?;
+    let page = parse(rt.alloc(), &table, bytes)?;
     assert_eq!(rt; page.n, 59);
     assert_eq!(rt; page.arena.len(), 6);
     Ok(())
@@ -99,7 +107,8 @@ fn too_long_input(rt: HostRuntime) -> Result<(), Fail> {
 fn stops_after_a_refused_piece(rt: HostRuntime) -> Result<(), Fail> {
     let mut bytes = Vec::new(rt.alloc());
     bytes.resize(LIMIT as usize + 1, b'a')?;
-    let mut parser = Parser::document(rt.alloc());
+    let table = EntityTable::core(rt.alloc())?;
+    let mut parser = Parser::document(rt.alloc(), &table);
     assert_eq!(rt;
         parser.feed(bytes.as_slice()),
         Err(ParseError::InputTooLong)
@@ -110,8 +119,8 @@ fn stops_after_a_refused_piece(rt: HostRuntime) -> Result<(), Fail> {
 }
 
 /// The page of an input that is fed a byte at a time.
-fn parse_by_bytes(alloc: Global, bytes: &[u8]) -> Result<Page, ParseError> {
-    let mut parser = Parser::document(alloc);
+fn parse_by_bytes(alloc: Global, table: &EntityTable, bytes: &[u8]) -> Result<Page, ParseError> {
+    let mut parser = Parser::document(alloc, table);
     for byte in bytes {
         parser.feed(&[*byte])?;
     }
@@ -138,11 +147,15 @@ const REFUSED: [(&[u8], u64); 5] = [
 
 #[test]
 fn cut_after_every_byte(rt: HostRuntime) -> Result<(), Fail> {
-    let page = parse_by_bytes(rt.alloc(), SHORT_GREETING)?;
+    let table = EntityTable::core(rt.alloc())?;
+    let page = parse_by_bytes(rt.alloc(), &table, SHORT_GREETING)?;
     assert_eq!(rt; page.n, 67);
     assert_eq!(rt; page.arena.len(), 7);
     for (bytes, at) in REFUSED {
-        assert_eq!(rt; parse_by_bytes(rt.alloc(), bytes).err(), not_yet(at));
+        assert_eq!(rt;
+            parse_by_bytes(rt.alloc(), &table, bytes).err(),
+            not_yet(at)
+        );
     }
     Ok(())
 }
@@ -150,13 +163,14 @@ fn cut_after_every_byte(rt: HostRuntime) -> Result<(), Fail> {
 #[test]
 fn read_a_byte_at_a_time(rt: HostRuntime) -> Result<(), Fail> {
     let alloc = rt.alloc();
+    let table = EntityTable::core(alloc)?;
     let mut reader = FailAt::new(alloc, SHORT_GREETING.to_vec(alloc)?, 1000, 1);
-    let page = parse_from(alloc, &mut reader)?;
+    let page = parse_from(alloc, &table, &mut reader)?;
     assert_eq!(rt; page.n, 67);
     assert_eq!(rt; page.arena.len(), 7);
     for (bytes, at) in REFUSED {
         let mut reader = FailAt::new(alloc, bytes.to_vec(alloc)?, 1000, 1);
-        assert_eq!(rt; parse_from(alloc, &mut reader).err(), not_yet(at));
+        assert_eq!(rt; parse_from(alloc, &table, &mut reader).err(), not_yet(at));
     }
     Ok(())
 }
@@ -164,10 +178,11 @@ fn read_a_byte_at_a_time(rt: HostRuntime) -> Result<(), Fail> {
 #[test]
 fn reader_that_fails(rt: HostRuntime) -> Result<(), Fail> {
     let alloc = rt.alloc();
+    let table = EntityTable::core(alloc)?;
     for calls in 0..8 {
         let mut reader = FailAt::new(alloc, SHORT_GREETING.to_vec(alloc)?, calls, 10);
         assert_eq!(rt;
-            parse_from(alloc, &mut reader).err(),
+            parse_from(alloc, &table, &mut reader).err(),
             Some(ParseError::Read)
         );
     }

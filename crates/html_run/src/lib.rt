@@ -9,6 +9,6 @@ mod status;
 mod tests;
 mod tree;
 
-pub use refusal::{Refusal, outcome};
+pub use refusal::{Refusal, TableRefusal, outcome};
 pub use running::{run, tell};
 pub use status::{DONE, FILE_FAULT, REFUSED, WRONG_WORDS};

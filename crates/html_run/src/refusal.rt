@@ -4,7 +4,7 @@ ghost use Rattle.std.specs.Prelude.{◌≡◌, Some};
 ghost use Rattle.html_run.specs.Outcome.{status_of, foreign_text};
 
 use crate::status::{FILE_FAULT, REFUSED};
-use html_page::{Foreign, ParseError};
+use html_page::{EntityError, Foreign, ParseError};
 use std::fmt;
 
 /// Why there is no page, as a line for the user. `input` is the name of the file, or `-`.
@@ -36,6 +36,24 @@ impl fmt::Display for Refusal<'_> {
             ParseError::NodeBudget { at } => write!(f, "refused: node budget at {at}"),
             ParseError::HeldBudget { at } => write!(f, "refused: held budget at {at}"),
             ParseError::NotYet { at } => write!(f, "refused: not yet at {at}"),
+        }
+    }
+}
+
+/// Why there is no table of character references, as a line for the user.
+#[derive(Clone, Copy)]
+pub struct TableRefusal<'a> {
+    pub error: &'a EntityError,
+}
+
+impl fmt::Display for TableRefusal<'_> {
+    fn fmt<W: fmt::Write>(&self, f: &mut fmt::Formatter<W>) -> fmt::Result {
+        match self.error {
+            EntityError::Json => f.write_str("refused: entities: json"),
+            EntityError::Shape(key) => write!(f, "refused: entities: shape {key}"),
+            EntityError::Name(key) => write!(f, "refused: entities: name {key}"),
+            EntityError::Text(key) => write!(f, "refused: entities: text {key}"),
+            EntityError::OutOfMemory => f.write_str("refused: out of memory"),
         }
     }
 }

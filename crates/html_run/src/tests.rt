@@ -58,12 +58,13 @@ impl Write for FailAt {
 fn tree_of(alloc: Global, bytes: &[u8]) -> Result<(u8, Vec<u8>, Vec<u8>), AllocError> {
     let job = Job {
         command: Command::Tree,
+        entities: None,
         input: None,
     };
     let mut reader = OverRead::new(bytes);
     let mut written = Vec::new(alloc);
     let mut faults = Vec::new(alloc);
-    let status = run(alloc, &job, &mut reader, &mut written, &mut faults);
+    let status = run(alloc, &job, None, &mut reader, &mut written, &mut faults);
     Ok((status, written, faults))
 }
 
@@ -86,7 +87,8 @@ fn prints_trees(rt: HostRuntime) -> Result<(), Fail> {
 
 #[test]
 fn prints_below_a_node(rt: HostRuntime) -> Result<(), Fail> {
-    let page = html_page::parse(rt.alloc(), PAGE)?;
+    let table = html_page::EntityTable::core(rt.alloc())?;
+    let page = html_page::parse(rt.alloc(), &table, PAGE)?;
     let mut written = Vec::new(rt.alloc());
     print_tree(&mut written, &page.arena, page.root)?;
     assert_eq!(rt; written.as_slice(), TREE.as_bytes());
@@ -163,6 +165,7 @@ fn tells_a_failed_read(rt: HostRuntime) -> Result<(), Fail> {
     for calls in 0..8 {
         let job = Job {
             command: Command::Tree,
+            entities: None,
             input: Some("page.html"),
         };
         let mut reader = OverRead::new(FailAt {
@@ -172,7 +175,14 @@ fn tells_a_failed_read(rt: HostRuntime) -> Result<(), Fail> {
         });
         let mut written = Vec::new(rt.alloc());
         let mut faults = Vec::new(rt.alloc());
-        let status = run(rt.alloc(), &job, &mut reader, &mut written, &mut faults);
+        let status = run(
+            rt.alloc(),
+            &job,
+            None,
+            &mut reader,
+            &mut written,
+            &mut faults,
+        );
         assert_eq!(rt; status, FILE_FAULT, "after {calls} calls");
         assert_eq!(rt; written.as_slice(), b"".as_slice());
         assert_eq!(rt;
@@ -188,6 +198,7 @@ fn tells_a_failed_write(rt: HostRuntime) -> Result<(), Fail> {
     for calls in 0..20 {
         let job = Job {
             command: Command::Tree,
+            entities: None,
             input: None,
         };
         let mut reader = OverRead::new(PAGE);
@@ -197,10 +208,56 @@ fn tells_a_failed_write(rt: HostRuntime) -> Result<(), Fail> {
             calls,
         };
         let mut faults = Vec::new(rt.alloc());
-        let status = run(rt.alloc(), &job, &mut reader, &mut writer, &mut faults);
+        let status = run(
+            rt.alloc(),
+            &job,
+            None,
+            &mut reader,
+            &mut writer,
+            &mut faults,
+        );
         assert_eq!(rt; status, FILE_FAULT, "after {calls} calls");
         assert!(rt; TREE.as_bytes().starts_with(writer.bytes.as_slice()));
         assert_eq!(rt; faults.as_slice(), b"fault: cannot write\n".as_slice());
+    }
+    Ok(())
+}
+
+#[test]
+fn tells_a_refused_table(rt: HostRuntime) -> Result<(), Fail> {
+    let rows: [(&[u8], &str); 5] = [
+        (b"{", "refused: entities: json\n"),
+        (b"[]", "refused: entities: shape \n"),
+        (
+            b"{\"&a;\":{\"codepoints\":[97]}}",
+            "refused: entities: shape &a;\n",
+        ),
+        (b"{\"&;\":1,\"&a;\":1}", "refused: entities: name &;\n"),
+        (
+            b"{\"&a;\":{\"codepoints\":[55296],\"characters\":\"a\"}}",
+            "refused: entities: text &a;\n",
+        ),
+    ];
+    for (entities, line) in rows {
+        let job = Job {
+            command: Command::Tree,
+            entities: Some("entities.json"),
+            input: None,
+        };
+        let mut reader = OverRead::new(PAGE);
+        let mut written = Vec::new(rt.alloc());
+        let mut faults = Vec::new(rt.alloc());
+        let status = run(
+            rt.alloc(),
+            &job,
+            Some(entities),
+            &mut reader,
+            &mut written,
+            &mut faults,
+        );
+        assert_eq!(rt; status, REFUSED);
+        assert_eq!(rt; written.as_slice(), b"".as_slice());
+        assert_eq!(rt; faults.as_slice(), line.as_bytes());
     }
     Ok(())
 }

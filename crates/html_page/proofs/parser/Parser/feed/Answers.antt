@@ -1,5 +1,4 @@
-use Rattle.std.proofs.Common.{◌≡◌, ◌∙◌, sym, ap, arith, Err}
-use Rattle.std.proofs.lemmas.Bool.{true≢false}
+use Rattle.std.proofs.Common.{ap, arith, Err, length-append}
 use Rattle.std.proofs.lemmas.Result.{err_from_is_err_and}
 use Rattle.html_input.specs.declared.decoder.TheConstants.{LIMIT}
 use Rattle.html_page.proofs.Inputs.{feed-cause}
@@ -10,7 +9,7 @@ returns-in_err-feed-clause-cause c =
     let p = err_from_is_err_and c.from_residual.result c.from_residual.ensures.1 in
     rw (p.1, p.2) (λ bytes f. feed-cause c.in_err-feed.field-0.0 _
     (λ e more. c.in_err-feed.ensures.too_long e LIMIT bytes _ f more)
-    (λ e. true≢false (sym (c.in_err-feed.ensures.stopped.0 (ap Err e)) ∙ f.stopped)))
+    (λ e. c.in_err-feed.ensures.running LIMIT bytes _ f (ap Err e)))
 
 pub returns-clause-few : goal.returns-clause-few
-returns-clause-few c = λ bytes f. let few = c.in_ok-feed.ensures.few LIMIT bytes _ f in omega (arith, few)
+returns-clause-few c = λ bytes f. let few = c.in_ok-feed.ensures.bounded LIMIT bytes _ f in omega (arith, few, length-append bytes c.args.piece.now)

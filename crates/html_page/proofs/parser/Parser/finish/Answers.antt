@@ -1,8 +1,7 @@
-use Rattle.std.proofs.Common.{◌≡◌, ◌∙◌, sym, ap, arith, Err}
-use Rattle.std.proofs.lemmas.Bool.{true≢false}
+use Rattle.std.proofs.Common.{◌∙◌, ap, Err}
 use Rattle.std.proofs.lemmas.Result.{err_from_is_err_and}
 use Rattle.html_input.specs.declared.decoder.TheConstants.{LIMIT}
-use Rattle.html_page.proofs.Inputs.{finish-cause, text-cause, text-page, count-all}
+use Rattle.html_page.proofs.Inputs.{finish-cause, text-cause, text-page}
 use Rattle.html_page.proofs.parser.Parser.finish.Goals as goal
 
 pub returns-in_err-finish-clause-cause : goal.returns-in_err-finish-clause-cause
@@ -10,7 +9,7 @@ returns-in_err-finish-clause-cause c =
     let p = err_from_is_err_and c.from_residual.result c.from_residual.ensures.1 in
     rw (p.1, p.2) (λ bytes f. finish-cause c.in_err-finish.field-0.0 bytes
     (λ e. c.in_err-finish.ensures.too_long e LIMIT bytes _ f)
-    (λ e. true≢false (sym (c.in_err-finish.ensures.stopped.0 (ap Err e)) ∙ f.stopped)))
+    (λ e. c.in_err-finish.ensures.running LIMIT bytes _ f (ap Err e)))
 
 pub returns-in_err-page-clause-cause : goal.returns-in_err-page-clause-cause
 returns-in_err-page-clause-cause c =
@@ -24,4 +23,4 @@ returns-clause-page c = λ bytes f.
     let d = c.in_ok-finish.ensures.decoded LIMIT bytes _ f in
     let e = c.in_ok-finish.ensures.fed LIMIT bytes _ f in
     text-page _ bytes c.count.result c.in_ok-page.page c.in_ok-page.ensures.page (c.as_slice.ensures.value ∙ c.in_ok-finish.ensures.kept ∙ d.0)
-    (count-all c.finish.new.self bytes _ e c.count.result c.count.ensures) d.1
+    (c.count.ensures.all LIMIT bytes _ e) d.1
