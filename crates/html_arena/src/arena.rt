@@ -267,6 +267,7 @@ impl Arena {
         place_of(&self.links, node).parent
     }
 
+    /// The first of a node's children.
     pub fn first_child(&self, node: NodeId) -> Option<NodeId>
         requires { node < length self.now.labels }
         ensures value { result ≡ first_of (children_of self.now node) }
@@ -275,6 +276,7 @@ impl Arena {
         place_of(&self.links, node).first_child
     }
 
+    /// The last of a node's children.
     pub fn last_child(&self, node: NodeId) -> Option<NodeId>
         requires { node < length self.now.labels }
         ensures value { result ≡ last_of (children_of self.now node) }
@@ -601,11 +603,11 @@ impl Arena {
         let held = lacking_held(label_at(&self.nodes, element).attrs(), attrs.as_slice());
         self.room_for(0, held)?;
         let own = label_at(&self.nodes, element).attrs();
-        let steps = own.len() as u128 * attrs.len() as u128;
+        let compared = own.len() as u128 * attrs.len() as u128;
         let all = merge(*self.links.allocator(), own, attrs)?;
         set_attrs(&mut self.nodes, element, all);
         self.held = self.held.saturating_add(held);
-        self.steps = self.steps.saturating_add(steps);
+        self.steps = self.steps.saturating_add(compared);
         Ok(())
     }
 }
@@ -619,11 +621,20 @@ impl Arena {
         label_at(&self.nodes, node)
     }
 
+    /// The kind of a node.
     pub fn kind(&self, node: NodeId) -> Kind
         requires { node < length self.now.labels }
         ensures { result ≡ kind_in (label_of self.now node) }
     {
         label_at(&self.nodes, node).kind()
+    }
+
+    /// Whether a node may be linked: a document and a template's contents may not.
+    pub fn is_linkable(&self, node: NodeId) -> bool
+        requires { node < length self.now.labels }
+        ensures { result ≡ is_linkable (label_of self.now node) }
+    {
+        label_at(&self.nodes, node).is_linkable()
     }
 
     /// The name of an element; empty for other nodes.

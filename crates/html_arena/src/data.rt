@@ -2,7 +2,7 @@
 ghost use Rattle.std.specs.Prelude.{◌≡◌, ◌+◌, ◌<◌, [], OnOk, OnErr, IfOk, length, slice_set};
 ghost use Rattle.std.specs.Str.{chars};
 ghost use Rattle.html_names.specs.Sets.{is_formatting};
-ghost use Rattle.html_arena.specs.Data.{IsText, IsElement, attrs_in, cloned, contents_in, host_in, is_clone_in, kind_in, label_in, name_in, origin_in, tag_in, text_in, with_attrs, with_char};
+ghost use Rattle.html_arena.specs.Data.{IsText, IsElement, attrs_in, cloned, contents_in, host_in, is_clone_in, is_linkable, kind_in, label_in, name_in, origin_in, tag_in, text_in, with_attrs, with_char};
 ghost use Rattle.html_arena.specs.Weight.{weight, attrs_weight, optional_weight, capped};
 
 use crate::attributes::{SharedAttrs, attrs_held};
@@ -20,6 +20,7 @@ pub enum Origin {
     Nothing,
 }
 
+/// What a node is.
 #[derive(Clone, Copy, Debug, PartialEq, Eq)]
 pub enum Kind {
     Document,
@@ -206,6 +207,7 @@ fn no_text() -> &'static str
 }
 
 impl NodeData {
+    /// The kind of the node.
     pub fn kind(&self) -> Kind
         ensures { result ≡ kind_in self.now }
     {
@@ -216,6 +218,16 @@ impl NodeData {
             NodeData::Text { .. } => Kind::Text,
             NodeData::Comment { .. } => Kind::Comment,
             NodeData::Doctype { .. } => Kind::Doctype,
+        }
+    }
+
+    /// Whether the node may have a parent.
+    pub fn is_linkable(&self) -> bool
+        ensures { result ≡ is_linkable self.now }
+    {
+        match self {
+            NodeData::Document | NodeData::Contents { .. } => false,
+            _ => true,
         }
     }
 

@@ -7,10 +7,9 @@ mod data;
 mod links;
 mod marks;
 mod room;
-mod walk;
-
 #[cfg(test)]
 mod tests;
+mod walk;
 
 pub use arena::{Arena, ArenaError, Limits, Meter};
 pub use attributes::SharedAttrs;

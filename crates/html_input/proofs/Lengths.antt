@@ -1,9 +1,9 @@
 -- How many bytes code points stand for.
-use Rattle.std.proofs.Common.{◌≡◌, ℕ, zero, suc, ◌+◌, ◌*◌, ◌≤◌, List, [], ◌∷◌, ◌++◌, length, take, drop, refl, sym, ap, ◌∙◌, arith, length-append, length-take, length-drop, IsUtf8, ⊎_elim}
+use Rattle.std.proofs.Common.{◌≡◌, ℕ, zero, suc, ◌+◌, ◌*◌, ◌≤◌, List, [], ◌∷◌, length, take, drop, ap, arith, length-append, length-take, length-drop, IsUtf8, ⊎_elim}
 use Rattle.std.proofs.Math.Utf8.{encode, encodes}
 use Rattle.std.proofs.lemmas.Bool.{cases_Bool, cond-true, cond-false}
 use Rattle.std.proofs.lemmas.Str.{encodes-chars, length-encode, len_utf8_bounds}
-use Rattle.std.specs.Prelude.{◌==◌, if◌then◌else◌, true, false}
+use Rattle.std.specs.Prelude.{◌==◌, true, false}
 use Rattle.std.specs.Str.{chars, IsValidUpTo}
 use Rattle.std.specs.Str.Lossy.{utf8_valid_len, utf8_invalid_len}
 use Rattle.html_input.specs.Decode.{scalar_values, without_mark, code_points}

@@ -30,7 +30,13 @@ fn tree(rt: HostRuntime) -> Result<(), Fail> {
 fn entities_of_a_file(rt: HostRuntime) -> Result<(), Fail> {
     let job = job(
         rt.alloc(),
-        &["html_cmd", "tree", "--entities", "entities.json", "page.html"],
+        &[
+            "html_cmd",
+            "tree",
+            "--entities",
+            "entities.json",
+            "page.html",
+        ],
     )?;
     assert_eq!(rt; job.entities, Some("entities.json"));
     assert_eq!(rt; job.input, Some("page.html"));

@@ -271,10 +271,10 @@ impl Tag {
     {
         matches!(
             self,
-            Tag::Iframe
+            Tag::Plaintext
+                | Tag::Iframe
                 | Tag::Noembed
                 | Tag::Noframes
-                | Tag::Plaintext
                 | Tag::Script
                 | Tag::Style
                 | Tag::Xmp
@@ -382,7 +382,7 @@ impl Tag {
     fn ends_table_scope(self) -> bool
         ensures { result ≡ ends_table_scope self }
     {
-        matches!(self, Tag::Html | Tag::Table | Tag::Template)
+        self.is_table_context()
     }
 
     /// An option or a group of them, which a search in select scope passes over.

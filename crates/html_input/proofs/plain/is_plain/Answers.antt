@@ -1,4 +1,4 @@
-use Rattle.std.proofs.Common.{◌≡◌, ℕ, Bool, true, false, refl, subst, take, take_all, arith}
+use Rattle.std.proofs.Common.{◌≡◌, Bool, true, false, refl, subst, take_all}
 use Rattle.std.specs.Prelude.{◌&&◌}
 use Rattle.std.proofs.lemmas.List.Elements.{All-more}
 use Rattle.html_input.specs.Plain.{IsPlain, IsPlainByte}

@@ -1,7 +1,7 @@
 use Rattle.std.proofs.Common.{arith}
 use Rattle.std.proofs.lemmas.Result.{on_ok_weaker, IfErr-weaker}
 use Rattle.html_input.proofs.Steps.{feeds}
-use Rattle.html_input.proofs.Feeding.{Fed-Settles, Fed-more, Fed-Decodes, Fed-bounded, Fed-running}
+use Rattle.html_input.proofs.Feeding.{Fed-Settles, Fed-more, Fed-Decodes, Fed-bounded}
 use Rattle.html_input.proofs.decoder.Decoder.feed.Goals as goal
 
 pub returns-else-is_err-clause-fed : goal.returns-else-is_err-clause-fed

@@ -1,0 +1,37 @@
+// What a walk meets.
+use html_arena::{Arena, Event, NodeId, Show, Walk};
+
+#[derive(Clone, Copy)]
+pub struct Counts {
+    /// The nodes that were entered.
+    pub entered: u64,
+    /// The greatest number of them that were entered and not left.
+    pub depth: u64,
+}
+
+/// Walks through all that stands below the first node, which is to be a root.
+pub fn count(arena: &Arena) -> Counts {
+    let mut counts = Counts {
+        entered: 0,
+        depth: 0,
+    };
+    if arena.is_empty() {
+        return counts;
+    }
+    let root = NodeId::at(0);
+    if arena.parent(root).is_some() || arena.host(root).is_some() {
+        return counts;
+    }
+    let mut open: u64 = 0;
+    for event in Walk::new(arena, Show::All, root) {
+        match event {
+            Event::Enter(_) => {
+                counts.entered = counts.entered.saturating_add(1);
+                open = open.saturating_add(1);
+                counts.depth = counts.depth.max(open);
+            }
+            Event::Leave(_) => open = open.saturating_sub(1),
+        }
+    }
+    counts
+}
