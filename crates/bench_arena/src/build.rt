@@ -13,7 +13,7 @@ use std::alloc::Global;
 pub const DEPTH: u64 = 64;
 
 /// Makes a node, and links it last under `parent`.
-pub fn add(arena: &mut Arena, parent: NodeId, new: NewNode) -> Result<NodeId, ArenaError>
+pub(crate) fn add(arena: &mut Arena, parent: NodeId, new: NewNode) -> Result<NodeId, ArenaError>
     requires parent_in { parent < length arena.old.labels }
     requires can_make { CanMake arena.old new }
     requires child { makes_child new ≡ true }
@@ -27,7 +27,7 @@ pub fn add(arena: &mut Arena, parent: NodeId, new: NewNode) -> Result<NodeId, Ar
 }
 
 /// Adds a text last under `parent`.
-pub fn add_text(arena: &mut Arena, parent: NodeId, text: &str) -> Result<(), ArenaError>
+pub(crate) fn add_text(arena: &mut Arena, parent: NodeId, text: &str) -> Result<(), ArenaError>
     requires { parent < length arena.old.labels }
     ensures { length arena.old.labels ≤ length arena.new.labels }
 {
@@ -39,7 +39,7 @@ pub fn add_text(arena: &mut Arena, parent: NodeId, text: &str) -> Result<(), Are
 }
 
 /// A document with so many elements below it, nested up to the greatest depth, each with a text first.
-pub fn build(alloc: Global, elements: u64) -> Result<Arena, ArenaError> {
+pub(crate) fn build(alloc: Global, elements: u64) -> Result<Arena, ArenaError> {
     let mut arena = Arena::new(alloc);
     let root = arena.make(NewNode::Document)?;
     let mut at = root;

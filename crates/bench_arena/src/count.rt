@@ -10,7 +10,7 @@ pub struct Counts {
 }
 
 /// Walks through all that stands below the first node, which is to be a root.
-pub fn count(arena: &Arena) -> Counts {
+pub(crate) fn count(arena: &Arena) -> Counts {
     let mut counts = Counts {
         entered: 0,
         depth: 0,
