@@ -45,7 +45,7 @@ fn lower_bound(rows: &[Row], start: usize, end: usize, depth: usize, limit: u32)
 }
 
 impl<'a> Walk<'a> {
-    ghost use Rattle.std.specs.Prelude.{◌≡◌, ◌+◌, ℕ, List, ◌∷◌, [], ◌++◌};
+    ghost use Rattle.std.specs.Prelude.{◌≡◌, ◌+◌, ℕ, List, ◌∷◌, [], ◌++◌, Option};
     ghost use Rattle.html_charref.specs.Table.{longest, step_of};
     ghost use Rattle.html_charref.specs.Walk.{HasWalked, HasNarrowed};
 
@@ -56,6 +56,8 @@ impl<'a> Walk<'a> {
         ensures walked { (text : List ℕ) → HasWalked self.old text → HasWalked self.new (text ++ c ∷ []) }
         ensures answer { (text : List ℕ) → HasWalked self.old text
             → result ≡ step_of self.old.table.now (text ++ c ∷ []) }
+        ensures again { (text : List ℕ) (found : Option (ℕ × RefText)) → HasWalked self.old text
+            → step_of self.old.table.now text ≡ Step.End found → result ≡ Step.End found }
         ensures table { self.new.table.now ≡ self.old.table.now }
     {
         self.narrow(c);
