@@ -1,5 +1,8 @@
 -- What the program tells where there is no page.
 use Rattle.std.specs.Prelude.{ℕ, ◌++◌, List, codes, decimal}
+use Rattle.std.specs.Str.{encode_utf8_all}
+use Rattle.html_charref.specs.declared.read.EntityError.{EntityError}
+use Rattle.html_charref.specs.declared.read.EntityError.TheVariants as entity
 use Rattle.html_page.specs.declared.error.Foreign.{Foreign}
 use Rattle.html_page.specs.declared.error.Foreign.TheVariants.{Svg, Math}
 use Rattle.html_page.specs.declared.error.ParseError.{ParseError}
@@ -27,3 +30,11 @@ line_of Stopped input = codes "refused: stopped"
 line_of (NodeBudget at) input = codes "refused: node budget at " ++ decimal at
 line_of (HeldBudget at) input = codes "refused: held budget at " ++ decimal at
 line_of (NotYet at) input = codes "refused: not yet at " ++ decimal at
+
+-- the line that tells why there is no table of character references, without its end; the key is written in UTF-8
+abbrev pub table_line_of : EntityError → List ℕ
+table_line_of entity.Json = codes "refused: entities: json"
+table_line_of (entity.Shape key) = codes "refused: entities: shape " ++ encode_utf8_all key
+table_line_of (entity.Name key) = codes "refused: entities: name " ++ encode_utf8_all key
+table_line_of (entity.Text key) = codes "refused: entities: text " ++ encode_utf8_all key
+table_line_of entity.OutOfMemory = codes "refused: out of memory"

@@ -47,6 +47,11 @@ pub struct TableRefusal<'a> {
 }
 
 impl fmt::Display for TableRefusal<'_> {
+    ghost use Rattle.std.specs.Prelude.{Some};
+    ghost use Rattle.html_run.specs.Outcome.{table_line_of};
+
+    ghost output = { λ r. Some (table_line_of r.error.now) };
+
     fn fmt<W: fmt::Write>(&self, f: &mut fmt::Formatter<W>) -> fmt::Result {
         match self.error {
             EntityError::Json => f.write_str("refused: entities: json"),
