@@ -28,7 +28,7 @@ impl Model for SharedAttrs {
 
 impl SharedAttrs {
     /// Attributes that nothing shares yet.
-    pub fn of(attrs: Attrs) -> Result<SharedAttrs, AllocError>
+    pub(crate) fn of(attrs: Attrs) -> Result<SharedAttrs, AllocError>
         ensures { IfOk result (λ shared. shared ≡ attrs) }
     {
         SharedAttrs::from_vec(attrs.into_vec()?)
@@ -45,7 +45,7 @@ impl SharedAttrs {
     }
 
     /// The same attributes, shared.
-    pub fn share(&self) -> Result<SharedAttrs, AllocError>
+    pub(crate) fn share(&self) -> Result<SharedAttrs, AllocError>
         ensures { IfOk result (λ shared. shared ≡ self.now) }
     {
         match &self.list {
@@ -68,7 +68,7 @@ impl SharedAttrs {
 }
 
 /// The code points of the names and values of attributes.
-pub fn attrs_held(attrs: &[Attr]) -> u128
+pub(crate) fn attrs_held(attrs: &[Attr]) -> u128
     ensures { result ≡ capped (attrs_weight attrs.now) }
 {
     let mut held: u128 = 0;
@@ -105,7 +105,7 @@ fn lacking_one(own: &[Attr], attr: &Attr) -> u128
 }
 
 /// The code points of those attributes whose names are not among an element's own.
-pub fn lacking_held(own: &[Attr], later: &[Attr]) -> u128
+pub(crate) fn lacking_held(own: &[Attr], later: &[Attr]) -> u128
     ensures { result ≡ capped (attrs_weight (lacking own.now later.now)) }
 {
     let mut held: u128 = 0;
@@ -140,7 +140,7 @@ fn add_lacking(all: &mut Vec<Attr>, own: &[Attr], later: Vec<Attr>) -> Result<()
 }
 
 /// An element's own attributes, and after them those of a later tag whose names it lacks.
-pub fn merge(alloc: Global, own: &[Attr], later: Attrs) -> Result<SharedAttrs, AllocError>
+pub(crate) fn merge(alloc: Global, own: &[Attr], later: Attrs) -> Result<SharedAttrs, AllocError>
     ensures { IfOk result (λ all. all ≡ merged own.now later) }
 {
     let later = later.into_vec()?;

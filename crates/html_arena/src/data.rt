@@ -94,7 +94,7 @@ pub enum NewNode {
 }
 
 /// A clone of an element, which shares its attributes and has no children.
-pub fn clone_of(node: &NodeData) -> Result<NodeData, AllocError>
+pub(crate) fn clone_of(node: &NodeData) -> Result<NodeData, AllocError>
     requires { IsElement node.now }
     ensures { IfOk result (λ copy. copy ≡ cloned node.now) }
 {
@@ -114,7 +114,7 @@ pub fn clone_of(node: &NodeData) -> Result<NodeData, AllocError>
 }
 
 /// The node of this number.
-pub fn label_at(nodes: &Vec<NodeData>, node: NodeId) -> &NodeData
+pub(crate) fn label_at(nodes: &Vec<NodeData>, node: NodeId) -> &NodeData
     requires { node < length nodes.now.items }
     ensures { result.now ≡ label_in nodes.now.items node }
 {
@@ -122,7 +122,7 @@ pub fn label_at(nodes: &Vec<NodeData>, node: NodeId) -> &NodeData
 }
 
 /// Adds a code point to a text.
-pub fn push_char(nodes: &mut Vec<NodeData>, node: NodeId, c: char) -> Result<(), AllocError>
+pub(crate) fn push_char(nodes: &mut Vec<NodeData>, node: NodeId, c: char) -> Result<(), AllocError>
     requires node_in { node < length nodes.old.items }
     requires is_text { IsText (label_in nodes.old.items node) }
     ensures ok { OnOk result (nodes.new.items ≡ slice_set nodes.old.items node (with_char (label_in nodes.old.items node) c)) }
@@ -143,7 +143,7 @@ fn push_to_text(node: &mut NodeData, c: char) -> Result<(), AllocError>
 }
 
 /// Gives an element other attributes.
-pub fn set_attrs(nodes: &mut Vec<NodeData>, node: NodeId, attrs: SharedAttrs)
+pub(crate) fn set_attrs(nodes: &mut Vec<NodeData>, node: NodeId, attrs: SharedAttrs)
     requires { node < length nodes.old.items }
     ensures { nodes.new.items ≡ slice_set nodes.old.items node (with_attrs (label_in nodes.old.items node) attrs) }
 {
@@ -169,14 +169,14 @@ fn optional_held(text: &Option<Str>) -> u128
 }
 
 /// The code points that an element of this name and these attributes holds.
-pub fn element_held(name: &Str, attrs: &[Attr]) -> u128
+pub(crate) fn element_held(name: &Str, attrs: &[Attr]) -> u128
     ensures { result ≡ capped (length name.now + attrs_weight attrs.now) }
 {
     attrs_held(attrs).saturating_add(name.len() as u128)
 }
 
 /// The code points that a node holds, as if it shared none.
-pub fn held_of(node: &NodeData) -> u128
+pub(crate) fn held_of(node: &NodeData) -> u128
     ensures { result ≡ capped (weight node.now) }
 {
     match node {
@@ -208,7 +208,7 @@ fn no_text() -> &'static str
 
 impl NodeData {
     /// The kind of the node.
-    pub fn kind(&self) -> Kind
+    pub(crate) fn kind(&self) -> Kind
         ensures { result ≡ kind_in self.now }
     {
         match self {
@@ -222,7 +222,7 @@ impl NodeData {
     }
 
     /// Whether the node may have a parent.
-    pub fn is_linkable(&self) -> bool
+    pub(crate) fn is_linkable(&self) -> bool
         ensures { result ≡ is_linkable self.now }
     {
         match self {
@@ -232,7 +232,7 @@ impl NodeData {
     }
 
     /// The name of an element; empty for other nodes.
-    pub fn name(&self) -> &str
+    pub(crate) fn name(&self) -> &str
         ensures { chars result.now ≡ name_in self.now }
     {
         match self {
@@ -242,7 +242,7 @@ impl NodeData {
     }
 
     /// The tag of an element's name; `Other` for other nodes.
-    pub fn tag(&self) -> Tag
+    pub(crate) fn tag(&self) -> Tag
         ensures { result ≡ tag_in self.now }
     {
         match self {
@@ -252,7 +252,7 @@ impl NodeData {
     }
 
     /// The attributes of an element; none for other nodes.
-    pub fn attrs(&self) -> &[Attr]
+    pub(crate) fn attrs(&self) -> &[Attr]
         ensures { result.now ≡ attrs_in self.now }
     {
         match self {
@@ -262,7 +262,7 @@ impl NodeData {
     }
 
     /// The text of a Text node, or the data of a comment; empty for other nodes.
-    pub fn text(&self) -> &str
+    pub(crate) fn text(&self) -> &str
         ensures { chars result.now ≡ text_in self.now }
     {
         match self {
@@ -272,7 +272,7 @@ impl NodeData {
     }
 
     /// Where the node comes from: the token of a comment or a doctype is its own.
-    pub fn origin(&self) -> Origin
+    pub(crate) fn origin(&self) -> Origin
         ensures { result ≡ origin_in self.now }
     {
         match self {
@@ -284,7 +284,7 @@ impl NodeData {
     }
 
     /// Whether the node was made as a clone of another.
-    pub fn is_clone(&self) -> bool
+    pub(crate) fn is_clone(&self) -> bool
         ensures { result ≡ is_clone_in self.now }
     {
         match self {
@@ -294,7 +294,7 @@ impl NodeData {
     }
 
     /// The Contents node of a template.
-    pub fn contents(&self) -> Option<NodeId>
+    pub(crate) fn contents(&self) -> Option<NodeId>
         ensures { result ≡ contents_in self.now }
     {
         match self {
@@ -304,7 +304,7 @@ impl NodeData {
     }
 
     /// The template of a Contents node.
-    pub fn host(&self) -> Option<NodeId>
+    pub(crate) fn host(&self) -> Option<NodeId>
         ensures { result ≡ host_in self.now }
     {
         match self {

@@ -41,16 +41,16 @@ impl NodeId {
 
 /// The links of one node.
 #[derive(Clone, Copy)]
-pub struct Links {
-    pub parent: Option<NodeId>,
-    pub first_child: Option<NodeId>,
-    pub last_child: Option<NodeId>,
-    pub previous: Option<NodeId>,
-    pub next: Option<NodeId>,
+pub(crate) struct Links {
+    pub(crate) parent: Option<NodeId>,
+    pub(crate) first_child: Option<NodeId>,
+    pub(crate) last_child: Option<NodeId>,
+    pub(crate) previous: Option<NodeId>,
+    pub(crate) next: Option<NodeId>,
 }
 
 // Links in half the room.
-pub mod packed;
+pub(crate) mod packed;
 
 // The writes of links, each as a function of every node's number.
-pub mod writes;
+pub(crate) mod writes;

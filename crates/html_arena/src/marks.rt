@@ -20,7 +20,7 @@ pub struct Marks {
 
 impl Marks {
     /// Neither mark.
-    pub fn none() -> Marks
+    pub(crate) fn none() -> Marks
         ensures { result ≡ no_marks }
     {
         Marks {
@@ -30,7 +30,7 @@ impl Marks {
     }
 
     /// Whether a mark is set.
-    pub fn has(self, mark: Mark) -> bool
+    pub(crate) fn has(self, mark: Mark) -> bool
         ensures { result ≡ has_mark mark self }
     {
         match mark {
@@ -40,7 +40,7 @@ impl Marks {
     }
 
     /// The marks with one of them set or cleared.
-    pub fn with(self, mark: Mark, on: bool) -> Marks
+    pub(crate) fn with(self, mark: Mark, on: bool) -> Marks
         ensures { result ≡ with_mark mark on self }
     {
         match mark {

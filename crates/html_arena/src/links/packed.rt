@@ -11,7 +11,7 @@ const NONE: u64 = u64::MAX;
 
 /// Links as numbers, seen as links.
 #[derive(Drop)]
-pub struct PackedLinks {
+pub(crate) struct PackedLinks {
     parent: u64,
     first_child: u64,
     last_child: u64,
@@ -51,7 +51,7 @@ fn unpack(packed: u64) -> Option<NodeId>
 
 impl PackedLinks {
     /// The links of a node that stands alone.
-    pub fn none() -> PackedLinks
+    pub(crate) fn none() -> PackedLinks
         ensures { result ≡ blank }
     {
         PackedLinks {
@@ -63,7 +63,7 @@ impl PackedLinks {
         }
     }
 
-    pub fn unpacked(&self) -> Links
+    pub(crate) fn unpacked(&self) -> Links
         ensures { result ≡ self.now }
     {
         Links {
@@ -75,35 +75,35 @@ impl PackedLinks {
         }
     }
 
-    pub fn set_parent(&mut self, to: Option<NodeId>)
+    pub(crate) fn set_parent(&mut self, to: Option<NodeId>)
         requires { IsBelow (2 ^ 64 - 1) to }
         ensures { self.new ≡ record self.old { parent = to } }
     {
         self.parent = pack(to);
     }
 
-    pub fn set_first_child(&mut self, to: Option<NodeId>)
+    pub(crate) fn set_first_child(&mut self, to: Option<NodeId>)
         requires { IsBelow (2 ^ 64 - 1) to }
         ensures { self.new ≡ record self.old { first_child = to } }
     {
         self.first_child = pack(to);
     }
 
-    pub fn set_last_child(&mut self, to: Option<NodeId>)
+    pub(crate) fn set_last_child(&mut self, to: Option<NodeId>)
         requires { IsBelow (2 ^ 64 - 1) to }
         ensures { self.new ≡ record self.old { last_child = to } }
     {
         self.last_child = pack(to);
     }
 
-    pub fn set_previous(&mut self, to: Option<NodeId>)
+    pub(crate) fn set_previous(&mut self, to: Option<NodeId>)
         requires { IsBelow (2 ^ 64 - 1) to }
         ensures { self.new ≡ record self.old { previous = to } }
     {
         self.previous = pack(to);
     }
 
-    pub fn set_next(&mut self, to: Option<NodeId>)
+    pub(crate) fn set_next(&mut self, to: Option<NodeId>)
         requires { IsBelow (2 ^ 64 - 1) to }
         ensures { self.new ≡ record self.old { next = to } }
     {
