@@ -581,16 +581,7 @@ fn a_walk_enters_contents(rt: HostRuntime) -> Result<(), Fail> {
     Ok(())
 }
 
-/// Whether a call was made, or was refused for want of memory and changed no count.
-fn is_kept(arena: &mut Arena, alloc: Global, step: Call) -> bool {
-    let before = counts(arena);
-    match apply(arena, alloc, step) {
-        Ok(()) => true,
-        Err(error) => error == Refusal::Arena(ArenaError::OutOfMemory) && counts(arena) == before,
-    }
-}
-
-// To be run with each allocation refused in turn.
+// To be run with each allocation refused in turn: the call that it refuses changes nothing, and is then made.
 #[test]
 fn refusals_change_nothing(rt: HostRuntime) -> Result<(), Fail> {
     let alloc = rt.alloc();
@@ -604,11 +595,13 @@ fn refusals_change_nothing(rt: HostRuntime) -> Result<(), Fail> {
         Call::Char(0, 'x'),
     ];
     for step in &calls {
-        let step = *step;
-        let made = arena.is_empty() || is_node(&arena, NodeId::at(1));
-        if made {
-            assert!(rt; is_kept(&mut arena, alloc, step));
+        let before = counts(&arena);
+        if let Err(error) = apply(&mut arena, alloc, *step) {
+            assert_eq!(rt; error, Refusal::Arena(ArenaError::OutOfMemory));
+            assert_eq!(rt; counts(&arena), before);
+            apply(&mut arena, alloc, *step)?;
         }
     }
+    assert_eq!(rt; counts(&arena), (5, 29, 7));
     Ok(())
 }
