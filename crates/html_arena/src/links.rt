@@ -16,7 +16,13 @@ impl Model for NodeId {
 }
 
 impl Clone for NodeId {
-    fn clone(&self) -> Result<Self, std::alloc::AllocError> {
+    ghost use Rattle.std.specs.Prelude.{IfOk};
+
+    ghost is_clone = { λ id copy. copy ≡ id };
+
+    fn clone(&self) -> Result<Self, std::alloc::AllocError>
+        ensures cases { IfOk result (λ copy. copy ≡ self.now) }
+    {
         Ok(*self)
     }
 }
