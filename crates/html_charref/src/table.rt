@@ -18,20 +18,20 @@ impl Model for Name {
 }
 
 impl Name {
-    pub fn new(text: String) -> Self
+    pub(crate) fn new(text: String) -> Self
         ensures { result ≡ string_bytes text }
     {
         Name { text }
     }
 
-    pub fn len(&self) -> usize
+    pub(crate) fn len(&self) -> usize
         ensures { result ≡ length self.now }
     {
         self.text.len()
     }
 
     /// The code point at a place, or 0 past the end.
-    pub fn letter(&self, place: usize) -> u32
+    pub(crate) fn letter(&self, place: usize) -> u32
         ensures { result ≡ slice_index self.now place }
     {
         match self.text.as_bytes().get(place) {

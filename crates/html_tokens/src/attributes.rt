@@ -1,5 +1,6 @@
 // The attributes of a tag.
-ghost use Rattle.std.specs.Prelude.{◌≡◌, ◌∷◌, [], ◌++◌, IfOk, OnErr, OnOk, length};
+ghost use Rattle.html_tokens.specs.Tag.{has_name};
+ghost use Rattle.std.specs.Prelude.{◌≤◌, ◌≡◌, ◌∷◌, [], ◌++◌, IfOk, OnErr, OnOk, length};
 
 use html_charref::Str;
 use smallvec::SmallVec;
@@ -37,7 +38,7 @@ impl MadeWith<Global> for Attr {
 }
 
 /// Attributes in order, seen as their list; up to four take no memory of their own.
-#[derive(Drop)]
+#[derive(Debug, Drop)]
 pub struct Attrs {
     pub list: SmallVec<Attr, 4>,
 }
@@ -70,6 +71,33 @@ impl Attrs {
         Ok(())
     }
 
+    /// Whether an attribute of this name is there.
+    pub(crate) fn has_name(&self, name: &Str) -> bool
+        ensures { result ≡ has_name name.now self.now }
+    {
+        for attr in self.list.as_slice() {
+            if attr.name == *name {
+                return true;
+            }
+        }
+        false
+    }
+
+    /// Whether an attribute of this name is there, and how many names were compared with it.
+    pub(crate) fn search(&self, name: &Str) -> (bool, usize)
+        ensures found { result.0 ≡ has_name name.now self.now }
+        ensures count { result.1 ≤ length self.now }
+    {
+        let mut compared = 0;
+        for attr in self.list.as_slice() {
+            compared += 1;
+            if attr.name == *name {
+                return (true, compared);
+            }
+        }
+        (false, compared)
+    }
+
     /// The attributes of a `Vec`, which takes no memory.
     pub fn from_vec(attrs: Vec<Attr>) -> Attrs
         ensures { result ≡ attrs.items }
@@ -79,12 +107,14 @@ impl Attrs {
         }
     }
 
+    /// How many there are.
     pub fn len(&self) -> usize
         ensures { result ≡ length self.now }
     {
         self.list.len()
     }
 
+    /// The attributes as a slice.
     pub fn as_slice(&self) -> &[Attr]
         ensures { result.now ≡ self.now }
     {

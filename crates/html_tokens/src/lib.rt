@@ -1,6 +1,25 @@
-//! Tokens of HTML.
+//! The tokenizer of HTML: from code points in any pieces to tokens.
 #![tactic(auto)]
 
 mod attributes;
+mod comment;
+mod doctype;
+mod doctype_faults;
+mod fault_name;
+mod faults;
+mod input;
+mod machine;
+mod marks;
+mod opener;
+mod reference;
+mod tag;
+#[cfg(test)]
+mod tests;
+mod token;
+mod tokenizer;
 
 pub use attributes::{Attr, Attrs};
+pub use fault_name::FaultName;
+pub use faults::Fault;
+pub use token::{Span, TextMode, Token, TokenKind};
+pub use tokenizer::{TokenError, Tokenizer};

@@ -1,0 +1,16 @@
+pub mod Text
+pub mod MarkLemmas
+pub mod RefLemmas
+pub mod Cuts
+pub mod TokensLemmas
+pub mod StepLemmas
+pub mod StreamLemmas
+pub mod TagLemmas
+pub mod ValueLemmas
+pub mod CostCuts
+pub mod CostTags
+pub mod CostDoctypes
+pub mod CostLemmas
+pub mod DoctypeLemmas
+pub mod BoundLemmas
+pub mod RunLemmas

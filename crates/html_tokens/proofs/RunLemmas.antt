@@ -1,0 +1,154 @@
+-- Runs of plain text.
+use Rattle.std.proofs.Common.{◌≡◌, ℕ, suc, ◌+◌, ◌≤◌, List, [], ◌∷◌, ◌++◌, length, drop, Option, Some, None, true, false, refl, ap, sym, ◌∙◌, arith, append_assoc, append-nil, length-append, subst}
+use Rattle.std.proofs.lemmas.Bool.{false≢true}
+use Rattle.std.proofs.lemmas.Bool.Decides.{nat_tests}
+use Rattle.html_tokens.specs.Tokens.{token, text_char}
+use Rattle.html_tokens.specs.Marks.{begin_at, region_in}
+use Rattle.html_tokens.specs.Fed.{Passes, Steps}
+use Rattle.html_tokens.specs.Stream.{Run, IsAt, gave, answered}
+use Rattle.html_tokens.specs.Runs.{is_plain, plain_front, is_text, plain_tokens, gave_all}
+use Rattle.html_tokens.specs.declared.machine.Machine.{Machine}
+use Rattle.html_tokens.specs.declared.machine.Progress.TheVariants.{Given}
+use Rattle.html_tokens.specs.declared.machine.State.{State}
+use Rattle.html_tokens.specs.declared.machine.State.TheVariants.{Text, Number, Second, Comment, Doctype, Tag, Ended}
+use Rattle.html_tokens.specs.declared.token.Begin.TheVariants as begins
+use Rattle.html_tokens.specs.declared.token.Region.TheVariants.{Plain, Escaped, Double}
+use Rattle.html_tokens.specs.declared.token.TextMode.{TextMode}
+use Rattle.html_tokens.specs.declared.token.TextMode.TheVariants.{Data, Rcdata, Rawtext, Script, Plaintext}
+use Rattle.html_tokens.specs.declared.token.Token.{Token}
+use Rattle.html_tokens.specs.declared.token.TokenKind.TheVariants as kinds
+use Rattle.html_tokens.proofs.StepLemmas.{open_given, char_given}
+use Rattle.html_tokens.proofs.StreamLemmas.{run_given, unsaid}
+
+plain_begins : (mode : TextMode) (name : Option (List ℕ)) (c : ℕ) (rest : List ℕ) → is_plain mode c ≡ true → begin_at mode Plain name (c ∷ rest) ≡ begins.Char
+plain_begins Data name c rest h = grind (arith, nat_tests)
+plain_begins Rcdata name c rest h = grind (arith, nat_tests)
+plain_begins Rawtext None c rest h = refl
+plain_begins Rawtext (Some name) c rest h = grind (arith, nat_tests)
+plain_begins Script None c rest h = refl
+plain_begins Script (Some name) c rest h = grind (arith, nat_tests)
+plain_begins Plaintext name c rest h = refl
+
+plain_region : (mode : TextMode) (c : ℕ) (rest : List ℕ) → is_plain mode c ≡ true → region_in mode Plain (c ∷ rest) ≡ Plain
+plain_region Data c rest h = refl
+plain_region Rcdata c rest h = refl
+plain_region Rawtext c rest h = refl
+plain_region Script c rest h = grind (arith, nat_tests)
+plain_region Plaintext c rest h = refl
+
+plain_char : (mode : TextMode) (c : ℕ) → is_plain mode c ≡ true → text_char mode c ≡ c
+plain_char Data c h = refl
+plain_char Rcdata c h = grind (arith, nat_tests)
+plain_char Rawtext c h = grind (arith, nat_tests)
+plain_char Script c h = grind (arith, nat_tests)
+plain_char Plaintext c h = grind (arith, nat_tests)
+
+-- a code point of plain text is given
+plain_steps : (old new : Machine) (c : ℕ) (items : List ℕ) → old.state ≡ Text Plain → is_plain old.mode c ≡ true → old.input.queue.items ≡ c ∷ items → Passes old 1 (Text Plain) new → 1 ≤ length old.input.queue.items →
+    Steps old (Given (token (kinds.Char c) old.place (old.place + 1))) new
+plain_steps old new c items s h e p n =
+    open_given old new Plain (token (kinds.Char c) old.place (old.place + 1)) 1 (Text Plain) s p n (λ switch mode. refl) refl
+    (λ more switch switches f.
+    let i : drop 1 old.input.queue.items ≡ items = rw e refl in
+    rw i (char_given old.table.now Plain Plain old.mode old.last_name old.place (old.place + 1) c c old.input.queue.items items more switch switches e
+    (rw e (plain_begins old.mode old.last_name c (items ++ more) h)) (rw e (plain_region old.mode c (items ++ more) h)) (sym (plain_char old.mode c h)) refl))
+
+some_there : (items rest : List ℕ) (c : ℕ) → items ≡ c ∷ rest → 1 ≤ length items
+some_there items rest c e = rw e (omega arith)
+
+pub plain_given : (old new : Machine) (c : ℕ) (items : List ℕ) (run : Run) → old.state ≡ Text Plain → is_plain old.mode c ≡ true → old.input.queue.items ≡ c ∷ items → Passes old 1 (Text Plain) new → IsAt old run →
+    IsAt new (gave run (token (kinds.Char c) old.place (old.place + 1)) None)
+plain_given old new c items run s h e p i =
+    unsaid (token (kinds.Char c) old.place (old.place + 1)) new run
+    (λ switch. run_given old new run (token (kinds.Char c) old.place (old.place + 1)) switch (plain_steps old new c items s h e p (some_there old.input.queue.items items c e)) i)
+
+pub gave_more : (run : Run) (ts : List Token) (t : Token) → gave_all run (ts ++ t ∷ []) ≡ gave (gave_all run ts) t None
+gave_more run [] t = refl
+gave_more run (u ∷ ts) t = gave_more (gave run u None) ts t
+
+pub tokens_more : (place c : ℕ) (cs : List ℕ) → plain_tokens place (cs ++ c ∷ []) ≡ plain_tokens place cs ++ token (kinds.Char c) (place + length cs) (place + length cs + 1) ∷ []
+tokens_more place c [] = let e : place + 0 ≡ place = omega arith in rw e refl
+tokens_more place c (d ∷ cs) =
+    let e : place + suc (length cs) ≡ place + 1 + length cs = omega arith in
+    rw e (ap (λ (ts : List Token). token (kinds.Char d) place (place + 1) ∷ ts) (tokens_more (place + 1) c cs))
+
+pub front_on : (mode : TextMode) (c : ℕ) (rest : List ℕ) → is_plain mode c ≡ true → plain_front mode (c ∷ rest) ≡ c ∷ plain_front mode rest
+unfolding plain_front
+front_on mode c rest h = rw h refl
+
+pub front_off : (mode : TextMode) (c : ℕ) (rest : List ℕ) → is_plain mode c ≡ false → plain_front mode (c ∷ rest) ≡ []
+unfolding plain_front
+front_off mode c rest h = rw h refl
+
+pub front_none : (mode : TextMode) → plain_front mode [] ≡ []
+unfolding plain_front
+front_none mode = refl
+
+pub text_state : (state : State) → is_text state ≡ true → state ≡ Text Plain
+text_state (Text Plain) h = refl
+text_state (Text Escaped) h = absurd (false≢true h)
+text_state (Text Double) h = absurd (false≢true h)
+text_state (Number draft) h = absurd (false≢true h)
+text_state (Second c start) h = absurd (false≢true h)
+text_state (Comment draft) h = absurd (false≢true h)
+text_state (Doctype draft) h = absurd (false≢true h)
+text_state (Tag draft) h = absurd (false≢true h)
+text_state Ended h = absurd (false≢true h)
+
+-- so much plain text has been taken, from one machine to another and from one text to another
+pub record HasTaken (start now : Machine) (before after : List ℕ) : Type 0 where
+  pub taken : List ℕ
+  pub out : after ≡ before ++ taken
+  pub front : plain_front start.mode start.input.queue.items ≡ taken ++ plain_front start.mode now.input.queue.items
+  pub given : (run : Run) → IsAt start run → IsAt now (gave_all run (plain_tokens start.place taken))
+  pub place : now.place ≡ start.place + length taken
+  pub state : now.state ≡ Text Plain
+  pub mode : now.mode ≡ start.mode
+
+pub taken_none : (t : Machine) (before : List ℕ) → t.state ≡ Text Plain → HasTaken t t before before
+taken_none t before s = record { taken = []; out = sym (append-nil before); front = refl; given = λ run i. i; place = omega arith; state = s; mode = refl }
+
+longer_place : (now start c : ℕ) (taken : List ℕ) → now ≡ start + length taken → now + 1 ≡ start + length (taken ++ c ∷ [])
+longer_place now start c taken e = rw (length-append taken (c ∷ [])) (omega arith)
+
+pub taken_more : (start now new : Machine) (before after : List ℕ) (c : ℕ) (items : List ℕ) → HasTaken start now before after → is_plain start.mode c ≡ true → now.input.queue.items ≡ c ∷ items → Passes now 1 (Text Plain) new →
+    HasTaken start new before (after ++ c ∷ [])
+taken_more start now new before after c items h mode e p =
+    let plain : is_plain now.mode c ≡ true = rw h.mode mode in
+    let rest : new.input.queue.items ≡ items = p.items ∙ ap (λ (x : List ℕ). drop 1 x) e in
+    record {
+      taken = h.taken ++ c ∷ [];
+      out = ap (λ (x : List ℕ). x ++ c ∷ []) h.out ∙ append_assoc before h.taken (c ∷ []);
+      front = h.front ∙ ap (λ (x : List ℕ). h.taken ++ plain_front start.mode x) e ∙ ap (λ (x : List ℕ). h.taken ++ x) (front_on start.mode c items mode)
+          ∙ sym (append_assoc h.taken (c ∷ []) (plain_front start.mode items)) ∙ ap (λ (x : List ℕ). (h.taken ++ c ∷ []) ++ plain_front start.mode x) (sym rest);
+      given = λ run i.
+          let g = plain_given now new c items (gave_all run (plain_tokens start.place h.taken)) h.state plain e p (h.given run i) in
+          rw (tokens_more start.place c h.taken, gave_more run (plain_tokens start.place h.taken), ← h.place) g;
+      place = p.place ∙ longer_place now.place start.place c h.taken h.place;
+      state = p.state;
+      mode = p.mode ∙ h.mode;
+    }
+
+-- all of it has been taken
+pub taken_all : (start now : Machine) (before after : List ℕ) → HasTaken start now before after → plain_front now.mode now.input.queue.items ≡ [] → (h : HasTaken start now before after) → h.taken ≡ plain_front start.mode start.input.queue.items
+taken_all start now before after g e h = sym (h.front ∙ ap (λ (x : List ℕ). h.taken ++ x) (rw h.mode at e) ∙ append-nil h.taken)
+
+pub all_out : (start now : Machine) (before after : List ℕ) (h : HasTaken start now before after) → plain_front now.mode now.input.queue.items ≡ [] → after ≡ before ++ plain_front start.mode start.input.queue.items
+all_out start now before after h e = h.out ∙ ap (λ (x : List ℕ). before ++ x) (taken_all start now before after h e h)
+
+pub all_place : (start now : Machine) (before after : List ℕ) (h : HasTaken start now before after) → plain_front now.mode now.input.queue.items ≡ [] → now.place ≡ start.place + length (plain_front start.mode start.input.queue.items)
+all_place start now before after h e = h.place ∙ ap (λ (x : List ℕ). start.place + length x) (taken_all start now before after h e h)
+
+pub all_given : (start now : Machine) (before after : List ℕ) (h : HasTaken start now before after) → plain_front now.mode now.input.queue.items ≡ [] →
+    (run : Run) → IsAt start run → IsAt now (gave_all run (plain_tokens start.place (plain_front start.mode start.input.queue.items)))
+all_given start now before after h e run i = subst (λ (x : List ℕ). IsAt now (gave_all run (plain_tokens start.place x))) (taken_all start now before after h e h) (h.given run i)
+
+-- one code point is passed
+pub passes_one : (old new : Machine) (c : ℕ) (items : List ℕ) → old.input.queue.items ≡ c ∷ items → new.input.queue.items ≡ items → new.input.finished ≡ old.input.finished → new.place ≡ old.place + 1 → new.mode ≡ old.mode → new.last_name ≡ old.last_name → new.state ≡ old.state → new.table.now ≡ old.table.now → old.state ≡ Text Plain → Passes old 1 (Text Plain) new
+passes_one old new c items e i f p m n s t h = record { items = i ∙ rw e refl; finished = f; place = p; mode = m; name = n; state = s ∙ h; table = t }
+
+-- the same, whatever is said of the mode
+pub plain_answered : (old new : Machine) (c : ℕ) (items : List ℕ) → old.state ≡ Text Plain → is_plain old.mode c ≡ true → old.input.queue.items ≡ c ∷ items → Passes old 1 (Text Plain) new → (run : Run) → IsAt old run → (switch : Option TextMode) →
+    IsAt (answered (token (kinds.Char c) old.place (old.place + 1)) switch new) (gave run (token (kinds.Char c) old.place (old.place + 1)) switch)
+plain_answered old new c items s h e p run i switch =
+    run_given old new run (token (kinds.Char c) old.place (old.place + 1)) switch (plain_steps old new c items s h e p (some_there old.input.queue.items items c e)) i

@@ -1,0 +1,335 @@
+-- What each step gives, over plain variables.
+use Rattle.std.proofs.Common.{◌≡◌, ℕ, suc, ◌+◌, ◌<◌, ◌≤◌, List, [], ◌∷◌, ◌++◌, length, map, drop, Option, Some, None, true, false, refl, ap, sym, ◌∙◌, arith, length-append}
+use Rattle.html_tokens.specs.Cut.{Cut, shown}
+use Rattle.html_tokens.specs.Draft.{draft_cut}
+use Rattle.html_tokens.specs.Tokens.{tokens_after, text_char, token, begun_piece}
+use Rattle.html_tokens.specs.Marks.{begin_at, is_stop, region_in}
+use Rattle.html_tokens.specs.Reference.{numbered, Numbered, reference, ref_opener, semicolon, is_digit, ends_digits}
+use Rattle.html_charref.specs.Number.{char_of, radix, capped}
+use Rattle.html_charref.specs.declared.table.Row.{Row}
+use Rattle.html_tokens.specs.declared.token.Region.{Region}
+use Rattle.html_tokens.specs.declared.token.Region.TheVariants.{Plain, Escaped, Double}
+use Rattle.html_tokens.specs.declared.token.Begin.{Begin}
+use Rattle.html_tokens.specs.declared.token.Begin.TheVariants as begins
+use Rattle.std.proofs.Common.{add-zero, length-drop}
+use Rattle.std.proofs.lemmas.List.{drop-append-le}
+use Rattle.html_tokens.specs.Fed.{coming, to_come, Passes, SameCount, Steps, switch_to, slack, GivesChars}
+use Rattle.html_tokens.specs.Input.{Decided, IsShort}
+use Rattle.html_tokens.specs.Input.{MayFollow}
+use Rattle.html_tokens.specs.declared.machine.Machine.{Machine}
+use Rattle.html_tokens.specs.declared.machine.Progress.TheVariants.{Given, More, Wait}
+use Rattle.html_tokens.specs.declared.token.Token.{Token}
+use Rattle.html_tokens.specs.declared.token.TokenKind.TheVariants as kinds
+use Rattle.html_tokens.specs.declared.token.TextMode.{TextMode}
+use Rattle.html_tokens.specs.declared.token.TokenKind.TheVariants.{Char}
+use Rattle.html_tokens.specs.declared.machine.State.{State}
+use Rattle.html_tokens.specs.declared.machine.State.TheVariants.{Text, Number, Second, Comment, Ended}
+use Rattle.std.specs.List.{slice_get}
+use Rattle.html_tokens.specs.Cut.{cut}
+use Rattle.html_tokens.specs.Draft.{mark_of, passed, Reads}
+use Rattle.html_tokens.specs.declared.comment.CommentDraft.{CommentDraft}
+use Rattle.html_tokens.specs.declared.comment.Reading.TheVariants.{Closed, More as More', Wait as Wait'}
+use Rattle.html_tokens.specs.declared.input.Input.{Input}
+use Rattle.html_tokens.specs.Tokens.{comment_piece, piece, mode_after_kind, name_after_kind}
+use Rattle.html_tokens.specs.declared.comment.CommentKind.{CommentKind}
+use Rattle.html_tokens.proofs.TokensLemmas.{tokens_text, tokens_begun, tokens_past, tokens_past_one}
+use Rattle.std.proofs.Common.{◌*◌}
+use Rattle.std.specs.Char.{digit_value}
+use Rattle.std.specs.Int.Digits.{number_from_digits_after}
+use Rattle.html_charref.specs.Entities.{codes_with}
+use Rattle.html_charref.specs.declared.number.Base.{Base}
+use Rattle.html_charref.specs.declared.number.Base.TheVariants.{Decimal, Hex}
+use Rattle.html_charref.proofs.NumberLemmas.{capped-step, char_of-capped}
+use Rattle.html_tokens.specs.declared.token.RefOpener.TheVariants.{Numeric, Named}
+use Rattle.html_charref.specs.Table.{longest}
+use Rattle.html_charref.specs.declared.table.RefText.{RefText}
+use Rattle.html_tokens.specs.declared.reference.NumberDraft.{NumberDraft}
+use Rattle.html_tokens.specs.declared.machine.Progress.{Progress}
+use Rattle.html_tokens.proofs.Cuts.{empty_rest, first_of}
+use Rattle.html_tokens.specs.Marks.{front}
+use Rattle.std.proofs.Common.{zero-add}
+use Rattle.std.proofs.lemmas.Bool.Decides.{nat_tests}
+use Rattle.html_tokens.specs.Cut.{stop_mark}
+
+capped-capped : (v : ℕ) → capped (capped v) ≡ capped v
+capped-capped v = omega arith
+
+pub char_given : (rows : List Row) (region after : Region) (mode : TextMode) (name : Option (List ℕ)) (place place' c d : ℕ) (items items' more : List ℕ) (switch : Option TextMode) (switches : List (Option TextMode)) →
+    items ≡ c ∷ items' → begin_at mode region name (items ++ more) ≡ begins.Char → region_in mode region (items ++ more) ≡ after → d ≡ text_char mode c → place' ≡ place + 1 →
+    coming rows (Text region) mode name place (items ++ more) (switch ∷ switches) ≡ token (Char d) place place' ∷ coming rows (Text after) mode name place' (items' ++ more) switches
+char_given rows region after mode name place place' c d items items' more switch switches e t r f p =
+    let t' = rw e at t in
+    let r' = rw e at r in
+    rw (e, f, p) (tokens_text rows mode region after name place c (items' ++ more) switch switches t' r')
+
+there : (items more : List ℕ) → 0 < length items → 0 < length (items ++ more)
+there items more h = omega (arith, length-append items more)
+
+-- a comment begins, after what opens it
+pub comment_begins : (rows : List Row) (region : Region) (mode : TextMode) (kind : CommentKind) (opened : ℕ) (name : Option (List ℕ)) (place : ℕ) (items more : List ℕ) (switches : List (Option TextMode)) →
+    begin_at mode region name (items ++ more) ≡ begins.Markup →
+    begun_piece rows begins.Markup place (items ++ more) ≡ comment_piece (mark_of kind) opened place (items ++ more) →
+    0 < opened → opened ≤ length items →
+    coming rows (Text region) mode name place (items ++ more) switches
+    ≡ coming rows (Comment (record { kind = kind; start = place; «data» = [] })) mode name (place + opened) (drop opened items ++ more) switches
+comment_begins rows region mode kind opened name place items more switches e p h k =
+    tokens_begun rows begins.Markup mode region name place (items ++ more) switches (comment_piece (mark_of kind) opened place (items ++ more)) e refl p (omega arith) (there items more (omega arith))
+    ∙ rw (drop-append-le opened items more k)
+    (ap (λ (ts : List Token). token (kinds.Comment (map shown (cut (mark_of kind) (drop opened items ++ more)).before)) place (place + opened + (cut (mark_of kind) (drop opened items ++ more)).len) ∷ ts)
+    (tokens_past rows opened (cut (mark_of kind) (drop opened items ++ more)).len mode name place items more (drop 1 switches) k))
+
+-- nothing is given
+pub empty_passed : (rows : List Row) (b : Begin) (region : Region) (mode : TextMode) (name : Option (List ℕ)) (place len : ℕ) (items more : List ℕ) (switches : List (Option TextMode)) →
+    begin_at mode region name (items ++ more) ≡ b → is_stop b ≡ true →
+    begun_piece rows b place (items ++ more) ≡ piece [] len → 0 < len → len ≤ length items →
+    coming rows (Text region) mode name place (items ++ more) switches ≡ tokens_after rows 0 mode name (place + len) (drop len items ++ more) switches
+empty_passed rows b region mode name place len items more switches e s p h k =
+    tokens_begun rows b mode region name place (items ++ more) switches (piece [] len) e s p h (there items more (omega arith))
+    ∙ rw add-zero at (tokens_past rows len 0 mode name place items more switches k)
+
+-- one token is given, which is no tag
+pub piece_given : (rows : List Row) (b : Begin) (region : Region) (mode : TextMode) (given : Token) (len : ℕ) (name : Option (List ℕ)) (place : ℕ) (items more : List ℕ) (switch : Option TextMode) (switches : List (Option TextMode)) →
+    begin_at mode region name (items ++ more) ≡ b → is_stop b ≡ true →
+    begun_piece rows b place (items ++ more) ≡ piece (given ∷ []) len → 0 < len → len ≤ length items →
+    mode_after_kind given.kind switch mode ≡ mode → name_after_kind given.kind name ≡ name →
+    coming rows (Text region) mode name place (items ++ more) (switch ∷ switches) ≡ given ∷ tokens_after rows 0 mode name (place + len) (drop len items ++ more) switches
+piece_given rows b region mode given len name place items more switch switches e s p h k m n =
+    tokens_begun rows b mode region name place (items ++ more) (switch ∷ switches) (piece (given ∷ []) len) e s p h (there items more (omega arith))
+    ∙ rw (m, n) (ap (λ (ts : List Token). given ∷ ts) (rw add-zero at (tokens_past rows len 0 mode name place items more switches k)))
+
+pub passes_come : (old new : Machine) (k : ℕ) (after : State) → Passes old k after new → (more : List ℕ) (switches : List (Option TextMode)) →
+    to_come new more switches ≡ coming old.table.now after old.mode old.last_name (old.place + k) (drop k old.input.queue.items ++ more) switches
+passes_come old new k after p more switches = rw (p.state, p.mode, p.name, p.place, p.items, p.table) refl
+
+pub passes_count : (old new : Machine) (k : ℕ) (after : State) → Passes old k after new → k ≤ length old.input.queue.items → SameCount old new
+passes_count old new k after p h = record { count = rw (p.place, p.items) (simp length-drop (omega arith)); finished = p.finished; table = p.table }
+
+pub passes_less : (old new : Machine) (k : ℕ) (after : State) → Passes old k after new → 0 < k → k ≤ length old.input.queue.items → length new.input.queue.items < length old.input.queue.items
+passes_less old new k after p g h = rw p.items (simp length-drop (omega arith))
+
+-- a step in text that gives no token
+pub open_more : (old new : Machine) (region : Region) (k : ℕ) (after : State) → old.state ≡ Text region → Passes old k after new → 0 < k → k ≤ length old.input.queue.items →
+    ((more : List ℕ) (switches : List (Option TextMode)) → MayFollow old.input.finished more →
+    coming old.table.now (Text region) old.mode old.last_name old.place (old.input.queue.items ++ more) switches ≡ coming old.table.now after old.mode old.last_name (old.place + k) (drop k old.input.queue.items ++ more) switches) →
+    Steps old More new
+open_more old new region k after s p g h step = (
+  (λ more switches f. rw s (step more switches f ∙ sym (passes_come old new k after p more switches))),
+  passes_less old new k after p g h,
+  passes_count old new k after p h,
+  p.name,
+)
+
+-- a step in text that gives a token
+pub open_given : (old new : Machine) (region : Region) (given : Token) (k : ℕ) (after : State) → old.state ≡ Text region → Passes old k after new → k ≤ length old.input.queue.items →
+    ((switch : Option TextMode) (mode : TextMode) → switch_to given.kind switch mode ≡ mode) → name_after_kind given.kind old.last_name ≡ old.last_name →
+    ((more : List ℕ) (switch : Option TextMode) (switches : List (Option TextMode)) → MayFollow old.input.finished more →
+    coming old.table.now (Text region) old.mode old.last_name old.place (old.input.queue.items ++ more) (switch ∷ switches) ≡ given ∷ coming old.table.now after old.mode old.last_name (old.place + k) (drop k old.input.queue.items ++ more) switches) →
+    Steps old (Given given) new
+open_given old new region given k after s p h same named step = (
+  (λ more switch switches f. rw s (step more switch switches f ∙ rw (p.state, p.mode, p.name, p.place, p.items, p.table, same switch old.mode) refl)),
+  passes_count old new k after p h,
+  p.name ∙ sym named,
+)
+
+-- one that is a whole piece
+pub open_gives : (old new : Machine) (region : Region) (b : Begin) (given : Token) (k : ℕ) → old.state ≡ Text region → Passes old k (Text Plain) new → 0 < k → k ≤ length old.input.queue.items →
+    ((switch : Option TextMode) (mode : TextMode) → switch_to given.kind switch mode ≡ mode) →
+    ((switch : Option TextMode) (mode : TextMode) → mode_after_kind given.kind switch mode ≡ mode) → ((name : Option (List ℕ)) → name_after_kind given.kind name ≡ name) →
+    is_stop b ≡ true → Decided old.input (begin_at old.mode region old.last_name) b →
+    ((more : List ℕ) → MayFollow old.input.finished more → begun_piece old.table.now b old.place (old.input.queue.items ++ more) ≡ piece (given ∷ []) k) →
+    Steps old (Given given) new
+open_gives old new region b given k s p g h same kept named stop begun whole =
+    open_given old new region given k (Text Plain) s p h same (named old.last_name)
+    (λ more switch switches f. piece_given old.table.now b region old.mode given k old.last_name old.place old.input.queue.items more switch switches (begun more f) stop (whole more f) g h (kept switch old.mode) (named old.last_name))
+
+-- the state is set after the pass
+pub passes_to : (old new : Machine) (k : ℕ) (before after : State) → Passes old k before new → Passes old k after (record new { state = after })
+passes_to old new k before after p = record { items = p.items; finished = p.finished; place = p.place; mode = p.mode; name = p.name; state = refl; table = p.table }
+
+text_ends : (region : Region) (rows : List Row) (mode : TextMode) (name : Option (List ℕ)) (place : ℕ) (switches : List (Option TextMode)) → coming rows (Text region) mode name place [] switches ≡ token kinds.Eof place place ∷ []
+unfolding tokens_after front
+text_ends Plain rows mode name place switches = refl
+text_ends Escaped rows mode name place switches = refl
+text_ends Double rows mode name place switches = refl
+
+pub state_ends : (old new : Machine) (region : Region) → old.state ≡ Text region → new ≡ record old { state = Ended } →
+    ((more : List ℕ) → MayFollow old.input.finished more → old.input.queue.items ++ more ≡ []) → Steps old (Given (token kinds.Eof old.place old.place)) new
+state_ends old new region s n e =
+    ((λ more switch switches f. rw (s, e more f, n) (text_ends region old.table.now old.mode old.last_name old.place (switch ∷ switches))), rw n (record { count = refl; finished = refl; table = refl }), rw n refl)
+
+-- a comment reads on by a code point
+pub comment_reads : (rows : List Row) (draft draft' : CommentDraft) (mode : TextMode) (name : Option (List ℕ)) (place : ℕ) (items items' more : List ℕ) (switches : List (Option TextMode)) →
+    draft_cut draft (items ++ more) ≡ passed (draft_cut draft' (items' ++ more)) → draft'.start ≡ draft.start → items' ≡ drop 1 items → 0 < length items →
+    coming rows (Comment draft) mode name place (items ++ more) switches ≡ coming rows (Comment draft') mode name (place + 1) (items' ++ more) switches
+comment_reads rows draft draft' mode name place items items' more switches e s i h =
+    let r = draft_cut draft' (items' ++ more) in
+    let n : place + suc r.len ≡ place + 1 + r.len = omega arith in
+    ap (λ (c : Cut). token (kinds.Comment c.before) draft.start (place + c.len) ∷ tokens_after rows c.len mode name place (items ++ more) (drop 1 switches)) e
+    ∙ rw (n, tokens_past_one rows r.len mode name place items items' more (drop 1 switches) i h, s) refl
+
+-- a comment closes
+pub comment_closes : (rows : List Row) (draft draft' : CommentDraft) (mode : TextMode) (name : Option (List ℕ)) (place n : ℕ) (items more : List ℕ) (switch : Option TextMode) (switches : List (Option TextMode)) →
+    draft_cut draft (items ++ more) ≡ record { before = draft'.«data»; len = n } → draft'.start ≡ draft.start → n ≤ length items →
+    coming rows (Comment draft) mode name place (items ++ more) (switch ∷ switches) ≡ token (kinds.Comment draft'.«data») draft'.start (place + n) ∷ tokens_after rows 0 mode name (place + n) (drop n items ++ more) switches
+comment_closes rows draft draft' mode name place n items more switch switches e s h =
+    ap (λ (c : Cut). token (kinds.Comment c.before) draft.start (place + c.len) ∷ tokens_after rows c.len mode name place (items ++ more) (drop 1 (switch ∷ switches))) e
+    ∙ rw s (ap (λ (ts : List Token). token (kinds.Comment draft'.«data») draft.start (place + n) ∷ ts) (rw add-zero at (tokens_past rows n 0 mode name place items more switches h)))
+
+pub comment_more : (old : Machine) (input' : Input) (draft draft' : CommentDraft) → old.state ≡ Comment draft → Reads draft old.input More' draft' input' →
+    Steps old More (record old { input = input'; place = old.place + 1; state = Comment draft' })
+comment_more old input' draft draft' s (e, i, h, b, f) = (
+  (λ more switches g. rw s (comment_reads old.table.now draft draft' old.mode old.last_name old.place old.input.queue.items input'.queue.items more switches (e more g) b i h)),
+  rw i (simp length-drop (omega arith)),
+  record { count = rw i (simp length-drop (omega arith)); finished = f; table = refl },
+  refl,
+)
+
+pub comment_given : (old new : Machine) (input' : Input) (draft draft' : CommentDraft) (n : ℕ) → old.state ≡ Comment draft → Reads draft old.input (Closed n) draft' input' →
+    Passes (record old { input = input'; state = Comment draft' }) n (Text Plain) new →
+    Steps old (Given (token (kinds.Comment draft'.«data») draft'.start (old.place + n))) new
+comment_given old new input' draft draft' n s (e, h, i, f, b) p = (
+  (λ more switch switches g. rw (s, p.state, p.mode, p.name, p.place, p.items, p.table, i) (comment_closes old.table.now draft draft' old.mode old.last_name old.place n old.input.queue.items more switch switches (e more g) b h)),
+  record { count = rw (p.place, p.items, i) (simp length-drop (omega arith)); finished = p.finished ∙ f; table = p.table },
+  p.name,
+)
+
+pub comment_waits : (old : Machine) (input' : Input) (draft draft' : CommentDraft) → old.state ≡ Comment draft → Reads draft old.input Wait' draft' input' →
+    Steps old Wait (record old { input = input'; state = Comment draft' })
+comment_waits old input' draft draft' s (d, i, short) = (rw (d, i, ← s) refl, (short.0, omega arith))
+
+-- one code point of text is waited for no longer than this
+pub within : (rows : List Row) (name : Option (List ℕ)) (input : Input) (k : ℕ) → IsShort input k → k ≤ 8 → IsShort input (slack rows name)
+within rows name input k s h = (s.0, omega arith)
+
+-- two Chars begin
+pair_given : (rows : List Row) (region : Region) (mode : TextMode) (first second : Token) (len : ℕ) (name : Option (List ℕ)) (place : ℕ) (items more : List ℕ) (switch : Option TextMode) (switches : List (Option TextMode)) →
+    begin_at mode region name (items ++ more) ≡ begins.Reference →
+    begun_piece rows begins.Reference place (items ++ more) ≡ piece (first ∷ second ∷ []) len → 0 < len → len ≤ length items →
+    mode_after_kind first.kind switch mode ≡ mode → name_after_kind first.kind name ≡ name →
+    coming rows (Text region) mode name place (items ++ more) (switch ∷ switches) ≡ first ∷ second ∷ tokens_after rows 0 mode name (place + len) (drop len items ++ more) (drop 1 switches)
+pair_given rows region mode first second len name place items more switch switches e p h k m n =
+    tokens_begun rows begins.Reference mode region name place (items ++ more) (switch ∷ switches) (piece (first ∷ second ∷ []) len) e refl p h (there items more (omega arith))
+    ∙ rw (m, n) (ap (λ (ts : List Token). first ∷ second ∷ ts) (rw add-zero at (tokens_past rows len 0 mode name place items more (drop 1 switches) k)))
+
+-- the code points of a reference are given
+pub chars_given : (old new : Machine) (region : Region) (len first : ℕ) (second : Option ℕ) (progress : Progress) → old.state ≡ Text region → Decided old.input (begin_at old.mode region old.last_name) begins.Reference →
+    0 < len → len ≤ length old.input.queue.items →
+    ((more : List ℕ) → MayFollow old.input.finished more → reference old.table.now (old.input.queue.items ++ more) ≡ record { codes = codes_with first second; len = len }) →
+    GivesChars old len first second progress new → Steps old progress new
+chars_given old new region len first None progress s begun h k found (e, p) =
+    rw e (open_gives old new region begins.Reference (token (kinds.Char first) old.place (old.place + len)) len s p h k (λ switch mode. refl) (λ switch mode. refl) (λ name. refl) refl begun
+    (λ more f. rw (found more f) refl))
+chars_given old new region len first (Some second) progress s begun h k found (e, p) =
+    rw e (open_given old new region (token (kinds.Char first) old.place (old.place + 1)) len (Second second (old.place + 1)) s p k (λ switch mode. refl) refl
+    (λ more switch switches f. pair_given old.table.now region old.mode (token (kinds.Char first) old.place (old.place + 1)) (token (kinds.Char second) (old.place + 1) (old.place + len)) len old.last_name old.place old.input.queue.items more switch switches
+    (begun more f) (rw (found more f) refl) h k refl refl))
+
+pub second_given : (old new : Machine) (c start : ℕ) → old.state ≡ Second c start → new ≡ record old { state = Text Plain } → Steps old (Given (token (kinds.Char c) start old.place)) new
+second_given old new c start s n = ((λ more switch switches f. rw (s, n) refl), rw n (record { count = refl; finished = refl; table = refl }), rw n refl)
+
+-- the token of a number, and those after it
+abbrev number_coming : List Row → ℕ → ℕ → Numbered → TextMode → Option (List ℕ) → List ℕ → List (Option TextMode) → List Token
+number_coming rows start place n mode name rest switches = token (kinds.Char (char_of n.value)) start (place + n.len) ∷ tokens_after rows n.len mode name place rest (drop 1 switches)
+
+-- a number begins
+pub number_begins : (old new : Machine) (region : Region) (base : Base) (opened : ℕ) → old.state ≡ Text region → Decided old.input (begin_at old.mode region old.last_name) begins.Reference →
+    0 < opened → opened ≤ length old.input.queue.items → Decided old.input ref_opener (Numeric base opened) →
+    Passes old opened (Number (record { start = old.place; base = base; value = 0 })) new → Steps old More new
+number_begins old new region base opened s begun h k found p =
+    open_more old new region opened _ s p h k
+    (λ more switches f.
+    let items = old.input.queue.items in
+    let n = numbered base 0 (drop opened items ++ more) in
+    let whole : begun_piece old.table.now begins.Reference old.place (items ++ more) ≡ piece (token (kinds.Char (char_of n.value)) old.place (old.place + (opened + n.len)) ∷ []) (opened + n.len) =
+    rw (found more f, drop-append-le opened items more k) refl in
+    let e : old.place + (opened + n.len) ≡ old.place + opened + n.len = omega arith in
+    tokens_begun old.table.now begins.Reference old.mode region old.last_name old.place (items ++ more) switches _ (begun more f) refl whole (omega arith) (there items more (omega arith))
+    ∙ rw e (ap (λ (ts : List Token). token (kinds.Char (char_of n.value)) old.place (old.place + opened + n.len) ∷ ts) (tokens_past old.table.now opened n.len old.mode old.last_name old.place items more (drop 1 switches) k)))
+
+-- the number so far counts only up to the first number past the code points
+number_capped : (b v : ℕ) (ds : List ℕ) → 0 < b → capped (number_from_digits_after b (capped v) ds) ≡ capped (number_from_digits_after b v ds)
+number_capped b v [] h = capped-capped v
+number_capped b v (d ∷ ds) h =
+    sym (number_capped b (capped v * b + d) ds h)
+    ∙ ap (λ x. capped (number_from_digits_after b x ds)) (capped-step v b d h)
+    ∙ number_capped b (v * b + d) ds h
+
+pub char_capped : (b v w : ℕ) (ds : List ℕ) → 0 < b → w ≡ capped v → char_of (number_from_digits_after b w ds) ≡ char_of (number_from_digits_after b v ds)
+char_capped b v w ds h e =
+    rw e (sym (char_of-capped (number_from_digits_after b (capped v) ds)) ∙ ap char_of (number_capped b v ds h) ∙ char_of-capped (number_from_digits_after b v ds))
+
+pub some_radix : (base : Base) → 0 < radix base
+some_radix Decimal = omega arith
+some_radix Hex = omega arith
+
+suc-plus : (a b : ℕ) → suc a + b ≡ suc (a + b)
+suc-plus a b = omega arith
+
+pub not_semicolon : (c : ℕ) → ¬ (c ≡ 59) → semicolon (c ∷ []) ≡ 0
+not_semicolon c h = grind (arith, nat_tests)
+
+pub digit_first : (base : Base) (v c : ℕ) (rest : List ℕ) → is_digit base c ≡ true →
+    numbered base v (c ∷ rest) ≡ record { value = (numbered base (v * radix base + digit_value c) rest).value; len = suc (numbered base (v * radix base + digit_value c) rest).len }
+unfolding cut
+digit_first base v c rest e = rw (e, suc-plus) refl
+
+pub digits_stop : (base : Base) (v c : ℕ) (rest : List ℕ) → is_digit base c ≡ false → numbered base v (c ∷ rest) ≡ record { value = v; len = semicolon (c ∷ rest) }
+unfolding cut
+digits_stop base v c rest e = rw (e, zero-add) refl
+
+pub digits_end : (base : Base) (v : ℕ) → numbered base v [] ≡ record { value = v; len = 0 }
+unfolding cut
+digits_end base v = refl
+
+-- a number reads on by a digit
+pub number_more : (old new : Machine) (draft : NumberDraft) (c d value : ℕ) → old.state ≡ Number draft → Decided old.input (λ rest. slice_get rest 0) (Some c) → 0 < length old.input.queue.items →
+    is_digit draft.base c ≡ true → d ≡ digit_value c → value ≡ capped (draft.value * radix draft.base + d) →
+    Passes old 1 (Number (record draft { value = value })) new → Steps old More new
+number_more old new draft c d value s first h digit e v p = (
+  (λ more switches f.
+      let items = old.input.queue.items in
+      let text = first_of items more c (first more f) h in
+      let rest = drop 1 items ++ more in
+      let w = draft.value * radix draft.base + digit_value c in
+      let n = numbered draft.base w rest in
+      let m = numbered draft.base value rest in
+      let same : char_of m.value ≡ char_of n.value = char_capped (radix draft.base) w value (map digit_value (cut (stop_mark (ends_digits draft.base)) rest).before) (some_radix draft.base) (rw e at v) in
+      let i : old.place + suc n.len ≡ old.place + 1 + n.len = omega arith in
+      rw (s, p.state, p.mode, p.name, p.place, p.items, p.table)
+      (ap (λ (x : Numbered). number_coming old.table.now draft.start old.place x old.mode old.last_name (items ++ more) switches) (ap (λ (x : List ℕ). numbered draft.base draft.value x) text ∙ digit_first draft.base draft.value c rest digit)
+      ∙ rw (i, tokens_past_one old.table.now n.len old.mode old.last_name old.place items (drop 1 items) more (drop 1 switches) refl h, same) refl)),
+  passes_less old new 1 _ p (omega arith) h,
+  passes_count old new 1 _ p h,
+  p.name,
+)
+
+-- a number closes
+pub number_given : (old new : Machine) (draft : NumberDraft) (len : ℕ) (progress : Progress) → old.state ≡ Number draft → len ≤ length old.input.queue.items →
+    ((more : List ℕ) → MayFollow old.input.finished more → numbered draft.base draft.value (old.input.queue.items ++ more) ≡ record { value = draft.value; len = len }) →
+    (progress ≡ Given (token (kinds.Char (char_of draft.value)) draft.start (old.place + len))) × Passes old len (Text Plain) new → Steps old progress new
+number_given old new draft len progress s h whole (g, p) =
+    rw g (
+      (λ more switch switches f. rw (s, p.state, p.mode, p.name, p.place, p.items, p.table)
+          (ap (λ (x : Numbered). number_coming old.table.now draft.start old.place x old.mode old.last_name (old.input.queue.items ++ more) (switch ∷ switches)) (whole more f)
+          ∙ ap (λ (ts : List Token). token (kinds.Char (char_of draft.value)) draft.start (old.place + len) ∷ ts) (rw add-zero at (tokens_past old.table.now len 0 old.mode old.last_name old.place old.input.queue.items more switches h)))),
+      passes_count old new len _ p h,
+      p.name,
+    )
+
+pub number_ends : (old : Machine) (draft : NumberDraft) → Decided old.input (λ rest. slice_get rest 0) None →
+    (more : List ℕ) → MayFollow old.input.finished more → numbered draft.base draft.value (old.input.queue.items ++ more) ≡ record { value = draft.value; len = 0 }
+number_ends old draft none more f = rw (empty_rest _ (none more f)) (digits_end draft.base draft.value)
+
+pub number_stops : (old : Machine) (draft : NumberDraft) (c len : ℕ) → Decided old.input (λ rest. slice_get rest 0) (Some c) → 0 < length old.input.queue.items → is_digit draft.base c ≡ false → semicolon (c ∷ []) ≡ len →
+    (more : List ℕ) → MayFollow old.input.finished more → numbered draft.base draft.value (old.input.queue.items ++ more) ≡ record { value = draft.value; len = len }
+number_stops old draft c len first h digit e more f =
+    let text = first_of old.input.queue.items more c (first more f) h in
+    let rest = drop 1 old.input.queue.items ++ more in
+    ap (λ (x : List ℕ). numbered draft.base draft.value x) text ∙ digits_stop draft.base draft.value c rest digit ∙ ap (λ (k : ℕ). record { value = draft.value; len = k }) e
+
+-- a name that is in the table, or isn't
+pub named_some : (rows : List Row) (text : List ℕ) (len : ℕ) (found : RefText) → ref_opener text ≡ Named → longest rows text ≡ Some (len, found) → reference rows text ≡ record { codes = codes_with found.first found.second; len = len }
+named_some rows text len found e n = rw (e, n) refl
+
+pub named_none : (rows : List Row) (text : List ℕ) → ref_opener text ≡ Named → longest rows text ≡ None → reference rows text ≡ record { codes = codes_with 38 None; len = 1 }
+named_none rows text e n = rw (e, n) refl

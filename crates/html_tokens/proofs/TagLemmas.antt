@@ -1,0 +1,201 @@
+-- What the steps in a tag give.
+use Rattle.std.proofs.Common.{◌≡◌, ℕ, suc, ◌+◌, ◌<◌, ◌≤◌, List, [], ◌∷◌, ◌++◌, length, drop, Option, Some, None, Bool, true, false, refl, ap, sym, ◌∙◌, arith, length-append, length-drop, add-zero, Result, Ok, Err}
+use Rattle.std.specs.List.{slice_get}
+use Rattle.std.specs.Option.{option_to_list}
+use Rattle.std.specs.Result.{IfOk}
+use Rattle.std.proofs.lemmas.List.{drop-append-le}
+use Rattle.html_tokens.specs.Cut.{cut}
+use Rattle.html_tokens.specs.Input.{MayFollow, Decided}
+use Rattle.html_tokens.specs.Value.{value_cut}
+use Rattle.html_tokens.specs.Value.{IsValueRef, ref_len}
+use Rattle.html_tokens.specs.declared.reference.ValueRef.{ValueRef}
+use Rattle.html_tokens.specs.Tag.{ReadsRef, tag_by, draft_tag, tag_of, longer_tag, ReadsTag, tail, value, after_name, after_some, part_tail}
+use Rattle.html_tokens.specs.Tag.{Tag as WholeTag}
+use Rattle.html_tokens.specs.Tokens.{tokens_after, token, tag_tokens, tag_kind, tag_piece, when, mode_after, name_after, mode_after_kind, name_after_kind}
+use Rattle.html_tokens.specs.Fed.{coming, new_tag, BeginsTag, EndsTag, EndsTagAt, IsTag, Passes, Steps, switch_to, read_tag, mode_after_tag, name_after_tag}
+use Rattle.html_tokens.specs.declared.tag.TagDraft.{TagDraft}
+use Rattle.html_tokens.specs.declared.tag.Part.{Part}
+use Rattle.html_tokens.specs.declared.tag.Part.TheVariants as parts
+use Rattle.html_tokens.specs.declared.tag.TagReading.TheVariants.{More as More', Closed}
+use Rattle.html_tokens.specs.declared.token.Token.{Token}
+use Rattle.html_tokens.specs.declared.token.TokenKind.TheVariants as kinds
+use Rattle.html_tokens.specs.declared.token.TextMode.{TextMode}
+use Rattle.html_tokens.specs.declared.machine.Machine.{Machine}
+use Rattle.html_tokens.specs.declared.machine.Progress.{Progress}
+use Rattle.html_tokens.specs.declared.machine.Progress.TheVariants.{Given, More}
+use Rattle.html_tokens.specs.declared.machine.State.{State}
+use Rattle.html_tokens.specs.declared.machine.State.TheVariants.{Text, Number, Second, Comment, Doctype, Tag, Ended}
+use Rattle.html_tokens.proofs.TokensLemmas.{tokens_begun, tokens_past, tokens_past_one}
+use Rattle.html_tokens.proofs.Cuts.{first_of}
+use Rattle.html_tokens.specs.Marks.{begin_at, is_stop}
+use Rattle.html_tokens.specs.Tokens.{begun_piece}
+use Rattle.html_charref.specs.declared.table.Row.{Row}
+use Rattle.html_tokens.specs.declared.token.Region.{Region}
+use Rattle.html_tokens.specs.declared.token.Begin.{Begin}
+
+-- the tokens from a tag on, which is this and began there
+abbrev pub tag_coming : List Row → Bool → ℕ → ℕ → WholeTag → TextMode → Option (List ℕ) → List ℕ → List (Option TextMode) → List Token
+tag_coming rows is_end start place t mode name rest switches =
+    let given = tag_tokens is_end start (place + t.tail.len) t in
+    given ++ tokens_after rows t.tail.len (mode_after given switches mode) (name_after given name) place rest (drop (length given) switches)
+
+new_tag_of : (rows : List Row) (d : TagDraft) (is_end : Bool) (start : ℕ) (rest : List ℕ) → new_tag d is_end start → draft_tag rows d rest ≡ tag_of rows rest
+new_tag_of rows d is_end start rest n = rw (n.2, n.3, n.4) refl
+
+tag_begins : (rows : List Row) (b : Begin) (region : Region) (mode : TextMode) (is_end : Bool) (opened : ℕ) (name : Option (List ℕ)) (place : ℕ) (items more : List ℕ) (switches : List (Option TextMode)) →
+    begin_at mode region name (items ++ more) ≡ b → is_stop b ≡ true →
+    begun_piece rows b place (items ++ more) ≡ tag_piece rows is_end opened place (items ++ more) →
+    0 < opened → opened ≤ length items →
+    coming rows (Text region) mode name place (items ++ more) switches
+    ≡ tag_coming rows is_end place (place + opened) (tag_of rows (drop opened items ++ more)) mode name (drop opened items ++ more) switches
+tag_begins rows b region mode is_end opened name place items more switches e s p h k =
+    let t = tag_of rows (drop opened items ++ more) in
+    let given = tag_tokens is_end place (place + opened + t.tail.len) t in
+    tokens_begun rows b mode region name place (items ++ more) switches (tag_piece rows is_end opened place (items ++ more)) e s p (omega arith) (omega (arith, length-append items more))
+    ∙ rw (drop-append-le opened items more k)
+    (ap (λ (ts : List Token). given ++ ts) (tokens_past rows opened t.tail.len _ _ place items more _ k))
+
+pub tag_opens : (old new : Machine) (b : Begin) (region : Region) (is_end : Bool) (opened : ℕ) → old.state ≡ Text region → BeginsTag old is_end opened new → 0 < opened → opened ≤ length old.input.queue.items →
+    Decided old.input (begin_at old.mode region old.last_name) b → is_stop b ≡ true →
+    ((more : List ℕ) → MayFollow old.input.finished more → begun_piece old.table.now b old.place (old.input.queue.items ++ more) ≡ tag_piece old.table.now is_end opened old.place (old.input.queue.items ++ more)) →
+    Steps old More new
+tag_opens old new b region is_end opened s (d, n, p) h k begun stop piece = (
+  (λ more switches f. rw (s, p.state, p.mode, p.name, p.place, p.items, p.table, n.0, n.1)
+      (tag_begins old.table.now b region old.mode is_end opened old.last_name old.place old.input.queue.items more switches (begun more f) stop (piece more f) h k
+      ∙ ap (λ (t : WholeTag). tag_coming old.table.now is_end old.place (old.place + opened) t old.mode old.last_name (drop opened old.input.queue.items ++ more) switches)
+      (sym (new_tag_of old.table.now d is_end old.place (drop opened old.input.queue.items ++ more) n)))),
+  rw p.items (simp length-drop (omega arith)),
+  record { count = rw (p.place, p.items) (simp length-drop (omega arith)); finished = p.finished; table = p.table },
+  p.name,
+)
+
+tag_step_on : (rows : List Row) (is_end : Bool) (start place : ℕ) (t : WholeTag) (mode : TextMode) (name : Option (List ℕ)) (items items' more : List ℕ) (switches : List (Option TextMode)) →
+    items' ≡ drop 1 items → 0 < length items →
+    tag_coming rows is_end start place (longer_tag t) mode name (items ++ more) switches ≡ tag_coming rows is_end start (place + 1) t mode name (items' ++ more) switches
+tag_step_on rows true start place t mode name items items' more switches i h =
+    let n : place + suc t.tail.len ≡ place + 1 + t.tail.len = omega arith in
+    let given = tag_tokens true start (place + 1 + t.tail.len) t in
+    rw n (ap (λ (ts : List Token). given ++ ts)
+    (tokens_past_one rows t.tail.len (mode_after given switches mode) (name_after given name) place items items' more (drop (length given) switches) i h))
+tag_step_on rows false start place t mode name items items' more switches i h =
+    let n : place + suc t.tail.len ≡ place + 1 + t.tail.len = omega arith in
+    let given = tag_tokens false start (place + 1 + t.tail.len) t in
+    rw n (ap (λ (ts : List Token). given ++ ts)
+    (tokens_past_one rows t.tail.len (mode_after given switches mode) (name_after given name) place items items' more (drop (length given) switches) i h))
+
+second_of : (rest : List ℕ) (c : ℕ) → slice_get (c ∷ rest) 1 ≡ slice_get rest 0
+second_of rest c = refl
+
+pub tag_more : (old new : Machine) (d d' : TagDraft) (c : ℕ) (after : Option ℕ) → old.state ≡ Tag d → ReadsTag d c after More' d' →
+    Decided old.input (λ rest. slice_get rest 0) (Some c) → (c ≡ 47 → Decided old.input (λ rest. slice_get rest 1) after) → 1 + length (option_to_list after) ≤ length old.input.queue.items →
+    Passes (record old { state = Tag d' }) 1 (Tag d') new → Steps old More new
+tag_more old new d d' c after s (e, st, en) first second k p =
+    let h : 0 < length old.input.queue.items = omega arith in (
+      (λ more switches f.
+          let text = first_of old.input.queue.items more c (first more f) h in
+          let after_is : (c ≡ 47 → slice_get (drop 1 old.input.queue.items ++ more) 0 ≡ after) = λ slash. (rw text at (second slash more f)) in
+          let whole = e old.table.now (drop 1 old.input.queue.items ++ more) after_is in
+          rw (s, p.state, p.mode, p.name, p.place, p.items, p.table, st, en)
+          (ap (λ (t : WholeTag). tag_coming old.table.now d.is_end d.start old.place t old.mode old.last_name (old.input.queue.items ++ more) switches) (ap (λ (x : List ℕ). draft_tag old.table.now d x) text ∙ whole)
+          ∙ tag_step_on old.table.now d.is_end d.start old.place (draft_tag old.table.now d' (drop 1 old.input.queue.items ++ more)) old.mode old.last_name old.input.queue.items _ more switches refl h)),
+      rw p.items (simp length-drop (omega arith)),
+      record { count = rw (p.place, p.items) (simp length-drop (omega arith)); finished = p.finished; table = p.table },
+      p.name,
+    )
+
+mode_same : (is_end : Bool) (t : WholeTag) (switch : Option TextMode) (mode : TextMode) → mode_after_kind (tag_kind is_end t) switch mode ≡ switch_to (tag_kind is_end t) switch (mode_after_tag is_end mode)
+mode_same true t switch mode = refl
+mode_same false t None mode = refl
+mode_same false t (Some m) mode = refl
+
+name_same : (is_end : Bool) (t : WholeTag) (name : Option (List ℕ)) → name_after_kind (tag_kind is_end t) name ≡ name_after_tag is_end t.name name
+name_same true t name = refl
+name_same false t name = refl
+
+tag_given_at : (old new : Machine) (d d' : TagDraft) (c : ℕ) (after : Option ℕ) (self_closing : Bool) (n : ℕ) (progress : Progress) → old.state ≡ Tag d → ReadsTag d c after (Closed self_closing n) d' →
+    Decided old.input (λ rest. slice_get rest 0) (Some c) → (c ≡ 47 → Decided old.input (λ rest. slice_get rest 1) after) → 1 + length (option_to_list after) ≤ length old.input.queue.items →
+    EndsTagAt (record old { state = Tag d' }) d' self_closing n progress new → Steps old progress new
+tag_given_at old new d d' c after self_closing n progress s (e, st, en, short) first second k p =
+    let h : 0 < length old.input.queue.items = omega arith in
+    let fit : n ≤ length old.input.queue.items = omega arith in
+    let t = read_tag d' self_closing n in
+    rw p.given (
+      (λ more switch switches f.
+          let text = first_of old.input.queue.items more c (first more f) h in
+          let after_is : (c ≡ 47 → slice_get (drop 1 old.input.queue.items ++ more) 0 ≡ after) = λ slash. (rw text at (second slash more f)) in
+          let whole = e old.table.now (drop 1 old.input.queue.items ++ more) after_is in
+          rw (s, p.state, p.mode, p.name, p.place, p.items, p.table, st, en)
+          (ap (λ (x : WholeTag). tag_coming old.table.now d.is_end d.start old.place x old.mode old.last_name (old.input.queue.items ++ more) (switch ∷ switches)) (ap (λ (x : List ℕ). draft_tag old.table.now d x) text ∙ whole)
+          ∙ rw (mode_same d.is_end t switch old.mode, name_same d.is_end t old.last_name)
+          (ap (λ (ts : List Token). token (tag_kind d.is_end t) d.start (old.place + n) ∷ ts)
+          (rw add-zero at (tokens_past old.table.now n 0 (switch_to (tag_kind d.is_end t) switch (mode_after_tag d.is_end old.mode)) (name_after_tag d.is_end d'.name old.last_name) old.place old.input.queue.items more switches fit))))),
+      record { count = rw (p.place, p.items) (simp length-drop (omega arith)); finished = p.finished; table = p.table },
+      p.name ∙ (rw en (sym (name_same d.is_end t old.last_name))),
+    )
+
+pub tag_given : {E : Type 0} (r : Result Progress E) (old new : Machine) (d d' : TagDraft) (c : ℕ) (after : Option ℕ) (self_closing : Bool) (n : ℕ) → old.state ≡ Tag d → ReadsTag d c after (Closed self_closing n) d' →
+    Decided old.input (λ rest. slice_get rest 0) (Some c) → (c ≡ 47 → Decided old.input (λ rest. slice_get rest 1) after) → 1 + length (option_to_list after) ≤ length old.input.queue.items →
+    IfOk r (λ progress. EndsTag (record old { state = Tag d' }) self_closing n progress new) → IfOk r (λ progress. Steps old progress new)
+tag_given (Ok progress) old new d d' c after self_closing n s reads first second k ends = tag_given_at old new d d' c after self_closing n progress s reads first second k (ends d' refl)
+tag_given (Err error) old new d d' c after self_closing n s reads first second k ends = tt
+
+tag_open : (rows : List Row) (part : Part) (name val : List ℕ) → (part_tail rows part name val []).closed ≡ false
+unfolding cut tail value after_name after_some value_cut
+tag_open rows parts.Name name val = refl
+tag_open rows parts.Attributes name val = refl
+tag_open rows parts.AttrName name val = refl
+tag_open rows parts.AfterName name val = refl
+tag_open rows parts.Value name val = refl
+tag_open rows (parts.Inside end) name val = refl
+tag_open rows (parts.Number end base value) name val = refl
+
+tag_dropped : (rows : List Row) (state : State) (mode : TextMode) (name : Option (List ℕ)) (place : ℕ) (switches : List (Option TextMode)) → IsTag state → coming rows state mode name place [] switches ≡ token kinds.Eof place place ∷ []
+unfolding tokens_after
+tag_dropped rows (Text region) mode name place switches h = absurd h
+tag_dropped rows (Number d) mode name place switches h = absurd h
+tag_dropped rows (Second c start) mode name place switches h = absurd h
+tag_dropped rows (Comment d) mode name place switches h = absurd h
+tag_dropped rows (Doctype d) mode name place switches h = absurd h
+tag_dropped rows (Tag d) mode name place switches h = rw (tag_open rows d.part d.attr_name d.attr_value) refl
+tag_dropped rows Ended mode name place switches h = absurd h
+
+pub tag_ends : (old new : Machine) → IsTag old.state → new ≡ record old { state = Ended } →
+    ((more : List ℕ) → MayFollow old.input.finished more → old.input.queue.items ++ more ≡ []) → Steps old (Given (token kinds.Eof old.place old.place)) new
+tag_ends old new s n e =
+    ((λ more switch switches f. rw (e more f, n) (tag_dropped old.table.now old.state old.mode old.last_name old.place (switch ∷ switches) s)), rw n (record { count = refl; finished = refl; table = refl }), rw n refl)
+
+same_kind : (is_end : Bool) (k : ℕ) (t : WholeTag) → tag_kind is_end (tag_by k t) ≡ tag_kind is_end t
+same_kind true k t = refl
+same_kind false k t = refl
+
+tag_steps_on : (rows : List Row) (is_end : Bool) (start place k : ℕ) (t : WholeTag) (mode : TextMode) (name : Option (List ℕ)) (items more : List ℕ) (switches : List (Option TextMode)) →
+    k ≤ length items →
+    tag_coming rows is_end start place (tag_by k t) mode name (items ++ more) switches ≡ tag_coming rows is_end start (place + k) t mode name (drop k items ++ more) switches
+tag_steps_on rows is_end start place k t mode name items more switches h =
+    let n : place + (k + t.tail.len) ≡ place + k + t.tail.len = omega arith in
+    let kind : tag_kind is_end (tag_by k t) ≡ tag_kind is_end t = same_kind is_end k t in
+    let given = when t.tail.closed (token (tag_kind is_end t) start (place + k + t.tail.len)) in
+    rw (n, kind) (ap (λ (ts : List Token). given ++ ts)
+    (tokens_past rows k t.tail.len (mode_after given switches mode) (name_after given name) place items more (drop (length given) switches) h))
+
+-- what a `&` in a value begins is read
+pub ref_more : (old new : Machine) (d d' : TagDraft) (found : ValueRef) → old.state ≡ Tag d → ReadsRef d found d' →
+    Decided old.input (λ rest. slice_get rest 0) (Some 38) → 0 < length old.input.queue.items → IsValueRef old.table.now old.input found →
+    Passes (record old { state = Tag d' }) (ref_len found) (Tag d') new → Steps old More new
+ref_more old new d d' found s (e, st, en) first h (b, some, fit) p = (
+  (λ more switches f.
+      let items = old.input.queue.items in
+      let text : items ++ more ≡ 38 ∷ (drop 1 items ++ more) = first_of items more 38 (first more f) h in
+      let k = ref_len found in
+      let begins = rw text at (b more f) in
+      let some_len : k ≤ suc (length (drop 1 items ++ more)) = simp (length-append, length-drop) (omega arith) in
+      let past : drop k (38 ∷ (drop 1 items ++ more)) ≡ drop k items ++ more = ap (λ (x : List ℕ). drop k x) (sym text) ∙ drop-append-le k items more fit in
+      let whole : draft_tag old.table.now d (items ++ more) ≡ tag_by k (draft_tag old.table.now d' (drop k items ++ more)) =
+      ap (λ (x : List ℕ). draft_tag old.table.now d x) text ∙ e old.table.now (drop 1 items ++ more) begins some some_len ∙ ap (λ (x : List ℕ). tag_by k (draft_tag old.table.now d' x)) past in
+      rw (s, p.state, p.mode, p.name, p.place, p.items, p.table, st, en)
+      (ap (λ (t : WholeTag). tag_coming old.table.now d.is_end d.start old.place t old.mode old.last_name (items ++ more) switches) whole
+      ∙ tag_steps_on old.table.now d.is_end d.start old.place k (draft_tag old.table.now d' (drop k items ++ more)) old.mode old.last_name items more switches fit)),
+  rw p.items (simp length-drop (omega arith)),
+  record { count = rw (p.place, p.items) (simp length-drop (omega arith)); finished = p.finished; table = p.table },
+  p.name,
+)

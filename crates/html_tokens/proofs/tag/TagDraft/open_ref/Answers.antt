@@ -1,0 +1,8 @@
+use Rattle.html_tokens.proofs.ValueLemmas.{value_opens, number_opens}
+use Rattle.html_tokens.proofs.tag.TagDraft.open_ref.Goals as goal
+
+pub returns-in-Value-clause-ok : goal.returns-in-Value-clause-ok
+returns-in-Value-clause-ok c = value_opens c.args.self.now c.in-Value.is
+
+pub returns-in-Number-clause-ok : goal.returns-in-Number-clause-ok
+returns-in-Number-clause-ok c = number_opens c.number_ends.result c.args.self.now c.number_ends.new.self c.in-Number.end _ c.in-Number.value c.in-Number.is c.number_ends.ensures.ok

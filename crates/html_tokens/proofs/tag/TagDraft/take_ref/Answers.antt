@@ -1,0 +1,11 @@
+use Rattle.html_tokens.proofs.ValueLemmas.{codes_read_from, unknown_read_from, number_pushed}
+use Rattle.html_tokens.proofs.tag.TagDraft.take_ref.Goals as goal
+
+pub returns-in-Numeric-clause-ok : goal.returns-in-Numeric-clause-ok
+returns-in-Numeric-clause-ok c = number_pushed c.args.self.now c.begin_number.new.self c.args.found c.in-Numeric.base _ c.in-Numeric.is c.requires.inside c.begin_number.ensures.number
+
+pub returns-in-Unknown-clause-ok : goal.returns-in-Unknown-clause-ok
+returns-in-Unknown-clause-ok c = unknown_read_from c.push_codes.result c.args.self.now c.push_codes.new.self c.args.found c.in-Unknown.is c.requires.inside c.push_codes.ensures.ok
+
+pub returns-in-Codes-clause-ok : goal.returns-in-Codes-clause-ok
+returns-in-Codes-clause-ok c = codes_read_from c.push_codes-in-Codes.result c.args.self.now c.push_codes-in-Codes.new.self c.args.found _ c.in-Codes.first c.in-Codes.second c.in-Codes.is c.requires.inside c.push_codes-in-Codes.ensures.ok

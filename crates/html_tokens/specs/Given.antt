@@ -1,0 +1,55 @@
+-- What callers of a tokenizer know of it: its run.
+use Rattle.std.specs.Prelude.{ℕ, ◌+◌, ◌-◌, ◌^◌, min, List, [], length, Bool, false, cond, Option}
+use Rattle.html_tokens.specs.Stream.{Run, IsAt, gave, answered}
+use Rattle.html_charref.specs.declared.table.Row.{Row}
+use Rattle.html_tokens.specs.Runs.{is_text, plain_front}
+use Rattle.html_tokens.specs.declared.token.Token.{Token}
+use Rattle.html_tokens.specs.declared.token.TokenKind.{TokenKind}
+use Rattle.html_tokens.specs.declared.token.TokenKind.TheVariants as kinds
+use Rattle.html_tokens.specs.declared.token.TextMode.{TextMode}
+use Rattle.html_tokens.specs.declared.faults.Fault.{Fault}
+use Rattle.html_tokens.specs.declared.tokenizer.Tokenizer.{Tokenizer}
+
+-- The tokenizer is where this run leaves it.
+unfoldable pub Fed : Tokenizer → Run → Type 0
+Fed t run = IsAt t.machine run
+
+-- The tokenizer has just given a token, and may be told the mode of what follows.
+unfoldable pub Awaits : Tokenizer → Run → Token → Type 0
+Awaits t run given = (switch : Option TextMode) → IsAt (answered given switch t.machine) (gave run given switch)
+
+-- how many code points were fed
+unfoldable pub fed_len : Tokenizer → ℕ
+fed_len t = t.machine.place + length t.machine.input.queue.items
+
+-- a call was refused
+unfoldable pub is_stopped : Tokenizer → Bool
+is_stopped t = t.failed
+
+-- the text fed is whole
+unfoldable pub is_finished : Tokenizer → Bool
+is_finished t = t.machine.input.finished
+
+-- the errors told so far
+unfoldable pub told : Tokenizer → List Fault
+told t = t.faults.list.items
+
+-- the code points taken and the comparisons made so far, as far as 128 bits count
+unfoldable pub steps_taken : Tokenizer → ℕ
+steps_taken t = min (t.faults.compared + t.machine.place) (2 ^ 128 - 1)
+
+-- the plain text that comes next, as far as it was fed
+unfoldable pub plain_next : Tokenizer → List ℕ
+plain_next t = cond (is_text t.machine.state) (plain_front t.machine.mode t.machine.input.queue.items) []
+
+-- the run that begins
+abbrev pub run_from : List Row → TextMode → Option (List ℕ) → Run
+run_from rows mode name = record { start = record { rows = rows; mode = mode; name = name }; text = []; finished = false; given = []; switches = [] }
+
+abbrev pub IsStart : TokenKind → Type 0
+IsStart (kinds.Start name attrs self_closing) = Unit {0}
+IsStart (kinds.End name) = ⊥
+IsStart (kinds.Char c) = ⊥
+IsStart (kinds.Comment text) = ⊥
+IsStart (kinds.Doctype name public_id system_id force_quirks) = ⊥
+IsStart kinds.Eof = ⊥

@@ -1,0 +1,15 @@
+pub mod Input
+pub mod Cut
+pub mod Draft
+pub mod Reference
+pub mod Value
+pub mod Tag
+pub mod Marks
+pub mod Doctype
+pub mod Tokens
+pub mod Fed
+pub mod Stream
+pub mod Runs
+pub mod Given
+pub mod Cost
+pub mod Bounds

@@ -1,0 +1,110 @@
+// Comments.
+ghost use Rattle.std.specs.Prelude.{◌≡◌, ℕ, ◌≤◌, ◌+◌, length, MatchOption, IfOk, OnErr};
+ghost use Rattle.html_tokens.specs.Cut.{comment_mark, greater_mark, shown};
+ghost use Rattle.html_tokens.specs.Draft.{Reads, mark_of};
+ghost use Rattle.html_tokens.specs.Input.{Decided, IsShort, Marks};
+
+use crate::input::{Input, Peek};
+use html_charref::Str;
+use std::alloc::AllocError;
+
+/// How a comment closes.
+#[derive(Clone, Copy)]
+pub enum CommentKind {
+    Declared,
+    Bogus,
+}
+
+/// A comment that is being read: where it began, and its data so far.
+#[derive(Drop)]
+pub struct CommentDraft {
+    pub kind: CommentKind,
+    pub start: u64,
+    pub data: Str,
+}
+
+/// What a read of one code point comes to: it belongs to the data, or what closes the comment stands there.
+#[derive(Clone, Copy)]
+pub enum Reading {
+    More,
+    Closed(usize),
+    Wait,
+}
+
+/// The length of what closes a comment at the front of the rest, where it does; nothing where more input is wanted.
+fn comment_mark(input: &Input) -> Option<Option<usize>>
+    ensures { MatchOption result (IsShort input.now 3) (λ mark. Marks input.now comment_mark mark) }
+{
+    match input.peek(0) {
+        Peek::Is(Some('-')) => match input.peek(1) {
+            Peek::Is(None) => Some(Some(1)),
+            Peek::Is(Some('-')) => match input.peek(2) {
+                Peek::Is(None) => Some(Some(2)),
+                Peek::Is(Some('>')) => Some(Some(3)),
+                Peek::Is(Some('!')) => match input.peek(3) {
+                    Peek::Is(None) => Some(Some(3)),
+                    Peek::Is(Some('>')) => Some(Some(4)),
+                    Peek::Is(Some(_)) => Some(None),
+                    Peek::Wait => None,
+                },
+                Peek::Is(Some(_)) => Some(None),
+                Peek::Wait => None,
+            },
+            Peek::Is(Some(_)) => Some(None),
+            Peek::Wait => None,
+        },
+        Peek::Is(_) => Some(None),
+        Peek::Wait => None,
+    }
+}
+
+fn greater_mark(input: &Input) -> Option<Option<usize>>
+    ensures { MatchOption result (IsShort input.now 3) (λ mark. Marks input.now greater_mark mark) }
+{
+    match input.peek(0) {
+        Peek::Is(Some('>')) => Some(Some(1)),
+        Peek::Is(_) => Some(None),
+        Peek::Wait => None,
+    }
+}
+
+impl CommentKind {
+    fn mark(self, input: &Input) -> Option<Option<usize>>
+        ensures { MatchOption result (IsShort input.now 3) (λ mark. Marks input.now (mark_of self) mark) }
+    {
+        match self {
+            CommentKind::Declared => comment_mark(input),
+            CommentKind::Bogus => greater_mark(input),
+        }
+    }
+}
+
+/// U+FFFD for U+0000.
+pub(crate) fn shown(c: char) -> char
+    ensures { result ≡ shown c }
+{
+    if c == '\0' { '\u{FFFD}' } else { c }
+}
+
+impl CommentDraft {
+    /// Reads the next code point of the comment, unless it closes there.
+    pub(crate) fn read(&mut self, input: &mut Input) -> Result<Reading, AllocError>
+        ensures reads { IfOk result (λ reading. Reads self.old input.old reading self.new input.new) }
+        ensures room { OnErr result (length input.new.queue.items ≤ length input.old.queue.items) }
+        ensures finished { OnErr result (input.new.finished ≡ input.old.finished) }
+    {
+        match input.peek(0) {
+            Peek::Wait => return Ok(Reading::Wait),
+            Peek::Is(None) => return Ok(Reading::Closed(0)),
+            Peek::Is(Some(_)) => {}
+        }
+        match self.kind.mark(input) {
+            None => Ok(Reading::Wait),
+            Some(Some(len)) => Ok(Reading::Closed(len)),
+            Some(None) => {
+                self.data.push(shown(input.take()))?;
+                Ok(Reading::More)
+            }
+        }
+    }
+}

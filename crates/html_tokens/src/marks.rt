@@ -1,0 +1,131 @@
+// What ends text: the end marks of RCDATA, RAWTEXT and script text, and the regions of script text.
+ghost use Rattle.std.specs.Prelude.{◌≡◌, ℕ, ◌≤◌, ◌+◌, ◌<◌, length, MatchOption, IsTrue, Some, slice_get, true, ◌∷◌, [], List};
+ghost use Rattle.html_tokens.specs.Cut.{is};
+ghost use Rattle.html_tokens.specs.Input.{Decided, IsShort};
+ghost use Rattle.html_tokens.specs.Marks.{is_end_mark, is_lowered, spells, declares, leaves, opens_script, closes_script, region_after, script_name};
+ghost use Rattle.html_tokens.specs.Doctype.{spells_word};
+
+use crate::input::{Input, Peek};
+use crate::tag::ends_name;
+use crate::token::Region;
+
+/// The name of the tags that script text looks for.
+const SCRIPT: [char; 6] = ['s', 'c', 'r', 'i', 'p', 't'];
+
+/// Whether this code point stands at a place of the rest.
+pub(crate) fn is_at(input: &Input, at: usize, c: char) -> Option<bool>
+    ensures { MatchOption result (IsShort input.now at) (λ found. Decided input.now (λ rest. is c (slice_get rest at)) found × (found ≡ true → at < length input.now.queue.items)) }
+{
+    match input.peek(at) {
+        Peek::Is(Some(d)) => Some(d == c),
+        Peek::Is(None) => Some(false),
+        Peek::Wait => None,
+    }
+}
+
+/// Whether this is the code point, in either case.
+fn is_lowered(found: Option<char>, c: char) -> bool
+    ensures { result ≡ is_lowered c found }
+{
+    match found {
+        Some(d) => d.to_ascii_lowercase() == c,
+        None => false,
+    }
+}
+
+/// Whether at a place of the rest stands this name in any ASCII case, and then what ends a name.
+pub(crate) fn spells(input: &Input, name: &[char], from: usize) -> Option<bool>
+    requires { from ≤ 2 }
+    ensures { MatchOption result (IsShort input.now (from + length name.now)) (λ found. Decided input.now (spells name.now from) found × (found ≡ true → from ≤ length input.now.queue.items)) }
+{
+    let mut at = from;
+    for expected in name {
+        match input.peek(at) {
+            Peek::Wait => return None,
+            Peek::Is(found) => {
+                if !is_lowered(found, *expected) {
+                    return Some(false);
+                }
+            }
+        }
+        at += 1;
+    }
+    match input.peek(at) {
+        Peek::Wait => None,
+        Peek::Is(Some(c)) => Some(ends_name(c)),
+        Peek::Is(None) => Some(false),
+    }
+}
+
+/// Whether at a place of the rest stands this word in any ASCII case.
+pub(crate) fn begins_word(input: &Input, word: &[char], from: usize) -> Option<bool>
+    requires { from + length word.now ≤ 9 }
+    ensures { MatchOption result (IsShort input.now 8) (λ found. Decided input.now (spells_word word.now from) found × (found ≡ true → 0 < length word.now → from + length word.now ≤ length input.now.queue.items)) }
+{
+    let mut at = from;
+    for letter in word {
+        match input.peek(at) {
+            Peek::Wait => return None,
+            Peek::Is(found) => {
+                if !is_lowered(found, *letter) {
+                    return Some(false);
+                }
+            }
+        }
+        at += 1;
+    }
+    Some(true)
+}
+
+/// Whether the end mark of this name stands at the front of the rest.
+pub(crate) fn is_end_mark(input: &Input, name: &[char]) -> Option<bool>
+    ensures { MatchOption result (IsShort input.now (2 + length name.now)) (λ found. Decided input.now (is_end_mark (Some name.now)) found × (found ≡ true → 2 ≤ length input.now.queue.items)) }
+{
+    Some(is_at(input, 0, '<')? && is_at(input, 1, '/')? && spells(input, name, 2)?)
+}
+
+fn declares(input: &Input) -> Option<bool>
+    ensures { MatchOption result (IsShort input.now 8) (λ found. Decided input.now declares found) }
+{
+    Some(
+        is_at(input, 0, '<')?
+            && is_at(input, 1, '!')?
+            && is_at(input, 2, '-')?
+            && is_at(input, 3, '-')?,
+    )
+}
+
+fn leaves(input: &Input) -> Option<bool>
+    ensures { MatchOption result (IsShort input.now 8) (λ found. Decided input.now leaves found) }
+{
+    Some(is_at(input, 0, '-')? && is_at(input, 1, '-')? && is_at(input, 2, '>')?)
+}
+
+fn opens_script(input: &Input) -> Option<bool>
+    ensures { MatchOption result (IsShort input.now 8) (λ found. Decided input.now opens_script found) }
+{
+    Some(is_at(input, 0, '<')? && spells(input, &SCRIPT, 1)?)
+}
+
+fn closes_script(input: &Input) -> Option<bool>
+    ensures { MatchOption result (IsShort input.now 8) (λ found. Decided input.now closes_script found) }
+{
+    Some(is_at(input, 0, '<')? && is_at(input, 1, '/')? && spells(input, &SCRIPT, 2)?)
+}
+
+impl Region {
+    /// The region of script text after the code point at the front of the rest.
+    pub(crate) fn after(self, input: &Input) -> Option<Region>
+        ensures { MatchOption result (IsShort input.now 8) (λ region. Decided input.now (region_after self) region) }
+    {
+        Some(match self {
+            Region::Plain if declares(input)? => Region::Escaped,
+            Region::Plain => Region::Plain,
+            Region::Escaped | Region::Double if leaves(input)? => Region::Plain,
+            Region::Escaped if opens_script(input)? => Region::Double,
+            Region::Escaped => Region::Escaped,
+            Region::Double if closes_script(input)? => Region::Escaped,
+            Region::Double => Region::Double,
+        })
+    }
+}

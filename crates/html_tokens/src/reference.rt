@@ -1,0 +1,159 @@
+// References in text.
+ghost use Rattle.std.specs.Prelude.{◌≡◌, ℕ, ◌≤◌, ◌+◌, ◌<◌, ◌∷◌, ◌++◌, [], length, MatchOption, IfSome, Some, slice_get, true};
+ghost use Rattle.html_charref.specs.Table.{longest, longest_len};
+ghost use Rattle.html_tokens.specs.Input.{Decided, IsShort};
+ghost use Rattle.std.specs.Char.{digit_value};
+ghost use Rattle.std.specs.Prelude.{false};
+ghost use Rattle.html_tokens.specs.Reference.{ref_opener, is_digit, opened_by};
+ghost use Rattle.html_tokens.specs.Cut.{passes};
+ghost use Rattle.html_tokens.specs.Value.{is_taken, goes_on, IsValueRef, IsValueNamed, ref_len};
+ghost use Rattle.std.specs.Prelude.{Option};
+
+use crate::input::{Input, Peek};
+use crate::marks::is_at;
+use crate::token::RefOpener;
+use html_charref::{Base, EntityTable, RefText, Step};
+
+/// A number that is being read: where its reference began, and its digits so far, as one number.
+#[derive(Clone, Copy)]
+pub struct NumberDraft {
+    pub start: u64,
+    pub base: Base,
+    pub value: u32,
+}
+
+/// What a `&` in a value begins: a number, after what opens it; no name of the table; or so many code points that stand
+/// for one or two.
+#[derive(Clone, Copy)]
+pub enum ValueRef {
+    Numeric(Base, usize),
+    Unknown,
+    Codes(usize, char, Option<char>),
+}
+
+impl ValueRef {
+    /// How many code points it passes.
+    pub(crate) fn len(self) -> usize
+        ensures { result ≡ ref_len self }
+    {
+        match self {
+            ValueRef::Numeric(_, opened) => opened,
+            ValueRef::Unknown => 1,
+            ValueRef::Codes(len, _, _) => len,
+        }
+    }
+}
+
+/// The value of a digit of this base.
+pub(crate) fn digit(c: char, base: Base) -> Option<u8>
+    ensures { MatchOption result (is_digit base c ≡ false) (λ d. (is_digit base c ≡ true) × (d ≡ digit_value c)) }
+{
+    c.to_digit(base.radix()).map(|d| d as u8)
+}
+
+fn is_digit(found: Option<char>, base: Base) -> bool
+    ensures { result ≡ passes (is_digit base) found }
+{
+    match found {
+        Some(c) => digit(c, base).is_some(),
+        None => false,
+    }
+}
+
+/// What the `&` at the front of the rest begins; nothing where more input is wanted.
+pub(crate) fn ref_opener(input: &Input) -> Option<RefOpener>
+    requires { 0 < length input.now.queue.items }
+    ensures { MatchOption result (IsShort input.now 3) (λ found. Decided input.now ref_opener found × (opened_by found ≤ length input.now.queue.items) × (0 < opened_by found)) }
+{
+    match input.peek(1) {
+        Peek::Wait => None,
+        Peek::Is(Some('#')) => match input.peek(2) {
+            Peek::Wait => None,
+            Peek::Is(Some('x' | 'X')) => match input.peek(3) {
+                Peek::Wait => None,
+                Peek::Is(found) => Some(if is_digit(found, Base::Hex) {
+                    RefOpener::Numeric(Base::Hex, 3)
+                } else {
+                    RefOpener::Literal
+                }),
+            },
+            Peek::Is(found) => Some(if is_digit(found, Base::Decimal) {
+                RefOpener::Numeric(Base::Decimal, 2)
+            } else {
+                RefOpener::Literal
+            }),
+        },
+        Peek::Is(_) => Some(RefOpener::Named),
+    }
+}
+
+/// The longest name of the table at the front of the rest; nothing where more input is wanted.
+pub(crate) fn named(table: &EntityTable, input: &Input) -> Option<Option<(u32, RefText)>>
+    ensures { MatchOption result (IsShort input.now (longest_len table.now)) (λ found. Decided input.now (longest table.now) found × IfSome found (λ m. (0 < m.0) × (m.0 ≤ length input.now.queue.items) × (m.0 ≤ longest_len table.now))) }
+{
+    let mut walk = table.walk();
+    for at in 0..input.queue.len() {
+        match walk.step(input.queue[at]) {
+            Step::More => {}
+            Step::End(found) => return Some(found),
+        }
+    }
+    if input.finished {
+        Some(walk.best())
+    } else {
+        None
+    }
+}
+
+/// Whether a code point after a name without `;` makes it text.
+fn goes_on(found: Option<char>) -> bool
+    ensures { result ≡ passes goes_on found }
+{
+    match found {
+        Some(c) => c == '=' || c.is_ascii_alphanumeric(),
+        None => false,
+    }
+}
+
+/// Whether a name of this length, which stands at the front of the rest of a value, is a reference there; nothing where more input is wanted.
+fn is_taken(input: &Input, len: usize) -> Option<bool>
+    requires some { 0 < len }
+    requires fit { len ≤ length input.now.queue.items }
+    ensures { MatchOption result (IsShort input.now len) (λ taken. Decided input.now (is_taken len) taken) }
+{
+    if is_at(input, len - 1, ';')? {
+        return Some(true);
+    }
+    match input.peek(len) {
+        Peek::Wait => None,
+        Peek::Is(found) => Some(!goes_on(found)),
+    }
+}
+
+/// What a name gives that stands at the front of the rest of a value.
+fn value_named(input: &Input, len: usize, text: RefText) -> Option<ValueRef>
+    requires some { 0 < len }
+    requires fit { len ≤ length input.now.queue.items }
+    ensures { MatchOption result (IsShort input.now len) (λ found. IsValueNamed input.now len text found) }
+{
+    Some(if is_taken(input, len)? {
+        ValueRef::Codes(len, text.first, text.second)
+    } else {
+        ValueRef::Codes(1, '&', None)
+    })
+}
+
+/// What the `&` at the front of the rest of a value begins; nothing where more input is wanted.
+pub(crate) fn value_ref(table: &EntityTable, input: &Input) -> Option<ValueRef>
+    requires { 0 < length input.now.queue.items }
+    ensures { MatchOption result (IsShort input.now (longest_len table.now + 3)) (λ found. IsValueRef table.now input.now found) }
+{
+    match ref_opener(input)? {
+        RefOpener::Literal => Some(ValueRef::Codes(1, '&', None)),
+        RefOpener::Numeric(base, opened) => Some(ValueRef::Numeric(base, opened)),
+        RefOpener::Named => match named(table, input)? {
+            None => Some(ValueRef::Unknown),
+            Some((len, text)) => value_named(input, len as usize, text),
+        },
+    }
+}

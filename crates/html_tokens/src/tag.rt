@@ -1,0 +1,422 @@
+// Tags.
+ghost use Rattle.std.specs.Prelude.{length, ◌≡◌, ℕ, ◌≤◌, ◌+◌, ◌∷◌, [], ◌++◌, OnOk, IfOk, true, false, Option};
+ghost use Rattle.html_tokens.specs.Cut.{is_space, ends_unquoted};
+ghost use Rattle.html_tokens.specs.Tag.{name_char, ReadsTag, ends_name, ends_attr, AddsAttr, reads_refs, is_number, Settles, OpensRef, ReadsRef, IsInside, GoesOn};
+ghost use Rattle.html_tokens.specs.Reference.{is_digit};
+ghost use Rattle.html_charref.specs.Number.{char_of};
+ghost use Rattle.html_charref.specs.Entities.{codes_with};
+ghost use Rattle.html_tokens.specs.Fed.{new_tag};
+
+use crate::attributes::{Attr, Attrs};
+use crate::comment::shown;
+use crate::reference::{ValueRef, digit};
+use html_charref::{Base, Str, add_digit, numeric};
+use std::alloc::{AllocError, Global};
+use std::mem;
+
+/// The part of a tag that is being read.
+#[derive(Clone, Copy)]
+pub enum Part {
+    Name,
+    Attributes,
+    AttrName,
+    AfterName,
+    Value,
+    Inside(ValueEnd),
+    Number(ValueEnd, Base, u32),
+}
+
+/// How a value closes.
+#[derive(Clone, Copy)]
+pub enum ValueEnd {
+    DoubleQuote,
+    SingleQuote,
+    Space,
+}
+
+/// A tag that is being read.
+#[derive(Drop)]
+pub struct TagDraft {
+    pub alloc: Global,
+    pub is_end: bool,
+    pub start: u64,
+    pub name: Str,
+    pub attrs: Attrs,
+    pub part: Part,
+    pub attr_name: Str,
+    pub attr_value: Str,
+}
+
+/// What a read of one code point comes to.
+#[derive(Clone, Copy)]
+pub enum TagReading {
+    More,
+    Closed(bool, usize),
+}
+
+pub(crate) fn name_char(c: char) -> char
+    ensures { result ≡ name_char c }
+{
+    shown(c.to_ascii_lowercase())
+}
+
+pub(crate) fn is_space(c: char) -> bool
+    ensures { result ≡ is_space c }
+{
+    matches!(c, '\t' | '\n' | '\u{c}' | ' ')
+}
+
+pub(crate) fn ends_name(c: char) -> bool
+    ensures { result ≡ ends_name c }
+{
+    is_space(c) || c == '/' || c == '>'
+}
+
+pub(crate) fn ends_attr(c: char) -> bool
+    ensures { result ≡ ends_attr c }
+{
+    ends_name(c) || c == '='
+}
+
+pub(crate) fn ends_unquoted(c: char) -> bool
+    ensures { result ≡ ends_unquoted c }
+{
+    is_space(c) || c == '>'
+}
+
+impl TagDraft {
+    pub(crate) fn new(alloc: Global, is_end: bool, start: u64) -> TagDraft
+        ensures { new_tag result is_end start }
+    {
+        TagDraft {
+            alloc,
+            is_end,
+            start,
+            name: Str::new(alloc),
+            attrs: Attrs::new(alloc),
+            part: Part::Name,
+            attr_name: Str::new(alloc),
+            attr_value: Str::new(alloc),
+        }
+    }
+
+    /// Whether a `&` begins a reference here.
+    pub(crate) fn reads_refs(&self) -> bool
+        ensures { result ≡ reads_refs self.now.part }
+    {
+        match self.part {
+            Part::Name | Part::Attributes | Part::AttrName | Part::AfterName => false,
+            Part::Value | Part::Inside(_) | Part::Number(..) => true,
+        }
+    }
+
+    /// Reads a code point, which is no `&` that begins a reference; what follows it is known too.
+    pub(crate) fn read(&mut self, c: char, after: Option<char>) -> Result<TagReading, AllocError>
+        requires plain { reads_refs self.old.part ≡ true → c ≡ 38 → ⊥ }
+        ensures reads { IfOk result (λ reading. ReadsTag self.old c after reading self.new) }
+        ensures attrs { OnOk result (length self.new.attrs ≤ length self.old.attrs + 1) }
+    {
+        self.settle(c)?;
+        self.read_settled(c, after)
+    }
+
+    /// The same, where a number goes on at the code point.
+    fn read_settled(&mut self, c: char, after: Option<char>) -> Result<TagReading, AllocError>
+        requires plain { reads_refs self.old.part ≡ true → c ≡ 38 → ⊥ }
+        requires goes_on { GoesOn self.old.part c }
+        ensures reads { IfOk result (λ reading. ReadsTag self.old c after reading self.new) }
+        ensures attrs { OnOk result (length self.new.attrs ≤ length self.old.attrs + 1) }
+    {
+        if let Part::Number(end, base, value) = self.part {
+            self.read_number(end, base, value, c)?;
+            return Ok(TagReading::More);
+        }
+        self.read_part(c, after)
+    }
+
+    /// The same, outside a number.
+    fn read_part(&mut self, c: char, after: Option<char>) -> Result<TagReading, AllocError>
+        requires part { is_number self.old.part ≡ false }
+        requires plain { reads_refs self.old.part ≡ true → c ≡ 38 → ⊥ }
+        ensures reads { IfOk result (λ reading. ReadsTag self.old c after reading self.new) }
+        ensures attrs { OnOk result (length self.new.attrs ≤ length self.old.attrs + 1) }
+    {
+        match self.part {
+            Part::Name => self.read_name(c, after),
+            Part::Attributes => self.read_attributes(c, after),
+            Part::AttrName => self.read_attr_name(c, after),
+            Part::AfterName => self.read_after_name(c, after),
+            Part::Value => self.read_value(c, after),
+            Part::Inside(ValueEnd::DoubleQuote) => self.read_double_quoted(c, after),
+            Part::Inside(ValueEnd::SingleQuote) => self.read_single_quoted(c, after),
+            Part::Inside(ValueEnd::Space) => self.read_unquoted(c, after),
+            Part::Number(..) => Ok(TagReading::More),
+        }
+    }
+
+    #[tactic(auto, using(std::proofs::lemmas::Grind::common_steps), unfolding(crate::specs::Cut::cut, crate::specs::Tag::tail, crate::specs::Value::value_cut, crate::specs::Tag::value, crate::specs::Tag::after_name, crate::specs::Tag::after_some))]
+    fn read_name(&mut self, c: char, after: Option<char>) -> Result<TagReading, AllocError>
+        requires { self.old.part ≡ Part.Name }
+        ensures reads { IfOk result (λ reading. ReadsTag self.old c after reading self.new) }
+        ensures attrs { OnOk result (length self.new.attrs ≤ length self.old.attrs + 1) }
+    {
+        if ends_name(c) {
+            self.part = Part::Attributes;
+            return self.read_attributes(c, after);
+        }
+        self.name.push(name_char(c))?;
+        Ok(TagReading::More)
+    }
+
+    #[tactic(auto, using(std::proofs::lemmas::Grind::common_steps), unfolding(crate::specs::Cut::cut, crate::specs::Tag::tail, crate::specs::Value::value_cut, crate::specs::Tag::value, crate::specs::Tag::after_name, crate::specs::Tag::after_some))]
+    fn read_attributes(&mut self, c: char, after: Option<char>) -> Result<TagReading, AllocError>
+        requires { self.old.part ≡ Part.Attributes }
+        ensures reads { IfOk result (λ reading. ReadsTag self.old c after reading self.new) }
+        ensures attrs { self.new.attrs ≡ self.old.attrs }
+    {
+        if c == '>' {
+            return Ok(TagReading::Closed(false, 1));
+        }
+        if c == '/'
+            && let Some('>') = after
+        {
+            return Ok(TagReading::Closed(true, 2));
+        }
+        if c == '/' || is_space(c) {
+            return Ok(TagReading::More);
+        }
+        self.attr_name = Str::new(self.alloc);
+        self.attr_value = Str::new(self.alloc);
+        self.attr_name.push(name_char(c))?;
+        self.part = Part::AttrName;
+        Ok(TagReading::More)
+    }
+
+    #[tactic(auto, using(std::proofs::lemmas::Grind::common_steps), unfolding(crate::specs::Cut::cut, crate::specs::Tag::tail, crate::specs::Value::value_cut, crate::specs::Tag::value, crate::specs::Tag::after_name, crate::specs::Tag::after_some))]
+    fn read_attr_name(&mut self, c: char, after: Option<char>) -> Result<TagReading, AllocError>
+        requires { self.old.part ≡ Part.AttrName }
+        ensures reads { IfOk result (λ reading. ReadsTag self.old c after reading self.new) }
+        ensures attrs { OnOk result (length self.new.attrs ≤ length self.old.attrs + 1) }
+    {
+        if ends_attr(c) {
+            self.part = Part::AfterName;
+            return self.read_after_name(c, after);
+        }
+        self.attr_name.push(name_char(c))?;
+        Ok(TagReading::More)
+    }
+
+    #[tactic(auto, using(std::proofs::lemmas::Grind::common_steps), unfolding(crate::specs::Cut::cut, crate::specs::Tag::tail, crate::specs::Value::value_cut, crate::specs::Tag::value, crate::specs::Tag::after_name, crate::specs::Tag::after_some))]
+    fn read_after_name(&mut self, c: char, after: Option<char>) -> Result<TagReading, AllocError>
+        requires { self.old.part ≡ Part.AfterName }
+        ensures reads { IfOk result (λ reading. ReadsTag self.old c after reading self.new) }
+        ensures attrs { OnOk result (length self.new.attrs ≤ length self.old.attrs + 1) }
+    {
+        if is_space(c) {
+            return Ok(TagReading::More);
+        }
+        if c == '=' {
+            self.part = Part::Value;
+            return Ok(TagReading::More);
+        }
+        self.add_attr()?;
+        self.read_attributes(c, after)
+    }
+
+    #[tactic(auto, using(std::proofs::lemmas::Grind::common_steps), unfolding(crate::specs::Cut::cut, crate::specs::Tag::tail, crate::specs::Value::value_cut, crate::specs::Tag::value, crate::specs::Tag::after_name, crate::specs::Tag::after_some))]
+    fn read_value(&mut self, c: char, after: Option<char>) -> Result<TagReading, AllocError>
+        requires part { self.old.part ≡ Part.Value }
+        requires plain { c ≡ 38 → ⊥ }
+        ensures reads { IfOk result (λ reading. ReadsTag self.old c after reading self.new) }
+        ensures attrs { OnOk result (length self.new.attrs ≤ length self.old.attrs + 1) }
+    {
+        if is_space(c) {
+            return Ok(TagReading::More);
+        }
+        if c == '"' {
+            self.part = Part::Inside(ValueEnd::DoubleQuote);
+            return Ok(TagReading::More);
+        }
+        if c == '\'' {
+            self.part = Part::Inside(ValueEnd::SingleQuote);
+            return Ok(TagReading::More);
+        }
+        self.part = Part::Inside(ValueEnd::Space);
+        self.read_unquoted(c, after)
+    }
+
+    #[tactic(auto, using(std::proofs::lemmas::Grind::common_steps), unfolding(crate::specs::Cut::cut, crate::specs::Tag::tail, crate::specs::Value::value_cut, crate::specs::Tag::value, crate::specs::Tag::after_name, crate::specs::Tag::after_some))]
+    fn read_double_quoted(&mut self, c: char, after: Option<char>) -> Result<TagReading, AllocError>
+        requires part { self.old.part ≡ Part.Inside ValueEnd.DoubleQuote }
+        requires plain { c ≡ 38 → ⊥ }
+        ensures reads { IfOk result (λ reading. ReadsTag self.old c after reading self.new) }
+        ensures attrs { OnOk result (length self.new.attrs ≤ length self.old.attrs + 1) }
+    {
+        if c == '"' {
+            self.add_attr()?;
+        } else {
+            self.attr_value.push(shown(c))?;
+        }
+        Ok(TagReading::More)
+    }
+
+    #[tactic(auto, using(std::proofs::lemmas::Grind::common_steps), unfolding(crate::specs::Cut::cut, crate::specs::Tag::tail, crate::specs::Value::value_cut, crate::specs::Tag::value, crate::specs::Tag::after_name, crate::specs::Tag::after_some))]
+    fn read_single_quoted(&mut self, c: char, after: Option<char>) -> Result<TagReading, AllocError>
+        requires part { self.old.part ≡ Part.Inside ValueEnd.SingleQuote }
+        requires plain { c ≡ 38 → ⊥ }
+        ensures reads { IfOk result (λ reading. ReadsTag self.old c after reading self.new) }
+        ensures attrs { OnOk result (length self.new.attrs ≤ length self.old.attrs + 1) }
+    {
+        if c == '\'' {
+            self.add_attr()?;
+        } else {
+            self.attr_value.push(shown(c))?;
+        }
+        Ok(TagReading::More)
+    }
+
+    #[tactic(auto, using(std::proofs::lemmas::Grind::common_steps), unfolding(crate::specs::Cut::cut, crate::specs::Tag::tail, crate::specs::Value::value_cut, crate::specs::Tag::value, crate::specs::Tag::after_name, crate::specs::Tag::after_some))]
+    fn read_unquoted(&mut self, c: char, after: Option<char>) -> Result<TagReading, AllocError>
+        requires part { self.old.part ≡ Part.Inside ValueEnd.Space }
+        requires plain { c ≡ 38 → ⊥ }
+        ensures reads { IfOk result (λ reading. ReadsTag self.old c after reading self.new) }
+        ensures attrs { OnOk result (length self.new.attrs ≤ length self.old.attrs + 1) }
+    {
+        if ends_unquoted(c) {
+            self.add_attr()?;
+            return self.read_attributes(c, after);
+        }
+        self.attr_value.push(shown(c))?;
+        Ok(TagReading::More)
+    }
+
+    /// The number that is being read is whole, where this code point is no part of it.
+    fn settle(&mut self, c: char) -> Result<(), AllocError>
+        ensures ok { OnOk result (Settles self.old c self.new) }
+        ensures refs { OnOk result (reads_refs self.new.part ≡ reads_refs self.old.part) }
+        ensures attrs { OnOk result (self.new.attrs ≡ self.old.attrs) }
+    {
+        if let Part::Number(end, base, value) = self.part {
+            match digit(c, base) {
+                Some(_) => {}
+                None => {
+                    if c != ';' {
+                        self.number_ends(end, value)?;
+                    }
+                }
+            }
+        }
+        Ok(())
+    }
+
+    /// Reads a digit of a number, or the `;` that closes it.
+    fn read_number(
+        &mut self,
+        end: ValueEnd,
+        base: Base,
+        value: u32,
+        c: char,
+    ) -> Result<(), AllocError>
+        requires part { self.old.part ≡ Part.Number end base value }
+        requires belongs { is_digit base c ≡ false → c ≡ 59 }
+        ensures ok { OnOk result ((after : Option ℕ) → ReadsTag self.old c after TagReading.More self.new) }
+        ensures attrs { OnOk result (self.new.attrs ≡ self.old.attrs) }
+    {
+        match digit(c, base) {
+            Some(d) => self.part = Part::Number(end, base, add_digit(value, d, base)),
+            None => self.number_ends(end, value)?,
+        }
+        Ok(())
+    }
+
+    /// The code point of a number is added to the value.
+    fn number_ends(&mut self, end: ValueEnd, value: u32) -> Result<(), AllocError>
+        ensures ok { OnOk result (self.new ≡ record self.old { part = Part.Inside end; attr_value = self.old.attr_value ++ char_of value ∷ [] }) }
+    {
+        let (c, _) = numeric(value);
+        self.attr_value.push(c)?;
+        self.part = Part::Inside(end);
+        Ok(())
+    }
+
+    /// Reads what a `&` begins in a value.
+    pub(crate) fn read_ref(&mut self, found: ValueRef) -> Result<(), AllocError>
+        requires refs { reads_refs self.old.part ≡ true }
+        ensures ok { OnOk result (ReadsRef self.old found self.new) }
+        ensures attrs { OnOk result (self.new.attrs ≡ self.old.attrs) }
+    {
+        self.open_ref()?;
+        self.take_ref(found)
+    }
+
+    /// The value goes on, or begins, with a `&`.
+    fn open_ref(&mut self) -> Result<(), AllocError>
+        requires refs { reads_refs self.old.part ≡ true }
+        ensures ok { OnOk result (OpensRef self.old self.new) }
+        ensures attrs { OnOk result (self.new.attrs ≡ self.old.attrs) }
+    {
+        match self.part {
+            Part::Value => {
+                self.part = Part::Inside(ValueEnd::Space);
+                Ok(())
+            }
+            Part::Number(end, _, value) => self.number_ends(end, value),
+            Part::Inside(_) | Part::Name | Part::Attributes | Part::AttrName | Part::AfterName => {
+                Ok(())
+            }
+        }
+    }
+
+    /// Reads what a `&` begins inside a value.
+    fn take_ref(&mut self, found: ValueRef) -> Result<(), AllocError>
+        requires inside { IsInside self.old.part }
+        ensures ok { OnOk result (ReadsRef self.old found self.new) }
+        ensures attrs { OnOk result (self.new.attrs ≡ self.old.attrs) }
+    {
+        match found {
+            ValueRef::Numeric(base, _) => {
+                self.begin_number(base);
+                Ok(())
+            }
+            ValueRef::Unknown => self.push_codes('&', None),
+            ValueRef::Codes(_, first, second) => self.push_codes(first, second),
+        }
+    }
+
+    /// Adds what a reference stands for to the value.
+    fn push_codes(&mut self, first: char, second: Option<char>) -> Result<(), AllocError>
+        ensures ok { OnOk result (self.new ≡ record self.old { attr_value = self.old.attr_value ++ codes_with first second }) }
+    {
+        self.attr_value.push(first)?;
+        if let Some(second) = second {
+            self.attr_value.push(second)?;
+            return Ok(());
+        }
+        Ok(())
+    }
+
+    /// A number begins.
+    fn begin_number(&mut self, base: Base)
+        requires inside { IsInside self.old.part }
+        ensures number { (end : ValueEnd) → self.old.part ≡ Part.Inside end → self.new ≡ record self.old { part = Part.Number end base 0 } }
+        ensures attrs { self.new.attrs ≡ self.old.attrs }
+    {
+        if let Part::Inside(end) = self.part {
+            self.part = Part::Number(end, base, 0);
+        }
+    }
+
+    /// The attribute is whole.
+    fn add_attr(&mut self) -> Result<(), AllocError>
+        ensures ok { OnOk result (AddsAttr self.old self.new) }
+        ensures attrs { OnOk result (length self.new.attrs ≤ length self.old.attrs + 1) }
+    {
+        let name = mem::replace(&mut self.attr_name, Str::new(self.alloc));
+        let value = mem::replace(&mut self.attr_value, Str::new(self.alloc));
+        self.part = Part::Attributes;
+        if !self.attrs.has_name(&name) {
+            self.attrs.push(Attr { name, value })?;
+        }
+        Ok(())
+    }
+}
