@@ -1,0 +1,161 @@
+//! How fast texts are cut into tokens. Without an argument each text is short, and no time is printed; with the argument
+//! `full` the texts are long.
+#![tactic(auto)]
+
+use anyhow::Result;
+use html_charref::EntityTable;
+use html_tokens::{TextMode, Token, TokenError, Tokenizer};
+use std::alloc::{AllocError, Global};
+use std::env;
+use std::mem::size_of;
+use std::time::CpuClock;
+
+/// A text to be cut into tokens: one piece of it, and how often it stands there.
+struct Load {
+    name: &'static str,
+    piece: &'static str,
+    times: u32,
+}
+
+const LOADS: [Load; 4] = [
+    Load {
+        name: "text through next",
+        piece: "The quick brown fox jumps over the lazy dog. ",
+        times: 200_000,
+    },
+    Load {
+        name: "tags with attributes",
+        piece: "<a class=\"link wide\" href=\"https://example.org/page\" id=x7 hidden><b></b></a>",
+        times: 100_000,
+    },
+    Load {
+        name: "references",
+        piece: "&amp;&lt;&quot;&gt;&#8212;&nbsp;",
+        times: 100_000,
+    },
+    Load {
+        name: "comments and doctypes",
+        piece: "<!-- a comment of some words --><!DOCTYPE html PUBLIC \"-//W3C//DTD HTML 4.01//EN\">",
+        times: 50_000,
+    },
+];
+
+/// How many attributes the one tag has whose names are all different.
+const ATTRIBUTES: u32 = 100_000;
+
+fn repeated(alloc: Global, piece: &str, times: u32) -> Result<Vec<char>, AllocError> {
+    let mut text = Vec::new(alloc);
+    for _ in 0..times {
+        text.extend(piece.chars())?;
+    }
+    Ok(text)
+}
+
+/// A start tag of so many attributes, the names of which have six letters.
+fn wide_tag(alloc: Global, count: u32) -> Result<Vec<char>, AllocError> {
+    let mut text: Vec<char> = Vec::new(alloc);
+    text.extend("<p".chars())?;
+    for number in 0..count {
+        text.push(' ')?;
+        let mut rest = number;
+        for _ in 0..6u32 {
+            let letter = b'a' + (rest % 26) as u8;
+            text.push(char::from(letter))?;
+            rest /= 26;
+        }
+    }
+    text.push('>')?;
+    Ok(text)
+}
+
+/// How many tokens a text has, and how many of its code points come in runs.
+#[derive(Clone, Copy)]
+struct Counts {
+    code_points: usize,
+    tokens: u64,
+}
+
+/// Cuts a text into tokens.
+fn count(alloc: Global, table: &EntityTable, text: &[char]) -> Result<Counts, TokenError> {
+    let mut tokenizer = Tokenizer::new(alloc, table, TextMode::Data, None)?;
+    tokenizer.feed(text)?;
+    tokenizer.finish()?;
+    let mut tokens = 0u64;
+    // There is at most one token more than code points.
+    for _ in 0..=text.len() {
+        if tokenizer.next()?.is_some() {
+            tokens = tokens.wrapping_add(1);
+        }
+    }
+    Ok(Counts {
+        code_points: text.len(),
+        tokens,
+    })
+}
+
+/// Takes the runs of a text, and the tokens between them; the tokens counted are the code points of runs.
+fn count_runs(alloc: Global, table: &EntityTable, text: &[char]) -> Result<Counts, TokenError> {
+    let mut tokenizer = Tokenizer::new(alloc, table, TextMode::Data, None)?;
+    tokenizer.feed(text)?;
+    tokenizer.finish()?;
+    let mut out = Vec::new(alloc);
+    for _ in 0..=text.len() {
+        if tokenizer.next_run(&mut out)?.is_none() && tokenizer.next()?.is_none() {
+            break;
+        }
+    }
+    Ok(Counts {
+        code_points: text.len(),
+        tokens: out.len() as u64,
+    })
+}
+
+fn show(
+    rt: &(impl Print + CpuClock),
+    alloc: Global,
+    table: &EntityTable,
+    name: &str,
+    text: &[char],
+    in_runs: bool,
+    is_timed: bool,
+) -> Result<()> {
+    let before = rt.thread_cpu_time()?.as_micros();
+    let counts = if in_runs {
+        count_runs(alloc, table, text)?
+    } else {
+        count(alloc, table, text)?
+    };
+    let micros = rt.thread_cpu_time()?.as_micros().saturating_sub(before);
+    let code_points = counts.code_points;
+    let tokens = counts.tokens;
+    if !is_timed {
+        println!(rt; "{name}: {code_points} code points, {tokens} tokens")?;
+        return Ok(());
+    }
+    let points_speed = (code_points as u128).checked_div(micros).unwrap_or(0);
+    let tokens_speed = u128::from(tokens).checked_div(micros).unwrap_or(0);
+    println!(rt;
+        "{name}: {code_points} code points, {tokens} tokens in {micros} microseconds: {points_speed} and {tokens_speed} million a second"
+    )?;
+    Ok(())
+}
+
+fn main(rt: HostRuntime) -> Result<()> {
+    let alloc = rt.alloc();
+    let is_timed = env::args(&rt)?.nth(1).is_some();
+    let table = EntityTable::core(alloc)?;
+    for load in &LOADS {
+        let times = if is_timed { load.times } else { 2 };
+        let text = repeated(alloc, load.piece, times)?;
+        show(&rt, alloc, &table, load.name, &text, false, is_timed)?;
+    }
+    let times = if is_timed { LOADS[0].times } else { 2 };
+    let text = repeated(alloc, LOADS[0].piece, times)?;
+    show(&rt, alloc, &table, "text in runs", &text, true, is_timed)?;
+    let attributes = if is_timed { ATTRIBUTES } else { 30 };
+    let text = wide_tag(alloc, attributes)?;
+    show(&rt, alloc, &table, "one wide tag", &text, false, is_timed)?;
+    let bytes = size_of::<Token>();
+    println!(rt; "bytes a token: {bytes}")?;
+    Ok(())
+}
