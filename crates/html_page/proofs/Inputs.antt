@@ -9,7 +9,9 @@ use Rattle.html_input.specs.declared.decoder.Decoder.{Decoder}
 use Rattle.html_input.specs.declared.decoder.TheConstants.{LIMIT}
 use Rattle.html_input.specs.declared.error.InputError.{InputError}
 use Rattle.html_input.specs.declared.error.InputError.TheVariants as input
+use Rattle.html_input.specs.Added.{added}
 use Rattle.html_page.specs.Causes.{cause_of}
+use Rattle.html_page.specs.TokenList.{behind_mark, IsListCause}
 use Rattle.html_page.specs.Parsed.{IsTextPage, IsTextCause, IsPageOf, IsCause, IsFeedCause, most_nodes}
 use Rattle.html_page.specs.declared.page.Page.{Page}
 use Rattle.html_page.specs.declared.error.ParseError.{ParseError}
@@ -78,3 +80,13 @@ text-page text bytes n page h same count few =
       within_limit = few;
       few_nodes = omega (arith, g.few_nodes, newlines-few (code_points bytes));
     }
+
+-- why an input behind a mark was refused
+pub list-cause : (d : InputError) (bytes : List ℕ) → (d ≡ input.InputTooLong → LIMIT < length (code_points (behind_mark bytes))) → (d ≡ input.Stopped → ⊥) → IsListCause bytes (cause_of d)
+list-cause input.OutOfMemory bytes long stop = tt
+list-cause input.InputTooLong bytes long stop = long refl
+list-cause input.Stopped bytes long stop = stop refl
+
+-- the text put out is all of the list that was added to
+pub fed-all : (d : Decoder) (bytes old new : List ℕ) → Fed LIMIT false d bytes (old ++ added old new) → new ≡ old ++ added old new → Fed LIMIT false d bytes new
+fed-all d bytes old new f kept = subst (λ (t : List ℕ). Fed LIMIT false d bytes t) (sym kept) f

@@ -1,7 +1,8 @@
 //! Why there is no page.
 
 use html_input::InputError;
-use std::alloc::AllocError;
+use html_tokens::TokenError;
+use std::alloc::{AllocError, AllocFailed};
 use thiserror::Error;
 
 /// The root of a kind of content that is not HTML.
@@ -26,7 +27,7 @@ pub enum ParseError {
     /// The name of a fragment's context is not one that an HTML element can have. Not answered yet.
     #[error("bad context")]
     BadContext,
-    /// The reader failed. Not answered yet.
+    /// The reader failed.
     #[error("cannot read")]
     Read,
     /// The writer failed. Not answered yet.
@@ -57,6 +58,17 @@ impl From<AllocError> for ParseError {
     }
 }
 
+impl<T: Drop> From<AllocFailed<T>> for ParseError {
+    ghost use Rattle.std.specs.Prelude.{◌≡◌};
+    ghost use Rattle.html_page.specs.declared.error.ParseError.TheVariants.{OutOfMemory};
+
+    ghost from_gives = { λ _ e. e ≡ OutOfMemory };
+
+    fn from(_error: AllocFailed<T>) -> Self {
+        ParseError::OutOfMemory
+    }
+}
+
 impl From<InputError> for ParseError {
     ghost use Rattle.std.specs.Prelude.{◌≡◌};
     ghost use Rattle.html_page.specs.Causes.{cause_of};
@@ -68,6 +80,20 @@ impl From<InputError> for ParseError {
             InputError::OutOfMemory => ParseError::OutOfMemory,
             InputError::InputTooLong => ParseError::InputTooLong,
             InputError::Stopped => ParseError::Stopped,
+        }
+    }
+}
+
+impl From<TokenError> for ParseError {
+    ghost use Rattle.std.specs.Prelude.{◌≡◌};
+    ghost use Rattle.html_page.specs.Causes.{token_cause};
+
+    ghost from_gives = { λ e f. f ≡ token_cause e };
+
+    fn from(error: TokenError) -> Self {
+        match error {
+            TokenError::OutOfMemory => ParseError::OutOfMemory,
+            TokenError::Stopped => ParseError::Stopped,
         }
     }
 }

@@ -1,6 +1,7 @@
 //! Small pages through the public call.
 
-use crate::{EntityTable, FailAt, LIMIT, Page, ParseError, Parser, parse, parse_from};
+use crate::{EntityTable, FailAt, LIMIT, Page, ParseError, Parser, parse, parse_from, tokenize};
+use html_tokens::{FaultName, TextMode, TokenKind};
 use std::alloc::Global;
 use std::test::Fail;
 
@@ -186,5 +187,37 @@ fn reader_that_fails(rt: HostRuntime) -> Result<(), Fail> {
             Some(ParseError::Read)
         );
     }
+    Ok(())
+}
+
+#[test]
+fn tokens_of_an_input(rt: HostRuntime) -> Result<(), Fail> {
+    let table = EntityTable::core(rt.alloc())?;
+    let list = tokenize(rt.alloc(), &table, TextMode::Data, None, b"a\r\n<!--b--!>")?;
+    assert_eq!(rt; list.tokens.len(), 4);
+    assert_eq!(rt; list.tokens[2].span.start, 2);
+    assert_eq!(rt; list.tokens[2].span.end, 11);
+    assert!(rt; matches!(list.tokens[1].kind, TokenKind::Char('\n')));
+    assert!(rt; matches!(list.tokens[3].kind, TokenKind::Eof));
+    assert_eq!(rt; list.errors.len(), 1);
+    assert_eq!(rt; list.errors[0].name, FaultName::IncorrectlyClosedComment);
+    assert_eq!(rt; list.errors[0].place, 10);
+    assert_eq!(rt; list.steps, 11);
+    Ok(())
+}
+
+#[test]
+fn mark_at_the_front_is_text(rt: HostRuntime) -> Result<(), Fail> {
+    let table = EntityTable::core(rt.alloc())?;
+    let list = tokenize(
+        rt.alloc(),
+        &table,
+        TextMode::Rawtext,
+        Some("style"),
+        b"\xEF\xBB\xBF</style>",
+    )?;
+    assert_eq!(rt; list.tokens.len(), 3);
+    assert!(rt; matches!(list.tokens[0].kind, TokenKind::Char('\u{FEFF}')));
+    assert!(rt; matches!(list.tokens[1].kind, TokenKind::End { .. }));
     Ok(())
 }
