@@ -1,9 +1,9 @@
 -- What clap's clauses say at this program's line.
-use Rattle.std.proofs.Common.{◌≡◌, ◌∙◌, ◌⊎◌, List, [], ◌∷◌, Option, Some, None, true, ap, sym, refl, inl, inr, Bool, false, cond, subst, map, codes}
+use Rattle.std.proofs.Common.{◌≡◌, ◌∙◌, ◌⊎◌, List, [], ◌∷◌, Option, Some, None, Result, Ok, Err, OnOk, true, ap, sym, refl, inl, inr, Bool, false, cond, subst, map, codes}
 use Rattle.std.specs.Prelude.{option_map, find, ◌≢◌}
 use Rattle.html_job.specs.Read.{IsJobOf, Reads, name_of}
 use Rattle.html_job.specs.declared.jobs.Command.{Command}
-use Rattle.html_job.specs.declared.jobs.Command.TheVariants.{Tree}
+use Rattle.html_job.specs.declared.jobs.Command.TheVariants.{Tree, Suite}
 use Rattle.html_job.specs.declared.jobs.Job.{Job}
 use Rattle.html_job.specs.Line.{line}
 use Rattle.clap.specs.Words.{App, HasKind, HasMatchesOf, IsAmong, Kinds, Row, Text, fault_of, is_simple, is_simple_and_free, kind_of, subcommand_of, subcommand_rows_of}
@@ -59,6 +59,10 @@ pub job_found : (j : Job) (words : List Text) (o : Option (Text × List Row)) (n
 job_found j words o n rows command matches pair named is reads =
     (rows, sym matches ∙ pair ∙ ap (λ t. Some (t, rows)) (sym named ∙ sym (ap name_of is)), reads)
 
+pub on_ok : {T E : Type 0} (r : Result T E) (P : Type 0) → P → OnOk r P
+on_ok (Ok x) P p = p
+on_ok (Err e) P p = tt
+
 pub line_requires : line.top.subcommand_required ≡ true
 unfolding line
 line_requires = refl
@@ -97,7 +101,7 @@ entered_named a (Some p) n r e = met p.0 p.1 a.subs n r e
 
 -- the commands of the line, in its order
 abbrev command_names : List Text
-command_names = codes "tree" ∷ []
+command_names = codes "tree" ∷ codes "suite" ∷ []
 
 names_built : map (λ (s : Shape). s.name) (built line).subs ≡ command_names
 unfolding line
@@ -113,5 +117,5 @@ pub no_other : (words : List Text) (o : Option (Text × List Row)) (n : Text) (r
     → ((c : Command) → name_of c ≡ n → ⊥) → ⊥
 no_other words o n r matches pair none = elim (name_met words n r (sym matches ∙ pair)) [
   | inl e ↦ none Tree (sym e)
-  | inr h ↦ absurd h
+  | inr h ↦ elim h [ inl e ↦ none Suite (sym e) | inr h ↦ absurd h ]
 ]

@@ -1,6 +1,7 @@
 -- The command line, as clap sees it.
 use Rattle.std.specs.Prelude.{Some, codes, true}
 use Rattle.clap.specs.Words.{App, Rule, Text, new_app, new_rule, with_rule, with_subcommand}
+use Rattle.clap.specs.declared.builder.action.ArgAction.TheVariants.{Append}
 
 -- `--NAME VALUE`
 abbrev pub option_rule : Text → Rule
@@ -10,9 +11,17 @@ option_rule name = record (new_rule name) { long = Some name; value_names = 1 }
 abbrev pub input_rule : Rule
 input_rule = new_rule (codes "INPUT")
 
+-- `FILE...`, one or more
+abbrev pub files_rule : Rule
+files_rule = record (new_rule (codes "FILE")) { action = Some Append; required = true }
+
 -- a command on one page
 abbrev pub page_app : Text → App
 page_app name = with_rule (with_rule (new_app name) (option_rule (codes "entities"))) input_rule
+
+-- the command on files of test cases
+abbrev pub suite_app : App
+suite_app = with_rule (with_rule (new_app (codes "suite")) (option_rule (codes "entities"))) files_rule
 
 -- the program, with no command: one is wanted, and `help` is none
 abbrev pub empty_line : App
@@ -25,4 +34,4 @@ empty_line = record (new_app (codes "html_cmd")) {
 
 -- the whole line
 unfoldable pub line : App
-line = with_subcommand empty_line (page_app (codes "tree")).top
+line = with_subcommand (with_subcommand empty_line (page_app (codes "tree")).top) suite_app.top

@@ -12,6 +12,8 @@ use thiserror::Error;
 pub enum Command {
     /// Print the tree of a page.
     Tree,
+    /// Run files of test cases.
+    Suite,
 }
 
 /// A command with its options and files, as text borrowed from the words.
@@ -22,6 +24,8 @@ pub struct Job<'a> {
     pub entities: Option<&'a str>,
     /// The file of the page. `-`, or none, is standard input.
     pub input: Option<&'a str>,
+    /// The files of test cases, one or more, of `Suite`; else none.
+    pub files: Vec<&'a str>,
 }
 
 /// Why the words are no job.
@@ -43,6 +47,7 @@ impl Command {
     {
         match name {
             "tree" => Some(Command::Tree),
+            "suite" => Some(Command::Suite),
             _ => None,
         }
     }

@@ -3,9 +3,9 @@
 ghost use Rattle.std.specs.Prelude.{◌≡◌, IfOk, codes, true, false};
 ghost use Rattle.clap.specs.Words.{app_of, rule_of};
 ghost use Rattle.clap.specs.declared.builder.command.Command.TheViews.{out-Command as fields_of};
-ghost use Rattle.html_job.specs.Line.{option_rule, input_rule, page_app, line};
+ghost use Rattle.html_job.specs.Line.{option_rule, input_rule, files_rule, page_app, suite_app, line};
 
-use clap::{Arg, Command};
+use clap::{Arg, ArgAction, Command};
 use std::alloc::{AllocError, Global};
 
 /// `--NAME VALUE`
@@ -27,21 +27,50 @@ fn input<'a>(alloc: Global) -> Arg<'a>
     Arg::new(alloc, "INPUT").help("The page, or - for standard input")
 }
 
+/// One file or more.
+fn files<'a>(alloc: Global) -> Arg<'a>
+    ensures rule { rule_of result ≡ files_rule }
+    ensures local { result.global ≡ false }
+{
+    Arg::new(alloc, "FILE")
+        .action(ArgAction::Append)
+        .required(true)
+        .help("A file of test cases, in html5lib's form: .test for tokens")
+}
+
+/// The file of named character references.
+fn entities<'a>(alloc: Global) -> Arg<'a>
+    ensures rule { rule_of result ≡ option_rule (codes "entities") }
+    ensures local { result.global ≡ false }
+{
+    text_option(
+        alloc,
+        "entities",
+        "FILE",
+        "Named character references, as the standard publishes them in JSON; without it five names",
+    )
+}
+
 /// A command on one page.
 fn page_command<'a>(alloc: Global, name: &'a str, about: &'a str) -> Result<Command<'a>, AllocError>
     ensures app { IfOk result (λ c. app_of c ≡ page_app name.entry.now) }
     ensures local { IfOk result (λ c. (fields_of c).has_globals ≡ false) }
 {
-    let entities = text_option(
-        alloc,
-        "entities",
-        "FILE",
-        "Named character references, as the standard publishes them in JSON; without it five names",
-    );
     Command::new(alloc, name)
         .about(about)
-        .arg(entities)?
+        .arg(entities(alloc))?
         .arg(input(alloc))
+}
+
+/// The command on files of test cases.
+fn suite<'a>(alloc: Global) -> Result<Command<'a>, AllocError>
+    ensures app { IfOk result (λ c. app_of c ≡ suite_app) }
+    ensures local { IfOk result (λ c. (fields_of c).has_globals ≡ false) }
+{
+    Command::new(alloc, "suite")
+        .about("Run files of test cases")
+        .arg(entities(alloc))?
+        .arg(files(alloc))
 }
 
 /// The whole command line.
@@ -50,9 +79,11 @@ pub(crate) fn line<'a>(alloc: Global) -> Result<Command<'a>, AllocError>
     ensures local { IfOk result (λ c. (fields_of c).has_globals ≡ false) }
 {
     let tree = page_command(alloc, "tree", "Print the tree of a page")?;
+    let suite = suite(alloc)?;
     Command::new(alloc, "html_cmd")
         .about("Reads HTML pages")
         .subcommand_required(true)
         .disable_help_subcommand(true)
-        .subcommand(tree)
+        .subcommand(tree)?
+        .subcommand(suite)
 }

@@ -44,8 +44,29 @@ fn entities_of_a_file(rt: HostRuntime) -> Result<(), Fail> {
 }
 
 #[test]
+fn files_of_cases(rt: HostRuntime) -> Result<(), Fail> {
+    let job = job(
+        rt.alloc(),
+        &[
+            "html_cmd",
+            "suite",
+            "a.test",
+            "--entities",
+            "e.json",
+            "b.dat",
+        ],
+    )?;
+    assert_eq!(rt; job.command, Command::Suite);
+    assert_eq!(rt; job.entities, Some("e.json"));
+    assert_eq!(rt; job.input, None);
+    let files: [&str; 2] = ["a.test", "b.dat"];
+    assert_eq!(rt; job.files.as_slice(), files.as_slice());
+    Ok(())
+}
+
+#[test]
 fn words_that_are_no_job(rt: HostRuntime) -> Result<(), Fail> {
-    let rows: [(&[&str], &str); 6] = [
+    let rows: [(&[&str], &str); 7] = [
         (&["html_cmd", "--help"], "Usage: html_cmd <COMMAND>"),
         (
             &["html_cmd", "tree", "--help"],
@@ -57,6 +78,10 @@ fn words_that_are_no_job(rt: HostRuntime) -> Result<(), Fail> {
         (
             &["html_cmd", "tree", "a", "b"],
             "unexpected argument 'b' found",
+        ),
+        (
+            &["html_cmd", "suite"],
+            "required arguments were not provided",
         ),
     ];
     for (words, part) in rows {

@@ -1,7 +1,7 @@
 //! Reading the words.
 
-ghost use Rattle.std.specs.Prelude.{◌≡◌, ◌≢◌, [], true, IfOk, IfErr, OnOk, map, option_map};
-ghost use Rattle.clap.specs.Words.{first_of, found_of, kind_of, rows_of, fault_of, subcommand_of, subcommand_rows_of, has_subcommand};
+ghost use Rattle.std.specs.Prelude.{◌≡◌, ◌≢◌, [], true, IfOk, IfErr, OnErr, OnOk, map, option_map, unwrap_or, codes};
+ghost use Rattle.clap.specs.Words.{all_of, first_of, found_of, kind_of, rows_of, fault_of, subcommand_of, subcommand_rows_of, has_subcommand};
 ghost use Rattle.html_job.specs.Line.{line};
 ghost use Rattle.html_job.specs.Read.{IsJobOf, Reads, IsWords, IsRefused};
 
@@ -9,7 +9,7 @@ use crate::jobs::{Command, Job, JobFault};
 use crate::line::line;
 use clap::error::ErrorKind;
 use clap::{ArgMatches, Error};
-use std::alloc::Global;
+use std::alloc::{AllocError, Global};
 use std::convert::AsStr;
 
 /// The job that the words ask for. The first word is the program's name.
@@ -30,7 +30,7 @@ pub fn job<'a, S: AsStr>(alloc: Global, words: &'a [S]) -> Result<Job<'a>, JobFa
     let Some(command) = Command::named(name) else {
         unreachable!()
     };
-    Ok(job_of(command, rest))
+    job_of(alloc, command, rest)
 }
 
 /// What clap makes of the words.
@@ -47,14 +47,31 @@ fn matched<'a, S: AsStr>(alloc: Global, words: &'a [S]) -> Result<ArgMatches<'a>
 }
 
 /// The job of a command with these matches.
-fn job_of<'a>(command: Command, matches: &ArgMatches<'a>) -> Job<'a>
-    ensures command { result.command ≡ command }
-    ensures reads { Reads result (rows_of (found_of matches.entry.now)) }
+fn job_of<'a>(
+    alloc: Global,
+    command: Command,
+    matches: &ArgMatches<'a>,
+) -> Result<Job<'a>, JobFault>
+    ensures command { IfOk result (λ j. j.command ≡ command) }
+    ensures reads { IfOk result (λ j. Reads j (rows_of (found_of matches.entry.now))) }
+    ensures refused { OnErr result (result ≡ Err JobFault.OutOfMemory) }
 {
-    Job {
+    let files = files(alloc, matches)?;
+    Ok(Job {
         command,
         entities: text(matches, "entities"),
         input: text(matches, "INPUT"),
+        files,
+    })
+}
+
+/// The files that stand in the words.
+fn files<'a>(alloc: Global, matches: &ArgMatches<'a>) -> Result<Vec<&'a str>, AllocError>
+    ensures { IfOk result (λ v. map (λ s. s.now) v.items ≡ unwrap_or (all_of (codes "FILE") (rows_of (found_of matches.entry.now))) []) }
+{
+    match matches.get_strs("FILE") {
+        Some(files) => Vec::from_slice(alloc, files),
+        None => Ok(Vec::new(alloc)),
     }
 }
 

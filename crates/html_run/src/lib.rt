@@ -10,5 +10,5 @@ mod tests;
 mod tree;
 
 pub use refusal::{Refusal, TableRefusal, outcome};
-pub use running::{run, tell};
+pub use running::{run, table_of, tell, tell_table};
 pub use status::{DONE, FILE_FAULT, REFUSED, WRONG_WORDS};

@@ -1,6 +1,7 @@
 //! One job, over any reader and writers.
 
-ghost use Rattle.std.specs.Prelude.{◌≡◌, ◌<◌, IfSome, length};
+ghost use Rattle.std.specs.Prelude.{◌≡◌, ◌<◌, IfOk, IfSome, MatchOption, Ok, length};
+ghost use Rattle.html_charref.specs.Entities.{core_rows, entities_of};
 ghost use Rattle.html_run.specs.Outcome.{status_of};
 ghost use Rattle.html_input.specs.Decode.{decode};
 ghost use Rattle.html_page.specs.Small.{IsSmallText};
@@ -15,8 +16,9 @@ use std::io;
 use std::io::Write;
 
 /// Does the job and answers the program's status. `entities` are the bytes of the file of named character references, if
-/// the job has one. It reads `reader` to its end before it writes anything. What went
-/// wrong is told in one line on `faults`; where that fails too, by the status alone.
+/// the job has one. It reads `reader` to its end before it writes anything. What went wrong is told in one line on
+/// `faults`; where that fails too, by the status alone. For `Suite`, whose files are other files, it reads the page and
+/// prints nothing.
 pub fn run<R: Source, W: Write, F: Write>(
     alloc: Global,
     job: &Job<'_>,
@@ -43,7 +45,9 @@ pub fn run<R: Source, W: Write, F: Write>(
 }
 
 /// The table of a file of named character references, or without one the table of five names.
-fn table_of(alloc: Global, entities: Option<&[u8]>) -> Result<EntityTable, EntityError> {
+pub fn table_of(alloc: Global, entities: Option<&[u8]>) -> Result<EntityTable, EntityError>
+    ensures { IfOk result (λ table. MatchOption entities.entry (table ≡ core_rows) (λ bytes. entities_of bytes.now ≡ Ok table)) }
+{
     match entities {
         Some(bytes) => EntityTable::read(alloc, bytes),
         None => EntityTable::core(alloc),
@@ -51,7 +55,7 @@ fn table_of(alloc: Global, entities: Option<&[u8]>) -> Result<EntityTable, Entit
 }
 
 /// Tells on `faults`, in one line, why there is no table of character references, and answers the status.
-fn tell_table<F: Write>(error: &EntityError, faults: &mut F) -> u8
+pub fn tell_table<F: Write>(error: &EntityError, faults: &mut F) -> u8
     ensures { result ≡ REFUSED }
 {
     let line = TableRefusal { error };
@@ -65,6 +69,7 @@ fn write_answer<W: Write>(command: Command, page: &Page, writer: &mut W) -> io::
 {
     match command {
         Command::Tree => print_tree(writer, &page.arena, page.root)?,
+        Command::Suite => {}
     }
     writer.flush()
 }

@@ -60,6 +60,7 @@ fn tree_of(alloc: Global, bytes: &[u8]) -> Result<(u8, Vec<u8>, Vec<u8>), AllocE
         command: Command::Tree,
         entities: None,
         input: None,
+        files: Vec::new(alloc),
     };
     let mut reader = OverRead::new(bytes);
     let mut written = Vec::new(alloc);
@@ -167,6 +168,7 @@ fn tells_a_failed_read(rt: HostRuntime) -> Result<(), Fail> {
             command: Command::Tree,
             entities: None,
             input: Some("page.html"),
+            files: Vec::new(rt.alloc()),
         };
         let mut reader = OverRead::new(FailAt {
             bytes: PAGE.to_vec(rt.alloc())?,
@@ -200,6 +202,7 @@ fn tells_a_failed_write(rt: HostRuntime) -> Result<(), Fail> {
             command: Command::Tree,
             entities: None,
             input: None,
+            files: Vec::new(rt.alloc()),
         };
         let mut reader = OverRead::new(PAGE);
         let mut writer = FailAt {
@@ -243,6 +246,7 @@ fn tells_a_refused_table(rt: HostRuntime) -> Result<(), Fail> {
             command: Command::Tree,
             entities: Some("entities.json"),
             input: None,
+            files: Vec::new(rt.alloc()),
         };
         let mut reader = OverRead::new(PAGE);
         let mut written = Vec::new(rt.alloc());

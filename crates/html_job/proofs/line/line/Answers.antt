@@ -16,7 +16,8 @@ returns-clause-app c =
       local = ap (λ f. f.has_globals) c.disable_help_subcommand.ensures
           ∙ ap (λ f. f.has_globals) c.subcommand_required.ensures ∙ ap (λ f. f.has_globals) c.about.ensures ∙ c.new.ensures.local;
     } in
-    IfOk-weaker c.subcommand.result _ _ (λ r h. (subcommand_added _ _ r _ _ named (is _ _ c.in_ok-tree.ensures.app c.in_ok-tree.ensures.local) h).app) c.subcommand.ensures
+    let tree = subcommand_added _ _ _ _ _ named (is _ _ c.in_ok-tree.ensures.app c.in_ok-tree.ensures.local) c.in_ok-subcommand.ensures in
+    IfOk-weaker c.subcommand-2.result _ _ (λ r h. (subcommand_added _ _ r _ _ tree (is _ _ c.in_ok-suite.ensures.app c.in_ok-suite.ensures.local) h).app) c.subcommand-2.ensures
 
 pub returns-clause-local : goal.returns-clause-local
 returns-clause-local c =
@@ -28,4 +29,5 @@ returns-clause-local c =
       local = ap (λ f. f.has_globals) c.disable_help_subcommand.ensures
           ∙ ap (λ f. f.has_globals) c.subcommand_required.ensures ∙ ap (λ f. f.has_globals) c.about.ensures ∙ c.new.ensures.local;
     } in
-    IfOk-weaker c.subcommand.result _ _ (λ r h. (subcommand_added _ _ r _ _ named (is _ _ c.in_ok-tree.ensures.app c.in_ok-tree.ensures.local) h).local) c.subcommand.ensures
+    let tree = subcommand_added _ _ _ _ _ named (is _ _ c.in_ok-tree.ensures.app c.in_ok-tree.ensures.local) c.in_ok-subcommand.ensures in
+    IfOk-weaker c.subcommand-2.result _ _ (λ r h. (subcommand_added _ _ r _ _ tree (is _ _ c.in_ok-suite.ensures.app c.in_ok-suite.ensures.local) h).local) c.subcommand-2.ensures

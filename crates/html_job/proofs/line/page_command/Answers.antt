@@ -10,7 +10,7 @@ returns-clause-app c =
       app = ap app_of_fields c.about.ensures ∙ c.new.ensures.app;
       local = ap (λ f. f.has_globals) c.about.ensures ∙ c.new.ensures.local;
     } in
-    let entities = arg_added _ _ _ _ _ named c.in_ok-arg.ensures c.text_option-entities.ensures.local c.text_option-entities.ensures.rule in
+    let entities = arg_added _ _ _ _ _ named c.in_ok-arg.ensures c.entities.ensures.local c.entities.ensures.rule in
     IfOk-weaker c.arg-2.result _ _ (λ r h. (arg_added _ r _ _ _ entities h c.input.ensures.local c.input.ensures.rule).app) c.arg-2.ensures
 
 pub returns-clause-local : goal.returns-clause-local
@@ -19,5 +19,5 @@ returns-clause-local c =
       app = ap app_of_fields c.about.ensures ∙ c.new.ensures.app;
       local = ap (λ f. f.has_globals) c.about.ensures ∙ c.new.ensures.local;
     } in
-    let entities = arg_added _ _ _ _ _ named c.in_ok-arg.ensures c.text_option-entities.ensures.local c.text_option-entities.ensures.rule in
+    let entities = arg_added _ _ _ _ _ named c.in_ok-arg.ensures c.entities.ensures.local c.entities.ensures.rule in
     IfOk-weaker c.arg-2.result _ _ (λ r h. (arg_added _ r _ _ _ entities h c.input.ensures.local c.input.ensures.rule).local) c.arg-2.ensures

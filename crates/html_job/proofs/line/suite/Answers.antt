@@ -1,0 +1,23 @@
+use Rattle.std.proofs.Common.{◌∙◌, ap}
+use Rattle.std.proofs.lemmas.Result.{IfOk-weaker}
+use Rattle.clap.specs.Simple.{app_of_fields}
+use Rattle.html_job.proofs.Building.{Is, arg_added}
+use Rattle.html_job.proofs.line.suite.Goals as goal
+
+pub returns-clause-app : goal.returns-clause-app
+returns-clause-app c =
+    let named : Is c.about.result _ = record {
+      app = ap app_of_fields c.about.ensures ∙ c.new.ensures.app;
+      local = ap (λ f. f.has_globals) c.about.ensures ∙ c.new.ensures.local;
+    } in
+    let entities = arg_added _ _ _ _ _ named c.in_ok-arg.ensures c.entities.ensures.local c.entities.ensures.rule in
+    IfOk-weaker c.arg-2.result _ _ (λ r h. (arg_added _ r _ _ _ entities h c.files.ensures.local c.files.ensures.rule).app) c.arg-2.ensures
+
+pub returns-clause-local : goal.returns-clause-local
+returns-clause-local c =
+    let named : Is c.about.result _ = record {
+      app = ap app_of_fields c.about.ensures ∙ c.new.ensures.app;
+      local = ap (λ f. f.has_globals) c.about.ensures ∙ c.new.ensures.local;
+    } in
+    let entities = arg_added _ _ _ _ _ named c.in_ok-arg.ensures c.entities.ensures.local c.entities.ensures.rule in
+    IfOk-weaker c.arg-2.result _ _ (λ r h. (arg_added _ r _ _ _ entities h c.files.ensures.local c.files.ensures.rule).local) c.arg-2.ensures

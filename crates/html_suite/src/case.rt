@@ -1,0 +1,86 @@
+//! One case: read, run and compared.
+
+use crate::counts::Outcome;
+use crate::entry::{Entry, are_same};
+use crate::expected::{expected, text};
+use crate::given::given;
+use crate::texts::{CaseFault, Texts};
+use html_page::{EntityTable, ParseError, tokenize};
+use html_tokens::TextMode;
+use serde_json::Value;
+use std::alloc::Global;
+
+/// A case without its state.
+#[derive(Drop)]
+struct Case {
+    input: String,
+    last_name: Option<String>,
+    output: Vec<Entry>,
+}
+
+/// Runs a test in one of its initial states.
+pub(crate) fn run_case(
+    alloc: Global,
+    test: &Value,
+    state: &str,
+    table: &EntityTable,
+) -> Result<Outcome, CaseFault> {
+    let Some(mode) = mode_of(state) else {
+        return Ok(Outcome::Skipped);
+    };
+    let case = match read_case(alloc, test) {
+        Ok(case) => case,
+        Err(CaseFault::NotRun) => return Ok(Outcome::Skipped),
+        Err(fault) => return Err(fault),
+    };
+    let last_name = case.last_name.as_deref();
+    match tokenize(alloc, table, mode, last_name, case.input.as_bytes()) {
+        Ok(list) => {
+            let given = given(alloc, list.tokens.as_slice())?;
+            if are_same(given.as_slice(), case.output.as_slice()) {
+                Ok(Outcome::Passed)
+            } else {
+                Ok(Outcome::Failed)
+            }
+        }
+        Err(ParseError::OutOfMemory) => Err(CaseFault::OutOfMemory),
+        Err(_) => Ok(Outcome::Failed),
+    }
+}
+
+fn read_case(alloc: Global, test: &Value) -> Result<Case, CaseFault> {
+    let is_escaped = test
+        .get("doubleEscaped")
+        .and_then(Value::as_bool)
+        .unwrap_or(false);
+    let texts = Texts { is_escaped };
+    let Some(input) = test.get("input") else {
+        return Err(CaseFault::Malformed);
+    };
+    let Some(output) = test.get("output").and_then(Value::as_array) else {
+        return Err(CaseFault::Malformed);
+    };
+    let input = text(alloc, input, texts)?;
+    let output = expected(alloc, output, texts)?;
+    let last_name = match test.get("lastStartTag") {
+        Some(name) => Some(text(alloc, name, texts)?),
+        None => None,
+    };
+    Ok(Case {
+        input,
+        last_name,
+        output,
+    })
+}
+
+/// The text mode of an initial state, by the names that the cases use.
+fn mode_of(state: &str) -> Option<TextMode> {
+    match state {
+        "Data state" => Some(TextMode::Data),
+        "RCDATA state" => Some(TextMode::Rcdata),
+        "RAWTEXT state" => Some(TextMode::Rawtext),
+        "Script data state" => Some(TextMode::Script),
+        "PLAINTEXT state" => Some(TextMode::Plaintext),
+        _ => None,
+    }
+}

@@ -1,0 +1,141 @@
+//! A file of cases, run and counted.
+
+ghost use Rattle.std.specs.Prelude.{◌<◌};
+
+use crate::case::run_case;
+use crate::counts::{Counts, Outcome};
+use crate::texts::CaseFault;
+use html_page::{EntityTable, ParseError};
+use html_run::{DONE, FILE_FAULT, REFUSED, tell};
+use serde_json::Value;
+use std::alloc::Global;
+use std::io;
+use std::io::Write;
+
+/// The state of a test that names none.
+const DATA_STATE: &str = "Data state";
+
+/// Why a file was not run to its end.
+enum SuiteFault {
+    /// It is no file of cases.
+    Malformed,
+    OutOfMemory,
+    Write,
+}
+
+/// Runs the cases of a file and answers the status: `DONE` where none failed, `REFUSED` where one failed or memory was
+/// refused, `FILE_FAULT` where the bytes are no file of cases or the writer failed. For each failed case it writes
+/// `NAME: case K failed`, where K counts the cases from 1, and at the end `NAME: passed P, failed F, skipped S`.
+///
+/// A file of cases is JSON (html5lib's `.test`): an object whose `tests` are objects with `input` and `output`, and
+/// perhaps `initialStates`, `lastStartTag` and `doubleEscaped`. Each initial state is a case of its own. A case is skipped
+/// where its state is none of the text modes, or its texts have halves of surrogate pairs.
+pub fn suite_file<W: Write, F: Write>(
+    alloc: Global,
+    name: &str,
+    bytes: &[u8],
+    table: &EntityTable,
+    writer: &mut W,
+    faults: &mut F,
+) -> u8
+    ensures { result < 4 }
+{
+    match run_file(alloc, name, bytes, table, writer) {
+        Ok(counts) if counts.failed == 0 => DONE,
+        Ok(_) => REFUSED,
+        Err(SuiteFault::OutOfMemory) => tell(&ParseError::OutOfMemory, name, faults),
+        Err(SuiteFault::Write) => tell(&ParseError::Write, name, faults),
+        Err(SuiteFault::Malformed) => {
+            let _ = writeln!(faults, "fault: {name}: not a test file");
+            FILE_FAULT
+        }
+    }
+}
+
+fn run_file<W: Write>(
+    alloc: Global,
+    name: &str,
+    bytes: &[u8],
+    table: &EntityTable,
+    writer: &mut W,
+) -> Result<Counts, SuiteFault> {
+    let value = Value::from_slice(alloc, bytes)?;
+    let mut counts = Counts::new();
+    if !name.ends_with(".test") || !value.is_object() {
+        return Err(SuiteFault::Malformed);
+    }
+    if let Some(tests) = value.get("tests") {
+        let Some(tests) = tests.as_array() else {
+            return Err(SuiteFault::Malformed);
+        };
+        for test in tests {
+            run_test(alloc, name, test, table, &mut counts, writer)?;
+        }
+    }
+    writeln!(writer, "{name}: {counts}")?;
+    writer.flush()?;
+    Ok(counts)
+}
+
+/// Runs a test in each of its initial states.
+fn run_test<W: Write>(
+    alloc: Global,
+    name: &str,
+    test: &Value,
+    table: &EntityTable,
+    counts: &mut Counts,
+    writer: &mut W,
+) -> Result<(), SuiteFault> {
+    let Some(states) = test.get("initialStates") else {
+        let outcome = run_case(alloc, test, DATA_STATE, table)?;
+        return Ok(count(name, counts, outcome, writer)?);
+    };
+    let Some(states) = states.as_array() else {
+        return Err(SuiteFault::Malformed);
+    };
+    for state in states {
+        let outcome = run_case(alloc, test, state.as_str().unwrap_or(""), table)?;
+        count(name, counts, outcome, writer)?;
+    }
+    Ok(())
+}
+
+/// Counts a case, and tells of one that failed.
+fn count<W: Write>(
+    name: &str,
+    counts: &mut Counts,
+    outcome: Outcome,
+    writer: &mut W,
+) -> io::Result<()> {
+    counts.add(outcome);
+    if matches!(outcome, Outcome::Failed) {
+        let number = counts.all();
+        writeln!(writer, "{name}: case {number} failed")?;
+    }
+    Ok(())
+}
+
+impl From<serde_json::Error> for SuiteFault {
+    fn from(error: serde_json::Error) -> Self {
+        if error.is_memory() {
+            SuiteFault::OutOfMemory
+        } else {
+            SuiteFault::Malformed
+        }
+    }
+}
+
+impl From<CaseFault> for SuiteFault {
+    fn from(fault: CaseFault) -> Self {
+        match fault {
+            CaseFault::Malformed | CaseFault::NotRun => SuiteFault::Malformed,
+            CaseFault::OutOfMemory => SuiteFault::OutOfMemory,
+        }
+    }
+}
+
+impl From<io::Error> for SuiteFault {
+    fn from(_error: io::Error) -> Self {
+        SuiteFault::Write
+    }
+}
