@@ -10,3 +10,4 @@ pub mod TableLemmas
 pub mod CoreLemmas
 pub mod Maximum
 pub mod FirstBad
+pub mod RangeLemmas

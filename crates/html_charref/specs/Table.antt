@@ -1,5 +1,5 @@
 -- The table of named references, and the longest of its names that begins a text.
-use Rattle.std.specs.Prelude.{◌≡◌, ℕ, ◌-◌, ◌<◌, ◌≤◌, ◌⊎◌, ◌&&◌, List, [], ◌∷◌, ◌++◌, length, map, max, Bool, true, false, nat_eq, nat_lt, if◌then◌else◌, Option, Some, None, slice_get, slice_index}
+use Rattle.std.specs.Prelude.{◌≡◌, ℕ, ◌+◌, ◌-◌, ◌<◌, ◌≤◌, ◌⊎◌, ◌&&◌, List, [], ◌∷◌, ◌++◌, length, map, max, Bool, true, false, nat_eq, nat_lt, if◌then◌else◌, Option, Some, None, slice_get, slice_index}
 use Rattle.std.specs.Char.{is_ascii_alphanumeric}
 use Rattle.std.specs.List.{starts_with, list_all, list_any}
 use Rattle.std.specs.Option.{option_map_or}
@@ -8,6 +8,7 @@ use Rattle.std.specs.Ordering.{nat_cmp}
 use Rattle.std.specs.Cmp.Lexicographic.{slice_cmp}
 use Rattle.html_charref.specs.declared.table.RefText.{RefText}
 use Rattle.html_charref.specs.declared.table.Row.{Row}
+use Rattle.html_charref.specs.declared.table.RowRange.{RowRange}
 use Rattle.html_charref.specs.Entities.{codes_of}
 use Rattle.html_charref.specs.declared.walk.Step.{Step}
 use Rattle.html_charref.specs.declared.walk.Step.TheVariants.{More, End}
@@ -92,6 +93,15 @@ pub record IsLowerBound (rows : List Row) (start end place limit at : ℕ) : Typ
   pub to : at ≤ end
   pub before : (at ≡ start) ⊎ (letter_at rows (at - 1) place < limit)
   pub after : (at ≡ end) ⊎ (limit ≤ letter_at rows at place)
+
+-- the rows with this letter behind the ampersand, which stands first in each name
+pub record IsRange (rows : List Row) (letter : ℕ) (range : RowRange) : Type 0 where
+  pub start : IsLowerBound rows 0 (length rows) 1 letter range.start
+  pub end : IsLowerBound rows range.start (length rows) 1 (letter + 1) range.end
+
+-- the i-th range is that of the letter i
+abbrev pub AreRanges : List Row → List RowRange → Type 0
+AreRanges rows ranges = (i : ℕ) (range : RowRange) → slice_get ranges i ≡ Some range → IsRange rows i range
 
 -- a row that begins the text, and that no other such row is longer than
 pub record LongestRow (rows : List Row) (rest : List ℕ) (m : ℕ × RefText) : Type 0 where

@@ -2,6 +2,7 @@
 #![tactic(auto)]
 
 mod number;
+mod ranges;
 mod read;
 mod table;
 #[cfg(test)]

@@ -12,6 +12,7 @@ ghost use Rattle.serde_json.specs.Find.{as_object};
 ghost use Rattle.html_charref.specs.Table.{longest_len, NamesFit};
 ghost use Rattle.html_charref.specs.Entities.{is_name, number_of, numbers_of, ref_text, codes_of, text_of, row_of, rows_of, entities_of, json_of, IsFirstBad, core_rows};
 
+use crate::ranges::ranges_of;
 use crate::table::{EntityTable, Name, RefText, Row};
 use crate::text::Str;
 use serde_json::{Map, Value};
@@ -199,7 +200,12 @@ fn read_rows(alloc: Global, members: Map<String, Value>) -> Result<EntityTable, 
         rows.push(row)?;
     }
     let longest_name = greatest_len(rows.as_slice());
-    Ok(EntityTable { rows, longest_name })
+    let ranges = ranges_of(alloc, rows.as_slice())?;
+    Ok(EntityTable {
+        rows,
+        longest_name,
+        ranges,
+    })
 }
 
 impl EntityTable {

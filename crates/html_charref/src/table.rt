@@ -55,23 +55,32 @@ pub struct Row {
     pub text: RefText,
 }
 
+/// The rows from `start` to `end`, which is left out.
+#[derive(Clone, Copy)]
+pub(crate) struct RowRange {
+    pub start: usize,
+    pub end: usize,
+}
+
 /// The table of named character references, seen as the list of its rows in the order of their names.
 #[derive(Drop)]
 pub struct EntityTable {
     pub(crate) rows: Vec<Row>,
     pub(crate) longest_name: u32,
+    /// For each letter of ASCII the rows that have it behind the ampersand.
+    pub(crate) ranges: Vec<RowRange>,
 }
 
 impl Model for EntityTable {
     ghost use Rattle.std.specs.Prelude.{List, ◌≡◌};
     ghost use Rattle.html_charref.specs.declared.table.Row.{Row};
-    ghost use Rattle.html_charref.specs.Table.{IsTable, longest_len};
+    ghost use Rattle.html_charref.specs.Table.{AreRanges, IsTable, longest_len};
 
     ghost Value = { List Row };
 
     ghost view = { λ t. t.rows.items };
 
-    ghost invariant = { λ t. IsTable t.rows.items × (t.longest_name ≡ longest_len t.rows.items) };
+    ghost invariant = { λ t. IsTable t.rows.items × (t.longest_name ≡ longest_len t.rows.items) × AreRanges t.rows.items t.ranges.items };
 }
 
 impl EntityTable {

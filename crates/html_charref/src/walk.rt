@@ -1,8 +1,9 @@
 //! A walk through the names of the table, one code point at a time.
 ghost use Rattle.std.specs.Prelude.{◌≡◌, ◌+◌, ◌<◌, ◌≤◌, ℕ, List, [], ◌∷◌, ◌++◌, length};
-ghost use Rattle.html_charref.specs.Table.{letter_at, IsLowerBound};
+ghost use Rattle.html_charref.specs.Table.{IsLowerBound};
 
-use crate::table::{EntityTable, RefText, Row};
+use crate::ranges::lower_bound;
+use crate::table::{EntityTable, RefText, RowRange};
 
 /// What a step of a walk answers: some name goes on, or the longest name that began the text, with its length in code
 /// points and what it stands for.
@@ -25,28 +26,9 @@ pub struct Walk<'a> {
     ghost within: { end ≤ length table.now },
 }
 
-// The first row from `start` to `end` whose letter at `depth` is not below `limit`, or `end`.
-fn lower_bound(rows: &[Row], start: usize, end: usize, depth: usize, limit: u32) -> usize
-    requires in_order { start ≤ end }
-    requires within { end ≤ length rows.now }
-    ensures { IsLowerBound rows.now start end depth limit result }
-{
-    let mut low = start;
-    let mut high = end;
-    while low < high {
-        let middle = low + (high - low) / 2;
-        if rows[middle].name.letter(depth) < limit {
-            low = middle + 1;
-        } else {
-            high = middle;
-        }
-    }
-    low
-}
-
 impl<'a> Walk<'a> {
     ghost use Rattle.std.specs.Prelude.{◌≡◌, ◌+◌, ℕ, List, ◌∷◌, [], ◌++◌, Option};
-    ghost use Rattle.html_charref.specs.Table.{longest, step_of};
+    ghost use Rattle.html_charref.specs.Table.{longest, step_of, IsTable};
     ghost use Rattle.html_charref.specs.Walk.{HasWalked, HasNarrowed};
 
     /// Goes on by a code point. The answer is `More` where some name is longer than the text so far, this code point
@@ -69,16 +51,32 @@ impl<'a> Walk<'a> {
         }
     }
 
+    /// The rows whose letter at the depth is this one. Behind the ampersand they are known, if no row was left out yet.
+    fn rows_with(&self, letter: u32) -> RowRange
+        requires { letter < 1114112 }
+        ensures start { IsLowerBound self.now.table.now self.now.start self.now.end self.now.depth letter result.start }
+        ensures end { IsLowerBound self.now.table.now result.start self.now.end self.now.depth (letter + 1) result.end }
+        ensures rule { IsTable self.now.table.now }
+    {
+        let table = self.table;
+        let rows = table.rows.as_slice();
+        if self.depth == 1 && self.start == 0 && self.end == rows.len() {
+            if let Some(range) = table.ranges.get(letter as usize) {
+                return *range;
+            }
+        }
+        let start = lower_bound(rows, self.start, self.end, self.depth, letter);
+        let end = lower_bound(rows, start, self.end, self.depth, letter + 1);
+        RowRange { start, end }
+    }
+
     /// Keeps the rows whose letter at the depth is this one.
     fn narrow(&mut self, c: char)
         ensures narrowed { (text : List ℕ) → HasWalked self.old text → HasNarrowed self.new text c }
         ensures table { self.new.table.now ≡ self.old.table.now }
     {
-        let table = self.table;
-        let rows = table.rows.as_slice();
-        let code = u32::from(c);
-        let start = lower_bound(rows, self.start, self.end, self.depth, code);
-        self.end = lower_bound(rows, start, self.end, self.depth, code + 1);
+        let RowRange { start, end } = self.rows_with(u32::from(c));
+        self.end = end;
         self.start = start;
         if self.start < self.end {
             self.depth = self.depth.saturating_add(1);
