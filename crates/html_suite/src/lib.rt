@@ -11,5 +11,7 @@ mod suite;
 #[cfg(test)]
 mod tests;
 mod texts;
+#[cfg(test)]
+mod tokenizer;
 
 pub use suite::suite_file;

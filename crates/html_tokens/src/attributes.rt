@@ -128,28 +128,3 @@ impl Attrs {
         Ok(self.list.into_vec()?)
     }
 }
-
-#[cfg(test)]
-mod tests {
-    use super::{Attr, Attrs};
-    use html_charref::Str;
-    use std::test::Fail;
-
-    #[test]
-    fn attributes_stay_in_order(rt: HostRuntime) -> Result<(), Fail> {
-        let mut attrs = Attrs::new(rt.alloc());
-        for name in ["a", "b", "c", "d", "e"] {
-            let name = Str::of(rt.alloc(), name)?;
-            let value = Str::new(rt.alloc());
-            attrs.push(Attr { name, value })?;
-        }
-        assert_eq!(rt; attrs.len(), 5);
-        let list = attrs.into_vec()?;
-        let again = Attrs::from_vec(list);
-        match again.as_slice() {
-            [.., last] => assert_eq!(rt; last.clone()?.name.as_str(), "e"),
-            [] => return Err(Fail::from("none")),
-        }
-        Ok(())
-    }
-}

@@ -13,8 +13,6 @@ mod marks;
 mod opener;
 mod reference;
 mod tag;
-#[cfg(test)]
-mod tests;
 mod token;
 mod tokenizer;
 

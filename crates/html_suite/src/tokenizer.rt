@@ -1,7 +1,8 @@
-// Tests of the whole tokenizer: rows whose answers were computed by hand or by another implementation.
-use crate::token::{Span, TextMode, Token, TokenKind};
-use crate::tokenizer::{TokenError, Tokenizer};
+//! Tests of the whole tokenizer: rows whose answers were computed by hand or by another implementation. They stand here
+//! and not in its crate, since a crate with tests is proved twice.
+
 use html_charref::{EntityTable, Str};
+use html_tokens::{Attr, Attrs, Span, TextMode, Token, TokenError, TokenKind, Tokenizer};
 use std::alloc::Global;
 use std::test::Fail;
 
@@ -536,6 +537,24 @@ fn reads_doctypes(rt: HostRuntime) -> Result<(), Fail> {
         assert_eq!(rt; cut_tokens(alloc, text)?.as_str(), expected);
         let whole = tokens(alloc, TextMode::Data, "", "", text)?;
         assert!(rt; expected.starts_with(whole.as_str().trim_start_matches("/ ")));
+    }
+    Ok(())
+}
+
+#[test]
+fn attributes_stay_in_order(rt: HostRuntime) -> Result<(), Fail> {
+    let mut attrs = Attrs::new(rt.alloc());
+    for name in ["a", "b", "c", "d", "e"] {
+        let name = Str::of(rt.alloc(), name)?;
+        let value = Str::new(rt.alloc());
+        attrs.push(Attr { name, value })?;
+    }
+    assert_eq!(rt; attrs.len(), 5);
+    let list = attrs.into_vec()?;
+    let again = Attrs::from_vec(list);
+    match again.as_slice() {
+        [.., last] => assert_eq!(rt; last.clone()?.name.as_str(), "e"),
+        [] => return Err(Fail::from("none")),
     }
     Ok(())
 }
