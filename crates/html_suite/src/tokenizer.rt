@@ -347,7 +347,7 @@ fn gives_text_before_the_end(rt: HostRuntime) -> Result<(), Fail> {
     let mut given = 0u32;
     for _ in 0..2_000u32 {
         if t.next()?.is_some() {
-            given += 1;
+            given = given.saturating_add(1);
         }
     }
     assert_eq!(rt; given, 1_000);
