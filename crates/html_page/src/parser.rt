@@ -1,12 +1,14 @@
 //! Bytes in pieces to a page.
 
-ghost use Rattle.std.specs.Prelude.{◌≡◌, ◌++◌, ◌+◌, ◌*◌, ◌^◌, ◌≤◌, ◌↔◌, List, ℕ, [], OnOk, OnErr, IfOk, IfErr, Err, length};
+ghost use Rattle.std.specs.Prelude.{◌≡◌, ◌≢◌, ◌++◌, ◌+◌, ◌*◌, ◌^◌, ◌≤◌, ◌↔◌, List, ℕ, [], OnOk, OnErr, IfOk, IfErr, Err, length};
+ghost use Rattle.html_input.specs.Decode.{code_points};
+ghost use Rattle.html_input.specs.declared.decoder.TheConstants.{LIMIT};
 ghost use Rattle.html_page.specs.Parsed.{IsPageOf, IsCause, IsFeedCause};
 
 use crate::error::ParseError;
 use crate::page::{Page, read_page};
 use html_charref::EntityTable;
-use html_input::Decoder;
+use html_input::{Decoder, LIMIT, count_code_points};
 use std::alloc::Global;
 
 /// A parser that takes its input in pieces, cut anywhere. Once it refused a piece it takes no more. It reads named
@@ -64,12 +66,16 @@ impl<'a> Parser<'a> {
     }
 }
 
-/// The page of an input. An input of more code points than `LIMIT` is refused as too long. What is no small page's text is
-/// refused with the length of the longest front of its text with which some small page begins.
+/// The page of an input. An input of more code points than `LIMIT` is refused as too long, before all else. What is no
+/// small page's text is refused with the length of the longest front of its text with which some small page begins.
 pub fn parse(alloc: Global, table: &EntityTable, bytes: &[u8]) -> Result<Page, ParseError>
     ensures page { IfOk result (IsPageOf bytes.now) }
     ensures cause { IfErr result (IsCause bytes.now) }
+    ensures within { IfErr result (λ e. e ≢ ParseError.InputTooLong → length (code_points bytes.now) ≤ LIMIT) }
 {
+    if count_code_points(bytes) as u64 > LIMIT {
+        return Err(ParseError::InputTooLong);
+    }
     let mut parser = Parser::document(alloc, table);
     parser.feed(bytes)?;
     let page = parser.finish()?;
