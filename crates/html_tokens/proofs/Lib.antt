@@ -14,3 +14,4 @@ pub mod CostLemmas
 pub mod DoctypeLemmas
 pub mod BoundLemmas
 pub mod RunLemmas
+pub mod CopyLemmas

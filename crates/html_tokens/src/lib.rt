@@ -3,6 +3,7 @@
 
 mod attributes;
 mod comment;
+mod copied;
 mod doctype;
 mod doctype_faults;
 mod fault_name;
@@ -11,6 +12,7 @@ mod input;
 mod machine;
 mod marks;
 mod opener;
+mod queue;
 mod reference;
 mod tag;
 mod token;

@@ -1,5 +1,6 @@
 // Tags.
 ghost use Rattle.std.specs.Prelude.{length, ◌≡◌, ℕ, ◌≤◌, ◌+◌, ◌∷◌, [], ◌++◌, OnOk, IfOk, true, false, Option};
+ghost use Rattle.html_tokens.specs.Copied.{copied_in, CopiesTag};
 ghost use Rattle.html_tokens.specs.Cut.{is_space, ends_unquoted};
 ghost use Rattle.html_tokens.specs.Tag.{name_char, ReadsTag, ends_name, ends_attr, AddsAttr, reads_refs, is_number, Settles, OpensRef, ReadsRef, IsInside, GoesOn};
 ghost use Rattle.html_tokens.specs.Reference.{is_digit};
@@ -9,6 +10,7 @@ ghost use Rattle.html_tokens.specs.Fed.{new_tag};
 
 use crate::attributes::{Attr, Attrs};
 use crate::comment::shown;
+use crate::copied::Copied;
 use crate::reference::{ValueRef, digit};
 use html_charref::{Base, Str, add_digit, numeric};
 use std::alloc::{AllocError, Global};
@@ -32,6 +34,19 @@ pub enum ValueEnd {
     DoubleQuote,
     SingleQuote,
     Space,
+}
+
+impl ValueEnd {
+    /// What a value takes as it stands that closes so.
+    fn copied(self) -> Copied
+        ensures { result ≡ copied_in self }
+    {
+        match self {
+            ValueEnd::DoubleQuote => Copied::DoubleQuoted,
+            ValueEnd::SingleQuote => Copied::SingleQuoted,
+            ValueEnd::Space => Copied::Unquoted,
+        }
+    }
 }
 
 /// A tag that is being read.
@@ -107,6 +122,19 @@ impl TagDraft {
         match self.part {
             Part::Name | Part::Attributes | Part::AttrName | Part::AfterName => false,
             Part::Value | Part::Inside(_) | Part::Number(..) => true,
+        }
+    }
+
+    /// Copies the longest front of the rest that the name or value being read takes as it stands, and answers its length.
+    pub(crate) fn copy_front(&mut self, rest: &[char]) -> Result<usize, AllocError>
+        ensures copies { IfOk result (λ n. CopiesTag self.old rest.now n self.new) }
+        ensures attrs { self.new.attrs ≡ self.old.attrs }
+    {
+        match self.part {
+            Part::Name => Copied::Name.copy(rest, &mut self.name),
+            Part::AttrName => Copied::Name.copy(rest, &mut self.attr_name),
+            Part::Inside(end) => end.copied().copy(rest, &mut self.attr_value),
+            Part::Attributes | Part::AfterName | Part::Value | Part::Number(..) => Ok(0),
         }
     }
 
