@@ -6,6 +6,7 @@ pub mod Reference
 pub mod Value
 pub mod Tag
 pub mod Copied
+pub mod Keys
 pub mod Marks
 pub mod Doctype
 pub mod Tokens

@@ -9,6 +9,7 @@ mod doctype_faults;
 mod fault_name;
 mod faults;
 mod input;
+mod keyed;
 mod machine;
 mod marks;
 mod opener;

@@ -593,7 +593,7 @@ impl<'a> Machine<'a> {
                 self.last_name = Some(Name::of(self.alloc, draft.name.0.as_str())?);
                 let kind = TokenKind::Start {
                     name: draft.name,
-                    attrs: draft.attrs,
+                    attrs: draft.attrs.into_attrs(),
                     self_closing,
                 };
                 Ok(Progress::Given(token(kind, draft.start, self.place)))

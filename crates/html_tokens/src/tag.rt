@@ -8,9 +8,10 @@ ghost use Rattle.html_charref.specs.Number.{char_of};
 ghost use Rattle.html_charref.specs.Entities.{codes_with};
 ghost use Rattle.html_tokens.specs.Fed.{new_tag};
 
-use crate::attributes::{Attr, Attrs};
+use crate::attributes::Attr;
 use crate::comment::shown;
 use crate::copied::Copied;
+use crate::keyed::KeyedAttrs;
 use crate::reference::{ValueRef, digit};
 use html_charref::{Base, Str, add_digit, numeric};
 use std::alloc::{AllocError, Global};
@@ -56,7 +57,7 @@ pub struct TagDraft {
     pub is_end: bool,
     pub start: u64,
     pub name: Str,
-    pub attrs: Attrs,
+    pub attrs: KeyedAttrs,
     pub part: Part,
     pub attr_name: Str,
     pub attr_value: Str,
@@ -108,7 +109,7 @@ impl TagDraft {
             is_end,
             start,
             name: Str::new(alloc),
-            attrs: Attrs::new(alloc),
+            attrs: KeyedAttrs::new(alloc),
             part: Part::Name,
             attr_name: Str::new(alloc),
             attr_value: Str::new(alloc),
@@ -442,7 +443,7 @@ impl TagDraft {
         let name = mem::replace(&mut self.attr_name, Str::new(self.alloc));
         let value = mem::replace(&mut self.attr_value, Str::new(self.alloc));
         self.part = Part::Attributes;
-        if !self.attrs.has_name(&name) {
+        if !self.attrs.search(&name).0 {
             self.attrs.push(Attr { name, value })?;
         }
         Ok(())
