@@ -43,6 +43,16 @@ run_skips old new run s i = record {
   rule = i.rule;
 }
 
+pub more_skips : (old new : Machine) → Steps old More new → Skips old new
+more_skips old new s = (s.0, s.2, s.3)
+
+pub skips_trans : (a b c : Machine) → Skips a b → Skips b c → Skips a c
+skips_trans a b c s t = (
+  (λ more switches f. s.0 more switches f ∙ t.0 more switches (rw s.1.finished f)),
+  record { count = t.1.count ∙ s.1.count; finished = t.1.finished ∙ s.1.finished; table = t.1.table ∙ s.1.table },
+  t.2 ∙ s.2,
+)
+
 last_name-push : (ts : List Token) (t : Token) (name : Option (List ℕ)) → last_name (ts ++ t ∷ []) name ≡ name_after_kind t.kind (last_name ts name)
 last_name-push [] t name = refl
 last_name-push (u ∷ ts) t name = last_name-push ts t (name_after_kind u.kind name)

@@ -902,6 +902,57 @@ impl<'a> Machine<'a> {
         }
     }
 
+    /// Reads a code point in a tag that no token can come of: none that may close the tag or begin a reference. Whether
+    /// there was one.
+    fn tag_on(&mut self, faults: &mut Faults) -> Result<bool, AllocError>
+        requires room { self.old.place + length self.old.input.queue.items < 2 ^ 64 }
+        ensures skips { OnOk result (Skips self.old self.new) }
+        ensures fewer { IfOk result (λ on. on ≡ true → length self.new.input.queue.items < length self.old.input.queue.items) }
+        ensures room { self.new.place + length self.new.input.queue.items ≤ self.old.place + length self.old.input.queue.items }
+        ensures left { length self.new.input.queue.items ≤ length self.old.input.queue.items }
+        ensures finished { self.new.input.finished ≡ self.old.input.finished }
+        ensures bounded { IsBounded self.old faults.old → OnOk result (IsBounded self.new faults.new) }
+        ensures within { IsBounded self.old faults.old → OnErr result (IsWithin self.new.place faults.new) }
+    {
+        let State::Tag(draft) = &mut self.state else {
+            return Ok(false);
+        };
+        let c = match self.input.peek(0) {
+            Peek::Wait => return Ok(false),
+            Peek::Is(None) => return Ok(false),
+            Peek::Is(Some(c)) => c,
+        };
+        if c == '>' || c == '/' || c == '&' {
+            return Ok(false);
+        }
+        faults.tag_char(draft, c, None, self.place);
+        match draft.read(c, None)? {
+            TagReading::More => {
+                self.pass(1);
+                Ok(true)
+            }
+            // Nothing but `>` and `/>` closes a tag.
+            TagReading::Closed(..) => Err(AllocError),
+        }
+    }
+
+    /// Reads on as long as no token can come of it.
+    fn read_on(&mut self, faults: &mut Faults) -> Result<(), AllocError>
+        requires room { self.old.place + length self.old.input.queue.items < 2 ^ 64 }
+        ensures skips { OnOk result (Skips self.old self.new) }
+        ensures room { self.new.place + length self.new.input.queue.items ≤ self.old.place + length self.old.input.queue.items }
+        ensures fewer { length self.new.input.queue.items ≤ length self.old.input.queue.items }
+        ensures finished { self.new.input.finished ≡ self.old.input.finished }
+        ensures bounded { IsBounded self.old faults.old → OnOk result (IsBounded self.new faults.new) }
+        ensures within { IsBounded self.old faults.old → OnErr result (IsWithin self.new.place faults.new) }
+    {
+        self.copy_front(faults)?;
+        'reading: while self.tag_on(faults)? {
+            self.copy_front(faults)?;
+        }
+        Ok(())
+    }
+
     /// The next token; nothing where more input is wanted, or all was given.
     pub(crate) fn next(&mut self, faults: &mut Faults) -> Result<Option<Token>, AllocError>
         requires room { self.old.place + length self.old.input.queue.items < 2 ^ 64 }
@@ -914,7 +965,7 @@ impl<'a> Machine<'a> {
         ensures within { IsBounded self.old faults.old → OnErr result (IsWithin self.new.place faults.new) }
     {
         loop {
-            self.copy_front(faults)?;
+            self.read_on(faults)?;
             if let State::Ended = &self.state {
                 return Ok(None);
             }
