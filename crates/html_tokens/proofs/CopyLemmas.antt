@@ -1,12 +1,12 @@
 -- Fronts that are copied as they stand.
-use Rattle.std.proofs.Common.{◌≡◌, ℕ, suc, ◌+◌, ◌≤◌, List, [], ◌∷◌, ◌++◌, length, take, drop, Bool, true, false, not, ◌||◌, ◌==◌, Option, None, refl, ap, sym, ◌∙◌, arith, append_assoc, append-nil, zero-add, length-drop}
+use Rattle.std.proofs.Common.{◌≡◌, ℕ, suc, ◌+◌, ◌≤◌, List, [], ◌∷◌, ◌++◌, length, take, drop, Bool, true, false, not, ◌||◌, ◌==◌, None, refl, ap, sym, ◌∙◌, arith, append_assoc, append-nil, zero-add}
 use Rattle.std.proofs.lemmas.List.{take-append-drop, length-take-le}
 use Rattle.std.proofs.lemmas.Bool.{false≢true}
 use Rattle.html_charref.specs.declared.table.Row.{Row}
 use Rattle.html_tokens.specs.Copied.{AllPass, is_copied, copied_in, copied_by, CopiesTag, CopiesComment, cut_by}
 use Rattle.std.proofs.Common.{Result, Ok, Err}
 use Rattle.std.specs.Result.{IfOk}
-use Rattle.html_tokens.specs.Cut.{Cut, cut, shown, ends_unquoted, is_space}
+use Rattle.html_tokens.specs.Cut.{Cut, cut, shown, ends_unquoted}
 use Rattle.html_tokens.specs.Draft.{draft_cut, mark_of, passed}
 use Rattle.html_tokens.specs.declared.comment.CommentDraft.{CommentDraft}
 use Rattle.html_tokens.specs.declared.comment.CommentKind.{CommentKind}

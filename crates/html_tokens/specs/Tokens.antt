@@ -1,5 +1,5 @@
 -- The tokens of a text: it is cut into pieces, each a tag, a comment or a front of text.
-use Rattle.std.specs.Prelude.{ℕ, zero, suc, ◌+◌, ◌-◌, List, [], ◌∷◌, ◌++◌, length, map, drop, Bool, true, false, ◌&&◌, ◌||◌, ◌==◌, cond, Option, Some, None, unwrap_or, slice_get, is_none}
+use Rattle.std.specs.Prelude.{ℕ, zero, suc, ◌+◌, ◌-◌, List, [], ◌∷◌, ◌++◌, length, map, drop, Bool, true, false, ◌&&◌, ◌||◌, cond, Option, Some, None, unwrap_or, slice_get, is_none}
 use Rattle.html_tokens.specs.Cut.{cut, is, comment_mark, greater_mark, shown, passes}
 use Rattle.html_tokens.specs.Tag.{Tag, tag_of, between}
 use Rattle.html_tokens.specs.Doctype.{Doctype, doctype_of, spells_word, doctype_word}

@@ -1,4 +1,4 @@
-use Rattle.std.proofs.Common.{◌+◌, ◌<◌, ◌++◌, ◌∷◌, [], ap, arith, length, take, append_assoc, sym, ◌∙◌, List, ℕ}
+use Rattle.std.proofs.Common.{◌++◌, ◌∷◌, [], ap, arith, take, append_assoc, sym, ◌∙◌, List, ℕ}
 use Rattle.std.proofs.lemmas.List.{take_more}
 use Rattle.html_tokens.specs.Copied.{is_copied}
 use Rattle.html_tokens.proofs.CopyLemmas.{AllPass-push}

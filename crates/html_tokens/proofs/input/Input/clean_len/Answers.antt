@@ -1,4 +1,4 @@
-use Rattle.std.proofs.Common.{◌+◌, arith}
+use Rattle.std.proofs.Common.{arith}
 use Rattle.std.proofs.lemmas.List.{take_more}
 use Rattle.html_tokens.specs.Runs.{is_plain}
 use Rattle.html_tokens.proofs.CopyLemmas.{AllPass-push}
