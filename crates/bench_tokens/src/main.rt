@@ -83,9 +83,10 @@ fn count(alloc: Global, table: &EntityTable, text: &[char]) -> Result<Counts, To
     let mut tokens = 0u64;
     // There is at most one token more than code points.
     for _ in 0..=text.len() {
-        if tokenizer.next()?.is_some() {
-            tokens = tokens.wrapping_add(1);
+        if tokenizer.next()?.is_none() {
+            break;
         }
+        tokens = tokens.wrapping_add(1);
     }
     Ok(Counts {
         code_points: text.len(),
