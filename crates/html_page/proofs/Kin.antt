@@ -1,6 +1,7 @@
 -- What stands just below a node.
 use Rattle.std.proofs.Common.{◌≡◌, ◌≢◌, ℕ, ◌<◌, Bool, true, false, cond, eqb, List, [], ◌∷◌, length, Option, Some, None, ◌⊎◌, inl, inr, refl, sym, ◌∙◌, ap, arith}
 use Rattle.std.proofs.lemmas.Bool.Decides.{nat_tests}
+use Rattle.html_names.specs.declared.tag.Tag.{Tag}
 use Rattle.html_names.specs.Names.{tag_of}
 use Rattle.html_names.specs.Sets.{is_void as void, is_raw_text}
 use Rattle.html_arena.specs.Below.{above, above_of, hides, kids, or_self}
@@ -28,6 +29,10 @@ eqb-self x = grind (arith, nat_tests)
 cases_option : (o : Option ℕ) → (o ≡ None) ⊎ ((x : ℕ) × (o ≡ Some x))
 cases_option None = inl refl
 cases_option (Some x) = inr (x, refl)
+
+pub void_name : (g : Tag) (n : List ℕ) → g ≡ tag_of n → void g ≡ is_void_name n
+unfolding is_void_name
+void_name g n h = ap void h
 
 -- the code tells a void element, and one with raw text, by its tag
 pub void_is : (d : NodeData) → tag_in d ≡ tag_of (name_in d) → void (tag_in d) ≡ is_void (label_for d)
