@@ -1,5 +1,5 @@
 -- What an arena shows below a root is one forest.
-use Rattle.std.proofs.Common.{◌≡◌, ℕ, ◌<◌, true, List, [], ◌∷◌, length, inl, inr, refl, sym, ◌∙◌, ap, subst}
+use Rattle.std.proofs.Common.{◌≡◌, ℕ, ◌<◌, true, false, cond, List, [], ◌∷◌, length, inl, inr, refl, sym, ◌∙◌, ap, append-nil}
 use Rattle.html_arena.specs.Below.{IsForestAt, below, kids}
 use Rattle.html_arena.specs.Data.{host_in}
 use Rattle.html_arena.specs.Forest.{Forest, relabel}
@@ -7,7 +7,12 @@ use Rattle.html_arena.specs.Forest.Forest.{empty, tree}
 use Rattle.html_arena.specs.Siblings.{has}
 use Rattle.html_arena.specs.Tree.{Tree, WellFormed, children_of, label_of}
 use Rattle.html_arena.specs.declared.walk.Show.TheVariants.{All}
+use Rattle.html_page.specs.declared.profile.Profile.{Profile}
+use Rattle.html_page.specs.Forest.{single}
+use Rattle.html_page.specs.Html.{html_of, is_raw, is_void}
 use Rattle.html_page.specs.Label.{Label}
+use Rattle.html_page.specs.Label.Label.{document}
+use Rattle.html_page.specs.Serialised.{forest_below, html_below}
 use Rattle.html_page.specs.Shows.{Shows, label_at}
 use Rattle.html_page.proofs.Kin.{cases_eqb, eqb-self}
 
@@ -42,3 +47,9 @@ module _ (t : Tree) where
 
     pub shows_below : (r : ℕ) → IsForestAt All t (kids All t r) (below All t r) → Shows t (kids All t r) (relabel (label_at t) (below All t r))
     shows_below r a = shows_forest (below All t r) (kids All t r) (inside r) a
+
+-- the text of a document
+pub document_text : (p : Profile) (t : Tree) (r : ℕ) (inner : Forest Label) → label_at t r ≡ document → inner ≡ forest_below t r
+    → html_of p false (single document inner) ≡ html_below p t r
+document_text p t r inner h e =
+    append-nil (html_of p false inner) ∙ ap (html_of p false) e ∙ ap (λ (l : Label). cond (is_void l) [] (html_of p (is_raw l) (forest_below t r))) (sym h)
