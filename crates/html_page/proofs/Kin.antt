@@ -1,5 +1,5 @@
 -- What stands just below a node.
-use Rattle.std.proofs.Common.{◌≡◌, ◌≢◌, ℕ, ◌<◌, Bool, true, false, cond, eqb, List, [], ◌∷◌, length, Option, Some, None, ◌⊎◌, inl, inr, refl, sym, ◌∙◌, ap, arith}
+use Rattle.std.proofs.Common.{◌≡◌, ◌≢◌, ℕ, ◌<◌, Bool, true, false, eqb, List, length, Option, Some, None, ◌⊎◌, inl, inr, refl, ◌∙◌, ap, arith}
 use Rattle.std.proofs.lemmas.Bool.Decides.{nat_tests}
 use Rattle.html_names.specs.declared.tag.Tag.{Tag}
 use Rattle.html_names.specs.Names.{tag_of}
@@ -7,7 +7,7 @@ use Rattle.html_names.specs.Sets.{is_void as void, is_raw_text}
 use Rattle.html_arena.specs.Below.{above, above_of, hides, kids, or_self}
 use Rattle.html_arena.specs.Data.{contents_in, host_in, name_in, tag_in}
 use Rattle.html_arena.specs.Siblings.{has}
-use Rattle.html_arena.specs.Tree.{Tree, WellFormed, children_of, label_of, parent_of}
+use Rattle.html_arena.specs.Tree.{Tree, WellFormed, children_of, label_of}
 use Rattle.html_arena.specs.declared.data.NodeData.{NodeData}
 use Rattle.html_arena.specs.declared.data.NodeData.TheVariants as node
 use Rattle.html_arena.specs.declared.walk.Show.{Show}

@@ -1,11 +1,10 @@
 -- What an arena shows below a root is one forest.
 use Rattle.std.proofs.Common.{◌≡◌, ℕ, ◌<◌, true, false, cond, List, [], ◌∷◌, length, inl, inr, refl, sym, ◌∙◌, ap, append-nil}
 use Rattle.html_arena.specs.Below.{IsForestAt, below, kids}
-use Rattle.html_arena.specs.Data.{host_in}
 use Rattle.html_arena.specs.Forest.{Forest, relabel}
 use Rattle.html_arena.specs.Forest.Forest.{empty, tree}
 use Rattle.html_arena.specs.Siblings.{has}
-use Rattle.html_arena.specs.Tree.{Tree, WellFormed, children_of, label_of}
+use Rattle.html_arena.specs.Tree.{Tree, WellFormed}
 use Rattle.html_arena.specs.declared.walk.Show.TheVariants.{All}
 use Rattle.html_page.specs.declared.profile.Profile.{Profile}
 use Rattle.html_page.specs.Forest.{single}

@@ -21,9 +21,9 @@ use Rattle.html_page.specs.declared.profile.Profile.{Profile}
 use Rattle.html_page.specs.declared.profile.Profile.TheVariants.{One, Two}
 use Rattle.html_page.specs.Html.{attribute, closing, end_tag, escaped_in_text, escaped_in_value, html_of, is_raw, is_void, is_void_name, opening, start_tag, text_or_empty}
 use Rattle.html_page.specs.Label.{label_for}
-use Rattle.html_page.specs.Serialised.{HasNames, IsNamed, forest_below, html_below, most_written}
+use Rattle.html_page.specs.Serialised.{HasNames, IsNamed, html_below, most_written}
 use Rattle.html_page.specs.Shows.{label_at}
-use Rattle.html_page.proofs.Kin.{cases_bool, cases_eqb, eqb-self}
+use Rattle.html_page.proofs.Kin.{cases_eqb, eqb-self}
 
 -- at most so much is written for a node
 abbrev cost : NodeData → ℕ
