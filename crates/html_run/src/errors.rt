@@ -1,7 +1,7 @@
 //! The parse errors of an input.
 
-use html_page::{EntityTable, ParseError, Source, TokenList, tokenize};
 use html_device::{ReadAllError, read_all};
+use html_page::{EntityTable, ParseError, Source, TokenList, tokenize};
 use html_tokens::{Fault, TextMode};
 use std::alloc::Global;
 use std::io;
@@ -21,7 +21,13 @@ pub(crate) fn tokens_from<R: Source>(
         Err(ReadAllError::Read) => return Err(ParseError::Read),
         Err(ReadAllError::OutOfMemory) => return Err(ParseError::OutOfMemory),
     };
-    tokenize(alloc, table, TextMode::Data, None, without_mark(bytes.as_slice()))
+    tokenize(
+        alloc,
+        table,
+        TextMode::Data,
+        None,
+        without_mark(bytes.as_slice()),
+    )
 }
 
 /// The bytes after a leading byte order mark.

@@ -11,15 +11,15 @@ ghost use Rattle.html_page.specs.Normalised.{IsNormalised};
 ghost use Rattle.html_page.specs.Small.{IsSmallText};
 
 use crate::errors::{print_errors, tokens_from};
-use crate::refusal::{TableRefusal, outcome};
 use crate::printing::ToSink;
+use crate::refusal::{TableRefusal, outcome};
 use crate::status::{DONE, REFUSED};
 use crate::tree::print_tree;
 use html_job::{Command, Job};
-use html_tokens::Fault;
 use html_page::{
     EntityError, EntityTable, Page, ParseError, Profile, Sink, Source, normalise, parse_from,
 };
+use html_tokens::Fault;
 use std::alloc::Global;
 use std::io;
 use std::io::{BufWriter, ErrorKind, Write};

@@ -155,7 +155,8 @@ fn name_of(node: &NodeData) -> &str
     match node {
         NodeData::Element(element) => element.name.as_str(),
         NodeData::Doctype {
-            name: Some(name), ..
+            name: Some(name),
+            ..
         } => name.as_str(),
         NodeData::Doctype { name: None, .. } => "",
         NodeData::Document => "",
