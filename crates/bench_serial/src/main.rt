@@ -86,9 +86,9 @@ fn measure(rt: &HostRuntime, shape: Shape, given: Option<u32>) -> anyhow::Result
     }
     let mut large = shape;
     if shape.elements > 1 {
-        large.elements = shape.elements * times;
+        large.elements = shape.elements.saturating_mul(times);
     } else {
-        large.copies = shape.copies * times;
+        large.copies = shape.copies.saturating_mul(times);
     }
     build(rt.alloc(), &mut page.arena, root, large)?;
     let nodes = page.arena.len();
