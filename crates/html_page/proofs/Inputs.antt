@@ -76,6 +76,7 @@ text-page text bytes n page h same count few =
       is_text = g.is_text;
       plain = g.plain;
       root_in = g.root_in;
+      root_is = g.root_is;
       n_is = g.n_is ∙ count;
       within_limit = few;
       few_nodes = omega (arith, g.few_nodes, newlines-few (code_points bytes));
