@@ -1,0 +1,41 @@
+use Rattle.std.proofs.Common.{rules, ◌≡◌, ℕ, ◌+◌, ◌<◌, ◌∷◌, [], ◌++◌, List, eqb, length, slice_index, None, OnErr, OnOk, true, false, IfSome, ◌-◌, ◌*◌, ◌≤◌, ◌/◌, ◌%◌, Bool, nat_lt, slice_index_or, slice_set, bit_and, bit_or, Fits, w8, w32, w64, Bor, MutBor}
+use Rattle.html_arena.specs.declared.marks.Mark.TheVariants.{OnStack}
+use Rattle.html_arena.specs.Siblings.{has, last_of}
+use Rattle.html_arena.specs.Tree.{more, named, tag_at, with_marked}
+use Rattle.html_open.specs.Entries.{removal_steps}
+use Rattle.html_open.specs.Lists.{above, last_index, looked, up_to, with_last, without_last}
+use Rattle.html_open.specs.Opened.{AreNodes, CanPush, IsMarked, IsOpen, all_unmarked, charged, open_at, unmarked}
+use Rattle.html_open.specs.Scopes.{ends, implied_steps, in_scope, is_excepted, is_to_pop, match_or_end, one_if_some, stays}
+use Rattle.html_open.proofs.stack.OpenStack.implied.Goals as goal
+
+-- src/stack.rt:184:9
+pub popping-init : goal.popping-init
+popping-init c = ?
+
+-- src/stack.rt:184:25
+pub is_to_pop-requires : goal.is_to_pop-requires
+is_to_pop-requires c = ?
+
+-- src/stack.rt:185:21
+pub pop-requires : goal.pop-requires
+pop-requires c = ?
+
+-- src/stack.rt:184:9
+pub popping-smaller : goal.popping-smaller
+popping-smaller c = ?
+
+-- src/stack.rt:184:9
+pub popping-preserved : goal.popping-preserved
+popping-preserved c = ?
+
+-- src/stack.rt:178:5
+pub returns-clause-stack : goal.returns-clause-stack
+returns-clause-stack c = ?
+
+-- src/stack.rt:178:5
+pub returns-clause-tree : goal.returns-clause-tree
+returns-clause-tree c = ?
+
+-- src/stack.rt:178:5
+pub returns-clause-keeps : goal.returns-clause-keeps
+returns-clause-keeps c = ?

@@ -1,0 +1,9 @@
+pub mod Attributes
+pub mod Entries
+pub mod Lists
+pub mod Opened
+pub mod Placing
+pub mod Refusals
+pub mod Reopening
+pub mod Scopes
+pub mod Searches

@@ -1,0 +1,160 @@
+// The list of active formatting elements.
+ghost use Rattle.std.specs.Prelude.{◌≡◌, ℕ, ◌+◌, ◌<◌, ◌∷◌, [], ◌++◌, length, OnErr, OnOk, true, false};
+ghost use Rattle.html_arena.specs.declared.marks.Mark.TheVariants.{InList};
+ghost use Rattle.html_arena.specs.Tree.{with_marked};
+ghost use Rattle.html_open.specs.Lists.{IsBelow, below, looked};
+ghost use Rattle.html_open.specs.Opened.{AreNodes, CanList, IsMarked, IsOpen, all_unmarked, charged, open_at, unmarked};
+
+use crate::entry::Entry;
+use crate::error::OpenError;
+use crate::pushing::{base_steps, compared, displaced};
+use crate::search::{SoughtEntry, after, last_entry, steps_to};
+use html_arena::{Arena, Mark, NodeId};
+use html_names::Tag;
+use std::alloc::Global;
+use std::marker::Model;
+
+/// The list of active formatting elements and markers, the latest entry last.
+#[derive(Drop)]
+pub struct FormattingList {
+    pub(crate) entries: Vec<Entry>,
+}
+
+impl Model for FormattingList {
+    ghost use Rattle.std.specs.Prelude.{List};
+    ghost use Rattle.html_open.specs.declared.entry.Entry.{Entry};
+
+    ghost Value = { List Entry };
+
+    ghost view = { λ l. l.entries.items };
+}
+
+impl FormattingList {
+    ghost use Rattle.html_open.specs.Entries.{cleared, displaced, has_node, is_marker, is_node, last_named, named_or_marker, node_at, nodes_of, push_steps, pushed, removal_steps, without_index, without_node};
+    ghost use Rattle.html_open.specs.declared.entry.Entry.TheVariants.{Marker};
+
+    /// An empty list, which takes no memory.
+    pub fn new(alloc: Global) -> FormattingList
+        ensures { result ≡ [] }
+    {
+        FormattingList {
+            entries: Vec::new(alloc),
+        }
+    }
+
+    /// Adds a formatting element; where three entries after the last marker have its name and its set of attributes, the earliest of
+    /// them goes. One step, one for each entry from the last back to the marker, the product of the numbers of attributes for each of
+    /// these that has its name, and, where one goes, one for it and one for each entry that is shifted.
+    pub fn push(&mut self, arena: &mut Arena, node: NodeId) -> Result<(), OpenError>
+        requires nodes_in { AreNodes arena.old (nodes_of self.old) }
+        requires node_in { node < length arena.old.labels }
+        ensures list { OnOk result (self.new ≡ pushed arena.old node self.old) }
+        ensures tree { OnOk result (arena.new ≡ charged (with_marked (unmarked arena.old InList (displaced arena.old node self.old)) InList node true) (push_steps arena.old node self.old)) }
+        ensures keeps { OnOk result ((s : _) → IsOpen (open_at s self.old arena.old) → CanList (open_at s self.old arena.old) node → IsOpen (open_at s self.new arena.new)) }
+        ensures same_list { OnErr result (self.new ≡ self.old) }
+        ensures same_tree { OnErr result (arena.new ≡ arena.old) }
+    {
+        let displaced = displaced(self.entries.as_slice(), arena, node);
+        let steps = base_steps(self.entries.as_slice(), arena, displaced);
+        let compared = compared(self.entries.as_slice(), arena, node);
+        if self.entries.push(Entry::Node(node)).is_err() {
+            return Err(OpenError::OutOfMemory);
+        }
+        self.take_out(arena, displaced);
+        arena.set_mark(node, Mark::InList, true);
+        arena.charge(steps);
+        arena.charge(compared);
+        Ok(())
+    }
+
+    /// Adds a marker. One step.
+    pub fn marker(&mut self, arena: &mut Arena) -> Result<(), OpenError>
+        ensures list { OnOk result (self.new ≡ self.old ++ Marker ∷ []) }
+        ensures tree { OnOk result (arena.new ≡ charged arena.old 1) }
+        ensures keeps { OnOk result ((s : _) → IsOpen (open_at s self.old arena.old) → IsOpen (open_at s self.new arena.new)) }
+        ensures same_list { OnErr result (self.new ≡ self.old) }
+        ensures same_tree { OnErr result (arena.new ≡ arena.old) }
+    {
+        if self.entries.push(Entry::Marker).is_err() {
+            return Err(OpenError::OutOfMemory);
+        }
+        arena.charge(1);
+        Ok(())
+    }
+
+    /// Takes entries off up to the last marker, that included, or all where there is none. Two steps for each.
+    pub fn clear_to_marker(&mut self, arena: &mut Arena)
+        requires { AreNodes arena.old (nodes_of self.old) }
+        ensures list { self.new ≡ below is_marker self.old }
+        ensures tree { arena.new ≡ charged (all_unmarked arena.old InList (cleared self.old)) (2 * looked is_marker self.old) }
+        ensures keeps { (s : _) → IsOpen (open_at s self.old arena.old) → IsOpen (open_at s self.new arena.new) }
+    {
+        'clearing: while let Some(entry) = self.entries.pop() {
+            arena.charge(2);
+            match entry.node() {
+                None => return,
+                Some(node) => arena.set_mark(node, Mark::InList, false),
+            }
+        }
+    }
+
+    /// The last entry of this name after the last marker. One step for each entry looked at.
+    pub fn last_named(&self, arena: &mut Arena, name: Tag) -> Option<NodeId>
+        requires { AreNodes arena.old (nodes_of self.now) }
+        ensures node { result ≡ last_named arena.old name self.now }
+        ensures steps { arena.new ≡ charged arena.old (looked (named_or_marker arena.old name) self.now) }
+    {
+        let entries = self.entries.as_slice();
+        let found = last_entry(entries, arena, &SoughtEntry::NamedOrMarker(name));
+        arena.charge(steps_to(entries.len(), found));
+        match found {
+            None => None,
+            Some(index) => entries[index].node(),
+        }
+    }
+
+    /// Takes out the entry of an element, if there is one. One step for each entry looked at, and where one is removed one for it and
+    /// one for each that is shifted.
+    pub fn remove(&mut self, arena: &mut Arena, node: NodeId)
+        requires nodes_in { AreNodes arena.old (nodes_of self.old) }
+        requires node_in { node < length arena.old.labels }
+        ensures list { self.new ≡ without_node node self.old }
+        ensures tree { arena.new ≡ charged (with_marked arena.old InList node false) (removal_steps (is_node node) self.old) }
+        ensures keeps { (s : _) → IsOpen (open_at s self.old arena.old) → IsOpen (open_at s self.new arena.new) }
+    {
+        let found = last_entry(self.entries.as_slice(), arena, &SoughtEntry::Node(node));
+        let looked = steps_to(self.entries.len(), found);
+        arena.set_mark(node, Mark::InList, false);
+        arena.charge(looked);
+        if let Some(index) = found {
+            arena.charge(looked);
+            let _ = self.entries.remove(index);
+        }
+    }
+
+    /// Whether an element is in the list, by its mark. One step.
+    pub fn contains(&self, arena: &mut Arena, node: NodeId) -> bool
+        requires node_in { node < length arena.old.labels }
+        requires marked { IsMarked arena.old InList (nodes_of self.now) }
+        ensures answer { result ≡ has_node node self.now }
+        ensures steps { arena.new ≡ charged arena.old 1 }
+    {
+        arena.charge(1);
+        arena.marked(node, Mark::InList)
+    }
+
+    /// Takes out the entry at an index, if there is one.
+    fn take_out(&mut self, arena: &mut Arena, index: Option<usize>)
+        requires nodes_in { AreNodes arena.old (nodes_of self.old) }
+        requires index_in { IsBelow (length self.old) index }
+        ensures list { self.new ≡ without_index self.old index }
+        ensures tree { arena.new ≡ unmarked arena.old InList (node_at self.old index) }
+    {
+        if let Some(index) = index {
+            if let Entry::Node(node) = self.entries[index] {
+                arena.set_mark(node, Mark::InList, false);
+            }
+            let _ = self.entries.remove(index);
+        }
+    }
+}

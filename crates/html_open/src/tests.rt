@@ -1,0 +1,1 @@
+// Each call with ample memory, on the smallest stacks and lists that show what it does; and with memory refused.
