@@ -13,8 +13,9 @@ use Rattle.html_arena.specs.Siblings.{has, Distinct}
 use Rattle.html_arena.specs.Tree.{Tree, label_of, tag_at, marked, marks_of, ancestors, with_marked}
 use Rattle.html_open.specs.declared.entry.Entry.{Entry}
 use Rattle.html_open.specs.declared.entry.Entry.TheVariants.{Marker, Node}
-use Rattle.html_open.specs.Entries.{is_node, nodes_of}
-use Rattle.html_open.specs.Opened.{Open, open_at, AreNodes, origin_at, IsOrdered, IsMarked, AreOneByOrigin, IsOpen, CanPush, charged, unmarked}
+use Rattle.html_open.specs.Entries.{is_node, node_in, nodes_of}
+use Rattle.html_open.specs.Opened.{Open, open_at, AreNodes, origin_at, IsOrdered, IsMarked, AreOneByOrigin, IsOpen, CanPush}
+use Rattle.html_open.specs.Marking.{charged, unmarked}
 use Rattle.html_open.specs.Lists.{above, below, with_last, without_last}
 use Rattle.html_open.proofs.Lists.{any-has}
 use Rattle.std.specs.List.{list_any}
@@ -365,7 +366,7 @@ split-last p (x ∷ xs) h = elim (cases_bool (list_any p xs)) [
   ]
 ]
 
-eqb-true : (x y : ℕ) → eqb x y ≡ true → x ≡ y
+pub eqb-true : (x y : ℕ) → eqb x y ≡ true → x ≡ y
 eqb-true x y e = grind (arith, nat_tests)
 
 pub remove-keeps : (s s' : List ℕ) (l : List Entry) (t t' : Tree) (c n : ℕ) → length t.marks ≡ length t.labels
@@ -381,7 +382,7 @@ remove-keeps s s' l t t' c n many e f k = elim (cases_bool (list_any (eqb c) s))
 ]
 
 -- the calls on the list
-nodes-append : (l m : List Entry) → nodes_of (l ++ m) ≡ nodes_of l ++ nodes_of m
+pub nodes-append : (l m : List Entry) → nodes_of (l ++ m) ≡ nodes_of l ++ nodes_of m
 nodes-append [] m = refl
 nodes-append (Marker ∷ l) m = nodes-append l m
 nodes-append (Node x ∷ l) m = ap (λ xs. x ∷ xs) (nodes-append l m)
@@ -446,3 +447,22 @@ push_list-keeps s l l' t t' c n many e f k p g =
     (whole_by s (nodes_of l ++ c ∷ []) (l ++ Node c ∷ []) (with_marked t InList c true) (nodes-append l (Node c ∷ []))
     (core-list s (nodes_of l) [] c t many (core_by s (nodes_of l ++ []) l t (sym (append-nil (nodes_of l))) k)
     (subst (λ (v : List ℕ). CanAdd v s t c) (sym (append-nil (nodes_of l))) p) g)))
+
+pub take-keeps : (s s' : List ℕ) (l : List Entry) (t t' : Tree) (o : Option ℕ) → length t.marks ≡ length t.labels
+    → s ≡ with_last s' o → t' ≡ unmarked t OnStack o → IsOpen (open_at s l t) → IsOpen (open_at s' l t')
+take-keeps s s' l t t' None many e f k = moved_stack s s' l t t' (sym e) f k
+take-keeps s s' l t t' (Some c) many e f k =
+    moved_stack s' s' l (with_marked t OnStack c false) t' refl f
+    (whole s' l (with_marked t OnStack c false)
+    (subst (λ (v : List ℕ). Core v (nodes_of l) (with_marked t OnStack c false)) (append-nil s')
+    (core-drop_stack s' [] (nodes_of l) c t many (core (open_at (s' ++ c ∷ []) l t) (subst (λ (v : List ℕ). IsOpen (open_at v l t)) e k)))))
+
+pub take_list-keeps : (s : List ℕ) (l l' : List Entry) (t t' : Tree) (e : Entry) → length t.marks ≡ length t.labels
+    → l ≡ l' ++ e ∷ [] → t' ≡ unmarked t InList (node_in (Some e)) → IsOpen (open_at s l t) → IsOpen (open_at s l' t')
+take_list-keeps s l l' t t' Marker many e f k =
+    moved_list s l' l' t t' refl f
+    (whole_by s (nodes_of l) l' t (sym (ap nodes_of e ∙ nodes-append l' (Marker ∷ []) ∙ append-nil (nodes_of l'))) (core (open_at s l t) k))
+take_list-keeps s l l' t t' (Node c) many e f k =
+    moved_list s l' l' (with_marked t InList c false) t' refl f
+    (whole_by s (nodes_of l' ++ []) l' (with_marked t InList c false) (sym (append-nil (nodes_of l')))
+    (core-drop_list s (nodes_of l') [] c t many (core_by s (nodes_of l' ++ c ∷ []) l t (ap nodes_of e ∙ nodes-append l' (Node c ∷ [])) k)))

@@ -1,2 +1,4 @@
 mod Lists
 mod Keeps
+mod Popping
+mod Naming

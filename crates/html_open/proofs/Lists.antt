@@ -1,8 +1,8 @@
 -- What one more element at the end does to what is read from the end.
-use Rattle.std.proofs.Common.{◌≡◌, ℕ, zero, suc, ◌+◌, ◌-◌, ◌<◌, ◌≤◌, Bool, true, false, cond, eqb, not, ◌&&◌, ◌||◌, List, [], ◌∷◌, ◌++◌, length, length-append, take, drop, get_or, Option, Some, None, ◌⊎◌, inl, inr, refl, sym, ◌∙◌, ap, subst, append_assoc, arith, rules}
+use Rattle.std.proofs.Common.{◌≡◌, ℕ, zero, suc, ◌+◌, ◌-◌, ◌*◌, ◌<◌, ◌≤◌, Bool, true, false, cond, eqb, not, ◌&&◌, ◌||◌, List, [], ◌∷◌, ◌++◌, length, length-append, take, drop, get_or, Option, Some, None, ◌⊎◌, inl, inr, refl, sym, ◌∙◌, ap, subst, append_assoc, arith, rules}
 use Rattle.std.specs.List.{list_any, remove}
 use Rattle.std.proofs.lemmas.List.{take_more, length-take}
-use Rattle.html_open.specs.Lists.{above, up_to, below, last_where, looked, last_index, IsBelow, steps_down, without_last}
+use Rattle.html_open.specs.Lists.{above, up_to, below, last_where, looked, last_index, IsBelow, after_index, removal, steps_down, without_last}
 use Rattle.html_open.specs.Scopes.{in_scope}
 use Rattle.html_open.specs.Entries.{nodes_of, removal_steps}
 use Rattle.std.proofs.lemmas.Bool.Decides.{nat_tests}
@@ -174,6 +174,29 @@ module _ {X : Type 0} (p : X → Bool) where
     ]
   ]
 
+  pub not_any : (xs : List X) → last_index p xs ≡ None → list_any p xs ≡ false
+  not_any xs h = elim (cases (list_any p xs)) [
+    | inl e ↦ absurd (let m = rw e at h in cc)
+    | inr e ↦ e
+  ]
+
+  none-up_to : (xs : List X) → list_any p xs ≡ false → up_to p xs ≡ []
+  none-up_to [] h = refl
+  none-up_to (x ∷ xs) h = elim (cases (p x)) [
+    | inl f ↦ absurd (let g : list_any p (x ∷ xs) ≡ true = rw f refl in cc)
+    | inr f ↦ (let g : list_any p xs ≡ false = rw f at h in rw (g, f) refl)
+  ]
+
+  up_to-take : (xs : List X) → list_any p xs ≡ true → up_to p xs ≡ take (suc (length (below p xs))) xs
+  up_to-take [] h = absurd cc
+  up_to-take (x ∷ xs) h = elim (cases (list_any p xs)) [
+    | inl e ↦ rw e (ap (λ ys. x ∷ ys) (up_to-take xs e))
+    | inr e ↦ elim (cases (p x)) [
+      | inl f ↦ rw (e, f) refl
+      | inr f ↦ absurd (let g : list_any p (x ∷ xs) ≡ false = rw (f, e) refl in cc)
+    ]
+  ]
+
   pub last_index-any : (xs : List X) (i : ℕ) → last_index p xs ≡ Some i → (list_any p xs ≡ true) × (length (below p xs) ≡ i)
   last_index-any xs i h = elim (cases (list_any p xs)) [
     | inl e ↦ (e, (let m = rw e at h in cc))
@@ -207,6 +230,45 @@ module _ {X : Type 0} (p : X → Bool) where
 
   pub last_index-le : (xs : List X) (i : ℕ) → last_index p xs ≡ Some i → i ≤ length xs
   last_index-le xs i h = (let k = looked-some xs i h in omega (arith, k.1))
+
+  -- the same by the index after the last one that passes
+  pub after-above : (xs : List X) (o : Option ℕ) → o ≡ last_index p xs → drop (after_index o) xs ≡ above p xs
+  after-above xs None h = sym (none-above xs (not_any xs (sym h)))
+  after-above xs (Some i) h =
+      let a = last_index-any xs i (sym h) in
+      let k : i + 1 ≡ suc (length (below p xs)) = (let b = a.1 in omega arith) in
+      ap (λ n. drop n xs) k ∙ sym (above-drop xs a.0)
+
+  pub after-up_to : (xs : List X) (o : Option ℕ) → o ≡ last_index p xs → take (after_index o) xs ≡ up_to p xs
+  after-up_to xs None h = sym (none-up_to xs (not_any xs (sym h)))
+  after-up_to xs (Some i) h =
+      let a = last_index-any xs i (sym h) in
+      let k : i + 1 ≡ suc (length (below p xs)) = (let b = a.1 in omega arith) in
+      ap (λ n. take n xs) k ∙ sym (up_to-take xs a.0)
+
+  -- how many elements there are after it
+  pub after-length : (xs : List X) (o : Option ℕ) (n : ℕ) → n ≡ length xs → o ≡ last_index p xs → (n - after_index o ≡ length (above p xs)) × (after_index o ≤ n)
+  after-length xs None n e h = (let k = ap length (none-above xs (not_any xs (sym h))) in omega (arith, k), omega arith)
+  after-length xs (Some i) n e h =
+      let a = last_index-any xs i (sym h) in
+      let b = a.1 in
+      let m = any-length xs a.0 in
+      (omega (arith, m, b), omega (arith, m, b))
+
+  pub removal-is : (xs : List X) (o : Option ℕ) (n : ℕ) → n ≡ length xs → o ≡ last_index p xs → removal n o ≡ removal_steps p xs
+  removal-is xs None n e h = e ∙ sym (looked-none xs (sym h)) ∙ sym (removal-none xs (sym h))
+  removal-is xs (Some i) n e h =
+      let k = looked-some xs i (sym h) in
+      let m = removal-some xs i (sym h) in
+      omega (arith, k.0, m)
+
+  -- two for each element after the last one that passes, and one for that one
+  pub twice-above : (xs : List X) (o : Option ℕ) (n : ℕ) → n ≡ length xs → o ≡ last_index p xs
+      → (n - after_index o) + steps_down n o ≡ 2 * length (above p xs) + cond (list_any p xs) 1 0
+  twice-above xs o n e h =
+      let a = after-length xs o n e h in
+      let s = steps_index xs o n e h in
+      omega (arith, a.0, s)
 
 pub any-has : (x : ℕ) (xs : List ℕ) → list_any (eqb x) xs ≡ has x xs
 any-has x [] = refl
@@ -297,3 +359,9 @@ node-at (Node y ∷ es) (suc k) x d h l =
 pub entry-at : (t : Tree) (es : List Entry) (k : ℕ) (d e : Entry) → AreNodes t (nodes_of es) → k < length es → get_or es k d ≡ e → IsEntry t e
 entry-at t es k d Marker h l e = tt
 entry-at t es k d (Node x) h l e = h x (node-at es k x d e l)
+
+-- what stands at an index does not depend on the default
+pub get_or-default : {X : Type 0} (xs : List X) (k : ℕ) (d e : X) → k < length xs → get_or xs k d ≡ get_or xs k e
+get_or-default [] k d e h = absurd (omega arith)
+get_or-default (x ∷ xs) zero d e h = refl
+get_or-default (x ∷ xs) (suc k) d e h = get_or-default xs k d e (omega arith)

@@ -9,6 +9,7 @@ use Rattle.html_arena.specs.Tree.{Tree, label_of, tag_at, named}
 use Rattle.html_open.specs.declared.entry.Entry.{Entry}
 use Rattle.html_open.specs.declared.entry.Entry.TheVariants.{Marker, Node}
 use Rattle.html_open.specs.Attributes.{same_attrs}
+use Rattle.html_open.specs.Marking.{unmarked}
 use Rattle.html_open.specs.Lists.{above, up_to, below, last_where, looked, first_where, without_first, without_last, after_first, IsBelow, steps_after}
 
 abbrev pub is_marker : Entry → Bool
@@ -112,3 +113,9 @@ pub record IsFirst (p : Entry → Bool) (list : List Entry) (i : ℕ) : Type 0 w
   pub first_is : first_where p list ≡ Some (slice_index_or list i Marker)
   pub without_is : without_first p list ≡ remove list i
   pub after_is : length (after_first p list) + i + 1 ≡ length list
+
+-- the last entry was taken off, and where it was an element its mark
+pub record IsTaken (old new : List Entry) (before after : Tree) : Type 0 where
+  pub entry : Entry
+  pub list_was : old ≡ new ++ entry ∷ []
+  pub tree_is : after ≡ unmarked before InList (node_in (Some entry))

@@ -1,6 +1,7 @@
 pub mod Attributes
 pub mod Entries
 pub mod Lists
+pub mod Marking
 pub mod Opened
 pub mod Placing
 pub mod Refusals

@@ -1,6 +1,6 @@
 -- Lists that are read from their last element, as the stack of open elements is from the current node (13.2.4.2): what stands up to the
 -- last element that passes a test, and after it.
-use Rattle.std.specs.Prelude.{ℕ, ◌+◌, ◌-◌, ◌<◌, Bool, true, false, cond, List, [], ◌∷◌, ◌++◌, length, Option, Some, None}
+use Rattle.std.specs.Prelude.{ℕ, ◌+◌, ◌-◌, ◌*◌, ◌<◌, Bool, true, false, cond, List, [], ◌∷◌, ◌++◌, length, Option, Some, None}
 use Rattle.std.specs.List.{list_any}
 
 -- what stands after the last element that passes, or all where none does
@@ -74,3 +74,8 @@ after_index (Some i) = i + 1
 abbrev pub steps_after : ℕ → Option ℕ → ℕ
 steps_after n None = 0
 steps_after n (Some i) = n - i
+
+-- the steps of a removal from a list of n: the elements looked at, the one removed and those shifted
+abbrev pub removal : ℕ → Option ℕ → ℕ
+removal n None = n
+removal n (Some i) = 2 * (n - i)

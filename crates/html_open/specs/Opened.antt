@@ -1,5 +1,5 @@
 -- The stack of open elements, the list of active formatting elements and the tree together: what is true of them between calls (13.2.4).
-use Rattle.std.specs.Prelude.{◌≡◌, ℕ, ◌<◌, Bool, true, false, cond, List, [], ◌∷◌, ◌++◌, length, Option, Some, None}
+use Rattle.std.specs.Prelude.{◌≡◌, ℕ, ◌<◌, true, false, List, [], ◌∷◌, length}
 use Rattle.html_names.specs.Sets.{is_formatting}
 use Rattle.html_arena.specs.declared.data.Origin.{Origin}
 use Rattle.html_arena.specs.declared.data.Origin.TheVariants.{Token}
@@ -7,7 +7,7 @@ use Rattle.html_arena.specs.declared.marks.Mark.{Mark}
 use Rattle.html_arena.specs.declared.marks.Mark.TheVariants.{OnStack, InList}
 use Rattle.html_arena.specs.Data.{IsElement, origin_in}
 use Rattle.html_arena.specs.Siblings.{has, Distinct}
-use Rattle.html_arena.specs.Tree.{Tree, more, with_marked, label_of, tag_at, marked, ancestors}
+use Rattle.html_arena.specs.Tree.{Tree, label_of, tag_at, marked, ancestors}
 use Rattle.html_open.specs.declared.entry.Entry.{Entry}
 use Rattle.html_open.specs.Entries.{has_node, nodes_of}
 
@@ -76,17 +76,3 @@ pub record CanList (o : Open) (x : ℕ) : Type 0 where
   pub absent : has_node x o.list ≡ false
   pub origin_new : (i y : ℕ) → has_node y o.list ≡ true → origin_at o.tree x ≡ Token i → origin_at o.tree y ≡ Token i → ⊥
   pub shared : (i y : ℕ) → has y o.stack ≡ true → origin_at o.tree x ≡ Token i → origin_at o.tree y ≡ Token i → x ≡ y
-
--- k steps are counted
-abbrev pub charged : Tree → ℕ → Tree
-charged t k = record t { steps = more t.steps k }
-
--- a node, if there is one, has no longer a mark
-abbrev pub unmarked : Tree → Mark → Option ℕ → Tree
-unmarked t m None = t
-unmarked t m (Some x) = with_marked t m x false
-
--- none of these nodes has any longer a mark
-abbrev pub all_unmarked : Tree → Mark → List ℕ → Tree
-all_unmarked t m [] = t
-all_unmarked t m (x ∷ xs) = with_marked (all_unmarked t m xs) m x false

@@ -13,7 +13,8 @@ use Rattle.html_open.specs.declared.entry.Entry.{Entry}
 use Rattle.html_open.specs.declared.entry.Entry.TheVariants.{Marker, Node}
 use Rattle.html_open.specs.Entries.{nodes_of}
 use Rattle.html_open.specs.Lists.{above, last_where, up_to}
-use Rattle.html_open.specs.Opened.{Open, charged}
+use Rattle.html_open.specs.Marking.{charged}
+use Rattle.html_open.specs.Opened.{Open}
 use Rattle.html_open.specs.declared.places.Place.{Place}
 use Rattle.html_open.specs.Placing.{parent_at, place_of, place_steps, put}
 

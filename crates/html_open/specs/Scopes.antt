@@ -19,24 +19,18 @@ ends t scope x = ends_scope scope (tag_at t x)
 abbrev pub match_or_end : Tree → Tag → Scope → ℕ → Bool
 match_or_end t name scope x = named t name x || ends t scope x
 
--- the name of an element is not the excepted one
+-- the tag is the excepted one
 abbrev pub is_excepted : Option Tag → Tag → Bool
 is_excepted None g = false
 is_excepted (Some name) g = is_same g name
 
 -- an element stays unless its end tag is implied and its name is not the excepted one
+abbrev pub tag_stays : Option Tag → Tag → Bool
+tag_stays except g = not (is_implied g) || is_excepted except g
+
 abbrev pub stays : Tree → Option Tag → ℕ → Bool
-stays t except x = not (is_implied (tag_at t x) && not (is_excepted except (tag_at t x)))
+stays t except x = tag_stays except (tag_at t x)
 
 -- one for each look at a current node, and one for each that is popped
 abbrev pub implied_steps : Tree → Option Tag → List ℕ → ℕ
 implied_steps t except stack = 2 * length (above (stays t except) stack) + cond (list_any (stays t except) stack) 1 0
-
--- a current node that does not stay
-abbrev pub is_to_pop : Tree → Option Tag → Option ℕ → Bool
-is_to_pop t except None = false
-is_to_pop t except (Some x) = is_implied (tag_at t x) && not (is_excepted except (tag_at t x))
-
-abbrev pub one_if_some : Option ℕ → ℕ
-one_if_some None = 0
-one_if_some (Some x) = 1

@@ -1,14 +1,15 @@
 // The list of active formatting elements.
-ghost use Rattle.std.specs.Prelude.{◌≡◌, ℕ, ◌+◌, ◌<◌, ◌∷◌, [], ◌++◌, length, OnErr, OnOk, true, false};
+ghost use Rattle.std.specs.Prelude.{◌≡◌, ℕ, ◌+◌, ◌<◌, ◌∷◌, [], ◌++◌, length, OnErr, OnOk, drop, false, take, true, ◌*◌, ◌≤◌};
 ghost use Rattle.html_arena.specs.declared.marks.Mark.TheVariants.{InList};
 ghost use Rattle.html_arena.specs.Tree.{with_marked};
 ghost use Rattle.html_open.specs.Lists.{IsBelow, below, looked};
-ghost use Rattle.html_open.specs.Opened.{AreNodes, CanList, IsMarked, IsOpen, all_unmarked, charged, open_at, unmarked};
+ghost use Rattle.html_open.specs.Marking.{all_unmarked, charged, unmarked};
+ghost use Rattle.html_open.specs.Opened.{AreNodes, CanList, IsMarked, IsOpen, open_at};
 
 use crate::entry::Entry;
 use crate::error::OpenError;
 use crate::pushing::{base_steps, compared, displaced};
-use crate::search::{SoughtEntry, after, last_entry, steps_to};
+use crate::search::{SoughtEntry, last_entry, removal, steps_to};
 use html_arena::{Arena, Mark, NodeId};
 use html_names::Tag;
 use std::alloc::Global;
@@ -30,7 +31,7 @@ impl Model for FormattingList {
 }
 
 impl FormattingList {
-    ghost use Rattle.html_open.specs.Entries.{cleared, displaced, has_node, is_marker, is_node, last_named, named_or_marker, node_at, nodes_of, push_steps, pushed, removal_steps, without_index, without_node};
+    ghost use Rattle.html_open.specs.Entries.{IsTaken, cleared, displaced, has_node, is_marker, is_node, last_named, named_or_marker, node_at, nodes_of, push_steps, pushed, removal_steps, without_index, without_node};
     ghost use Rattle.html_open.specs.declared.entry.Entry.TheVariants.{Marker};
 
     /// An empty list, which takes no memory.
@@ -54,6 +55,7 @@ impl FormattingList {
         ensures same_list { OnErr result (self.new ≡ self.old) }
         ensures same_tree { OnErr result (arena.new ≡ arena.old) }
     {
+        arena.forest();
         let displaced = displaced(self.entries.as_slice(), arena, node);
         let steps = base_steps(self.entries.as_slice(), arena, displaced);
         let compared = compared(self.entries.as_slice(), arena, node);
@@ -89,12 +91,44 @@ impl FormattingList {
         ensures tree { arena.new ≡ charged (all_unmarked arena.old InList (cleared self.old)) (2 * looked is_marker self.old) }
         ensures keeps { (s : _) → IsOpen (open_at s self.old arena.old) → IsOpen (open_at s self.new arena.new) }
     {
-        'clearing: while let Some(entry) = self.entries.pop() {
-            arena.charge(2);
-            match entry.node() {
-                None => return,
-                Some(node) => arena.set_mark(node, Mark::InList, false),
-            }
+        let entries = self.entries.as_slice();
+        let kept = match last_entry(entries, arena, &SoughtEntry::Marker) {
+            None => 0,
+            Some(index) => index,
+        };
+        arena.charge(2 * (entries.len() - kept) as u128);
+        self.take_to(arena, kept);
+    }
+
+    /// Takes entries off until there are `len`.
+    fn take_to(&mut self, arena: &mut Arena, len: usize)
+        requires nodes_in { AreNodes arena.old (nodes_of self.old) }
+        requires len_in { len ≤ length self.old }
+        ensures list { self.new ≡ take len self.old }
+        ensures tree { arena.new ≡ all_unmarked arena.old InList (nodes_of (drop len self.old)) }
+        ensures keeps { (s : _) → IsOpen (open_at s self.old arena.old) → IsOpen (open_at s self.new arena.new) }
+    {
+        'taking: while self.len() > len {
+            arena.forest();
+            self.take_last(arena);
+        }
+    }
+
+    /// The number of entries.
+    fn len(&self) -> usize
+        ensures { result ≡ length self.now }
+    {
+        self.entries.len()
+    }
+
+    /// Takes the last entry off, without a step.
+    fn take_last(&mut self, arena: &mut Arena)
+        requires nodes_in { AreNodes arena.old (nodes_of self.old) }
+        requires some { 0 < length self.old }
+        ensures { IsTaken self.old self.new arena.old arena.new }
+    {
+        if let Some(Entry::Node(node)) = self.entries.pop() {
+            arena.set_mark(node, Mark::InList, false);
         }
     }
 
@@ -122,12 +156,13 @@ impl FormattingList {
         ensures tree { arena.new ≡ charged (with_marked arena.old InList node false) (removal_steps (is_node node) self.old) }
         ensures keeps { (s : _) → IsOpen (open_at s self.old arena.old) → IsOpen (open_at s self.new arena.new) }
     {
-        let found = last_entry(self.entries.as_slice(), arena, &SoughtEntry::Node(node));
-        let looked = steps_to(self.entries.len(), found);
+        arena.forest();
+        let entries = self.entries.as_slice();
+        let found = last_entry(entries, arena, &SoughtEntry::Node(node));
+        let steps = removal(entries.len(), found);
         arena.set_mark(node, Mark::InList, false);
-        arena.charge(looked);
+        arena.charge(steps);
         if let Some(index) = found {
-            arena.charge(looked);
             let _ = self.entries.remove(index);
         }
     }

@@ -3,7 +3,8 @@ ghost use Rattle.std.specs.Prelude.{◌≡◌, ◌<◌, ◌+◌, length};
 ghost use Rattle.html_arena.specs.Tree.{named, tag_at};
 ghost use Rattle.html_names.specs.declared.tag.Tag.TheVariants as tag;
 ghost use Rattle.html_open.specs.Lists.{last_index, last_where};
-ghost use Rattle.html_open.specs.Opened.{AreNodes, charged};
+ghost use Rattle.html_open.specs.Marking.{charged};
+ghost use Rattle.html_open.specs.Opened.{AreNodes};
 ghost use Rattle.html_open.specs.Placing.{CanPlace, IsPlace, IsTarget, fostered, fosters, inside, outside_table, place_of, place_steps, table, target_of};
 
 use crate::places::Place;

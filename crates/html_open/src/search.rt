@@ -1,8 +1,9 @@
 // Searches through the stack and the list, from the last element back.
 ghost use Rattle.std.specs.Prelude.{◌≡◌, ℕ, ◌<◌, ◌≤◌, length};
-ghost use Rattle.html_open.specs.Lists.{IsBelow, after_index, last_index, steps_down};
+ghost use Rattle.html_open.specs.Lists.{IsBelow, after_index, last_index, removal, steps_down};
 ghost use Rattle.html_open.specs.Opened.{AreNodes};
 ghost use Rattle.html_open.specs.Entries.{named_or_marker, nodes_of};
+ghost use Rattle.html_open.specs.Scopes.{is_excepted, tag_stays};
 ghost use Rattle.html_open.specs.Searches.{IsEntry, ends_search, is_sought, open_or_marker};
 
 use crate::entry::Entry;
@@ -16,6 +17,8 @@ pub(crate) enum Sought {
     /// An element of this tag, or an end of the scope.
     InScope(Tag, Scope),
     Tag(Tag),
+    /// An element whose end tag is not implied, or whose name is the excepted one.
+    Staying(Option<Tag>),
 }
 
 /// What is sought in the list.
@@ -40,6 +43,24 @@ fn is_sought(arena: &Arena, node: NodeId, sought: &Sought) -> bool
             arena.is_named(node, *tag) || arena.tag(node).ends_scope(*scope)
         }
         Sought::Tag(tag) => arena.is_named(node, *tag),
+        Sought::Staying(except) => stays(arena.tag(node), *except),
+    }
+}
+
+/// Whether an element of this tag is not popped with those whose end tags are implied.
+fn stays(tag: Tag, except: Option<Tag>) -> bool
+    ensures { result ≡ tag_stays except tag }
+{
+    !tag.is_implied() || is_excepted(tag, except)
+}
+
+/// Whether a tag is the excepted one.
+fn is_excepted(tag: Tag, except: Option<Tag>) -> bool
+    ensures { result ≡ is_excepted except tag }
+{
+    match except {
+        None => false,
+        Some(name) => tag.is(name),
     }
 }
 
@@ -130,5 +151,16 @@ pub(crate) fn after(len: usize, found: Option<usize>) -> usize
     match found {
         None => 0,
         Some(index) => index + 1,
+    }
+}
+
+/// The steps of a removal at an index: the elements looked at, the one removed and those shifted.
+pub(crate) fn removal(len: usize, found: Option<usize>) -> u128
+    requires { IsBelow len found }
+    ensures { result ≡ removal len found }
+{
+    match found {
+        None => len as u128,
+        Some(index) => 2 * (len - index) as u128,
     }
 }

@@ -1,15 +1,16 @@
 // The stack of open elements.
-ghost use Rattle.std.specs.Prelude.{◌≡◌, ℕ, ◌+◌, ◌<◌, ◌∷◌, [], ◌++◌, List, eqb, length, slice_index, None, OnErr, OnOk, true, false, IfSome};
+ghost use Rattle.std.specs.Prelude.{◌≡◌, ℕ, ◌+◌, ◌<◌, ◌∷◌, [], ◌++◌, List, eqb, length, slice_index, None, OnErr, OnOk, drop, false, take, true, ◌≤◌};
 ghost use Rattle.html_arena.specs.declared.marks.Mark.TheVariants.{OnStack};
 ghost use Rattle.html_arena.specs.Siblings.{has, last_of};
 ghost use Rattle.html_arena.specs.Tree.{more, named, tag_at, with_marked};
 ghost use Rattle.html_open.specs.Entries.{removal_steps};
 ghost use Rattle.html_open.specs.Lists.{above, last_index, looked, up_to, with_last, without_last};
-ghost use Rattle.html_open.specs.Opened.{AreNodes, CanPush, IsMarked, IsOpen, all_unmarked, charged, open_at, unmarked};
-ghost use Rattle.html_open.specs.Scopes.{ends, implied_steps, in_scope, is_excepted, is_to_pop, match_or_end, one_if_some, stays};
+ghost use Rattle.html_open.specs.Marking.{all_unmarked, charged, unmarked};
+ghost use Rattle.html_open.specs.Opened.{AreNodes, CanPush, IsMarked, IsOpen, open_at};
+ghost use Rattle.html_open.specs.Scopes.{ends, implied_steps, in_scope, match_or_end, stays};
 
 use crate::error::OpenError;
-use crate::search::{Sought, last_index, steps_to};
+use crate::search::{Sought, after, last_index, removal, steps_to};
 use html_arena::{Arena, Mark, NodeId};
 use html_names::{Scope, Tag};
 use std::alloc::Global;
@@ -86,10 +87,7 @@ impl OpenStack {
         ensures keeps { (l : _) → IsOpen (open_at self.old l arena.old) → IsOpen (open_at self.new l arena.new) }
     {
         arena.forest();
-        let node = self.nodes.pop();
-        if let Some(node) = node {
-            arena.set_mark(node, Mark::OnStack, false);
-        }
+        let node = self.take_last(arena);
         arena.charge(1);
         node
     }
@@ -104,12 +102,12 @@ impl OpenStack {
         ensures keeps { (l : _) → IsOpen (open_at self.old l arena.old) → IsOpen (open_at self.new l arena.new) }
     {
         arena.forest();
-        let found = last_index(self.nodes.as_slice(), arena, &Sought::Node(node));
-        let looked = steps_to(self.nodes.len(), found);
+        let nodes = self.nodes.as_slice();
+        let found = last_index(nodes, arena, &Sought::Node(node));
+        let steps = removal(nodes.len(), found);
         arena.set_mark(node, Mark::OnStack, false);
-        arena.charge(looked);
+        arena.charge(steps);
         if let Some(index) = found {
-            arena.charge(looked);
             let _ = self.nodes.remove(index);
         }
     }
@@ -120,14 +118,13 @@ impl OpenStack {
         ensures steps { arena.new ≡ charged arena.old 1 }
     {
         arena.charge(1);
-        self.nodes.last().copied()
+        last_node(self.nodes.as_slice())
     }
 
     /// The element at an index; that of the first element is 0. One step.
     pub fn at(&self, arena: &mut Arena, index: usize) -> NodeId
         requires { index < length self.now }
         ensures node { result ≡ slice_index self.now index }
-        ensures there { has result self.now ≡ true }
         ensures steps { arena.new ≡ charged arena.old 1 }
     {
         arena.charge(1);
@@ -181,34 +178,46 @@ impl OpenStack {
         ensures tree { arena.new ≡ charged (all_unmarked arena.old OnStack (above (stays arena.old except) self.old)) (implied_steps arena.old except self.old) }
         ensures keeps { (l : _) → IsOpen (open_at self.old l arena.old) → IsOpen (open_at self.new l arena.new) }
     {
-        'popping: while self.is_to_pop(arena, except) {
-            let _ = self.pop(arena);
+        let nodes = self.nodes.as_slice();
+        let found = last_index(nodes, arena, &Sought::Staying(except));
+        let looked = steps_to(nodes.len(), found);
+        let kept = after(nodes.len(), found);
+        arena.charge((nodes.len() - kept) as u128 + looked);
+        self.pop_to(arena, kept);
+    }
+
+    /// Takes elements off until there are `len`.
+    pub(crate) fn pop_to(&mut self, arena: &mut Arena, len: usize)
+        requires nodes_in { AreNodes arena.old self.old }
+        requires len_in { len ≤ length self.old }
+        ensures stack { self.new ≡ take len self.old }
+        ensures tree { arena.new ≡ all_unmarked arena.old OnStack (drop len self.old) }
+        ensures keeps { (l : _) → IsOpen (open_at self.old l arena.old) → IsOpen (open_at self.new l arena.new) }
+    {
+        'popping: while self.len() > len {
+            arena.forest();
+            let _ = self.take_last(arena);
         }
     }
 
-    /// Whether the current node's end tag is implied and its name is not the excepted one. One step where there is a current node.
-    fn is_to_pop(&self, arena: &mut Arena, except: Option<Tag>) -> bool
-        requires { AreNodes arena.old self.now }
-        ensures answer { result ≡ is_to_pop arena.old except (last_of self.now) }
-        ensures steps { arena.new ≡ charged arena.old (one_if_some (last_of self.now)) }
+    /// Takes the current node off, without a step.
+    fn take_last(&mut self, arena: &mut Arena) -> Option<NodeId>
+        requires { AreNodes arena.old self.old }
+        ensures stack { self.old ≡ with_last self.new result }
+        ensures none { result ≡ None → self.old ≡ [] }
+        ensures tree { arena.new ≡ unmarked arena.old OnStack result }
     {
-        match self.nodes.last().copied() {
-            None => false,
-            Some(node) => {
-                arena.charge(1);
-                let tag = arena.tag(node);
-                tag.is_implied() && !is_excepted(except, tag)
-            }
+        let node = self.nodes.pop();
+        if let Some(node) = node {
+            arena.set_mark(node, Mark::OnStack, false);
         }
+        node
     }
 }
 
-/// Whether a tag is the excepted one.
-fn is_excepted(except: Option<Tag>, tag: Tag) -> bool
-    ensures { result ≡ is_excepted except tag }
+/// The last of the elements.
+fn last_node(nodes: &[NodeId]) -> Option<NodeId>
+    ensures { result ≡ last_of nodes.now }
 {
-    match except {
-        None => false,
-        Some(name) => tag.is(name),
-    }
+    nodes.last().copied()
 }

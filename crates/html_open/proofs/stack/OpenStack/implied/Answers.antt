@@ -1,41 +1,38 @@
-use Rattle.std.proofs.Common.{rules, ◌≡◌, ℕ, ◌+◌, ◌<◌, ◌∷◌, [], ◌++◌, List, eqb, length, slice_index, None, OnErr, OnOk, true, false, IfSome, ◌-◌, ◌*◌, ◌≤◌, ◌/◌, ◌%◌, Bool, nat_lt, slice_index_or, slice_set, bit_and, bit_or, Fits, w8, w32, w64, Bor, MutBor}
+use Rattle.std.proofs.Common.{◌≡◌, ℕ, ◌+◌, ◌-◌, ◌∙◌, ap, sym, drop, take, length, List, refl}
 use Rattle.html_arena.specs.declared.marks.Mark.TheVariants.{OnStack}
-use Rattle.html_arena.specs.Siblings.{has, last_of}
-use Rattle.html_arena.specs.Tree.{more, named, tag_at, with_marked}
-use Rattle.html_open.specs.Entries.{removal_steps}
-use Rattle.html_open.specs.Lists.{above, last_index, looked, up_to, with_last, without_last}
-use Rattle.html_open.specs.Opened.{AreNodes, CanPush, IsMarked, IsOpen, all_unmarked, charged, open_at, unmarked}
-use Rattle.html_open.specs.Scopes.{ends, implied_steps, in_scope, is_excepted, is_to_pop, match_or_end, one_if_some, stays}
+use Rattle.html_arena.specs.Tree.{Tree}
+use Rattle.html_open.specs.Lists.{above, last_index, up_to}
+use Rattle.html_open.specs.Marking.{all_unmarked, charged}
+use Rattle.html_open.specs.Scopes.{implied_steps, stays}
+use Rattle.html_open.proofs.Lists.{after-above, after-up_to, twice-above}
+use Rattle.html_open.proofs.Keeps.{moved_stack, open-charged}
+use Rattle.html_open.proofs.Popping.{all_unmarked-charged}
 use Rattle.html_open.proofs.stack.OpenStack.implied.Goals as goal
 
--- src/stack.rt:184:9
-pub popping-init : goal.popping-init
-popping-init c = ?
-
--- src/stack.rt:184:25
-pub is_to_pop-requires : goal.is_to_pop-requires
-is_to_pop-requires c = ?
-
--- src/stack.rt:185:21
-pub pop-requires : goal.pop-requires
-pop-requires c = ?
-
--- src/stack.rt:184:9
-pub popping-smaller : goal.popping-smaller
-popping-smaller c = ?
-
--- src/stack.rt:184:9
-pub popping-preserved : goal.popping-preserved
-popping-preserved c = ?
-
--- src/stack.rt:178:5
 pub returns-clause-stack : goal.returns-clause-stack
-returns-clause-stack c = ?
+returns-clause-stack c =
+    let p = stays c.args.arena.now c.args.except in
+    let f = c.last_index-found.ensures.index ∙ ap (last_index p) (c.as_slice-nodes.ensures.value ∙ c.self.view_is) in
+    c.pop_to.ensures.stack ∙ ap (λ n. take n c.args.self.now) c.after-kept.ensures.value ∙ after-up_to p c.args.self.now c.last_index-found.result f
 
--- src/stack.rt:178:5
 pub returns-clause-tree : goal.returns-clause-tree
-returns-clause-tree c = ?
+returns-clause-tree c =
+    let p = stays c.args.arena.now c.args.except in
+    let q = c.as_slice-nodes.ensures.value ∙ c.self.view_is in
+    let f = c.last_index-found.ensures.index ∙ ap (last_index p) q in
+    let d = ap (λ n. drop n c.args.self.now) c.after-kept.ensures.value ∙ after-above p c.args.self.now c.last_index-found.result f in
+    let t = twice-above p c.args.self.now c.last_index-found.result (length c.as_slice-nodes.result.now) (ap length q) f in
+    let v = c.after-kept.ensures.value in
+    let s = c.steps_to-looked.ensures in
+    let n : (length c.as_slice-nodes.result.now - c.after-kept.result) + c.steps_to-looked.result ≡ implied_steps c.args.arena.now c.args.except c.args.self.now = cc in
+    c.pop_to.ensures.tree
+    ∙ ap (λ (u : Tree). all_unmarked u OnStack (drop c.after-kept.result c.args.self.now)) c.charge.ensures
+    ∙ all_unmarked-charged c.args.arena.now OnStack ((length c.as_slice-nodes.result.now - c.after-kept.result) + c.steps_to-looked.result) (drop c.after-kept.result c.args.self.now)
+    ∙ ap (λ (xs : List ℕ). charged (all_unmarked c.args.arena.now OnStack xs) ((length c.as_slice-nodes.result.now - c.after-kept.result) + c.steps_to-looked.result)) d
+    ∙ ap (charged (all_unmarked c.args.arena.now OnStack (above p c.args.self.now))) n
 
--- src/stack.rt:178:5
 pub returns-clause-keeps : goal.returns-clause-keeps
-returns-clause-keeps c = ?
+returns-clause-keeps c = λ l k.
+    c.pop_to.ensures.keeps l
+    (moved_stack c.args.self.now c.args.self.now l (charged c.args.arena.now ((length c.as_slice-nodes.result.now - c.after-kept.result) + c.steps_to-looked.result)) c.charge.new.self refl c.charge.ensures
+    (open-charged c.args.self.now l c.args.arena.now ((length c.as_slice-nodes.result.now - c.after-kept.result) + c.steps_to-looked.result) k))

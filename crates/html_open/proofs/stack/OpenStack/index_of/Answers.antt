@@ -1,13 +1,13 @@
-use Rattle.std.proofs.Common.{rules, ◌≡◌, ℕ, ◌+◌, ◌<◌, ◌∷◌, [], ◌++◌, List, eqb, length, slice_index, None, OnErr, OnOk, true, false, IfSome, ◌-◌, ◌*◌, ◌≤◌, ◌/◌, ◌%◌, Bool, nat_lt, slice_index_or, slice_set, bit_and, bit_or, Fits, w8, w32, w64, Bor, MutBor}
-use Rattle.html_arena.specs.declared.marks.Mark.TheVariants.{OnStack}
-use Rattle.html_arena.specs.Siblings.{has, last_of}
-use Rattle.html_arena.specs.Tree.{more, named, tag_at, with_marked}
-use Rattle.html_open.specs.Entries.{removal_steps}
-use Rattle.html_open.specs.Lists.{above, last_index, looked, up_to, with_last, without_last}
-use Rattle.html_open.specs.Opened.{AreNodes, CanPush, IsMarked, IsOpen, all_unmarked, charged, open_at, unmarked}
-use Rattle.html_open.specs.Scopes.{ends, implied_steps, in_scope, is_excepted, is_to_pop, match_or_end, one_if_some, stays}
+use Rattle.std.proofs.Common.{◌≡◌, ℕ, eqb, ◌∙◌, ap, length, refl}
+use Rattle.html_open.specs.Lists.{looked}
+use Rattle.html_open.specs.Marking.{charged}
+use Rattle.html_open.proofs.Lists.{steps_index}
 use Rattle.html_open.proofs.stack.OpenStack.index_of.Goals as goal
 
--- src/stack.rt:138:5
 pub returns-clause-steps : goal.returns-clause-steps
-returns-clause-steps c = ?
+returns-clause-steps c =
+    c.charge.ensures
+    ∙ ap (charged c.args.arena.now)
+    (c.steps_to.ensures
+    ∙ steps_index (eqb c.args.node) c.as_slice-nodes.result.now c.last_index-found.result (length c.as_slice-nodes.result.now) refl c.last_index-found.ensures.index
+    ∙ ap (looked (eqb c.args.node)) (c.as_slice-nodes.ensures.value ∙ c.self.view_is))

@@ -1,17 +1,10 @@
-use Rattle.std.proofs.Common.{rules, ◌≡◌, ℕ, ◌+◌, ◌<◌, ◌∷◌, [], ◌++◌, List, eqb, length, slice_index, None, OnErr, OnOk, true, false, IfSome, ◌-◌, ◌*◌, ◌≤◌, ◌/◌, ◌%◌, Bool, nat_lt, slice_index_or, slice_set, bit_and, bit_or, Fits, w8, w32, w64, Bor, MutBor}
-use Rattle.html_arena.specs.declared.marks.Mark.TheVariants.{OnStack}
-use Rattle.html_arena.specs.Siblings.{has, last_of}
-use Rattle.html_arena.specs.Tree.{more, named, tag_at, with_marked}
-use Rattle.html_open.specs.Entries.{removal_steps}
-use Rattle.html_open.specs.Lists.{above, last_index, looked, up_to, with_last, without_last}
-use Rattle.html_open.specs.Opened.{AreNodes, CanPush, IsMarked, IsOpen, all_unmarked, charged, open_at, unmarked}
-use Rattle.html_open.specs.Scopes.{ends, implied_steps, in_scope, is_excepted, is_to_pop, match_or_end, one_if_some, stays}
+use Rattle.std.proofs.Common.{◌∙◌, ap}
+use Rattle.html_arena.specs.Tree.{Tree}
+use Rattle.html_open.specs.Marking.{charged}
+use Rattle.html_open.proofs.Keeps.{pop-keeps}
 use Rattle.html_open.proofs.stack.OpenStack.pop.Goals as goal
 
--- src/stack.rt:91:13
-pub set_mark-requires : goal.set_mark-requires
-set_mark-requires c = ?
-
--- src/stack.rt:81:5
 pub returns-clause-keeps : goal.returns-clause-keeps
-returns-clause-keeps c = ?
+returns-clause-keeps c = λ l k.
+    pop-keeps c.args.self.now c.take_last-node.new.self l c.args.arena.now c.charge.new.self c.take_last-node.result 1 c.forest.ensures.well_formed.as_many_marks
+    c.take_last-node.ensures.stack (c.charge.ensures ∙ ap (λ (u : Tree). charged u 1) c.take_last-node.ensures.tree) k

@@ -1,6 +1,6 @@
 use Rattle.std.proofs.Common.{rules, arith, ◌≡◌, ℕ, length, List, [], ◌∷◌, ◌++◌, ◌∙◌, ap, sym}
 use Rattle.html_arena.specs.Tree.{Tree}
-use Rattle.html_open.specs.Opened.{charged}
+use Rattle.html_open.specs.Marking.{charged}
 use Rattle.html_open.proofs.Keeps.{push-keeps}
 use Rattle.html_open.proofs.stack.OpenStack.push.Goals as goal
 
