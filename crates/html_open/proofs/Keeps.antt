@@ -356,7 +356,7 @@ pub unset-same : (t : Tree) (m : Mark) (c : ℕ) → marked t m c ≡ false → 
 unset-same t m c e = ap (λ (ms : List Marks). record t { marks = ms }) (set-same t.marks c no_marks (with_mark m false (marks_of t c)) (sym (clear-same m (marks_of t c) e)))
 
 -- the list without the last one that passes, where one does
-split-last : {X : Type 0} (p : X → Bool) (xs : List X) → list_any p xs ≡ true → (x : X) × (xs ≡ below p xs ++ x ∷ above p xs) × (p x ≡ true)
+pub split-last : {X : Type 0} (p : X → Bool) (xs : List X) → list_any p xs ≡ true → (x : X) × (xs ≡ below p xs ++ x ∷ above p xs) × (p x ≡ true)
 split-last p [] h = absurd cc
 split-last p (x ∷ xs) h = elim (cases_bool (list_any p xs)) [
   | inl e ↦ (let r = split-last p xs e in (r.0, rw e (ap (λ ys. x ∷ ys) r.1), r.2))

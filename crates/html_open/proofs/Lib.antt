@@ -2,3 +2,4 @@ mod Lists
 mod Keeps
 mod Popping
 mod Naming
+mod Clearing

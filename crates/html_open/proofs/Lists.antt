@@ -4,7 +4,7 @@ use Rattle.std.specs.List.{list_any, remove}
 use Rattle.std.proofs.lemmas.List.{take_more, length-take}
 use Rattle.html_open.specs.Lists.{above, up_to, below, last_where, looked, last_index, IsBelow, after_index, removal, steps_down, without_last}
 use Rattle.html_open.specs.Scopes.{in_scope}
-use Rattle.html_open.specs.Entries.{nodes_of, removal_steps}
+use Rattle.html_open.specs.Entries.{node_in, nodes_of, removal_steps}
 use Rattle.std.proofs.lemmas.Bool.Decides.{nat_tests}
 use Rattle.html_arena.specs.Siblings.{has}
 use Rattle.html_arena.specs.Tree.{Tree}
@@ -365,3 +365,7 @@ pub get_or-default : {X : Type 0} (xs : List X) (k : ℕ) (d e : X) → k < leng
 get_or-default [] k d e h = absurd (omega arith)
 get_or-default (x ∷ xs) zero d e h = refl
 get_or-default (x ∷ xs) (suc k) d e h = get_or-default xs k d e (omega arith)
+
+pub node-of : (e : Entry) (x : ℕ) → node_in (Some e) ≡ Some x → e ≡ Node x
+node-of Marker x h = absurd (let k = h in cc)
+node-of (Node y) x h = ap Node (let k = h in cc)

@@ -14,11 +14,11 @@ use Rattle.html_open.specs.Marking.{all_unmarked, charged, unmarked}
 use Rattle.html_open.specs.Opened.{Open, open_at, AreNodes, IsOpen}
 use Rattle.html_open.proofs.Keeps.{take-keeps, take_list-keeps, nodes-append, has-append}
 
-take-front : {X : Type 0} (xs ys : List X) → take (length xs) (xs ++ ys) ≡ xs
+pub take-front : {X : Type 0} (xs ys : List X) → take (length xs) (xs ++ ys) ≡ xs
 take-front [] ys = refl
 take-front (x ∷ xs) ys = ap (λ zs. x ∷ zs) (take-front xs ys)
 
-drop-front : {X : Type 0} (xs ys : List X) → drop (length xs) (xs ++ ys) ≡ ys
+pub drop-front : {X : Type 0} (xs ys : List X) → drop (length xs) (xs ++ ys) ≡ ys
 drop-front [] ys = refl
 drop-front (x ∷ xs) ys = drop-front xs ys
 

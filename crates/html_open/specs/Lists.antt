@@ -65,6 +65,11 @@ abbrev pub steps_down : ℕ → Option ℕ → ℕ
 steps_down n None = n
 steps_down n (Some i) = n - i
 
+-- an index, or that of the first element where there is none
+abbrev pub index_or_first : Option ℕ → ℕ
+index_or_first None = 0
+index_or_first (Some i) = i
+
 -- where the elements after the one at an index begin; at the first where there is none
 abbrev pub after_index : Option ℕ → ℕ
 after_index None = 0

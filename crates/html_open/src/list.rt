@@ -9,7 +9,7 @@ ghost use Rattle.html_open.specs.Opened.{AreNodes, CanList, IsMarked, IsOpen, op
 use crate::entry::Entry;
 use crate::error::OpenError;
 use crate::pushing::{base_steps, compared, displaced};
-use crate::search::{SoughtEntry, last_entry, removal, steps_to};
+use crate::search::{SoughtEntry, index_or_first, last_entry, removal, steps_to};
 use html_arena::{Arena, Mark, NodeId};
 use html_names::Tag;
 use std::alloc::Global;
@@ -92,10 +92,8 @@ impl FormattingList {
         ensures keeps { (s : _) → IsOpen (open_at s self.old arena.old) → IsOpen (open_at s self.new arena.new) }
     {
         let entries = self.entries.as_slice();
-        let kept = match last_entry(entries, arena, &SoughtEntry::Marker) {
-            None => 0,
-            Some(index) => index,
-        };
+        let found = last_entry(entries, arena, &SoughtEntry::Marker);
+        let kept = index_or_first(entries.len(), found);
         arena.charge(2 * (entries.len() - kept) as u128);
         self.take_to(arena, kept);
     }
@@ -127,7 +125,9 @@ impl FormattingList {
         requires some { 0 < length self.old }
         ensures { IsTaken self.old self.new arena.old arena.new }
     {
-        if let Some(Entry::Node(node)) = self.entries.pop() {
+        let node = self.entries[self.entries.len() - 1].node();
+        let _ = self.entries.pop();
+        if let Some(node) = node {
             arena.set_mark(node, Mark::InList, false);
         }
     }

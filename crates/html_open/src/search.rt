@@ -1,6 +1,6 @@
 // Searches through the stack and the list, from the last element back.
 ghost use Rattle.std.specs.Prelude.{◌≡◌, ℕ, ◌<◌, ◌≤◌, length};
-ghost use Rattle.html_open.specs.Lists.{IsBelow, after_index, last_index, removal, steps_down};
+ghost use Rattle.html_open.specs.Lists.{IsBelow, after_index, index_or_first, last_index, removal, steps_down};
 ghost use Rattle.html_open.specs.Opened.{AreNodes};
 ghost use Rattle.html_open.specs.Entries.{named_or_marker, nodes_of};
 ghost use Rattle.html_open.specs.Scopes.{is_excepted, tag_stays};
@@ -151,6 +151,18 @@ pub(crate) fn after(len: usize, found: Option<usize>) -> usize
     match found {
         None => 0,
         Some(index) => index + 1,
+    }
+}
+
+/// An index, or that of the first element where there is none.
+pub(crate) fn index_or_first(len: usize, found: Option<usize>) -> usize
+    requires { IsBelow len found }
+    ensures value { result ≡ index_or_first found }
+    ensures within { result ≤ len }
+{
+    match found {
+        None => 0,
+        Some(index) => index,
     }
 }
 

@@ -1,0 +1,28 @@
+use Rattle.std.proofs.Common.{rules, ◌≡◌, ◌<◌, ◌+◌, length, ℕ, ◌-◌, ◌*◌, ◌≤◌, ◌/◌, ◌%◌, Bool, true, false, nat_eq, nat_lt, List, [], ◌∷◌, ◌++◌, slice_index_or, slice_set, bit_and, bit_or, Fits, w8, w32, w64, Bor, MutBor}
+use Rattle.html_arena.specs.Tree.{named, tag_at}
+use Rattle.html_names.specs.declared.tag.Tag.TheVariants as tag
+use Rattle.html_open.specs.Lists.{last_index, last_where}
+use Rattle.html_open.specs.Marking.{charged}
+use Rattle.html_open.specs.Opened.{AreNodes}
+use Rattle.html_open.specs.Placing.{CanPlace, IsPlace, IsTarget, fostered, fosters, inside, outside_table, place_of, place_steps, table, target_of}
+use Rattle.html_open.proofs.placing.fostered.Goals as goal
+
+-- src/placing.rt:79:24
+pub after-requires : goal.after-requires
+after-requires c = ?
+
+-- src/placing.rt:80:11
+pub last_index-requires : goal.last_index-requires
+last_index-requires c = ?
+
+-- src/placing.rt:81:36
+pub inside-requires : goal.inside-requires
+inside-requires c = ?
+
+-- src/placing.rt:72:1
+pub returns-in-Some-clause-place : goal.returns-in-Some-clause-place
+returns-in-Some-clause-place c = ?
+
+-- src/placing.rt:72:1
+pub returns-in-None-clause-place : goal.returns-in-None-clause-place
+returns-in-None-clause-place c = ?

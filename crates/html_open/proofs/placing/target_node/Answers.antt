@@ -1,0 +1,16 @@
+use Rattle.std.proofs.Common.{rules, ◌≡◌, ◌<◌, ◌+◌, length, ℕ, ◌-◌, ◌*◌, ◌≤◌, ◌/◌, ◌%◌, Bool, true, false, nat_eq, nat_lt, List, [], ◌∷◌, ◌++◌, slice_index_or, slice_set, bit_and, bit_or, Fits, w8, w32, w64, Bor, MutBor}
+use Rattle.html_arena.specs.Tree.{named, tag_at}
+use Rattle.html_names.specs.declared.tag.Tag.TheVariants as tag
+use Rattle.html_open.specs.Lists.{last_index, last_where}
+use Rattle.html_open.specs.Marking.{charged}
+use Rattle.html_open.specs.Opened.{AreNodes}
+use Rattle.html_open.specs.Placing.{CanPlace, IsPlace, IsTarget, fostered, fosters, inside, outside_table, place_of, place_steps, table, target_of}
+use Rattle.html_open.proofs.placing.target_node.Goals as goal
+
+-- src/placing.rt:38:1
+pub returns-in-None-clause-node : goal.returns-in-None-clause-node
+returns-in-None-clause-node c = ?
+
+-- src/placing.rt:38:1
+pub returns-in-None-clause-within : goal.returns-in-None-clause-within
+returns-in-None-clause-within c = ?
