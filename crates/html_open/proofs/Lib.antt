@@ -3,3 +3,4 @@ mod Keeps
 mod Popping
 mod Naming
 mod Clearing
+mod Fostering

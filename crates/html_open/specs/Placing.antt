@@ -1,7 +1,7 @@
 -- The appropriate place for inserting a node (13.2.6.1).
 use Rattle.std.specs.Prelude.{◌≡◌, ◌≢◌, ℕ, ◌+◌, ◌<◌, Bool, true, false, cond, eqb, ◌&&◌, List, [], ◌∷◌, ◌++◌, length, Option, Some, None}
 use Rattle.std.specs.List.{list_any}
-use Rattle.html_names.specs.Sets.{is_fostering, is_template}
+use Rattle.html_names.specs.Sets.{is_fostering}
 use Rattle.html_names.specs.declared.tag.Tag.TheVariants as tag
 use Rattle.html_arena.specs.Siblings.{first_of, last_of}
 use Rattle.html_arena.specs.Tree.{Tree, named, tag_at, contents_at, parent_of, ancestors, appended, inserted}
@@ -13,7 +13,7 @@ abbrev pub table : Tree → ℕ → Bool
 table t x = named t tag.Table x
 
 abbrev pub template : Tree → ℕ → Bool
-template t x = is_template (tag_at t x)
+template t x = named t tag.Template x
 
 abbrev pub get : Option ℕ → ℕ → ℕ
 get None d = d

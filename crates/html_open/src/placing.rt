@@ -2,7 +2,7 @@
 ghost use Rattle.std.specs.Prelude.{◌≡◌, ◌<◌, ◌+◌, length};
 ghost use Rattle.html_arena.specs.Tree.{named, tag_at};
 ghost use Rattle.html_names.specs.declared.tag.Tag.TheVariants as tag;
-ghost use Rattle.html_open.specs.Lists.{last_index, last_where};
+ghost use Rattle.html_open.specs.Lists.{IsBelow, last_index, last_where};
 ghost use Rattle.html_open.specs.Marking.{charged};
 ghost use Rattle.html_open.specs.Opened.{AreNodes};
 ghost use Rattle.html_open.specs.Placing.{CanPlace, IsPlace, IsTarget, fostered, fosters, inside, outside_table, place_of, place_steps, table, target_of};
@@ -25,13 +25,15 @@ pub fn place(stack: &OpenStack, arena: &mut Arena, target: Option<NodeId>, foste
 {
     let nodes = stack.as_slice();
     let target = target_node(nodes, arena, target);
-    arena.charge(1);
-    if !is_fostered(arena, target, foster) {
-        return Place::Last(inside(arena, target));
+    if is_fostered(arena, target, foster) {
+        let found = last_index(nodes, arena, &Sought::Tag(Tag::Table));
+        let place = fostered(nodes, arena, found);
+        arena.charge(1 + steps_to(nodes.len(), found));
+        return place;
     }
-    let found = last_index(nodes, arena, &Sought::Tag(Tag::Table));
-    arena.charge(steps_to(nodes.len(), found));
-    fostered(nodes, arena, found)
+    let inner = inside(arena, target);
+    arena.charge(1);
+    Place::Last(inner)
 }
 
 /// The target that is given, or else the current node.
@@ -72,6 +74,7 @@ fn inside(arena: &Arena, node: NodeId) -> NodeId
 fn fostered(nodes: &[NodeId], arena: &Arena, found: Option<usize>) -> Place
     requires nodes_in { AreNodes arena.now nodes.now }
     requires can_place { CanPlace arena.now nodes.now }
+    requires found_in { IsBelow (length nodes.now) found }
     requires table { found ≡ last_index (table arena.now) nodes.now }
     ensures place { result ≡ fostered arena.now nodes.now }
     ensures there { IsPlace arena.now result }
@@ -87,6 +90,7 @@ fn fostered(nodes: &[NodeId], arena: &Arena, found: Option<usize>) -> Place
 fn outside_table(nodes: &[NodeId], arena: &Arena, found: Option<usize>) -> Place
     requires nodes_in { AreNodes arena.now nodes.now }
     requires can_place { CanPlace arena.now nodes.now }
+    requires found_in { IsBelow (length nodes.now) found }
     requires table { found ≡ last_index (table arena.now) nodes.now }
     ensures place { result ≡ outside_table arena.now nodes.now (last_where (table arena.now) nodes.now) }
     ensures there { IsPlace arena.now result }

@@ -1,28 +1,30 @@
-use Rattle.std.proofs.Common.{rules, ◌≡◌, ◌<◌, ◌+◌, length, ℕ, ◌-◌, ◌*◌, ◌≤◌, ◌/◌, ◌%◌, Bool, true, false, nat_eq, nat_lt, List, [], ◌∷◌, ◌++◌, slice_index_or, slice_set, bit_and, bit_or, Fits, w8, w32, w64, Bor, MutBor}
-use Rattle.html_arena.specs.Tree.{named, tag_at}
-use Rattle.html_names.specs.declared.tag.Tag.TheVariants as tag
-use Rattle.html_open.specs.Lists.{last_index, last_where}
-use Rattle.html_open.specs.Marking.{charged}
-use Rattle.html_open.specs.Opened.{AreNodes}
-use Rattle.html_open.specs.Placing.{CanPlace, IsPlace, IsTarget, fostered, fosters, inside, outside_table, place_of, place_steps, table, target_of}
+use Rattle.std.proofs.Common.{◌≡◌, ◌<◌, ◌-◌, ℕ, List, length, take, drop, Some, None, sym, ◌∙◌, ap}
+use Rattle.html_open.proofs.Fostering.{fostered-outside, fostered-template, in-at, later-is, later-nodes}
+use Rattle.html_open.proofs.Lists.{looked-some}
+use Rattle.html_open.specs.Placing.{template}
+use Rattle.html_open.specs.declared.places.Place.TheVariants.{Last}
 use Rattle.html_open.proofs.placing.fostered.Goals as goal
 
--- src/placing.rt:79:24
-pub after-requires : goal.after-requires
-after-requires c = ?
-
--- src/placing.rt:80:11
 pub last_index-requires : goal.last_index-requires
-last_index-requires c = ?
+last_index-requires c =
+    later-nodes c.args.arena.now c.args.nodes.now _ (later-is c.args.arena.now c.args.nodes.now c.args.found c.after.result c.after.ensures.value c.requires.table) c.requires.nodes_in
 
--- src/placing.rt:81:36
 pub inside-requires : goal.inside-requires
-inside-requires c = ?
+inside-requires c =
+    let later = take (length c.args.nodes.now - c.after.result) (drop c.after.result c.args.nodes.now) in
+    let e = later-is c.args.arena.now c.args.nodes.now c.args.found c.after.result c.after.ensures.value c.requires.table in
+    let k = looked-some (template c.args.arena.now) later c.in-Some.index (sym c.last_index.ensures.index ∙ c.in-Some.is) in
+    in-at c.args.arena.now later c.in-Some.index c.index-later-index.result c.index-later-index.result (later-nodes c.args.arena.now c.args.nodes.now later e c.requires.nodes_in) k.1 c.index-later-index.is
 
--- src/placing.rt:72:1
 pub returns-in-Some-clause-place : goal.returns-in-Some-clause-place
-returns-in-Some-clause-place c = ?
+returns-in-Some-clause-place c =
+    let later = take (length c.args.nodes.now - c.after.result) (drop c.after.result c.args.nodes.now) in
+    let e = later-is c.args.arena.now c.args.nodes.now c.args.found c.after.result c.after.ensures.value c.requires.table in
+    ap Last c.inside.ensures.value
+    ∙ fostered-template c.args.arena.now c.args.nodes.now later c.in-Some.index c.index-later-index.result c.index-later-index.result e (sym c.last_index.ensures.index ∙ c.in-Some.is) c.index-later-index.is
 
--- src/placing.rt:72:1
 pub returns-in-None-clause-place : goal.returns-in-None-clause-place
-returns-in-None-clause-place c = ?
+returns-in-None-clause-place c =
+    let later = take (length c.args.nodes.now - c.after.result) (drop c.after.result c.args.nodes.now) in
+    let e = later-is c.args.arena.now c.args.nodes.now c.args.found c.after.result c.after.ensures.value c.requires.table in
+    c.outside_table.ensures.place ∙ fostered-outside c.args.arena.now c.args.nodes.now later e (sym c.last_index.ensures.index ∙ c.in-None.is)

@@ -1,16 +1,14 @@
-use Rattle.std.proofs.Common.{rules, ◌≡◌, ◌<◌, ◌+◌, length, ℕ, ◌-◌, ◌*◌, ◌≤◌, ◌/◌, ◌%◌, Bool, true, false, nat_eq, nat_lt, List, [], ◌∷◌, ◌++◌, slice_index_or, slice_set, bit_and, bit_or, Fits, w8, w32, w64, Bor, MutBor}
-use Rattle.html_arena.specs.Tree.{named, tag_at}
-use Rattle.html_names.specs.declared.tag.Tag.TheVariants as tag
-use Rattle.html_open.specs.Lists.{last_index, last_where}
-use Rattle.html_open.specs.Marking.{charged}
-use Rattle.html_open.specs.Opened.{AreNodes}
-use Rattle.html_open.specs.Placing.{CanPlace, IsPlace, IsTarget, fostered, fosters, inside, outside_table, place_of, place_steps, table, target_of}
+use Rattle.std.proofs.Common.{◌≡◌, ◌<◌, ◌-◌, ℕ, length, Some, arith, sym, ◌∙◌, ap}
+use Rattle.html_open.specs.Placing.{get, target_of}
+use Rattle.html_open.proofs.Fostering.{can-some, in-at, last_of-at}
 use Rattle.html_open.proofs.placing.target_node.Goals as goal
 
--- src/placing.rt:38:1
 pub returns-in-None-clause-node : goal.returns-in-None-clause-node
-returns-in-None-clause-node c = ?
+returns-in-None-clause-node c =
+    let n = can-some c.args.arena.now c.args.nodes.now c.requires.can_place in
+    c.index-nodes-nodes.is ∙ ap (λ o. get o 0) (sym (last_of-at c.args.nodes.now c.index-nodes-nodes.result n)) ∙ ap (target_of c.args.nodes.now) (sym c.in-None.is)
 
--- src/placing.rt:38:1
 pub returns-in-None-clause-within : goal.returns-in-None-clause-within
-returns-in-None-clause-within c = ?
+returns-in-None-clause-within c =
+    let n = can-some c.args.arena.now c.args.nodes.now c.requires.can_place in
+    in-at c.args.arena.now c.args.nodes.now (length c.args.nodes.now - 1) c.index-nodes-nodes.result c.index-nodes-nodes.result c.requires.nodes_in (omega arith) c.index-nodes-nodes.is
