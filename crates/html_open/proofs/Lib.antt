@@ -4,4 +4,4 @@ mod Popping
 mod Naming
 mod Clearing
 mod Fostering
-mod Reopened
+mod Pushes

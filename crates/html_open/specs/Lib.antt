@@ -4,7 +4,5 @@ pub mod Lists
 pub mod Marking
 pub mod Opened
 pub mod Placing
-pub mod Refusals
-pub mod Reopening
 pub mod Scopes
 pub mod Searches

@@ -1,7 +1,6 @@
 // Why a call was refused.
 ghost use Rattle.std.specs.Prelude.{◌≡◌};
 
-use html_arena::ArenaError;
 use std::alloc::AllocError;
 use thiserror::Error;
 
@@ -24,20 +23,5 @@ impl From<AllocError> for OpenError {
 
     fn from(_e: AllocError) -> OpenError {
         OpenError::OutOfMemory
-    }
-}
-
-impl From<ArenaError> for OpenError {
-    ghost use Rattle.std.specs.Prelude.{◌≡◌};
-    ghost use Rattle.html_open.specs.Refusals.{of_arena};
-
-    ghost from_gives = { λ cause e. e ≡ of_arena cause };
-
-    fn from(cause: ArenaError) -> OpenError {
-        match cause {
-            ArenaError::OutOfMemory => OpenError::OutOfMemory,
-            ArenaError::NodeBudget => OpenError::NodeBudget,
-            ArenaError::HeldBudget => OpenError::HeldBudget,
-        }
     }
 }

@@ -8,7 +8,6 @@ mod list;
 mod places;
 mod placing;
 mod pushing;
-mod reopening;
 mod search;
 mod stack;
 #[cfg(test)]

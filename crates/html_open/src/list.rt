@@ -4,6 +4,7 @@ ghost use Rattle.html_arena.specs.declared.marks.Mark.TheVariants.{InList};
 ghost use Rattle.html_arena.specs.Tree.{with_marked};
 ghost use Rattle.html_open.specs.Lists.{IsBelow, below, looked};
 ghost use Rattle.html_open.specs.Marking.{all_unmarked, charged, unmarked};
+ghost use Rattle.html_open.specs.Placing.{IsTarget};
 ghost use Rattle.html_open.specs.Opened.{AreNodes, CanList, IsMarked, IsOpen, open_at};
 
 use crate::entry::Entry;
@@ -186,10 +187,19 @@ impl FormattingList {
         ensures tree { arena.new ≡ unmarked arena.old InList (node_at self.old index) }
     {
         if let Some(index) = index {
-            if let Entry::Node(node) = self.entries[index] {
-                arena.set_mark(node, Mark::InList, false);
-            }
+            let node = self.entries[index].node();
             let _ = self.entries.remove(index);
+            unmark(arena, node);
         }
+    }
+}
+
+/// Clears an element's mark, if there is one.
+fn unmark(arena: &mut Arena, node: Option<NodeId>)
+    requires { IsTarget arena.old node }
+    ensures { arena.new ≡ unmarked arena.old InList node }
+{
+    if let Some(node) = node {
+        arena.set_mark(node, Mark::InList, false);
     }
 }

@@ -45,11 +45,19 @@ pub(crate) fn base_steps(entries: &[Entry], arena: &Arena, displaced: Option<usi
         entries.len(),
         last_entry(entries, arena, &SoughtEntry::Marker),
     );
-    let shifted = match displaced {
+    1 + looked + steps_from(entries.len(), displaced)
+}
+
+/// The elements from the one at an index up to the last of `len`; none where there is none.
+fn steps_from(len: usize, index: Option<usize>) -> u128
+    requires { IsBelow len index }
+    ensures value { result ≡ steps_after len index }
+    ensures small { result ≤ len }
+{
+    match index {
         None => 0,
-        Some(index) => (entries.len() - index) as u128,
-    };
-    1 + looked + shifted
+        Some(index) => (len - index) as u128,
+    }
 }
 
 /// The comparisons of attributes with those of the entries after the last marker.

@@ -4,10 +4,10 @@ ghost use Rattle.html_open.specs.Lists.{IsBelow, after_index, index_or_first, la
 ghost use Rattle.html_open.specs.Opened.{AreNodes};
 ghost use Rattle.html_open.specs.Entries.{named_or_marker, nodes_of};
 ghost use Rattle.html_open.specs.Scopes.{is_excepted, tag_stays};
-ghost use Rattle.html_open.specs.Searches.{IsEntry, ends_search, is_sought, open_or_marker};
+ghost use Rattle.html_open.specs.Searches.{IsEntry, ends_search, is_sought};
 
 use crate::entry::Entry;
-use html_arena::{Arena, Mark, NodeId};
+use html_arena::{Arena, NodeId};
 use html_names::{Scope, Tag};
 
 /// What is sought on the stack.
@@ -28,8 +28,6 @@ pub(crate) enum SoughtEntry {
     Node(NodeId),
     /// An element of this tag, or a marker.
     NamedOrMarker(Tag),
-    /// An element that is marked as being on the stack, or a marker.
-    OpenOrMarker,
 }
 
 /// Whether an element is one that is sought.
@@ -73,7 +71,6 @@ fn ends_search(arena: &Arena, entry: Entry, sought: &SoughtEntry) -> bool
         SoughtEntry::Node(node) => entry.is_of(*node),
         SoughtEntry::Marker => entry.is_marker(),
         SoughtEntry::NamedOrMarker(tag) => is_named_or_marker(arena, entry, *tag),
-        SoughtEntry::OpenOrMarker => is_open_or_marker(arena, entry),
     }
 }
 
@@ -85,17 +82,6 @@ fn is_named_or_marker(arena: &Arena, entry: Entry, tag: Tag) -> bool
     match entry {
         Entry::Marker => true,
         Entry::Node(node) => arena.is_named(node, tag),
-    }
-}
-
-/// Whether an entry is a marker, or an element that is marked as being on the stack.
-fn is_open_or_marker(arena: &Arena, entry: Entry) -> bool
-    requires { IsEntry arena.now entry }
-    ensures { result ≡ open_or_marker arena.now entry }
-{
-    match entry {
-        Entry::Marker => true,
-        Entry::Node(node) => arena.marked(node, Mark::OnStack),
     }
 }
 

@@ -1,12 +1,15 @@
-use Rattle.std.proofs.Common.{rules, ◌≡◌, ◌<◌, ◌+◌, length, ℕ, ◌-◌, ◌*◌, ◌≤◌, ◌/◌, ◌%◌, Bool, true, false, nat_eq, nat_lt, List, [], ◌∷◌, ◌++◌, slice_index_or, slice_set, bit_and, bit_or, Fits, w8, w32, w64, Bor, MutBor}
-use Rattle.html_arena.specs.Tree.{named, tag_at}
-use Rattle.html_names.specs.declared.tag.Tag.TheVariants as tag
-use Rattle.html_open.specs.Lists.{IsBelow, last_index, last_where}
+use Rattle.std.proofs.Common.{◌≡◌, ℕ, ◌+◌, List, length, true, sym, ◌∙◌, ap}
+use Rattle.html_open.specs.Lists.{last_index}
 use Rattle.html_open.specs.Marking.{charged}
-use Rattle.html_open.specs.Opened.{AreNodes}
-use Rattle.html_open.specs.Placing.{CanPlace, IsPlace, IsTarget, fostered, fosters, inside, outside_table, place_of, place_steps, table, target_of}
+use Rattle.html_open.specs.Placing.{place_steps, table}
+use Rattle.html_open.proofs.Fostering.{steps-fostered}
 use Rattle.html_open.proofs.placing.place.Goals as goal
 
--- src/placing.rt:32:9
 pub returns-then-is_fostered-clause-steps : goal.returns-then-is_fostered-clause-steps
-returns-then-is_fostered-clause-steps c = ?
+returns-then-is_fostered-clause-steps c =
+    c.charge.ensures
+    ∙ ap (charged c.args.arena.now)
+    (ap (λ n. 1 + n) c.steps_to.ensures
+    ∙ steps-fostered c.args.arena.now c.as_slice-nodes.result.now c.args.target c.last_index-found.result c.target_node-target.result c.args.foster c.is_fostered.result
+    c.target_node-target.ensures.node c.is_fostered.ensures c.if-is_fostered.true c.last_index-found.ensures.index
+    ∙ ap (λ (v : List ℕ). place_steps c.args.arena.now v c.args.target c.args.foster) c.as_slice-nodes.ensures)

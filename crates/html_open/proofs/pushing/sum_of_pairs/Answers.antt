@@ -1,24 +1,6 @@
-use Rattle.std.proofs.Common.{rules, ◌≡◌, ℕ, ◌+◌, ◌<◌, ◌≤◌, IfSome, count_by, length, sum_by, None, false, ◌-◌, ◌*◌, ◌/◌, ◌%◌, Bool, true, nat_eq, nat_lt, List, [], ◌∷◌, ◌++◌, slice_index_or, slice_set, bit_and, bit_or, Fits, w8, w32, w64, Bor, MutBor}
-use Rattle.std.specs.List.{list_any}
-use Rattle.html_arena.specs.Weight.{capped}
-use Rattle.html_open.specs.Entries.{IsDisplaced, IsFirst, alike, comparisons, is_marker, nodes_of}
-use Rattle.html_open.specs.Lists.{IsBelow, above, looked, steps_after}
-use Rattle.html_open.specs.Opened.{AreNodes}
-use Rattle.html_open.specs.Searches.{IsEntry}
+use Rattle.std.proofs.Common.{sym}
+use Rattle.html_open.proofs.Lists.{entry-at}
 use Rattle.html_open.proofs.pushing.sum_of_pairs.Goals as goal
 
--- src/pushing.rt:75:5
-pub loop-entry-init : goal.loop-entry-init
-loop-entry-init c = ?
-
--- src/pushing.rt:76:34
 pub pairs_with-requires-clause-entry_in : goal.pairs_with-requires-clause-entry_in
-pairs_with-requires-clause-entry_in c = ?
-
--- src/pushing.rt:75:5
-pub loop-entry-preserved : goal.loop-entry-preserved
-loop-entry-preserved c = ?
-
--- src/pushing.rt:69:1
-pub returns : goal.returns
-returns c = ?
+pairs_with-requires-clause-entry_in c = entry-at c.args.arena.now c.args.entries.now c.loop-entry.entry-index c.entry-item.result c.entry-item.result c.requires.nodes_in c.loop-entry-test.true (sym c.entry-item.is)

@@ -1,11 +1,8 @@
-use Rattle.std.proofs.Common.{◌≡◌, ℕ, ◌+◌, ◌<◌, ◌≤◌, IfSome, count_by, length, sum_by, None, false, ◌-◌, ◌*◌}
-use Rattle.std.specs.List.{list_any}
+use Rattle.std.proofs.Common.{◌≡◌, take}
+use Rattle.std.specs.Prelude.{sum_by}
 use Rattle.html_arena.specs.Weight.{capped}
-use Rattle.html_open.specs.Entries.{IsDisplaced, IsFirst, alike, comparisons, is_marker, nodes_of}
-use Rattle.html_open.specs.Lists.{IsBelow, above, looked, steps_after}
-use Rattle.html_open.specs.Opened.{AreNodes}
-use Rattle.html_open.specs.Searches.{IsEntry}
+use Rattle.html_open.specs.Entries.{comparisons}
 use Rattle.html_open.proofs.pushing.sum_of_pairs.Given as goal
 
 abbrev pub invariant-loop-entry : goal.invariant-loop-entry
-invariant-loop-entry l = ?
+invariant-loop-entry l = l.sum ≡ capped (sum_by (comparisons l.arena l.node) (take l.entry-index l.entries))
