@@ -1,5 +1,5 @@
 -- What is taken off with the last element that passes.
-use Rattle.std.proofs.Common.{◌≡◌, ℕ, ◌+◌, ◌-◌, ◌*◌, ◌<◌, ◌≤◌, Bool, true, false, List, [], ◌∷◌, ◌++◌, length, take, drop, Option, Some, None, inl, inr, refl, sym, ◌∙◌, ap, subst, arith}
+use Rattle.std.proofs.Common.{◌≡◌, ℕ, ◌-◌, ◌*◌, Bool, true, false, List, [], ◌∷◌, length, take, drop, Option, Some, None, inl, inr, refl, sym, ◌∙◌, ap, arith}
 use Rattle.std.specs.List.{list_any}
 use Rattle.html_open.specs.declared.entry.Entry.{Entry}
 use Rattle.html_open.specs.declared.entry.Entry.TheVariants.{Marker, Node}
@@ -34,5 +34,5 @@ cleared-is xs (Some i) h =
     let a = last_index-any is_marker xs i (sym h) in
     let r = split-last is_marker xs a.0 in
     let d : drop i xs ≡ Marker ∷ above is_marker xs =
-        ap (λ n. drop n xs) (sym a.1) ∙ ap (drop (length (below is_marker xs))) r.1 ∙ drop-front (below is_marker xs) (r.0 ∷ above is_marker xs) ∙ ap (λ e. e ∷ above is_marker xs) (marker-of r.0 r.2) in
+    ap (λ n. drop n xs) (sym a.1) ∙ ap (drop (length (below is_marker xs))) r.1 ∙ drop-front (below is_marker xs) (r.0 ∷ above is_marker xs) ∙ ap (λ e. e ∷ above is_marker xs) (marker-of r.0 r.2) in
     ap nodes_of d

@@ -1,12 +1,11 @@
 -- The place for a node, by indices of the stack.
-use Rattle.std.proofs.Common.{◌≡◌, ◌≢◌, ℕ, zero, suc, ◌+◌, ◌-◌, ◌<◌, ◌≤◌, Bool, true, false, cond, eqb, List, [], ◌∷◌, ◌++◌, length, take, drop, get_or, Option, Some, None, inl, inr, refl, sym, ◌∙◌, ap, subst, arith}
+use Rattle.std.proofs.Common.{◌≡◌, ℕ, zero, suc, ◌+◌, ◌-◌, ◌<◌, ◌≤◌, Bool, true, false, eqb, List, [], ◌∷◌, ◌++◌, length, take, drop, get_or, Option, Some, None, inl, inr, refl, sym, ◌∙◌, ap, subst, arith}
 use Rattle.std.proofs.lemmas.List.{take_more, take_all, length-drop}
 use Rattle.std.specs.List.{list_any}
-use Rattle.html_arena.specs.Siblings.{has, first_of, last_of, or_else}
+use Rattle.html_arena.specs.Siblings.{has, last_of, or_else}
 use Rattle.html_arena.specs.Tree.{Tree, parent_of}
-use Rattle.html_open.specs.declared.places.Place.{Place}
 use Rattle.html_open.specs.declared.places.Place.TheVariants.{Last, Before}
-use Rattle.html_open.specs.Lists.{above, after_index, below, last_index, last_where, looked, steps_down}
+use Rattle.html_open.specs.Lists.{above, after_index, below, last_index, last_where, steps_down}
 use Rattle.html_open.specs.Opened.{AreNodes}
 use Rattle.html_open.specs.Placing.{CanPlace, by_table, fostered, fosters, get, inside, outside_table, place_of, place_steps, table, target_of, template}
 use Rattle.html_open.proofs.Keeps.{cases_bool}

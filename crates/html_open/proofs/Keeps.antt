@@ -1,5 +1,5 @@
 -- What is true between calls is kept where an element is added or taken out, and where steps are counted.
-use Rattle.std.proofs.Common.{◌≡◌, ◌≢◌, ℕ, zero, suc, ◌+◌, ◌-◌, ◌<◌, ◌≤◌, Bool, true, false, cond, eqb, List, [], ◌∷◌, ◌++◌, length, get_or, set, Option, Some, None, ◌⊎◌, inl, inr, refl, sym, ◌∙◌, ap, subst, append_assoc, arith, tests}
+use Rattle.std.proofs.Common.{◌≡◌, ◌≢◌, ℕ, ◌<◌, Bool, true, false, cond, eqb, List, [], ◌∷◌, ◌++◌, length, get_or, set, Option, Some, None, ◌⊎◌, inl, inr, refl, sym, ◌∙◌, ap, subst, arith}
 use Rattle.std.proofs.lemmas.Bool.Decides.{nat_tests}
 use Rattle.std.proofs.lemmas.List.{get_or-set_same, get_or-set_other, set-get_or, append-nil}
 use Rattle.html_names.specs.Sets.{is_formatting}
@@ -70,7 +70,7 @@ has-more : (x c : ℕ) (xs ys : List ℕ) → has x (xs ++ ys) ≡ true → has 
 has-more x c xs ys h = has-insert x c xs ys ∙ elim (cases_eqb x c) [ inl e ↦ rw e.0 refl | inr e ↦ rw e.0 h ]
 
 -- a member of the longer list is the one more, or a member of the shorter
-has-less : (x c : ℕ) (xs ys : List ℕ) → has x (xs ++ c ∷ ys) ≡ true → (x ≡ c) ⊎ (has x (xs ++ ys) ≡ true)
+pub has-less : (x c : ℕ) (xs ys : List ℕ) → has x (xs ++ c ∷ ys) ≡ true → (x ≡ c) ⊎ (has x (xs ++ ys) ≡ true)
 has-less x c xs ys h = elim (cases_eqb x c) [
   | inl e ↦ inl e.1
   | inr e ↦ inr (let t : eqb x c ≡ false = e.0 in let k = has-insert x c xs ys in let m = rw t at k in sym m ∙ h)
@@ -429,6 +429,7 @@ remove_list-keeps s l l' t t' c n many e f k = elim (cases_bool (list_any (is_no
     is_node-true : (x : ℕ) (e : Entry) → is_node x e ≡ true → e ≡ Node x
     is_node-true x Marker h = absurd cc
     is_node-true x (Node y) h = ap Node (sym (eqb-true x y h))
+
     none-node : (x : ℕ) (es : List Entry) → list_any (is_node x) es ≡ false → has x (nodes_of es) ≡ false
     none-node x [] h = refl
     none-node x (Marker ∷ es) h = none-node x es h

@@ -5,3 +5,4 @@ mod Naming
 mod Clearing
 mod Fostering
 mod Pushes
+mod PushKeeps

@@ -1,12 +1,12 @@
 -- The last entry of a name after the last marker, by the last entry that has the name or is a marker.
-use Rattle.std.proofs.Common.{◌≡◌, ℕ, Bool, true, false, cond, ◌||◌, List, [], ◌∷◌, length, get_or, Option, Some, None, inl, inr, refl, sym, ◌∙◌, ap}
+use Rattle.std.proofs.Common.{◌≡◌, ℕ, true, false, ◌||◌, List, [], ◌∷◌, get_or, Some, None, inl, inr, refl, sym, ◌∙◌, ap}
 use Rattle.std.specs.List.{list_any}
 use Rattle.html_names.specs.declared.tag.Tag.{Tag}
 use Rattle.html_arena.specs.Tree.{Tree, named}
 use Rattle.html_open.specs.declared.entry.Entry.{Entry}
 use Rattle.html_open.specs.declared.entry.Entry.TheVariants.{Marker, Node}
 use Rattle.html_open.specs.Entries.{entry_named, is_marker, last_named, named_or_marker, node_in}
-use Rattle.html_open.specs.Lists.{above, last_index, last_where}
+use Rattle.html_open.specs.Lists.{last_index, last_where}
 use Rattle.html_open.proofs.Lists.{cases, last_where-at, none-above, not_any}
 
 module _ (t : Tree) (g : Tag) where

@@ -1,5 +1,5 @@
 -- Elements are taken off the stack, and entries off the list, one after another.
-use Rattle.std.proofs.Common.{◌≡◌, ℕ, zero, suc, ◌+◌, ◌-◌, ◌<◌, ◌≤◌, true, false, List, [], ◌∷◌, ◌++◌, length, take, drop, Option, Some, None, refl, sym, ◌∙◌, ap, subst, append_assoc, length-append, arith}
+use Rattle.std.proofs.Common.{◌≡◌, ℕ, ◌<◌, ◌≤◌, true, List, [], ◌∷◌, ◌++◌, length, take, drop, Option, Some, None, refl, sym, ◌∙◌, ap, subst, append_assoc, length-append, arith}
 use Rattle.std.proofs.lemmas.List.{append-nil}
 use Rattle.html_arena.specs.declared.marks.Mark.{Mark}
 use Rattle.html_arena.specs.declared.marks.Mark.TheVariants.{OnStack, InList}
@@ -11,7 +11,7 @@ use Rattle.html_open.specs.declared.entry.Entry.TheVariants.{Marker, Node}
 use Rattle.html_open.specs.Entries.{IsTaken, node_in, nodes_of}
 use Rattle.html_open.specs.Lists.{with_last}
 use Rattle.html_open.specs.Marking.{all_unmarked, charged, unmarked}
-use Rattle.html_open.specs.Opened.{Open, open_at, AreNodes, IsOpen}
+use Rattle.html_open.specs.Opened.{open_at, AreNodes, IsOpen}
 use Rattle.html_open.proofs.Keeps.{take-keeps, take_list-keeps, nodes-append, has-append}
 
 pub take-front : {X : Type 0} (xs ys : List X) → take (length xs) (xs ++ ys) ≡ xs
@@ -54,8 +54,7 @@ pub popping-step : (len : ℕ) (s0 : List ℕ) (t0 : Tree) (s : List ℕ) (t : T
 popping-step len s0 t0 s t s' t' None p l w e n f = absurd (let z = ap length (n refl) in omega arith)
 popping-step len s0 t0 s t s' t' (Some x) p l w e n f =
     let size = ap length e in
-    let more = length-append s' (x ∷ []) in
-    (
+    let more = length-append s' (x ∷ []) in (
       record {
         popped = x ∷ p.popped;
         high = omega arith;
@@ -94,8 +93,7 @@ pub taking-step : (len : ℕ) (l0 : List Entry) (t0 : Tree) (l : List Entry) (t 
 taking-step len l0 t0 l t l' t' p h w k =
     let size = ap length k.list_was in
     let more = length-append l' (k.entry ∷ []) in
-    let labels : t'.labels ≡ t.labels = ap (λ (u : Tree). u.labels) k.tree_is ∙ unmarked-labels t InList (node_in (Some k.entry)) in
-    (
+    let labels : t'.labels ≡ t.labels = ap (λ (u : Tree). u.labels) k.tree_is ∙ unmarked-labels t InList (node_in (Some k.entry)) in (
       record {
         taken = k.entry ∷ p.taken;
         high = omega arith;

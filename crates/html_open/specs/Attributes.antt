@@ -1,5 +1,5 @@
 -- Equal sets of attributes (13.2.4.3, push onto the list of active formatting elements).
-use Rattle.std.specs.Prelude.{ℕ, Bool, ◌&&◌, List}
+use Rattle.std.specs.Prelude.{Bool, ◌&&◌, List}
 use Rattle.std.specs.List.{list_any, list_all}
 use Rattle.std.specs.Str.{bytes_eq}
 use Rattle.html_tokens.specs.declared.attributes.Attr.{Attr}

@@ -10,7 +10,7 @@ use Rattle.html_open.specs.declared.entry.Entry.{Entry}
 use Rattle.html_open.specs.declared.entry.Entry.TheVariants.{Marker, Node}
 use Rattle.html_open.specs.Attributes.{same_attrs}
 use Rattle.html_open.specs.Marking.{unmarked}
-use Rattle.html_open.specs.Lists.{above, up_to, below, last_where, looked, first_where, without_first, without_last, after_first, IsBelow, steps_after}
+use Rattle.html_open.specs.Lists.{above, up_to, last_where, looked, first_where, without_first, without_last, after_first, IsBelow, steps_after}
 
 abbrev pub is_marker : Entry → Bool
 is_marker Marker = true

@@ -1,6 +1,6 @@
 -- Lists that are read from their last element, as the stack of open elements is from the current node (13.2.4.2): what stands up to the
 -- last element that passes a test, and after it.
-use Rattle.std.specs.Prelude.{ℕ, ◌+◌, ◌-◌, ◌*◌, ◌<◌, Bool, true, false, cond, List, [], ◌∷◌, ◌++◌, length, Option, Some, None}
+use Rattle.std.specs.Prelude.{ℕ, ◌+◌, ◌-◌, ◌*◌, ◌<◌, Bool, cond, List, [], ◌∷◌, ◌++◌, length, Option, Some, None}
 use Rattle.std.specs.List.{list_any}
 
 -- what stands after the last element that passes, or all where none does

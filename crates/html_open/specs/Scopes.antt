@@ -1,12 +1,12 @@
 -- Elements in scope, and implied end tags (13.2.4.2 and 13.2.6.3).
-use Rattle.std.specs.Prelude.{ℕ, ◌+◌, ◌*◌, Bool, true, false, cond, not, ◌||◌, ◌&&◌, List, length, Option, Some, None}
+use Rattle.std.specs.Prelude.{ℕ, ◌+◌, ◌*◌, Bool, false, cond, not, ◌||◌, ◌&&◌, List, length, Option, Some, None}
 use Rattle.std.specs.List.{list_any}
 use Rattle.html_names.specs.declared.tag.Tag.{Tag}
 use Rattle.html_names.specs.declared.sets.Scope.{Scope}
 use Rattle.html_names.specs.Sets.{ends_scope, is_implied}
 use Rattle.html_names.specs.Tags.{is_same}
 use Rattle.html_arena.specs.Tree.{Tree, tag_at, named}
-use Rattle.html_open.specs.Lists.{above, up_to}
+use Rattle.html_open.specs.Lists.{above}
 
 -- some element passes, and no element after the last such is an end
 abbrev pub in_scope : (ℕ → Bool) → (ℕ → Bool) → List ℕ → Bool

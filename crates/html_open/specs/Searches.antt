@@ -1,5 +1,5 @@
 -- What the searches through the stack and the list stop at.
-use Rattle.std.specs.Prelude.{ℕ, ◌<◌, Bool, true, false, eqb, ◌||◌, List, length}
+use Rattle.std.specs.Prelude.{ℕ, ◌<◌, Bool, eqb, length}
 use Rattle.html_arena.specs.Tree.{Tree, named}
 use Rattle.html_open.specs.declared.entry.Entry.{Entry}
 use Rattle.html_open.specs.declared.entry.Entry.TheVariants as entry

@@ -9,8 +9,10 @@ use thiserror::Error;
 pub enum OpenError {
     #[error("out of memory")]
     OutOfMemory,
+    /// No call answers this yet.
     #[error("the next clone would pass the limit on nodes")]
     NodeBudget,
+    /// No call answers this yet.
     #[error("the next clone would pass the limit on held code points")]
     HeldBudget,
 }

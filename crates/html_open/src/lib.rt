@@ -10,8 +10,6 @@ mod placing;
 mod pushing;
 mod search;
 mod stack;
-#[cfg(test)]
-mod tests;
 
 pub use error::OpenError;
 pub use html_names::Scope;

@@ -10,7 +10,7 @@ ghost use Rattle.html_open.specs.Opened.{AreNodes, CanList, IsMarked, IsOpen, op
 use crate::entry::Entry;
 use crate::error::OpenError;
 use crate::pushing::{base_steps, compared, displaced};
-use crate::search::{SoughtEntry, index_or_first, last_entry, removal, steps_to};
+use crate::search::{PRESENCE, SoughtEntry, index_or_first, last_entry, removal, steps_to};
 use html_arena::{Arena, Mark, NodeId};
 use html_names::Tag;
 use std::alloc::Global;
@@ -175,7 +175,7 @@ impl FormattingList {
         ensures answer { result ≡ has_node node self.now }
         ensures steps { arena.new ≡ charged arena.old 1 }
     {
-        arena.charge(1);
+        arena.charge(PRESENCE);
         arena.marked(node, Mark::InList)
     }
 

@@ -10,6 +10,9 @@ use crate::entry::Entry;
 use html_arena::{Arena, NodeId};
 use html_names::{Scope, Tag};
 
+/// The steps of a test of presence.
+pub(crate) const PRESENCE: u128 = 1;
+
 /// What is sought on the stack.
 #[derive(Clone, Copy)]
 pub(crate) enum Sought {

@@ -10,7 +10,7 @@ ghost use Rattle.html_open.specs.Opened.{AreNodes, CanPush, IsMarked, IsOpen, op
 ghost use Rattle.html_open.specs.Scopes.{ends, implied_steps, in_scope, match_or_end, stays};
 
 use crate::error::OpenError;
-use crate::search::{Sought, after, last_index, removal, steps_to};
+use crate::search::{PRESENCE, Sought, after, last_index, removal, steps_to};
 use html_arena::{Arena, Mark, NodeId};
 use html_names::{Scope, Tag};
 use std::alloc::Global;
@@ -150,7 +150,7 @@ impl OpenStack {
         ensures answer { result ≡ has node self.now }
         ensures steps { arena.new ≡ charged arena.old 1 }
     {
-        arena.charge(1);
+        arena.charge(PRESENCE);
         arena.marked(node, Mark::OnStack)
     }
 
@@ -219,5 +219,8 @@ impl OpenStack {
 fn last_node(nodes: &[NodeId]) -> Option<NodeId>
     ensures { result ≡ last_of nodes.now }
 {
-    nodes.last().copied()
+    if nodes.is_empty() {
+        return None;
+    }
+    Some(nodes[nodes.len() - 1])
 }

@@ -1,4 +1,4 @@
-use Rattle.std.proofs.Common.{◌≡◌, ◌<◌, ◌-◌, ℕ, List, length, take, drop, Some, None, sym, ◌∙◌, ap}
+use Rattle.std.proofs.Common.{◌-◌, length, take, drop, sym, ◌∙◌, ap}
 use Rattle.html_open.proofs.Fostering.{fostered-outside, fostered-template, in-at, later-is, later-nodes}
 use Rattle.html_open.proofs.Lists.{looked-some}
 use Rattle.html_open.specs.Placing.{template}

@@ -1,5 +1,5 @@
-use Rattle.std.proofs.Common.{◌≡◌, ◌<◌, ◌-◌, ℕ, length, arith, Some, None, sym, ◌∙◌, ap}
-use Rattle.html_open.specs.declared.places.Place.TheVariants.{Last, Before}
+use Rattle.std.proofs.Common.{◌-◌, arith, sym, ◌∙◌, ap}
+use Rattle.html_open.specs.declared.places.Place.TheVariants.{Last}
 use Rattle.html_open.proofs.Fostering.{can-some, in-at, index-positive, outside-before, outside-last}
 use Rattle.html_open.proofs.Lists.{last_index-le, looked-some}
 use Rattle.html_open.specs.Placing.{table}
@@ -27,8 +27,7 @@ returns-in-Some-parent-clause-place c =
 pub returns-in-Some-parent-clause-there : goal.returns-in-Some-parent-clause-there
 returns-in-Some-parent-clause-there c =
     let k = looked-some (table c.args.arena.now) c.args.nodes.now c.in-Some.index (sym c.requires.table ∙ c.in-Some.is) in
-    let e = sym c.parent.ensures.value ∙ c.in-Some-parent.is in
-    (
+    let e = sym c.parent.ensures.value ∙ c.in-Some-parent.is in (
       in-at c.args.arena.now c.args.nodes.now c.in-Some.index c.index-nodes-index.result c.index-nodes-index.result c.requires.nodes_in k.1 c.index-nodes-index.is,
       λ n. absurd (let q = sym n ∙ e in cc),
     )

@@ -1,7 +1,6 @@
-use Rattle.std.proofs.Common.{◌≡◌, ℕ, ◌+◌, List, length, true, sym, ◌∙◌, ap}
-use Rattle.html_open.specs.Lists.{last_index}
+use Rattle.std.proofs.Common.{ℕ, ◌+◌, List, ◌∙◌, ap}
 use Rattle.html_open.specs.Marking.{charged}
-use Rattle.html_open.specs.Placing.{place_steps, table}
+use Rattle.html_open.specs.Placing.{place_steps}
 use Rattle.html_open.proofs.Fostering.{steps-fostered}
 use Rattle.html_open.proofs.placing.place.Goals as goal
 

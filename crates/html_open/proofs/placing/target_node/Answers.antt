@@ -1,4 +1,4 @@
-use Rattle.std.proofs.Common.{◌≡◌, ◌<◌, ◌-◌, ℕ, length, Some, arith, sym, ◌∙◌, ap}
+use Rattle.std.proofs.Common.{◌-◌, length, arith, sym, ◌∙◌, ap}
 use Rattle.html_open.specs.Placing.{get, target_of}
 use Rattle.html_open.proofs.Fostering.{can-some, in-at, last_of-at}
 use Rattle.html_open.proofs.placing.target_node.Goals as goal

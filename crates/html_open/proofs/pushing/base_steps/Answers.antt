@@ -1,4 +1,4 @@
-use Rattle.std.proofs.Common.{◌≡◌, ◌+◌, ℕ, length, refl, arith}
+use Rattle.std.proofs.Common.{length, refl, arith}
 use Rattle.html_open.specs.Entries.{is_marker}
 use Rattle.html_open.proofs.Lists.{steps_index}
 use Rattle.html_open.proofs.pushing.base_steps.Goals as goal

@@ -1,4 +1,4 @@
-use Rattle.std.proofs.Common.{◌≡◌, List, ◌∙◌, ap}
+use Rattle.std.proofs.Common.{List, ◌∙◌, ap}
 use Rattle.std.specs.Prelude.{sum_by}
 use Rattle.html_arena.specs.Weight.{capped}
 use Rattle.html_open.specs.declared.entry.Entry.{Entry}

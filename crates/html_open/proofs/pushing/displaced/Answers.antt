@@ -1,4 +1,4 @@
-use Rattle.std.proofs.Common.{◌≡◌, ◌+◌, ◌-◌, List, length, take, drop, refl, ◌∙◌, ap, sym}
+use Rattle.std.proofs.Common.{◌+◌, ◌-◌, length, take, drop, refl}
 use Rattle.html_open.specs.Entries.{is_marker}
 use Rattle.html_open.proofs.Pushes.{displaced-few, displaced-none, displaced-some, recent-is, recent-nodes}
 use Rattle.html_open.proofs.pushing.displaced.Goals as goal

@@ -1,4 +1,4 @@
-use Rattle.std.proofs.Common.{◌≡◌, ◌≤◌, length, arith, ap, sym, ◌∙◌}
+use Rattle.std.proofs.Common.{arith, ap, sym, ◌∙◌}
 use Rattle.html_open.specs.Entries.{alike}
 use Rattle.html_open.proofs.Lists.{entry-at}
 use Rattle.html_open.proofs.Pushes.{passed-begin, passed-end, passed-hit, passed-step}

@@ -1,7 +1,6 @@
-use Rattle.std.proofs.Common.{rules, arith, ◌≡◌, ◌<◌, ℕ, eqb, sym, ◌∙◌, ap, subst, length, Bool, true, false}
-use Rattle.html_arena.specs.Siblings.{has}
+use Rattle.std.proofs.Common.{arith, sym, ◌∙◌, ap}
 use Rattle.html_open.specs.Searches.{ends_search}
-use Rattle.html_open.proofs.Lists.{last_index-hit, last_index-miss, entry-at, below_index}
+use Rattle.html_open.proofs.Lists.{last_index-hit, last_index-miss, entry-at}
 use Rattle.html_open.proofs.search.last_entry.Goals as goal
 
 pub ends_search-requires : goal.ends_search-requires

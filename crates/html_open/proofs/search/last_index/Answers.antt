@@ -1,7 +1,7 @@
-use Rattle.std.proofs.Common.{rules, arith, ◌≡◌, ◌<◌, ℕ, eqb, sym, ◌∙◌, ap, subst, length, Bool, true, false}
+use Rattle.std.proofs.Common.{arith, ◌≡◌, ℕ, sym, ◌∙◌, ap, subst, true}
 use Rattle.html_arena.specs.Siblings.{has}
 use Rattle.html_open.specs.Searches.{is_sought}
-use Rattle.html_open.proofs.Lists.{last_index-hit, last_index-miss, has-at, below_index}
+use Rattle.html_open.proofs.Lists.{last_index-hit, last_index-miss, has-at}
 use Rattle.html_open.proofs.search.last_index.Goals as goal
 
 pub is_sought-requires : goal.is_sought-requires

@@ -1,8 +1,8 @@
-use Rattle.std.proofs.Common.{◌≡◌, ℕ, ◌-◌, ◌*◌, ◌∙◌, ap, sym, drop, take, length, List, refl}
+use Rattle.std.proofs.Common.{ℕ, ◌-◌, ◌*◌, ◌∙◌, ap, drop, take, length, List, refl}
 use Rattle.html_arena.specs.declared.marks.Mark.TheVariants.{InList}
 use Rattle.html_arena.specs.Tree.{Tree}
 use Rattle.html_open.specs.Entries.{cleared, is_marker, nodes_of}
-use Rattle.html_open.specs.Lists.{below, last_index, looked}
+use Rattle.html_open.specs.Lists.{last_index}
 use Rattle.html_open.specs.Marking.{all_unmarked, charged}
 use Rattle.html_open.proofs.Clearing.{cleared-is, kept-is, twice-looked}
 use Rattle.html_open.proofs.Keeps.{moved_list, open-charged}

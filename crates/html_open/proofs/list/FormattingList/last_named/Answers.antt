@@ -1,6 +1,6 @@
-use Rattle.std.proofs.Common.{arith, ◌≡◌, ◌<◌, ℕ, sym, ◌∙◌, ap, length, refl, Some, None}
+use Rattle.std.proofs.Common.{sym, ◌∙◌, ap, length, refl, Some}
 use Rattle.html_open.specs.Entries.{last_named, named_or_marker, node_in}
-use Rattle.html_open.specs.Lists.{last_index, looked}
+use Rattle.html_open.specs.Lists.{looked}
 use Rattle.html_open.specs.Marking.{charged}
 use Rattle.html_open.proofs.Lists.{steps_index}
 use Rattle.html_open.proofs.Naming.{named-none, named-some}

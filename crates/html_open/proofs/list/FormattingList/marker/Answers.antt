@@ -1,4 +1,4 @@
-use Rattle.std.proofs.Common.{rules, ◌≡◌}
+use Rattle.std.proofs.Common.{rules}
 use Rattle.html_open.proofs.Keeps.{marker-keeps}
 use Rattle.html_open.proofs.list.FormattingList.marker.Goals as goal
 

@@ -1,4 +1,4 @@
-use Rattle.std.proofs.Common.{rules, arith, ◌≡◌, ◌<◌, ℕ, sym, ◌∙◌, ap, subst, length, refl, Some, None, false}
+use Rattle.std.proofs.Common.{arith, sym, ◌∙◌, ap, length, refl, false}
 use Rattle.html_arena.specs.declared.marks.Mark.TheVariants.{InList}
 use Rattle.html_arena.specs.Tree.{Tree, with_marked}
 use Rattle.html_open.specs.Entries.{is_node, removal_steps}

@@ -1,8 +1,8 @@
-use Rattle.std.proofs.Common.{rules, arith, ◌≡◌, ◌<◌, ℕ, ◌-◌, length, List, true, sym, ◌∙◌, ap, subst, Option, Some, None}
+use Rattle.std.proofs.Common.{arith, ◌≡◌, ◌-◌, length, List, true, sym, ◌∙◌, ap, subst}
 use Rattle.html_arena.specs.Siblings.{has}
 use Rattle.html_open.specs.declared.entry.Entry.{Entry}
-use Rattle.html_open.specs.declared.entry.Entry.TheVariants.{Marker, Node}
-use Rattle.html_open.specs.Entries.{node_in, nodes_of}
+use Rattle.html_open.specs.declared.entry.Entry.TheVariants.{Node}
+use Rattle.html_open.specs.Entries.{nodes_of}
 use Rattle.html_open.proofs.Lists.{node-at, node-of}
 use Rattle.html_open.proofs.list.FormattingList.take_last.Goals as goal
 

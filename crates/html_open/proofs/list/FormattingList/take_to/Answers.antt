@@ -1,4 +1,4 @@
-use Rattle.std.proofs.Common.{rules, arith, ◌≡◌, ◌<◌, ◌≤◌, ℕ, length}
+use Rattle.std.proofs.Common.{arith}
 use Rattle.html_open.proofs.Popping.{taking-begin, taking-step, taking-end}
 use Rattle.html_open.proofs.list.FormattingList.take_to.Goals as goal
 

@@ -1,4 +1,4 @@
-use Rattle.std.proofs.Common.{arith, ◌≡◌, ◌<◌, ℕ, sym, ◌∙◌, ap, subst, List, true, length, get_or, refl, Some, None}
+use Rattle.std.proofs.Common.{◌≡◌, ◌<◌, ℕ, sym, ◌∙◌, ap, subst, List, true, length, refl, Some, None}
 use Rattle.html_arena.specs.Siblings.{has}
 use Rattle.html_arena.specs.Tree.{Tree, named}
 use Rattle.html_open.specs.Lists.{looked}
@@ -12,7 +12,7 @@ is_named-requires c =
     let nodes = c.as_slice-nodes.result.now in
     let k = looked-some (match_or_end c.args.arena.now c.args.name c.args.scope) nodes c.in-Some.index (sym c.last_index-found.ensures.index ∙ c.in-Some.is) in
     let there : has c.index-nodes-index.result nodes ≡ true =
-        subst (λ (x : ℕ). has x nodes ≡ true) (sym c.index-nodes-index.is) (has-at nodes c.in-Some.index c.index-nodes-index.result k.1) in
+    subst (λ (x : ℕ). has x nodes ≡ true) (sym c.index-nodes-index.is) (has-at nodes c.in-Some.index c.index-nodes-index.result k.1) in
     let b = c.requires c.index-nodes-index.result (subst (λ (v : List ℕ). has c.index-nodes-index.result v ≡ true) (c.as_slice-nodes.ensures.value ∙ c.self.view_is) there) in
     subst (λ (u : Tree). c.index-nodes-index.result < length u.labels) (sym c.charge.ensures) b
 

@@ -1,7 +1,7 @@
-use Rattle.std.proofs.Common.{◌≡◌, ℕ, ◌+◌, ◌-◌, ◌∙◌, ap, sym, drop, take, length, List, refl}
+use Rattle.std.proofs.Common.{◌≡◌, ℕ, ◌+◌, ◌-◌, ◌∙◌, ap, drop, take, length, List, refl}
 use Rattle.html_arena.specs.declared.marks.Mark.TheVariants.{OnStack}
 use Rattle.html_arena.specs.Tree.{Tree}
-use Rattle.html_open.specs.Lists.{above, last_index, up_to}
+use Rattle.html_open.specs.Lists.{above, last_index}
 use Rattle.html_open.specs.Marking.{all_unmarked, charged}
 use Rattle.html_open.specs.Scopes.{implied_steps, stays}
 use Rattle.html_open.proofs.Lists.{after-above, after-up_to, twice-above}

@@ -1,4 +1,4 @@
-use Rattle.std.proofs.Common.{◌≡◌, ℕ, eqb, ◌∙◌, ap, length, refl}
+use Rattle.std.proofs.Common.{eqb, ◌∙◌, ap, length, refl}
 use Rattle.html_open.specs.Lists.{looked}
 use Rattle.html_open.specs.Marking.{charged}
 use Rattle.html_open.proofs.Lists.{steps_index}

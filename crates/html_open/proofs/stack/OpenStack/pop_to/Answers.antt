@@ -1,5 +1,5 @@
-use Rattle.std.proofs.Common.{rules, arith, ◌≡◌, ◌<◌, ◌≤◌, ℕ, length}
-use Rattle.html_open.proofs.Popping.{Popping, popping-begin, popping-step, popping-end}
+use Rattle.std.proofs.Common.{arith}
+use Rattle.html_open.proofs.Popping.{popping-begin, popping-step, popping-end}
 use Rattle.html_open.proofs.stack.OpenStack.pop_to.Goals as goal
 
 pub popping-init : goal.popping-init

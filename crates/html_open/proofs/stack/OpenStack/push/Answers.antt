@@ -1,4 +1,4 @@
-use Rattle.std.proofs.Common.{rules, arith, ◌≡◌, ℕ, length, List, [], ◌∷◌, ◌++◌, ◌∙◌, ap, sym}
+use Rattle.std.proofs.Common.{rules, ◌∙◌, ap}
 use Rattle.html_arena.specs.Tree.{Tree}
 use Rattle.html_open.specs.Marking.{charged}
 use Rattle.html_open.proofs.Keeps.{push-keeps}

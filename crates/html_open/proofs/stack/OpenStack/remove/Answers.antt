@@ -1,4 +1,4 @@
-use Rattle.std.proofs.Common.{rules, arith, ◌≡◌, ◌<◌, ℕ, eqb, sym, ◌∙◌, ap, subst, length, refl, Some, None, false}
+use Rattle.std.proofs.Common.{arith, eqb, sym, ◌∙◌, ap, length, refl, false}
 use Rattle.html_arena.specs.declared.marks.Mark.TheVariants.{OnStack}
 use Rattle.html_arena.specs.Tree.{Tree, with_marked}
 use Rattle.html_open.specs.Entries.{removal_steps}

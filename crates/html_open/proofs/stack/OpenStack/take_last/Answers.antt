@@ -1,4 +1,4 @@
-use Rattle.std.proofs.Common.{rules, arith, ◌≡◌, ◌<◌, ℕ, length, [], ◌∷◌, ◌++◌, List, cond, true, sym, ◌∙◌, ap, subst, refl}
+use Rattle.std.proofs.Common.{rules, ◌≡◌, ℕ, [], ◌∷◌, ◌++◌, List, true, sym, ◌∙◌, subst, refl}
 use Rattle.html_arena.specs.Siblings.{has}
 use Rattle.html_open.proofs.Keeps.{has-insert, eqb-self}
 use Rattle.html_open.proofs.stack.OpenStack.take_last.Goals as goal

@@ -1,1 +1,0 @@
-// Each call with ample memory, on the smallest stacks and lists that show what it does; and with memory refused.
