@@ -1,5 +1,6 @@
 pub mod Endings
 pub mod Seams
+pub mod Counting
 pub mod IllFormed
 pub mod Lengths
 pub mod Steps

@@ -1,0 +1,11 @@
+use Rattle.std.proofs.Common.{rules, length, arith}
+use Rattle.std.specs.Str.{chars}
+use Rattle.std.proofs.lemmas.Str.{chars_from_encodes}
+use Rattle.html_input.proofs.Counting.{chars_few}
+use Rattle.html_input.proofs.count.char_count.Goals as goal
+
+pub returns-clause-count : goal.returns-clause-count
+returns-clause-count c = search (rules, chars_from_encodes)
+
+pub returns-clause-few : goal.returns-clause-few
+returns-clause-few c = omega (arith, c.count.ensures.bound, c.chars.ensures.len)
