@@ -21,8 +21,14 @@ no_letter x e h = true≢false (sym h ∙ ap is_ascii_alphanumeric e)
 no_longer : (letters ending v : List ℕ) → list_all is_ascii_alphanumeric letters ≡ true → length ending ≤ 1 → starts_with nat_eq (letters ++ ending) (v ++ 59 ∷ []) ≡ true → length (letters ++ ending) ≤ length v + 1
 no_longer [] ending v a e h = omega (arith, e)
 no_longer (x ∷ letters) ending [] a e h =
-    let p = both _ _ h in let q = both _ _ a in absurd (no_letter x (let r = p.0 in grind (arith, nat_tests)) q.0)
-no_longer (x ∷ letters) ending (y ∷ v) a e h = let p = both _ _ h in let q = both _ _ a in omega (arith, no_longer letters ending v q.1 e p.1)
+    let p : (nat_eq 59 x ≡ true) × (starts_with nat_eq (letters ++ ending) [] ≡ true) = both _ _ h in
+    let q : (is_ascii_alphanumeric x ≡ true) × (list_all is_ascii_alphanumeric letters ≡ true) = both _ _ a in
+    let e : 59 ≡ x = eq_of 59 x p.0 in
+    absurd (no_letter x (sym e) q.0)
+no_longer (x ∷ letters) ending (y ∷ v) a e h =
+    let p : (nat_eq y x ≡ true) × (starts_with nat_eq (letters ++ ending) (v ++ 59 ∷ []) ≡ true) = both _ _ h in
+    let q : (is_ascii_alphanumeric x ≡ true) × (list_all is_ascii_alphanumeric letters ≡ true) = both _ _ a in
+    omega (arith, no_longer letters ending v q.1 e p.1)
 
 ending_short : (ending : List ℕ) → (ending ≡ []) ⊎ (ending ≡ 59 ∷ []) → length ending ≤ 1
 ending_short ending (inl e) = omega (arith, ap length e)
@@ -31,14 +37,15 @@ ending_short ending (inr e) = omega (arith, ap length e)
 name_short : (name v : List ℕ) → IsName name → starts_with nat_eq name (38 ∷ (v ++ 59 ∷ [])) ≡ true → length name ≤ length v + 2
 name_short name v n h =
     let s : starts_with nat_eq (38 ∷ (n.letters ++ n.ending)) (38 ∷ (v ++ 59 ∷ [])) ≡ true = subst (λ (x : List ℕ). starts_with nat_eq x (38 ∷ (v ++ 59 ∷ [])) ≡ true) n.is h in
-    let p = both _ _ s in
+    let p : (nat_eq 38 38 ≡ true) × (starts_with nat_eq (n.letters ++ n.ending) (v ++ 59 ∷ []) ≡ true) = both _ _ s in
     omega (arith, ap length n.is, no_longer n.letters n.ending v n.alphanumeric (ending_short n.ending n.ended) p.1)
 
 goes_not : (row : Row) (v : List ℕ) → IsName row.name → goes_on row (38 ∷ (v ++ 59 ∷ [])) ≡ false
 goes_not row v n = ⊎_elim
     (λ (t : goes_on row (38 ∷ (v ++ 59 ∷ [])) ≡ true).
-    let p = both _ _ t in
-    let less : length (38 ∷ (v ++ 59 ∷ [])) < length row.name = (let q = p.0 in grind (arith, nat_tests)) in
+    let p : (nat_lt (length (38 ∷ (v ++ 59 ∷ []))) (length row.name) ≡ true) × (starts_with nat_eq row.name (38 ∷ (v ++ 59 ∷ [])) ≡ true) = both _ _ t in
+    let test : nat_lt (length (38 ∷ (v ++ 59 ∷ []))) (length row.name) ≡ true = p.0 in
+    let less : length (38 ∷ (v ++ 59 ∷ [])) < length row.name = grind (arith, nat_tests) in
     absurd (omega (arith, less, length-append v (59 ∷ []), name_short row.name v n p.1)))
     (λ (f : goes_on row (38 ∷ (v ++ 59 ∷ [])) ≡ false). f)
     (bool_cases (goes_on row (38 ∷ (v ++ 59 ∷ []))))
