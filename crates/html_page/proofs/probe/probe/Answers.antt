@@ -1,5 +1,5 @@
 use Rattle.std.proofs.Common.{refl}
-use Rattle.html_page.proofs.PageReads as reads
+use Rattle.html_page.proofs.Once as reads
 use Rattle.html_page.proofs.probe.probe.Goals as goal
 
 pub returns : goal.returns
