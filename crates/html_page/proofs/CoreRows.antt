@@ -70,5 +70,5 @@ core_longest rows t j c v rest at =
     let row : Row = one_character name c in
     longest-more rows name rest (λ i r p. goes_not r v (t.spelt i r p))
     ∙ longest-is rows name (match_of row)
-        (λ i r p b. ⊎_elim (λ (less : length r.name < length name). inl less) (λ (e : r.name ≡ name). inr (ap match_of (same_row rows t i j r row p at e))) (begins-cases r.name name b))
-        j row at (begins-itself name) refl
+    (λ i r p b. ⊎_elim (λ (less : length r.name < length name). inl less) (λ (e : r.name ≡ name). inr (ap match_of (same_row rows t i j r row p at e))) (begins-cases r.name name b))
+    j row at (begins-itself name) refl

@@ -172,8 +172,8 @@ front-plain d outer h o =
     let r = completes d outer h o in (
       closers outer epilog,
       subst ArePlain
-      (ap (λ (x : List TokenKind). prolog ++ x) (sym (r.2 epilog) ∙ front-more d outer [] (closers outer epilog)) ∙ sym (append_assoc prolog (front_then d outer []) (closers outer epilog)))
-      (plain-written r.0 r.1),
+          (ap (λ (x : List TokenKind). prolog ++ x) (sym (r.2 epilog) ∙ front-more d outer [] (closers outer epilog)) ∙ sym (append_assoc prolog (front_then d outer []) (closers outer epilog)))
+          (plain-written r.0 r.1),
     )
 
 pub front-shorter : (a b : List TokenKind) → IsPlainFront (a ++ b) → IsPlainFront a

@@ -108,7 +108,7 @@ content-once b (tree (element n a) below after) (tree (element m c) below' after
     let inner = content-once false below below' (End n ∷ kinds_then after k) (End m ∷ kinds_then after' l) h.2 i.2 tt tt p.2 in
     let more = content-once false after after' k l h.3 i.3 s t (end_inj n m _ _ inner.1) in (
       ap (λ (x : List ℕ). tree (element x a) below after) p.0 ∙ ap (λ (x : List Attr). tree (element m x) below after) p.1
-      ∙ ap (λ (x : Forest Label). tree (element m c) x after) inner.0 ∙ ap (λ (x : Forest Label). tree (element m c) below' x) more.0,
+          ∙ ap (λ (x : Forest Label). tree (element m c) x after) inner.0 ∙ ap (λ (x : Forest Label). tree (element m c) below' x) more.0,
       more.1,
     )
 content-once false (tree (element n a) below after) (tree (text u) below' after') k l h i s t e = absurd (chars-no_tag u _ i.0 (subst StartsTag e tt))
@@ -122,7 +122,7 @@ content-once false (tree (text u) below after) (tree (text v) below' after') k l
     let p = chars-same u v (kinds_then after k) (kinds_then after' l) (after-text after k h.3 s) (after-text after' l i.3 t) e in
     let more = content-once true after after' k l h.3 i.3 s t p.1 in (
       ap (λ (x : List ℕ). tree (text x) below after) p.0 ∙ ap (λ (x : Forest Label). tree (text v) x after) (h.2 ∙ sym i.2)
-      ∙ ap (λ (x : Forest Label). tree (text v) below' x) more.0,
+          ∙ ap (λ (x : Forest Label). tree (text v) below' x) more.0,
       more.1,
     )
 content-once false (tree (text u) below after) (tree document below' after') k l h i s t e = absurd i

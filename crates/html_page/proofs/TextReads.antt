@@ -72,15 +72,14 @@ pub reads-piece : (rows : List Row) (s : List ℕ) (kind : TokenKind) (b : Begin
     → Reads rows s (λ k. kind ∷ k)
 reads-piece rows s kind b stop some mode begin_is piece_is name place rest =
     let p = piece_is place rest in
-    let after = name_after_kind kind name in
-    (
+    let after = name_after_kind kind name in (
       after,
       place + length s,
       ap kinds (tokens_begun rows b Data Plain name place (s ++ rest) [] (piece (token kind place p.0 ∷ []) (length s)) (begin_is name rest) stop p.1 some (omega (arith, some, length-append s rest))
-      ∙ ap (λ m. token kind place p.0 ∷ tokens_after rows (length s) m after place (s ++ rest) []) mode
-      ∙ ap (λ (n : ℕ). token kind place p.0 ∷ tokens_after rows n Data after place (s ++ rest) []) (sym (add-zero (length s)))
-      ∙ ap (λ (ts : List Token). token kind place p.0 ∷ ts) (tokens_skip rows (length s) 0 Data after place (s ++ rest) [] (omega (arith, length-append s rest))
-      ∙ ap (λ (t : List ℕ). tokens_after rows 0 Data after (place + length s) t []) (past_front s rest))),
+          ∙ ap (λ m. token kind place p.0 ∷ tokens_after rows (length s) m after place (s ++ rest) []) mode
+          ∙ ap (λ (n : ℕ). token kind place p.0 ∷ tokens_after rows n Data after place (s ++ rest) []) (sym (add-zero (length s)))
+          ∙ ap (λ (ts : List Token). token kind place p.0 ∷ ts) (tokens_skip rows (length s) 0 Data after place (s ++ rest) [] (omega (arith, length-append s rest))
+          ∙ ap (λ (t : List ℕ). tokens_after rows 0 Data after (place + length s) t []) (past_front s rest))),
     )
 
 -- how a character is escaped: by a name of the core
@@ -98,6 +97,6 @@ reads-escape rows s c table e =
     (λ place rest. (
       place + length (38 ∷ (e.letters ++ 59 ∷ [])),
       ap (λ (r : Reference). piece (ref_tokens r.codes place (place + r.len)) r.len)
-      (named_some rows ((38 ∷ (e.letters ++ 59 ∷ [])) ++ rest) (length (38 ∷ (e.letters ++ 59 ∷ []))) (one_character (38 ∷ (e.letters ++ 59 ∷ [])) c).text (e.opener rest)
-      (core_longest rows table e.place c e.letters rest e.row)),
+          (named_some rows ((38 ∷ (e.letters ++ 59 ∷ [])) ++ rest) (length (38 ∷ (e.letters ++ 59 ∷ []))) (one_character (38 ∷ (e.letters ++ 59 ∷ [])) c).text (e.opener rest)
+          (core_longest rows table e.place c e.letters rest e.row)),
     )))

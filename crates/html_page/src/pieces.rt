@@ -9,7 +9,7 @@ ghost use Rattle.html_page.specs.Plain.{IsPlainChar};
 ghost use Rattle.html_page.specs.PageTokens.{kinds, chars_then};
 ghost use Rattle.html_page.specs.Pieces.{frame_kinds, chars_in, attrs_in, IsTextKind, IsPieceOf};
 
-use crate::plain::{PlainName, are_plain, is_plain_char};
+use crate::plain::{PlainName, are_plain, is_plain_char, is_text};
 use html_charref::Str;
 use html_tokens::{Attr, Token, TokenKind};
 
@@ -67,7 +67,7 @@ fn is_prolog(at: usize, kind: &TokenKind) -> bool
     ensures { IsTrue result ↔ (slice_get (frame_kinds Frame.Prolog) at ≡ Some kind.now) }
 {
     match at {
-        0 => is_html_doctype(kind),
+        0 => is_bare_doctype(kind, "html"),
         1 => is_bare_start(kind, "html"),
         2 => is_bare_start(kind, "head"),
         3 => is_end(kind, "head"),
@@ -87,17 +87,27 @@ fn is_epilog(at: usize, kind: &TokenKind) -> bool
     }
 }
 
-fn is_html_doctype(kind: &TokenKind) -> bool
-    ensures { IsTrue result ↔ (kind.now ≡ kind_of.Doctype (Some (codes "html")) None None false) }
+/// Whether it is a doctype of this name, without ids.
+fn is_bare_doctype(kind: &TokenKind, text: &str) -> bool
+    ensures { IsTrue result ↔ (kind.now ≡ kind_of.Doctype (Some (chars text.now)) None None false) }
 {
     match kind {
         TokenKind::Doctype {
-            name: Some(name),
-            public: None,
-            system: None,
-            force_quirks: false,
-        } => is_text(name, "html"),
+            name,
+            public,
+            system,
+            force_quirks,
+        } => is_named(name, text) && public.is_none() && system.is_none() && !*force_quirks,
         _ => false,
+    }
+}
+
+fn is_named(name: &Option<Str>, text: &str) -> bool
+    ensures { IsTrue result ↔ (name.now ≡ Some (chars text.now)) }
+{
+    match name {
+        Some(name) => is_text(name, text),
+        None => false,
     }
 }
 
@@ -131,12 +141,6 @@ fn is_eof(kind: &TokenKind) -> bool
         TokenKind::Eof => true,
         _ => false,
     }
-}
-
-fn is_text(name: &Str, text: &str) -> bool
-    ensures { IsTrue result ↔ (name.now ≡ chars text.now) }
-{
-    name.as_str() == text
 }
 
 /// Whether it is a Char that a plain page's text may hold.
