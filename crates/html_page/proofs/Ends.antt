@@ -11,7 +11,8 @@ use Rattle.html_tokens.specs.declared.token.TokenKind.{TokenKind}
 use Rattle.html_tokens.specs.declared.token.TokenKind.TheVariants.{Start, End, Char, Comment, Doctype, Eof}
 use Rattle.html_page.specs.Label.{Label}
 use Rattle.html_page.specs.Plain.{page_of, IsContent}
-use Rattle.html_page.specs.PageTokens.{kinds, kinds_then, ArePlain, IsPlainFront, IsLongestFront}
+use Rattle.html_arena.specs.Forest.Forest.{empty}
+use Rattle.html_page.specs.PageTokens.{kinds, kinds_then, page_kinds, ArePlain, IsPlainFront, IsLongestFront}
 use Rattle.html_page.specs.Pieces.{prolog, epilog, IsTextKind, IsTagKind}
 use Rattle.html_page.specs.Open.{Before, Builds, IsAround, IsOpenAt, innermost, innermost_name, top_label}
 use Rattle.html_page.specs.Shows.{Shows}
@@ -193,3 +194,30 @@ shares-epilog tokens at j w room fits e longest more = record {
   longest = λ l q. longest l (ap (λ (x : List TokenKind). slice_get x j) (kinds-drop tokens at) ∙ q);
   more = more;
 }
+
+get-front : (p c : List TokenKind) (k : ℕ) → k < length p → slice_get (p ++ c) k ≡ slice_get p k
+get-front [] c k l = absurd (omega arith)
+get-front (x ∷ p) c zero l = refl
+get-front (x ∷ p) c (suc k) l = get-front p c k (omega arith)
+
+-- the tokens part from those before the body's content
+pub Ends-prolog : (tokens : List Token) (k : ℕ) → k ≤ length tokens → k < 5 → take k (kinds tokens) ≡ take k prolog → slice_get (kinds tokens) k ≢ slice_get prolog k → EndsAt tokens k
+Ends-prolog tokens k w l same other = record {
+  front = record {
+    within = omega (arith, w, kinds-length tokens);
+    begins = (drop k prolog ++ epilog, subst ArePlain (sym begun) (plain-written empty tt));
+    longest = λ i v p. ⊎_elim
+        (λ (less : k < i). absurd (other (sym (take-get (kinds tokens) p.0 i k less v) ∙ at_prolog _ p.1)))
+        (λ (le : i ≤ k). le)
+        (cases_lt k i);
+  };
+  not_plain = λ p. other (at_prolog (kinds tokens) p);
+}
+  where
+    begun : take k (kinds tokens) ++ (drop k prolog ++ epilog) ≡ prolog ++ epilog
+    begun =
+        ap (λ (x : List TokenKind). x ++ (drop k prolog ++ epilog)) same ∙ sym (append_assoc (take k prolog) (drop k prolog) epilog)
+        ∙ ap (λ (x : List TokenKind). x ++ epilog) (take-append-drop k prolog)
+
+    at_prolog : (all : List TokenKind) → ArePlain all → slice_get all k ≡ slice_get prolog k
+    at_prolog all p = ap (λ (x : List TokenKind). slice_get x k) (p.2 ∙ ap page_kinds p.1.1) ∙ get-front prolog (kinds_then p.1.0 epilog) k l
