@@ -1,5 +1,5 @@
 //! How fast texts are cut into tokens. Without an argument each text is short, and no time is printed; with the argument
-//! `full` the texts are long.
+//! `full` the texts are long, and a second argument is the name of the one text that is cut.
 #![tactic(auto)]
 
 use anyhow::Result;
@@ -21,7 +21,7 @@ const LOADS: [Load; 4] = [
     Load {
         name: "text through next",
         piece: "The quick brown fox jumps over the lazy dog. ",
-        times: 200_000,
+        times: 360_000,
     },
     Load {
         name: "tags with attributes",
@@ -83,9 +83,10 @@ fn count(alloc: Global, table: &EntityTable, text: &[char]) -> Result<Counts, To
     let mut tokens = 0u64;
     // There is at most one token more than code points.
     for _ in 0..=text.len() {
-        if tokenizer.next()?.is_some() {
-            tokens = tokens.wrapping_add(1);
+        if tokenizer.next()?.is_none() {
+            break;
         }
+        tokens = tokens.wrapping_add(1);
     }
     Ok(Counts {
         code_points: text.len(),
@@ -140,21 +141,36 @@ fn show(
     Ok(())
 }
 
+/// Whether a text is cut: it is the one that is named, or none is.
+fn is_wanted(wanted: &Option<String>, name: &str) -> bool {
+    match wanted {
+        None => true,
+        Some(wanted) => wanted.as_str() == name,
+    }
+}
+
 fn main(rt: HostRuntime) -> Result<()> {
     let alloc = rt.alloc();
     let is_timed = env::args(&rt)?.nth(1).is_some();
+    let wanted = env::args(&rt)?.nth(2);
     let table = EntityTable::core(alloc)?;
     for load in &LOADS {
-        let times = if is_timed { load.times } else { 2 };
-        let text = repeated(alloc, load.piece, times)?;
-        show(&rt, alloc, &table, load.name, &text, false, is_timed)?;
+        if is_wanted(&wanted, load.name) {
+            let times = if is_timed { load.times } else { 2 };
+            let text = repeated(alloc, load.piece, times)?;
+            show(&rt, alloc, &table, load.name, &text, false, is_timed)?;
+        }
     }
-    let times = if is_timed { LOADS[0].times } else { 2 };
-    let text = repeated(alloc, LOADS[0].piece, times)?;
-    show(&rt, alloc, &table, "text in runs", &text, true, is_timed)?;
-    let attributes = if is_timed { ATTRIBUTES } else { 30 };
-    let text = wide_tag(alloc, attributes)?;
-    show(&rt, alloc, &table, "one wide tag", &text, false, is_timed)?;
+    if is_wanted(&wanted, "text in runs") {
+        let times = if is_timed { LOADS[0].times } else { 2 };
+        let text = repeated(alloc, LOADS[0].piece, times)?;
+        show(&rt, alloc, &table, "text in runs", &text, true, is_timed)?;
+    }
+    if is_wanted(&wanted, "one wide tag") {
+        let attributes = if is_timed { ATTRIBUTES } else { 30 };
+        let text = wide_tag(alloc, attributes)?;
+        show(&rt, alloc, &table, "one wide tag", &text, false, is_timed)?;
+    }
     let bytes = size_of::<Token>();
     println!(rt; "bytes a token: {bytes}")?;
     Ok(())

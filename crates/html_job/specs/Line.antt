@@ -19,6 +19,10 @@ files_rule = record (new_rule (codes "FILE")) { action = Some Append; required =
 abbrev pub page_app : Text → App
 page_app name = with_rule (with_rule (new_app name) (option_rule (codes "entities"))) input_rule
 
+-- the command that writes a page as HTML
+abbrev pub normalise_app : App
+normalise_app = with_rule (page_app (codes "normalise")) (option_rule (codes "profile"))
+
 -- the command on files of test cases
 abbrev pub suite_app : App
 suite_app = with_rule (with_rule (new_app (codes "suite")) (option_rule (codes "entities"))) files_rule
@@ -34,4 +38,4 @@ empty_line = record (new_app (codes "html_cmd")) {
 
 -- the whole line
 unfoldable pub line : App
-line = with_subcommand (with_subcommand empty_line (page_app (codes "tree")).top) suite_app.top
+line = with_subcommand (with_subcommand (with_subcommand (with_subcommand empty_line (page_app (codes "tree")).top) (page_app (codes "errors")).top) normalise_app.top) suite_app.top

@@ -1,9 +1,11 @@
 -- What a job says of the words.
-use Rattle.std.specs.Prelude.{◌≢◌, ◌≡◌, List, [], Some, map, option_map, unwrap_or, codes}
+use Rattle.std.specs.Prelude.{◌≢◌, ◌≡◌, ◌⊎◌, List, [], Option, Some, None, map, option_map, unwrap_or, codes}
 use Rattle.clap.specs.Words.{Row, Text, all_of, fault_of, first_of, subcommand_of}
 use Rattle.html_job.specs.Line.{line}
 use Rattle.html_job.specs.declared.jobs.Command.{Command}
-use Rattle.html_job.specs.declared.jobs.Command.TheVariants.{Tree, Suite}
+use Rattle.html_job.specs.declared.jobs.Command.TheVariants.{Tree, Errors, Normalise, Suite}
+use Rattle.html_job.specs.declared.jobs.Profile.{Profile}
+use Rattle.html_job.specs.declared.jobs.Profile.TheVariants.{One, Two}
 use Rattle.html_job.specs.declared.jobs.Job.{Job}
 use Rattle.html_job.specs.declared.jobs.JobFault.{JobFault}
 use Rattle.html_job.specs.declared.jobs.JobFault.TheVariants.{Words, OutOfMemory}
@@ -11,12 +13,20 @@ use Rattle.html_job.specs.declared.jobs.JobFault.TheVariants.{Words, OutOfMemory
 -- the word of a command
 abbrev pub name_of : Command → Text
 name_of Tree = codes "tree"
+name_of Errors = codes "errors"
+name_of Normalise = codes "normalise"
 name_of Suite = codes "suite"
+
+-- the word of a profile
+abbrev pub profile_text : Profile → Text
+profile_text One = codes "1"
+profile_text Two = codes "2"
 
 -- the job has what stands in the rows of its command
 pub record Reads (job : Job) (rows : List Row) : Type 0 where
   pub entities : option_map (λ s. s.now) job.entities ≡ first_of (codes "entities") rows
   pub input : option_map (λ s. s.now) job.input ≡ first_of (codes "INPUT") rows
+  pub profile : profile_text job.profile ≡ unwrap_or (first_of (codes "profile") rows) (codes "1")
   pub files : map (λ s. s.now) job.files.items ≡ unwrap_or (all_of (codes "FILE") rows) []
 
 -- the job is that of the words: clap's matches have its command, with these rows
@@ -29,6 +39,12 @@ abbrev pub IsWords : JobFault → Type 0
 IsWords (Words text) = Unit {0}
 IsWords OutOfMemory = ⊥
 
--- clap refuses the words
+-- a text that names no profile
+abbrev pub IsBadProfile : Option Text → Type 0
+IsBadProfile None = ⊥
+IsBadProfile (Some t) = (t ≢ codes "1") × (t ≢ codes "2")
+
+-- clap refuses the words, or takes them with a profile that is none
 abbrev pub IsRefused : List Text → Type 0
-IsRefused words = fault_of line words ≢ []
+IsRefused words = (fault_of line words ≢ [])
+    ⊎ ((name : Text) × (rows : List Row) × (subcommand_of line words ≡ Some (name, rows)) × IsBadProfile (first_of (codes "profile") rows))

@@ -12,8 +12,19 @@ use thiserror::Error;
 pub enum Command {
     /// Print the tree of a page.
     Tree,
+    /// Print the parse errors of a page.
+    Errors,
+    /// Write a page as HTML.
+    Normalise,
     /// Run files of test cases.
     Suite,
+}
+
+/// Which characters are escaped in the values of attributes: `&`, U+00A0 and `"` (`One`), or also `<` and `>` (`Two`).
+#[derive(Clone, Copy, Debug, PartialEq, Eq)]
+pub enum Profile {
+    One,
+    Two,
 }
 
 /// A command with its options and files, as text borrowed from the words.
@@ -22,6 +33,8 @@ pub struct Job<'a> {
     pub command: Command,
     /// The file of named character references. None is the table of five names.
     pub entities: Option<&'a str>,
+    /// How `Normalise` escapes; `One` where the words do not say, and for the other commands.
+    pub profile: Profile,
     /// The file of the page. `-`, or none, is standard input.
     pub input: Option<&'a str>,
     /// The files of test cases, one or more, of `Suite`; else none.
@@ -47,6 +60,8 @@ impl Command {
     {
         match name {
             "tree" => Some(Command::Tree),
+            "errors" => Some(Command::Errors),
+            "normalise" => Some(Command::Normalise),
             "suite" => Some(Command::Suite),
             _ => None,
         }

@@ -7,5 +7,5 @@ mod line;
 mod tests;
 mod words;
 
-pub use jobs::{Command, Job, JobFault};
+pub use jobs::{Command, Job, JobFault, Profile};
 pub use words::job;

@@ -3,7 +3,7 @@
 ghost use Rattle.std.specs.Prelude.{◌≡◌, IfOk, codes, true, false};
 ghost use Rattle.clap.specs.Words.{app_of, rule_of};
 ghost use Rattle.clap.specs.declared.builder.command.Command.TheViews.{out-Command as fields_of};
-ghost use Rattle.html_job.specs.Line.{option_rule, input_rule, files_rule, page_app, suite_app, line};
+ghost use Rattle.html_job.specs.Line.{option_rule, input_rule, files_rule, page_app, normalise_app, suite_app, line};
 
 use clap::{Arg, ArgAction, Command};
 use std::alloc::{AllocError, Global};
@@ -62,6 +62,20 @@ fn page_command<'a>(alloc: Global, name: &'a str, about: &'a str) -> Result<Comm
         .arg(input(alloc))
 }
 
+/// The command that writes a page as HTML.
+fn normalise<'a>(alloc: Global) -> Result<Command<'a>, AllocError>
+    ensures app { IfOk result (λ c. app_of c ≡ normalise_app) }
+    ensures local { IfOk result (λ c. (fields_of c).has_globals ≡ false) }
+{
+    let profile = text_option(
+        alloc,
+        "profile",
+        "PROFILE",
+        "What is escaped in the values of attributes: 1 is & \" and no-break spaces, 2 also < and > [default: 1]",
+    );
+    page_command(alloc, "normalise", "Write a page as HTML")?.arg(profile)
+}
+
 /// The command on files of test cases.
 fn suite<'a>(alloc: Global) -> Result<Command<'a>, AllocError>
     ensures app { IfOk result (λ c. app_of c ≡ suite_app) }
@@ -79,11 +93,15 @@ pub(crate) fn line<'a>(alloc: Global) -> Result<Command<'a>, AllocError>
     ensures local { IfOk result (λ c. (fields_of c).has_globals ≡ false) }
 {
     let tree = page_command(alloc, "tree", "Print the tree of a page")?;
+    let errors = page_command(alloc, "errors", "Print the parse errors of a page")?;
+    let normalise = normalise(alloc)?;
     let suite = suite(alloc)?;
     Command::new(alloc, "html_cmd")
         .about("Reads HTML pages")
         .subcommand_required(true)
         .disable_help_subcommand(true)
         .subcommand(tree)?
+        .subcommand(errors)?
+        .subcommand(normalise)?
         .subcommand(suite)
 }

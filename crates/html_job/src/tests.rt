@@ -44,6 +44,28 @@ fn entities_of_a_file(rt: HostRuntime) -> Result<(), Fail> {
 }
 
 #[test]
+fn profiles(rt: HostRuntime) -> Result<(), Fail> {
+    let rows: [(&[&str], Profile); 3] = [
+        (&["html_cmd", "normalise"], Profile::One),
+        (&["html_cmd", "normalise", "--profile", "1"], Profile::One),
+        (&["html_cmd", "normalise", "--profile", "2"], Profile::Two),
+    ];
+    for (words, profile) in rows {
+        let job = job(rt.alloc(), words)?;
+        assert_eq!(rt; job.command, Command::Normalise);
+        assert_eq!(rt; job.profile, profile);
+    }
+    let wrong: [&[&str]; 2] = [
+        &["html_cmd", "normalise", "--profile", "3"],
+        &["html_cmd", "tree", "--profile", "1"],
+    ];
+    for words in wrong {
+        assert!(rt; refusal(rt.alloc(), words).is_some(), "{words:?} is a job");
+    }
+    Ok(())
+}
+
+#[test]
 fn files_of_cases(rt: HostRuntime) -> Result<(), Fail> {
     let job = job(
         rt.alloc(),

@@ -3,14 +3,17 @@
 ghost use Rattle.std.specs.Prelude.{◌≡◌, ◌≢◌, [], true, IfOk, IfErr, OnErr, OnOk, map, option_map, unwrap_or, codes};
 ghost use Rattle.clap.specs.Words.{all_of, first_of, found_of, kind_of, rows_of, fault_of, subcommand_of, subcommand_rows_of, has_subcommand};
 ghost use Rattle.html_job.specs.Line.{line};
-ghost use Rattle.html_job.specs.Read.{IsJobOf, Reads, IsWords, IsRefused};
+ghost use Rattle.html_job.specs.Read.{IsJobOf, Reads, IsWords, IsBadProfile, IsRefused, profile_text};
 
-use crate::jobs::{Command, Job, JobFault};
+use crate::jobs::{Command, Job, JobFault, Profile};
 use crate::line::line;
 use clap::error::ErrorKind;
 use clap::{ArgMatches, Error};
 use std::alloc::{AllocError, Global};
 use std::convert::AsStr;
+
+const WRONG_PROFILE: &str =
+    "error: invalid value for '--profile <PROFILE>'\n  [possible values: 1, 2]\n";
 
 /// The job that the words ask for. The first word is the program's name.
 ///
@@ -54,15 +57,30 @@ fn job_of<'a>(
 ) -> Result<Job<'a>, JobFault>
     ensures command { IfOk result (λ j. j.command ≡ command) }
     ensures reads { IfOk result (λ j. Reads j (rows_of (found_of matches.entry.now))) }
-    ensures refused { OnErr result (result ≡ Err JobFault.OutOfMemory) }
+    ensures refused { IfErr result (λ e. IsWords e → IsBadProfile (first_of (codes "profile") (rows_of (found_of matches.entry.now)))) }
 {
+    let profile = profile(alloc, matches)?;
     let files = files(alloc, matches)?;
     Ok(Job {
         command,
         entities: text(matches, "entities"),
+        profile,
         input: text(matches, "INPUT"),
         files,
     })
+}
+
+/// The profile that the words name, `One` where they name none.
+fn profile(alloc: Global, matches: &ArgMatches<'_>) -> Result<Profile, JobFault>
+    ensures ok { IfOk result (λ p. profile_text p ≡ unwrap_or (first_of (codes "profile") (rows_of (found_of matches.now))) (codes "1")) }
+    ensures refused { OnErr result (IsBadProfile (first_of (codes "profile") (rows_of (found_of matches.now)))) }
+{
+    match text(matches, "profile") {
+        None => Ok(Profile::One),
+        Some(text) if text == "1" => Ok(Profile::One),
+        Some(text) if text == "2" => Ok(Profile::Two),
+        Some(_) => Err(words_fault(alloc, WRONG_PROFILE)),
+    }
 }
 
 /// The files that stand in the words.
@@ -90,6 +108,14 @@ fn fault(alloc: Global, error: &Error) -> JobFault
         return JobFault::OutOfMemory;
     }
     match error.to_string(alloc) {
+        Ok(text) => JobFault::Words(text),
+        Err(_) => JobFault::OutOfMemory,
+    }
+}
+
+/// The fault of words that clap takes.
+fn words_fault(alloc: Global, text: &str) -> JobFault {
+    match String::from_str(alloc, text) {
         Ok(text) => JobFault::Words(text),
         Err(_) => JobFault::OutOfMemory,
     }

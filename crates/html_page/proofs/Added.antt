@@ -1,5 +1,5 @@
 -- What a new node leaves, from what the arena says of `make`, `append` and `append_text`.
-use Rattle.std.proofs.Common.{◌≡◌, ◌≢◌, ℕ, zero, suc, ◌+◌, ◌<◌, Bool, true, false, cond, eqb, List, [], ◌∷◌, ◌++◌, length, get_or, set, Option, Some, None, codes, refl, sym, ap, ◌∙◌, subst, arith, append_assoc, append-nil}
+use Rattle.std.proofs.Common.{◌≡◌, ◌≢◌, ℕ, zero, suc, ◌+◌, ◌<◌, Bool, true, false, cond, eqb, List, [], ◌∷◌, ◌++◌, length, get_or, set, Option, Some, None, codes, refl, sym, ap, ◌∙◌, subst, arith, append_assoc, append-nil, inl, inr}
 use Rattle.std.proofs.lemmas.Bool.Decides.{nat_tests}
 use Rattle.std.proofs.lemmas.List.{get_or_append_left, get_or_push, length_push, get_or-set_same, get_or-set_other, length-set}
 use Rattle.html_arena.specs.declared.data.NodeData.{NodeData}
@@ -10,7 +10,7 @@ use Rattle.html_arena.specs.Laws.{IsGrown, IsLinked}
 use Rattle.html_arena.specs.Make.{has_contents}
 use Rattle.html_arena.specs.Make.{label_for as node_for}
 use Rattle.html_arena.specs.Tree.{Tree, label_of, children_of, texted}
-use Rattle.html_arena.specs.Data.{contents_in, cloned, with_char, IsText}
+use Rattle.html_arena.specs.Data.{contents_in, host_in, cloned, with_char, IsText}
 use Rattle.std.specs.Str.{chars}
 use Rattle.html_names.specs.Names.{tag_of}
 use Rattle.html_names.specs.Sets.{is_template}
@@ -23,6 +23,7 @@ use Rattle.html_tokens.specs.declared.token.TokenKind.{TokenKind}
 use Rattle.html_tokens.specs.declared.token.TokenKind.TheVariants as kinds
 use Rattle.html_page.specs.Pieces.{chars_in, char_before}
 use Rattle.html_page.specs.Open.{IsAdded, IsFilled}
+use Rattle.html_page.proofs.Kin.{cases_eqb}
 
 apart : (a b : ℕ) → b < a → eqb a b ≡ false
 apart a b h = grind (arith, nat_tests)
@@ -64,6 +65,11 @@ module _ (old mid new : Tree) (d : NodeData) (p : ℕ) (g : IsGrown old mid 1) (
     new_children = l.children_are (length old.labels) ∙ rw (apart (length old.labels) p b) (g.no_children (length old.labels) (omega arith));
     same_labels = λ k h. relabel k ∙ g.same_label k h;
     same_children = λ k h ne. l.children_are k ∙ rw (unlike k p ne) (g.same_children k);
+    roots = λ k r. record {
+      inside = omega (arith, r.inside, ap length labels_are, g.longer);
+      alone = l.parent_is k ∙ rw (unlike k (length old.labels) (λ e. absurd (omega (arith, r.inside, e)))) (g.same_parent k ∙ r.alone);
+      no_host = ap host_in (relabel k ∙ g.same_label k r.inside) ∙ r.no_host;
+    };
   }
 
 -- a node with more text
@@ -76,6 +82,17 @@ filled-more old new x c s more b l f = record {
       get_or-set_same new.labels x (with_char (label_of new x) c) node.Document (omega (arith, f.same_length, b))
       ∙ ap (λ d. with_char d c) (f.label_is r e) ∙ ap (λ y. node.Text y) (append_assoc r more (c ∷ []));
   others = λ k ne. get_or-set_other new.labels x k (with_char (label_of new x) c) node.Document ne ∙ f.others k ne;
+  roots = λ k r.
+      let q = f.roots k r in
+      record {
+        inside = omega (arith, q.inside, length-set new.labels x (with_char (label_of new x) c));
+        alone = q.alone;
+        no_host = elim (cases_eqb k x) [
+          | inl e ↦ ap (λ z. host_in (label_of (texted new x c) z)) e.1
+              ∙ ap host_in (get_or-set_same new.labels x (with_char (label_of new x) c) node.Document (omega (arith, f.same_length, b)) ∙ ap (λ d. with_char d c) (f.label_is s l))
+          | inr e ↦ ap host_in (get_or-set_other new.labels x k (with_char (label_of new x) c) node.Document e.1) ∙ q.no_host
+        ];
+      };
 }
 
 -- an added text, filled
@@ -88,6 +105,7 @@ added-filled old mid new parent s a e f = record {
   new_children = ap (λ l. get_or l (length old.labels) []) f.same_children ∙ a.new_children;
   same_labels = λ k l. f.others k (λ q. absurd (omega (arith, l, q))) ∙ a.same_labels k l;
   same_children = λ k l ne. ap (λ x. get_or x k []) f.same_children ∙ a.same_children k l ne;
+  roots = λ k r. f.roots k (a.roots k r);
 }
 
 -- a text node's data
@@ -153,7 +171,7 @@ chars-name Strong = refl
 
 -- nothing was added to a text
 pub filled-none : (t : Tree) (x : ℕ) → IsFilled t t x []
-filled-none t x = record { same_length = refl; same_children = refl; label_is = λ s e. e ∙ ap node.Text (sym (append-nil s)); others = λ k ne. refl }
+filled-none t x = record { same_length = refl; same_children = refl; label_is = λ s e. e ∙ ap node.Text (sym (append-nil s)); others = λ k ne. refl; roots = λ k r. r }
 
 -- one code point was added to a text
 pub filled-one : (t : Tree) (x c : ℕ) → x < length t.labels → IsText (label_of t x) → IsFilled t (texted t x c) x (c ∷ [])
@@ -166,6 +184,7 @@ filled-then a b d x s t f g = record {
   same_children = g.same_children ∙ f.same_children;
   label_is = λ u e. g.label_is (u ++ s) (f.label_is u e) ∙ ap node.Text (append_assoc u s t);
   others = λ k ne. g.others k ne ∙ f.others k ne;
+  roots = λ k r. g.roots k (f.roots k r);
 }
 
 char_before-append : (kind : TokenKind) (xs : List ℕ) → char_before kind xs ≡ char_before kind [] ++ xs

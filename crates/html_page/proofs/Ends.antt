@@ -6,6 +6,7 @@ use Rattle.std.proofs.lemmas.List.{take-append-drop, length-take-le, length-drop
 use Rattle.std.proofs.Common.{◌≡◌, ◌≢◌, ◌⊎◌, inl, inr, ⊎_elim, ℕ, zero, suc, ◌+◌, ◌-◌, ◌<◌, ◌≤◌, false, List, [], ◌∷◌, ◌++◌, length, take, drop, reverse, refl, sym, ap, ◌∙◌, subst, arith, length-append, append_assoc}
 use Rattle.html_arena.specs.Forest.{Forest}
 use Rattle.html_arena.specs.Tree.{Tree}
+use Rattle.html_arena.specs.Walking.{IsRoot}
 use Rattle.html_tokens.specs.declared.token.Token.{Token}
 use Rattle.html_tokens.specs.declared.token.TokenKind.{TokenKind}
 use Rattle.html_tokens.specs.declared.token.TokenKind.TheVariants.{Start, End, Char, Comment, Doctype, Eof}
@@ -169,6 +170,12 @@ module _ (tokens : List Token) (at : ℕ) (builder : Builder) (d : Forest Label)
       page-shown [] (o ∷ os) e t a = absurd a
       page-shown (f ∷ fs) o e t a = cc
 
+      around-root : (fs : List OpenElement) (o : List Before) → IsAround builder.arena builder.body fs o → IsRoot builder.arena 0
+      around-root [] [] a = a.2
+      around-root [] (o ∷ os) a = absurd a
+      around-root (f ∷ fs) [] a = absurd a
+      around-root (f ∷ fs) ((n, attrs, before) ∷ os) a = around-root fs os a.2
+
       pub Tree-closed : es ≡ reverse builder.«open».items → drop at ks ≡ epilog → IsTreeOf tokens builder.arena
       Tree-closed same e = record {
         page = page_of d;
@@ -176,6 +183,7 @@ module _ (tokens : List Token) (at : ℕ) (builder : Builder) (d : Forest Label)
         tokens_are = sym (take-append-drop at ks) ∙ ap (λ (l : List TokenKind). take at ks ++ l) e ∙ written-is;
         shows = page-shown (reverse builder.«open».items) outer (ap innermost_name (sym same) ∙ none) h.builds.top h.builds.around;
         root_in = omega (arith, h.builds.top.within);
+        root_is = around-root (reverse builder.«open».items) outer h.builds.around;
         few_nodes = omega (arith, h.few, h.within);
       }
 

@@ -26,7 +26,7 @@ use Rattle.html_page.specs.declared.plain.PlainName.{PlainName}
 use Rattle.html_page.proofs.Fits.{kinds-drop, kinds-take, get-drop, get-within, take-next}
 use Rattle.html_page.proofs.Fronts.{front_then, front-more, front-join, IsContentOuter, ends_after, ends-join, content-element, content-text, names_of, Follows, plain-follows, front-plain, front-shorter}
 use Rattle.html_page.proofs.Once.{kinds-length}
-use Rattle.html_page.proofs.Texts.{texts-kinds, texts-plain, with_text-some}
+use Rattle.html_page.proofs.TextTokens.{texts-kinds, texts-plain, with_text-some}
 
 -- `d` is done in the innermost open element, and `outer` around it, by the tokens up to a place
 pub record HasRead (tokens : List Token) (at : ℕ) (builder : Builder) (d : Forest Label) (outer : List Before) : Type 0 where

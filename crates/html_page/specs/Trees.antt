@@ -4,6 +4,7 @@ use Rattle.std.specs.List.{AllByRecursion}
 use Rattle.html_arena.specs.Forest.{Forest}
 use Rattle.html_arena.specs.Forest.Forest.{empty}
 use Rattle.html_arena.specs.Tree.{Tree}
+use Rattle.html_arena.specs.Walking.{IsRoot}
 use Rattle.html_tokens.specs.declared.token.Token.{Token}
 use Rattle.html_tokens.specs.declared.token.TokenKind.{TokenKind}
 use Rattle.html_page.specs.Forest.{join, single}
@@ -25,6 +26,7 @@ pub record IsTreeOf (tokens : List Token) (arena : Tree) : Type 0 where
   pub tokens_are : kinds tokens ≡ page_kinds page
   pub shows : Shows arena (0 ∷ []) page
   pub root_in : 0 < length arena.labels
+  pub root_is : IsRoot arena 0
   pub few_nodes : length arena.labels ≤ length tokens
 
 -- the first k tokens are the longest front with which those of some plain page begin, and not all of one's

@@ -1,7 +1,9 @@
 //! What the program does with a job: it reads a page, prints it, and tells how that ended.
 #![tactic(auto)]
 
+mod errors;
 mod line;
+mod printing;
 mod refusal;
 mod running;
 mod status;

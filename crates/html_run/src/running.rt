@@ -1,25 +1,36 @@
 //! One job, over any reader and writers.
 
-ghost use Rattle.std.specs.Prelude.{◌≡◌, ◌<◌, IfOk, IfSome, MatchOption, Ok, length};
+ghost use Rattle.std.specs.Prelude.{◌≡◌, ◌<◌, List, IfOk, IfSome, OnOk, MatchOption, Ok};
+ghost use Rattle.std.specs.Io.KnownBytes.{Appends};
+ghost use Rattle.html_arena.specs.Walking.{IsRoot};
 ghost use Rattle.html_charref.specs.Entities.{core_rows, entities_of};
 ghost use Rattle.html_run.specs.Outcome.{status_of};
+ghost use Rattle.html_run.specs.Profiles.{profile_of};
 ghost use Rattle.html_input.specs.Decode.{decode};
-ghost use Rattle.html_page.specs.Small.{IsSmallText};
+ghost use Rattle.html_page.specs.Normalised.{IsNormalised};
+ghost use Rattle.html_charref.specs.declared.table.Row.{Row};
+ghost use Rattle.html_page.specs.PageTokens.{ArePlain, kinds};
+ghost use Rattle.html_page.specs.Parsed.{tokens_in};
 
+use crate::errors::{print_errors, tokens_from};
+use crate::printing::ToSink;
 use crate::refusal::{TableRefusal, outcome};
 use crate::status::{DONE, REFUSED};
 use crate::tree::print_tree;
 use html_job::{Command, Job};
-use html_page::{EntityError, EntityTable, Page, ParseError, Source, parse_from};
+use html_page::{
+    EntityError, EntityTable, Page, ParseError, Profile, Sink, Source, normalise, parse_from,
+};
+use html_tokens::Fault;
 use std::alloc::Global;
 use std::io;
-use std::io::Write;
+use std::io::{BufWriter, ErrorKind, Write};
 
 /// Does the job and answers the program's status. `entities` are the bytes of the file of named character references, if
 /// the job has one. It reads `reader` to its end before it writes anything. What went wrong is told in one line on
 /// `faults`; where that fails too, by the status alone. For `Suite`, whose files are other files, it reads the page and
 /// prints nothing.
-pub fn run<R: Source, W: Write, F: Write>(
+pub fn run<R: Source, W: Sink, F: Write>(
     alloc: Global,
     job: &Job<'_>,
     entities: Option<&[u8]>,
@@ -27,7 +38,12 @@ pub fn run<R: Source, W: Write, F: Write>(
     writer: &mut W,
     faults: &mut F,
 ) -> u8
-    ensures done { result ≡ DONE → IfSome (R.remaining reader.old) (λ bytes. IsSmallText (decode bytes)) }
+    ensures done { job.now.command ≡ Command.Tree → result ≡ DONE → (rows : List Row)
+        × MatchOption entities.entry (rows ≡ core_rows) (λ bytes. entities_of bytes.now ≡ Ok rows)
+        × IfSome (R.remaining reader.old) (λ bytes. ArePlain (kinds (tokens_in rows (decode bytes)))) }
+    ensures normalised { job.now.command ≡ Command.Normalise → result ≡ DONE
+        → (rows : List Row) × MatchOption entities.entry (rows ≡ core_rows) (λ bytes. entities_of bytes.now ≡ Ok rows)
+        × IsNormalised rows (profile_of job.now.profile) (Appends (W.taken writer.old) (W.taken writer.new)) (R.remaining reader.old) (R.remaining reader.new) }
     ensures status { result < 4 }
 {
     let input = job.input.unwrap_or("-");
@@ -35,12 +51,68 @@ pub fn run<R: Source, W: Write, F: Write>(
         Ok(table) => table,
         Err(error) => return tell_table(&error, faults),
     };
-    match parse_from(alloc, &table, reader) {
-        Ok(page) => match write_answer(job.command, &page, writer) {
-            Ok(()) => DONE,
-            Err(_) => tell(&ParseError::Write, input, faults),
-        },
+    let answer = match job.command {
+        Command::Tree => answer_tree(alloc, &table, reader, writer),
+        Command::Errors => answer_errors(alloc, &table, reader, writer),
+        Command::Normalise => {
+            let profile = profile(job.profile);
+            normalise(alloc, &table, profile, reader, writer)
+        }
+        Command::Suite => answer_nothing(alloc, &table, reader),
+    };
+    match answer {
+        Ok(()) => DONE,
         Err(error) => tell(&error, input, faults),
+    }
+}
+
+/// The profile that a job names.
+fn profile(profile: html_job::Profile) -> Profile
+    ensures { result ≡ profile_of profile }
+{
+    match profile {
+        html_job::Profile::One => Profile::One,
+        html_job::Profile::Two => Profile::Two,
+    }
+}
+
+/// Prints the tree of a page.
+fn answer_tree<R: Source, W: Sink>(
+    alloc: Global,
+    table: &EntityTable,
+    reader: &mut R,
+    writer: &mut W,
+) -> Result<(), ParseError>
+    ensures { OnOk result (IfSome (R.remaining reader.old) (λ bytes. ArePlain (kinds (tokens_in table.now (decode bytes))))) }
+{
+    match parse_from(alloc, table, reader) {
+        Ok(page) => written(write_tree(alloc, &page, writer)),
+        Err(error) => Err(error),
+    }
+}
+
+/// Prints the parse errors of tokenizing.
+fn answer_errors<R: Source, W: Sink>(
+    alloc: Global,
+    table: &EntityTable,
+    reader: &mut R,
+    writer: &mut W,
+) -> Result<(), ParseError> {
+    match tokens_from(alloc, table, reader) {
+        Ok(list) => written(write_errors(alloc, list.errors.as_slice(), writer)),
+        Err(error) => Err(error),
+    }
+}
+
+/// Reads a page.
+fn answer_nothing<R: Source>(
+    alloc: Global,
+    table: &EntityTable,
+    reader: &mut R,
+) -> Result<(), ParseError> {
+    match parse_from(alloc, table, reader) {
+        Ok(_) => Ok(()),
+        Err(error) => Err(error),
     }
 }
 
@@ -63,15 +135,31 @@ pub fn tell_table<F: Write>(error: &EntityError, faults: &mut F) -> u8
     REFUSED
 }
 
-/// Writes what the command asks of a page, to the last byte.
-fn write_answer<W: Write>(command: Command, page: &Page, writer: &mut W) -> io::Result<()>
-    requires { page.now.root < length page.now.arena.labels }
+/// Prints a tree, to the last byte.
+fn write_tree<W: Sink>(alloc: Global, page: &Page, writer: &mut W) -> io::Result<()>
+    requires { IsRoot page.now.arena page.now.root }
 {
-    match command {
-        Command::Tree => print_tree(writer, &page.arena, page.root)?,
-        Command::Suite => {}
+    let mut out = BufWriter::new(alloc, ToSink { sink: writer })?;
+    print_tree(alloc, &mut out, &page.arena, page.root)?;
+    out.flush()
+}
+
+/// Prints parse errors, to the last byte.
+fn write_errors<W: Sink>(alloc: Global, errors: &[Fault], writer: &mut W) -> io::Result<()> {
+    let mut out = BufWriter::new(alloc, ToSink { sink: writer })?;
+    print_errors(&mut out, errors)?;
+    out.flush()
+}
+
+/// What a failed write is for the user: the writer's fault, or a want of memory.
+fn written(answer: io::Result<()>) -> Result<(), ParseError> {
+    match answer {
+        Ok(()) => Ok(()),
+        Err(error) if matches!(error.kind(), ErrorKind::OutOfMemory) => {
+            Err(ParseError::OutOfMemory)
+        }
+        Err(_) => Err(ParseError::Write),
     }
-    writer.flush()
 }
 
 /// Tells on `faults`, in one line, why there is no page, and answers the status. `input` is the name of the file, or

@@ -14,10 +14,14 @@ use Rattle.html_tokens.specs.declared.token.Region.TheVariants.{Plain}
 use Rattle.std.proofs.Common.{Bool, Result, Ok, Err}
 use Rattle.std.specs.Result.{IfOk, OnOk}
 use Rattle.html_tokens.specs.declared.machine.State.{State}
-use Rattle.html_tokens.specs.declared.machine.State.TheVariants.{Text, Doctype, Tag}
+use Rattle.html_tokens.specs.declared.machine.State.TheVariants.{Text, Comment, Doctype, Tag}
+use Rattle.html_tokens.specs.declared.comment.CommentDraft.{CommentDraft}
 
 square_more : (p n : ℕ) → p * p + p ≤ (p + n) * (p + n) + (p + n)
 square_more p n = omega arith
+
+square_on : (p n : ℕ) → p * p + p + n ≤ (p + n) * (p + n) + (p + n)
+square_on p n = let f : p * p ≤ (p + n) * (p + n) = mul-le p p (p + n) (p + n) (omega arith) (omega arith) in omega arith
 
 square_one : (p : ℕ) → (p + 1) * (p + 1) ≡ p * p + p + (p + 1)
 square_one p = simp (add-mul, mul-add) (omega arith)
@@ -87,3 +91,17 @@ tag_closed (Err error) old new d d' self_closing n f f' s ends e t b = tt
 
 pub plain_bounded : (old new : Machine) (f f' : Faults) → old.state ≡ Text Plain → Passes old 1 (Text Plain) new → Told 2 0 f f' → IsBounded old f → IsBounded new f'
 plain_bounded old new f f' s p t b = rw p.state (to_text (Text Plain) (Text Plain) old.place new.place 1 2 f f' (rw s at b) t p.place (omega arith) refl refl)
+
+-- a front of the rest is copied, which tells nothing
+pub tag_copied : (old new : Machine) (d d' : TagDraft) (n : ℕ) (f : Faults) → old.state ≡ Tag d → Passes (record old { state = Tag d' }) n (Tag d') new → d'.attrs ≡ d.attrs → IsBounded old f → IsBounded new f
+tag_copied old new d d' n f s p a b =
+    let m : old.place * old.place + old.place + n ≤ (old.place + n) * (old.place + n) + (old.place + n) = square_on old.place n in
+    let c = rw s at b in
+    rw (p.state, p.place) (let u = c.told in let v = c.compared in let w = c.attrs in record { told = omega arith; compared = omega arith; attrs = rw a (omega arith) })
+
+pub comment_copied : (old new : Machine) (d d' : CommentDraft) (n : ℕ) (f : Faults) → old.state ≡ Comment d → Passes (record old { state = Comment d' }) n (Comment d') new → IsBounded old f → IsBounded new f
+comment_copied old new d d' n f s p b = rw p.state (to_text (Comment d) (Comment d') old.place new.place n 0 f f (rw s at b) (omega arith, omega arith) p.place (omega arith) refl refl)
+
+-- plain text is taken, which tells nothing
+pub run_bounded : (old new : Machine) (n : ℕ) (f : Faults) → old.state ≡ Text Plain → Passes old n old.state new → IsBounded old f → IsBounded new f
+run_bounded old new n f s p b = rw (p.state, s) (to_text (Text Plain) (Text Plain) old.place new.place n 0 f f (rw s at b) (omega arith, omega arith) p.place (omega arith) refl refl)

@@ -1,6 +1,6 @@
 -- What belongs to a cut, a reference or a value is no longer than the text.
-use Rattle.std.proofs.Common.{◌≡◌, ℕ, zero, suc, ◌+◌, ◌-◌, ◌<◌, ◌≤◌, List, [], ◌∷◌, ◌++◌, length, map, drop, Option, Some, None, Bool, true, false, ◌&&◌, ◌||◌, ◌==◌, cond, is_none, refl, ap, sym, ◌∙◌, arith, inl, inr}
-use Rattle.std.proofs.lemmas.List.{length-map, length-drop, length-append}
+use Rattle.std.proofs.Common.{◌≡◌, ℕ, zero, suc, ◌+◌, ◌-◌, ◌<◌, ◌≤◌, List, [], ◌∷◌, ◌++◌, length, drop, Option, Some, None, Bool, true, false, ◌&&◌, ◌||◌, ◌==◌, cond, is_none, refl, ap, sym, ◌∙◌, arith}
+use Rattle.std.proofs.lemmas.List.{length-drop, length-append}
 use Rattle.std.proofs.lemmas.Bool.{false≢true}
 use Rattle.std.specs.List.{slice_get}
 use Rattle.std.specs.Option.{IfSome}
@@ -14,7 +14,7 @@ use Rattle.html_charref.proofs.Maximum.{longest-IsLongest}
 use Rattle.html_tokens.proofs.RefLemmas.{found_short}
 use Rattle.html_tokens.specs.Cut.{Cut, cut, cut_or, longer, is, passes, mark_if, comment_mark, greater_mark, quote_mark, stop_mark, ends_unquoted, is_space, shown}
 use Rattle.html_tokens.specs.Draft.{passed}
-use Rattle.html_tokens.specs.Reference.{Reference, literal, named_by, numeric_by, numbered, reference, reference_by, ref_opener, ref_opener_at, semicolon, ends_digits, opened_by, is_digit}
+use Rattle.html_tokens.specs.Reference.{Reference, literal, named_by, numeric_by, numbered, reference, reference_by, ref_opener, semicolon, ends_digits, opened_by, is_digit}
 use Rattle.html_tokens.specs.Tag.{value, after_name, after_some}
 use Rattle.html_tokens.specs.Value.{value_cut, end_mark, with_codes, value_reference, value_reference_by, value_named, goes_on}
 use Rattle.html_tokens.specs.declared.token.RefOpener.{RefOpener}

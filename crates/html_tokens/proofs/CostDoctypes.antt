@@ -1,12 +1,11 @@
 -- A doctype holds no more code points than it has.
-use Rattle.std.proofs.Common.{◌≡◌, ℕ, zero, suc, ◌+◌, ◌-◌, ◌<◌, ◌≤◌, List, [], ◌∷◌, ◌++◌, length, map, drop, Option, Some, None, Bool, true, false, ◌&&◌, ◌||◌, ◌==◌, cond, refl, ap, sym, ◌∙◌, arith, inl, inr}
-use Rattle.std.proofs.lemmas.List.{length-map, length-drop, length-append}
-use Rattle.std.proofs.lemmas.Bool.{false≢true}
+use Rattle.std.proofs.Common.{◌≡◌, ℕ, suc, ◌+◌, ◌-◌, ◌<◌, ◌≤◌, List, [], ◌∷◌, ◌++◌, length, map, drop, Option, Some, None, Bool, true, false, ◌||◌, ◌==◌, cond, refl, sym, ◌∙◌, arith}
+use Rattle.std.proofs.lemmas.List.{length-map, length-drop}
 use Rattle.std.specs.Char.{to_ascii_lowercase}
 use Rattle.std.specs.List.{slice_get}
 use Rattle.html_tokens.specs.Cost.{optional_len}
-use Rattle.html_tokens.specs.Cut.{Cut, cut, is, passes, mark_if, greater_mark, stop_mark, ends_unquoted, shown}
-use Rattle.html_tokens.specs.Doctype.{Ids, Doctype, no_ids, with_name, with_public, with_system, closes, longer_doctype, not_space, after_spaces, up_to, bad_rest, after_system, id_mark, id_end, system_end, system_id, is_quote, quoted, after_public, public_end, public_id, wanted, wanted_public, wanted_system, spells_word, doctype_word, public_word, system_word, keyword_at, keyword_len, after_keyword, after_name, name_end, named, name_or_end, doctype_of}
+use Rattle.html_tokens.specs.Cut.{cut, is, passes, greater_mark, stop_mark, ends_unquoted, shown}
+use Rattle.html_tokens.specs.Doctype.{Ids, Doctype, no_ids, with_name, with_public, with_system, closes, longer_doctype, not_space, after_spaces, up_to, bad_rest, after_system, id_mark, id_end, system_end, system_id, is_quote, quoted, after_public, public_end, public_id, wanted, wanted_public, wanted_system, spells_word, public_word, system_word, keyword_at, keyword_len, after_keyword, after_name, name_end, named, name_or_end, doctype_of}
 use Rattle.html_tokens.specs.Marks.{is_lowered}
 use Rattle.html_tokens.specs.Tag.{name_char}
 use Rattle.html_tokens.specs.declared.doctype.Keyword.{Keyword}

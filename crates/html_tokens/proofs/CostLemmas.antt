@@ -1,34 +1,33 @@
 -- The tokens of a text stand in order, and hold no more code points than the text.
-use Rattle.std.proofs.Common.{◌≡◌, ℕ, zero, suc, ◌+◌, ◌-◌, ◌<◌, ◌≤◌, List, [], ◌∷◌, ◌++◌, length, map, drop, Option, Some, None, Bool, true, false, ◌&&◌, ◌||◌, ◌==◌, cond, is_none, refl, ap, sym, subst, append-nil, ◌∙◌, arith, inl, inr}
+use Rattle.std.proofs.Common.{◌≡◌, ℕ, zero, suc, ◌+◌, ◌-◌, ◌<◌, ◌≤◌, List, [], ◌∷◌, ◌++◌, length, map, drop, Option, Some, None, Bool, true, false, ◌&&◌, cond, is_none, refl, ap, sym, subst, append-nil, ◌∙◌, arith}
 use Rattle.std.proofs.lemmas.List.{length-map, length-drop}
 use Rattle.std.proofs.lemmas.Bool.{false≢true}
 use Rattle.std.specs.List.{slice_get}
 use Rattle.std.specs.Option.{IfSome}
 use Rattle.html_charref.specs.Table.{IsTable}
 use Rattle.html_charref.specs.declared.table.Row.{Row}
-use Rattle.html_tokens.specs.Cost.{attrs_len, own_len, is_eof, HasNames, AreNamed, Fits, AreBetween, tokens_len, AreCosted}
-use Rattle.html_tokens.specs.Cut.{Cut, cut, is, passes, greater_mark, comment_mark, shown}
-use Rattle.html_tokens.specs.Marks.{begin_at, script_begin, is_end_mark, is_stop, front, region_in, spells}
-use Rattle.html_tokens.specs.Reference.{Reference, reference}
+use Rattle.html_tokens.specs.Cost.{attrs_len, is_eof, AreNamed, Fits, AreBetween, tokens_len, AreCosted}
+use Rattle.html_tokens.specs.Cut.{cut, is, passes, greater_mark, comment_mark, shown}
+use Rattle.html_tokens.specs.Marks.{begin_at, is_end_mark, is_stop, front, region_in, spells}
+use Rattle.html_tokens.specs.Reference.{reference}
 use Rattle.html_tokens.specs.Fed.{to_come}
 use Rattle.html_tokens.specs.Stream.{Start, Run, IsAt, gave, answered, tokens_of}
 use Rattle.html_tokens.specs.declared.machine.Machine.{Machine}
 use Rattle.html_tokens.specs.Tag.{Tag, tag_of}
-use Rattle.html_tokens.specs.Tokens.{Piece, piece, token, chars_at, char_at, comment_piece, tag_kind, tag_tokens, tag_piece, when, open_piece, opener, opened_len, ref_tokens, ref_piece, begun_piece, text_or, next, mode_after, name_after, tokens_after, is_letter}
+use Rattle.html_tokens.specs.Tokens.{Piece, token, chars_at, comment_piece, tag_kind, tag_piece, when, open_piece, opener, opened_len, ref_tokens, ref_piece, begun_piece, text_or, next, mode_after, name_after, tokens_after, is_letter}
 use Rattle.html_tokens.specs.declared.token.Begin.{Begin}
 use Rattle.html_tokens.specs.declared.token.Begin.TheVariants as begins
 use Rattle.html_tokens.specs.declared.token.Opener.{Opener}
 use Rattle.html_tokens.specs.declared.token.Opener.TheVariants as opens
 use Rattle.html_tokens.specs.declared.token.Region.{Region}
-use Rattle.html_tokens.specs.declared.token.Region.TheVariants.{Plain, Escaped, Double}
+use Rattle.html_tokens.specs.declared.token.Region.TheVariants.{Plain}
 use Rattle.html_tokens.specs.declared.token.TextMode.{TextMode}
 use Rattle.html_tokens.specs.declared.token.TextMode.TheVariants.{Data, Rcdata, Rawtext, Script, Plaintext}
 use Rattle.html_tokens.specs.declared.token.Token.{Token}
-use Rattle.html_tokens.specs.declared.token.TokenKind.TheVariants as kinds
-use Rattle.html_tokens.proofs.CostCuts.{cond_both, left, right, there, is_there, MarkFits, greater_fits, comment_fits, cut_fits, RefFits, reference_fits}
+use Rattle.html_tokens.proofs.CostCuts.{cond_both, left, right, is_there, MarkFits, greater_fits, comment_fits, cut_fits, reference_fits}
 use Rattle.html_tokens.specs.Doctype.{doctype_of, doctype_word, spells_word}
 use Rattle.html_tokens.proofs.CostDoctypes.{doctype_fits, spelled_fits}
-use Rattle.html_tokens.proofs.CostTags.{TagFits, tag_fits}
+use Rattle.html_tokens.proofs.CostTags.{tag_fits}
 
 -- tokens between two places, none of them the end of the input
 abbrev AreInside : ℕ → ℕ → List Token → Type 0

@@ -1,16 +1,16 @@
 -- A tag holds no more code points than it has, and the names of its attributes are some and apart.
-use Rattle.std.proofs.Common.{◌≡◌, ℕ, zero, suc, ◌+◌, ◌-◌, ◌<◌, ◌≤◌, List, [], ◌∷◌, ◌++◌, length, map, drop, Option, Some, None, Bool, true, false, ◌&&◌, ◌||◌, ◌==◌, cond, refl, ap, sym, ◌∙◌, arith, inl, inr}
-use Rattle.std.proofs.lemmas.List.{length-map, length-drop, length-append}
-use Rattle.std.specs.List.{slice_get, list_any, AllByRecursion}
+use Rattle.std.proofs.Common.{◌≡◌, ℕ, zero, suc, ◌+◌, ◌<◌, ◌≤◌, List, [], ◌∷◌, ◌++◌, length, map, Bool, true, false, ◌&&◌, ◌||◌, ◌==◌, cond, refl, sym, arith}
+use Rattle.std.proofs.lemmas.List.{length-map}
+use Rattle.std.specs.List.{slice_get, AllByRecursion}
 use Rattle.std.specs.Str.{bytes_eq}
 use Rattle.std.proofs.lemmas.Bool.{false≢true}
 use Rattle.html_charref.specs.Table.{IsTable}
 use Rattle.html_charref.specs.declared.table.Row.{Row}
 use Rattle.html_tokens.specs.Cost.{attrs_len, AreApart, AreNamed}
-use Rattle.html_tokens.specs.Cut.{Cut, cut, is, is_space, stop_mark}
-use Rattle.html_tokens.specs.Tag.{Named, Tail, Tag, tail, tag_of, attribute, attr, after_some, longer_tail, with_attr, with_attrs, name_char, ends_attr, ends_name, has_name, add_first, firsts_after}
+use Rattle.html_tokens.specs.Cut.{cut, is, is_space, stop_mark}
+use Rattle.html_tokens.specs.Tag.{Named, Tail, Tag, tail, tag_of, attribute, longer_tail, with_attr, name_char, ends_attr, ends_name, has_name, add_first, firsts_after}
 use Rattle.html_tokens.specs.declared.attributes.Attr.{Attr}
-use Rattle.html_tokens.proofs.CostCuts.{cond_both, left, right, is_there, stop_fits, cut_fits, GoesFits, after_some_fits}
+use Rattle.html_tokens.proofs.CostCuts.{cond_both, right, is_there, stop_fits, cut_fits, after_some_fits}
 
 -- an attribute holds no more code points than belong to it
 pub record NamedFits (a : Named) (n : ℕ) : Type 0 where

@@ -14,3 +14,5 @@ pub mod CostLemmas
 pub mod DoctypeLemmas
 pub mod BoundLemmas
 pub mod RunLemmas
+pub mod CopyLemmas
+pub mod KeyLemmas

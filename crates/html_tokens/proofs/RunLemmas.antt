@@ -1,5 +1,8 @@
 -- Runs of plain text.
-use Rattle.std.proofs.Common.{◌≡◌, ℕ, suc, ◌+◌, ◌≤◌, List, [], ◌∷◌, ◌++◌, length, drop, Option, Some, None, true, false, refl, ap, sym, ◌∙◌, arith, append_assoc, append-nil, length-append, subst}
+use Rattle.std.proofs.Common.{◌≡◌, ℕ, suc, ◌+◌, ◌≤◌, List, [], ◌∷◌, ◌++◌, length, take, drop, Option, Some, None, true, false, refl, ap, sym, ◌∙◌, arith, append_assoc, append-nil, length-append, subst}
+use Rattle.std.proofs.lemmas.List.{take-append-drop, length-take-le}
+use Rattle.std.proofs.Math.Seq.{take-append_seam}
+use Rattle.html_tokens.specs.Copied.{AllPass}
 use Rattle.std.proofs.lemmas.Bool.{false≢true}
 use Rattle.std.proofs.lemmas.Bool.Decides.{nat_tests}
 use Rattle.html_tokens.specs.Tokens.{token, text_char}
@@ -129,6 +132,53 @@ taken_more start now new before after c items h mode e p =
       mode = p.mode ∙ h.mode;
     }
 
+-- one code point is passed
+pub passes_one : (old new : Machine) (c : ℕ) (items : List ℕ) → old.input.queue.items ≡ c ∷ items → new.input.queue.items ≡ items → new.input.finished ≡ old.input.finished → new.place ≡ old.place + 1 → new.mode ≡ old.mode → new.last_name ≡ old.last_name → new.state ≡ old.state → new.table.now ≡ old.table.now → old.state ≡ Text Plain → Passes old 1 (Text Plain) new
+passes_one old new c items e i f p m n s t h = record { items = i ∙ rw e refl; finished = f; place = p; mode = m; name = n; state = s ∙ h; table = t }
+
+-- a machine of which all is the same but what it was made of
+at_same : (now new : Machine) (run : Run) → new.input.queue.items ≡ now.input.queue.items → new.input.finished ≡ now.input.finished → new.place ≡ now.place → new.mode ≡ now.mode → new.last_name ≡ now.last_name → new.state ≡ now.state → new.table.now ≡ now.table.now → IsAt now run → IsAt new run
+at_same now new run e f p m n s t i = record {
+  tokens = λ more switches h. rw (e, p, m, n, s, t) (i.tokens more switches h);
+  count = rw (e, p) i.count;
+  finished = f ∙ i.finished;
+  table = t ∙ i.table;
+  name = n ∙ i.name;
+  rule = i.rule;
+}
+
+taken_front : (xs rest : List ℕ) (start now new : Machine) (before after : List ℕ) → HasTaken start now before after → AllPass (is_plain start.mode) xs → now.input.queue.items ≡ xs ++ rest → new.input.queue.items ≡ rest → new.input.finished ≡ now.input.finished → new.place ≡ now.place + length xs → new.mode ≡ now.mode → new.last_name ≡ now.last_name → new.state ≡ now.state → new.table.now ≡ now.table.now →
+    HasTaken start new before (after ++ xs)
+taken_front [] rest start now new before after h a e r f p m n s t =
+    let same : new.place ≡ now.place = omega arith in
+    let items : new.input.queue.items ≡ now.input.queue.items = r ∙ sym e in
+    record {
+      taken = h.taken;
+      out = append-nil after ∙ h.out;
+      front = h.front ∙ ap (λ (x : List ℕ). h.taken ++ plain_front start.mode x) (sym items);
+      given = λ run i. at_same now new _ items f same m n s t (h.given run i);
+      place = same ∙ h.place;
+      state = s ∙ h.state;
+      mode = m ∙ h.mode;
+    }
+taken_front (c ∷ xs) rest start now new before after h a e r f p m n s t =
+    let mid : Machine = record now { input = record { queue = record { items = xs ++ rest }; finished = now.input.finished }; place = now.place + 1 } in
+    let one : HasTaken start mid before (after ++ c ∷ []) = taken_more start now mid before after c (xs ++ rest) h a.0 e (passes_one now mid c (xs ++ rest) e refl refl refl refl refl refl refl h.state) in
+    let far : new.place ≡ now.place + 1 + length xs = p ∙ omega arith in
+    subst (λ (x : List ℕ). HasTaken start new before x) (append_assoc after (c ∷ []) xs)
+    (taken_front xs rest start mid new before (after ++ c ∷ []) one a.1 refl r f far m n s t)
+
+-- a front of the rest is taken at once
+pub taken_run : (n : ℕ) (start now new : Machine) (before after : List ℕ) → HasTaken start now before after → n ≤ length now.input.queue.items → ((mode : TextMode) → AllPass (is_plain mode) (take n now.input.queue.items)) → Passes now n now.state new →
+    HasTaken start new before (after ++ take n now.input.queue.items)
+taken_run n start now new before after h k a p =
+    taken_front (take n now.input.queue.items) (drop n now.input.queue.items) start now new before after h (a start.mode) (sym (take-append-drop n now.input.queue.items)) p.items p.finished
+    (p.place ∙ ap (λ (x : ℕ). now.place + x) (sym (length-take-le n now.input.queue.items k))) p.mode p.name p.state p.table
+
+-- what was there before is there
+pub still_there : (start now : Machine) (before after : List ℕ) → HasTaken start now before after → take (length before) after ≡ before
+still_there start now before after h = rw h.out (take-append_seam before h.taken)
+
 -- all of it has been taken
 pub taken_all : (start now : Machine) (before after : List ℕ) → HasTaken start now before after → plain_front now.mode now.input.queue.items ≡ [] → (h : HasTaken start now before after) → h.taken ≡ plain_front start.mode start.input.queue.items
 taken_all start now before after g e h = sym (h.front ∙ ap (λ (x : List ℕ). h.taken ++ x) (rw h.mode at e) ∙ append-nil h.taken)
@@ -142,10 +192,6 @@ all_place start now before after h e = h.place ∙ ap (λ (x : List ℕ). start.
 pub all_given : (start now : Machine) (before after : List ℕ) (h : HasTaken start now before after) → plain_front now.mode now.input.queue.items ≡ [] →
     (run : Run) → IsAt start run → IsAt now (gave_all run (plain_tokens start.place (plain_front start.mode start.input.queue.items)))
 all_given start now before after h e run i = subst (λ (x : List ℕ). IsAt now (gave_all run (plain_tokens start.place x))) (taken_all start now before after h e h) (h.given run i)
-
--- one code point is passed
-pub passes_one : (old new : Machine) (c : ℕ) (items : List ℕ) → old.input.queue.items ≡ c ∷ items → new.input.queue.items ≡ items → new.input.finished ≡ old.input.finished → new.place ≡ old.place + 1 → new.mode ≡ old.mode → new.last_name ≡ old.last_name → new.state ≡ old.state → new.table.now ≡ old.table.now → old.state ≡ Text Plain → Passes old 1 (Text Plain) new
-passes_one old new c items e i f p m n s t h = record { items = i ∙ rw e refl; finished = f; place = p; mode = m; name = n; state = s ∙ h; table = t }
 
 -- the same, whatever is said of the mode
 pub plain_answered : (old new : Machine) (c : ℕ) (items : List ℕ) → old.state ≡ Text Plain → is_plain old.mode c ≡ true → old.input.queue.items ≡ c ∷ items → Passes old 1 (Text Plain) new → (run : Run) → IsAt old run → (switch : Option TextMode) →

@@ -13,7 +13,8 @@ use Rattle.html_tokens.specs.declared.token.Begin.{Begin}
 use Rattle.html_tokens.specs.declared.token.Begin.TheVariants as begins
 use Rattle.std.proofs.Common.{add-zero, length-drop}
 use Rattle.std.proofs.lemmas.List.{drop-append-le}
-use Rattle.html_tokens.specs.Fed.{coming, to_come, Passes, SameCount, Steps, switch_to, slack, GivesChars}
+use Rattle.html_tokens.specs.Copied.{CopiesComment, cut_by}
+use Rattle.html_tokens.specs.Fed.{Skips, coming, to_come, Passes, SameCount, Steps, switch_to, slack, GivesChars}
 use Rattle.html_tokens.specs.Input.{Decided, IsShort}
 use Rattle.html_tokens.specs.Input.{MayFollow}
 use Rattle.html_tokens.specs.declared.machine.Machine.{Machine}
@@ -333,3 +334,24 @@ named_some rows text len found e n = rw (e, n) refl
 
 pub named_none : (rows : List Row) (text : List ℕ) → ref_opener text ≡ Named → longest rows text ≡ None → reference rows text ≡ record { codes = codes_with 38 None; len = 1 }
 named_none rows text e n = rw (e, n) refl
+
+-- the tokens from a comment on, which is this and began there
+abbrev comment_coming : List Row → ℕ → ℕ → Cut → TextMode → Option (List ℕ) → List ℕ → List (Option TextMode) → List Token
+comment_coming rows start place c mode name rest switches = token (kinds.Comment c.before) start (place + c.len) ∷ tokens_after rows c.len mode name place rest (drop 1 switches)
+
+comment_on : (rows : List Row) (start place n : ℕ) (c : Cut) (mode : TextMode) (name : Option (List ℕ)) (items more : List ℕ) (switches : List (Option TextMode)) → n ≤ length items →
+    comment_coming rows start place (cut_by n c) mode name (items ++ more) switches ≡ comment_coming rows start (place + n) c mode name (drop n items ++ more) switches
+comment_on rows start place n c mode name items more switches h =
+    let e : place + (n + c.len) ≡ place + n + c.len = omega arith in
+    rw e (ap (λ (ts : List Token). token (kinds.Comment c.before) start (place + n + c.len) ∷ ts) (tokens_past rows n c.len mode name place items more (drop 1 switches) h))
+
+-- a front of the rest is copied
+pub comment_skips : (old new : Machine) (d d' : CommentDraft) (n : ℕ) → old.state ≡ Comment d → CopiesComment d old.input.queue.items n d' →
+    Passes (record old { state = Comment d' }) n (Comment d') new → Skips old new
+comment_skips old new d d' n s (e, fit, st) p = (
+  (λ more switches f. rw (s, p.state, p.mode, p.name, p.place, p.items, p.table, st)
+      (ap (λ (c : Cut). comment_coming old.table.now d.start old.place c old.mode old.last_name (old.input.queue.items ++ more) switches) (e more)
+      ∙ comment_on old.table.now d.start old.place n (draft_cut d' (drop n old.input.queue.items ++ more)) old.mode old.last_name old.input.queue.items more switches fit)),
+  record { count = rw (p.place, p.items) (simp length-drop (omega arith)); finished = p.finished; table = p.table },
+  p.name,
+)

@@ -9,7 +9,7 @@ use Rattle.html_charref.specs.declared.table.Row.{Row}
 use Rattle.html_tokens.specs.declared.token.Region.TheVariants.{Plain, Escaped, Double}
 use Rattle.html_tokens.specs.declared.token.Begin.{Begin}
 use Rattle.html_tokens.specs.declared.token.Begin.TheVariants as begins
-use Rattle.html_tokens.specs.Fed.{coming, to_come, switch_to, Steps, slack}
+use Rattle.html_tokens.specs.Fed.{Skips, coming, to_come, switch_to, Steps, slack}
 use Rattle.html_tokens.specs.Given.{IsStart}
 use Rattle.html_tokens.specs.Stream.{Run, IsAt, last_name, name_of, gave, answered, tokens_of, IsPrompt, IsLate, ended}
 use Rattle.html_tokens.specs.declared.token.Token.{Token}
@@ -32,6 +32,26 @@ run_more old new run s i = record {
   name = s.3 ∙ i.name;
   rule = i.rule;
 }
+
+pub run_skips : (old new : Machine) (run : Run) → Skips old new → IsAt old run → IsAt new run
+run_skips old new run s i = record {
+  tokens = λ more switches h. i.tokens more switches h ∙ ap (λ (ts : List Token). run.given ++ ts) (s.0 more switches (rw i.finished h));
+  count = s.1.count ∙ i.count;
+  finished = s.1.finished ∙ i.finished;
+  table = s.1.table ∙ i.table;
+  name = s.2 ∙ i.name;
+  rule = i.rule;
+}
+
+pub more_skips : (old new : Machine) → Steps old More new → Skips old new
+more_skips old new s = (s.0, s.2, s.3)
+
+pub skips_trans : (a b c : Machine) → Skips a b → Skips b c → Skips a c
+skips_trans a b c s t = (
+  (λ more switches f. s.0 more switches f ∙ t.0 more switches (rw s.1.finished f)),
+  record { count = t.1.count ∙ s.1.count; finished = t.1.finished ∙ s.1.finished; table = t.1.table ∙ s.1.table },
+  t.2 ∙ s.2,
+)
 
 last_name-push : (ts : List Token) (t : Token) (name : Option (List ℕ)) → last_name (ts ++ t ∷ []) name ≡ name_after_kind t.kind (last_name ts name)
 last_name-push [] t name = refl

@@ -12,7 +12,8 @@ use Rattle.html_tokens.specs.declared.reference.ValueRef.{ValueRef}
 use Rattle.html_tokens.specs.Tag.{ReadsRef, tag_by, draft_tag, tag_of, longer_tag, ReadsTag, tail, value, after_name, after_some, part_tail}
 use Rattle.html_tokens.specs.Tag.{Tag as WholeTag}
 use Rattle.html_tokens.specs.Tokens.{tokens_after, token, tag_tokens, tag_kind, tag_piece, when, mode_after, name_after, mode_after_kind, name_after_kind}
-use Rattle.html_tokens.specs.Fed.{coming, new_tag, BeginsTag, EndsTag, EndsTagAt, IsTag, Passes, Steps, switch_to, read_tag, mode_after_tag, name_after_tag}
+use Rattle.html_tokens.specs.Copied.{CopiesTag}
+use Rattle.html_tokens.specs.Fed.{Skips, coming, new_tag, BeginsTag, EndsTag, EndsTagAt, IsTag, Passes, Steps, switch_to, read_tag, mode_after_tag, name_after_tag}
 use Rattle.html_tokens.specs.declared.tag.TagDraft.{TagDraft}
 use Rattle.html_tokens.specs.declared.tag.Part.{Part}
 use Rattle.html_tokens.specs.declared.tag.Part.TheVariants as parts
@@ -196,6 +197,18 @@ ref_more old new d d' found s (e, st, en) first h (b, some, fit) p = (
       (ap (λ (t : WholeTag). tag_coming old.table.now d.is_end d.start old.place t old.mode old.last_name (items ++ more) switches) whole
       ∙ tag_steps_on old.table.now d.is_end d.start old.place k (draft_tag old.table.now d' (drop k items ++ more)) old.mode old.last_name items more switches fit)),
   rw p.items (simp length-drop (omega arith)),
+  record { count = rw (p.place, p.items) (simp length-drop (omega arith)); finished = p.finished; table = p.table },
+  p.name,
+)
+
+-- a front of the rest is copied
+pub tag_skips : (old new : Machine) (d d' : TagDraft) (n : ℕ) → old.state ≡ Tag d → CopiesTag d old.input.queue.items n d' →
+    Passes (record old { state = Tag d' }) n (Tag d') new → Skips old new
+tag_skips old new d d' n s (e, fit, st, en) p = (
+  (λ more switches f.
+      rw (s, p.state, p.mode, p.name, p.place, p.items, p.table, st, en)
+      (ap (λ (t : WholeTag). tag_coming old.table.now d.is_end d.start old.place t old.mode old.last_name (old.input.queue.items ++ more) switches) (e old.table.now more)
+      ∙ tag_steps_on old.table.now d.is_end d.start old.place n (draft_tag old.table.now d' (drop n old.input.queue.items ++ more)) old.mode old.last_name old.input.queue.items more switches fit)),
   record { count = rw (p.place, p.items) (simp length-drop (omega arith)); finished = p.finished; table = p.table },
   p.name,
 )

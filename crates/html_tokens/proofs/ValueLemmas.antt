@@ -12,6 +12,7 @@ use Rattle.html_tokens.specs.Reference.{is_digit, numbered, Numbered, ends_digit
 use Rattle.html_tokens.specs.Tag.{with_attrs, with_attr, attr, Tail, longer_tail}
 use Rattle.html_tokens.specs.declared.tag.ValueEnd.{ValueEnd}
 use Rattle.html_tokens.proofs.StepLemmas.{digits_stop, digit_first, not_semicolon, char_capped, some_radix}
+use Rattle.html_tokens.specs.Copied.{cut_by}
 use Rattle.html_tokens.specs.Cut.{Cut, cut, is_space, ends_unquoted, stop_mark}
 use Rattle.html_tokens.specs.Value.{value_cut, with_codes, value_reference}
 use Rattle.html_tokens.specs.Tag.{draft_tag, longer_tag, ReadsTag, AddsAttr, Settles, value, after_name, tail, tail_by, tag_by, ReadsRef, OpensRef, IsInside}
@@ -114,10 +115,6 @@ number_closes old end base v c p e rows rest =
     let after = value_cut rows end 0 rest in
     rw (p, e) (ap (λ (m : Numbered). number_tag rows old end m (59 ∷ rest)) (digits_stop base v 59 rest (no_digit base)) ∙ number_past rows old end (record { value = v; len = 0 }) 59 rest
     ∙ ap (λ (v : List ℕ). longer_tag (record { name = old.name ++ []; tail = with_attrs old.attrs (with_attr (attr old.attr_name v) (tail rows after.len rest)) })) (sym (append_assoc old.attr_value (char_of v ∷ []) after.before)))
-
--- so many code points more
-abbrev pub cut_by : ℕ → Cut → Cut
-cut_by k after = record { before = after.before; len = k + after.len }
 
 cut_one : (k : ℕ) (after : Cut) → with_codes [] (cut_by k after) ≡ cut_by (suc k) after
 cut_one k after = let e : suc (k + after.len) ≡ suc k + after.len = omega arith in ap (λ (n : ℕ). record { before = after.before; len = n }) e

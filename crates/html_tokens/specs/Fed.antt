@@ -84,6 +84,12 @@ Steps old (Given given) new =
     × SameCount old new × (new.last_name ≡ name_after_kind given.kind old.last_name)
 Steps old Wait new = (new ≡ old) × IsShort old.input (slack old.table.now old.last_name)
 
+-- Some of the rest was passed, and what is still to come is the same.
+abbrev pub Skips : Machine → Machine → Type 0
+Skips old new =
+    ((more : List ℕ) (switches : List (Option TextMode)) → MayFollow old.input.finished more → to_come old more switches ≡ to_come new more switches)
+    × SameCount old new × (new.last_name ≡ old.last_name)
+
 -- So many code points were passed, and the state is another. All else is as it was.
 pub record Passes (old : Machine) (count : ℕ) (after : State) (new : Machine) : Type 0 where
   pub items : new.input.queue.items ≡ drop count old.input.queue.items

@@ -1,9 +1,12 @@
+pub mod Queue
 pub mod Input
 pub mod Cut
 pub mod Draft
 pub mod Reference
 pub mod Value
 pub mod Tag
+pub mod Copied
+pub mod Keys
 pub mod Marks
 pub mod Doctype
 pub mod Tokens

@@ -1,7 +1,7 @@
 -- The tokens of a text: it is cut into pieces, each a tag, a comment or a front of text.
-use Rattle.std.specs.Prelude.{ℕ, zero, suc, ◌+◌, ◌-◌, List, [], ◌∷◌, ◌++◌, length, map, drop, Bool, true, false, ◌&&◌, ◌||◌, ◌==◌, cond, nat_le, Option, Some, None, unwrap_or, slice_get, is_none}
-use Rattle.html_tokens.specs.Cut.{cut, is, comment_mark, greater_mark, shown}
-use Rattle.html_tokens.specs.Tag.{Tag, tag_of}
+use Rattle.std.specs.Prelude.{ℕ, zero, suc, ◌+◌, ◌-◌, List, [], ◌∷◌, ◌++◌, length, map, drop, Bool, true, false, ◌&&◌, ◌||◌, cond, Option, Some, None, unwrap_or, slice_get, is_none}
+use Rattle.html_tokens.specs.Cut.{cut, is, comment_mark, greater_mark, shown, passes}
+use Rattle.html_tokens.specs.Tag.{Tag, tag_of, between}
 use Rattle.html_tokens.specs.Doctype.{Doctype, doctype_of, spells_word, doctype_word}
 use Rattle.html_tokens.specs.declared.token.Token.{Token}
 use Rattle.html_tokens.specs.declared.token.TokenKind.{TokenKind}
@@ -17,21 +17,11 @@ use Rattle.html_charref.specs.declared.table.Row.{Row}
 use Rattle.html_tokens.specs.declared.token.Opener.{Opener}
 use Rattle.html_tokens.specs.declared.token.Opener.TheVariants as opens
 
-abbrev pub between : ℕ → ℕ → ℕ → Bool
-between lo hi c = nat_le lo c && nat_le c hi
-
 abbrev pub is_letter : ℕ → Bool
 is_letter c = between 65 90 c || between 97 122 c
 
-abbrev pub is_space : ℕ → Bool
-is_space c = c == 9 || c == 10 || c == 12 || c == 32
-
 abbrev pub lowered : ℕ → ℕ
 lowered c = cond (between 65 90 c) (c + 32) c
-
-abbrev pub passes : (ℕ → Bool) → Option ℕ → Bool
-passes p None = false
-passes p (Some c) = p c
 
 -- What a `<` in data begins: by the code points after it (HTML 13.2.5.6, 13.2.5.7, 13.2.5.42 to 13.2.5.44: tag open, end tag open, markup declaration open, comment start).
 abbrev pub opener_at : Option ℕ → Option ℕ → Option ℕ → Option ℕ → Option ℕ → Bool → Opener

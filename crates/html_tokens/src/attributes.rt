@@ -71,18 +71,6 @@ impl Attrs {
         Ok(())
     }
 
-    /// Whether an attribute of this name is there.
-    pub(crate) fn has_name(&self, name: &Str) -> bool
-        ensures { result ≡ has_name name.now self.now }
-    {
-        for attr in self.list.as_slice() {
-            if attr.name == *name {
-                return true;
-            }
-        }
-        false
-    }
-
     /// Whether an attribute of this name is there, and how many names were compared with it.
     pub(crate) fn search(&self, name: &Str) -> (bool, usize)
         ensures found { result.0 ≡ has_name name.now self.now }

@@ -1,9 +1,11 @@
 // Comments.
 ghost use Rattle.std.specs.Prelude.{◌≡◌, ℕ, ◌≤◌, ◌+◌, length, MatchOption, IfOk, OnErr};
+ghost use Rattle.html_tokens.specs.Copied.{copied_by, CopiesComment};
 ghost use Rattle.html_tokens.specs.Cut.{comment_mark, greater_mark, shown};
 ghost use Rattle.html_tokens.specs.Draft.{Reads, mark_of};
 ghost use Rattle.html_tokens.specs.Input.{Decided, IsShort, Marks};
 
+use crate::copied::Copied;
 use crate::input::{Input, Peek};
 use html_charref::Str;
 use std::alloc::AllocError;
@@ -69,6 +71,16 @@ fn greater_mark(input: &Input) -> Option<Option<usize>>
 }
 
 impl CommentKind {
+    /// What a comment of this kind takes as it stands.
+    fn copied(self) -> Copied
+        ensures { result ≡ copied_by self }
+    {
+        match self {
+            CommentKind::Declared => Copied::Comment,
+            CommentKind::Bogus => Copied::Bogus,
+        }
+    }
+
     fn mark(self, input: &Input) -> Option<Option<usize>>
         ensures { MatchOption result (IsShort input.now 3) (λ mark. Marks input.now (mark_of self) mark) }
     {
@@ -87,6 +99,13 @@ pub(crate) fn shown(c: char) -> char
 }
 
 impl CommentDraft {
+    /// Copies the longest front of the rest that the comment takes as it stands, and answers its length.
+    pub(crate) fn copy_front(&mut self, rest: &[char]) -> Result<usize, AllocError>
+        ensures copies { IfOk result (λ n. CopiesComment self.old rest.now n self.new) }
+    {
+        self.kind.copied().copy(rest, &mut self.data)
+    }
+
     /// Reads the next code point of the comment, unless it closes there.
     pub(crate) fn read(&mut self, input: &mut Input) -> Result<Reading, AllocError>
         ensures reads { IfOk result (λ reading. Reads self.old input.old reading self.new input.new) }

@@ -168,6 +168,11 @@ impl Faults {
         if self.lost { Err(AllocError) } else { Ok(()) }
     }
 
+    /// Whether no earlier code point lets a later one tell more than it tells by itself.
+    pub(crate) fn is_quiet(&self) -> bool {
+        self.watch.letters.is_none() && self.watch.opened == 0
+    }
+
     /// Adds an error, or notes that memory was refused.
     pub(crate) fn tell(&mut self, name: FaultName, place: u64)
         ensures told { Told 1 0 self.old self.new }

@@ -1,17 +1,20 @@
 // The unread input.
 ghost use Rattle.std.specs.Prelude.{◌≡◌, ℕ, ◌≤◌, ◌+◌, length, drop, ◌<◌, ◌∷◌, ◌++◌, OnOk};
 ghost use Rattle.html_tokens.specs.Input.{Peeks};
+ghost use Rattle.html_tokens.specs.Copied.{AllPass};
 ghost use Rattle.html_tokens.specs.Runs.{is_plain, plain_front};
+ghost use Rattle.html_tokens.specs.declared.token.TextMode.{TextMode};
+ghost use Rattle.std.specs.Prelude.{take};
 ghost use Rattle.std.specs.Prelude.{MatchOption, true, []};
 
+use crate::queue::Queue;
 use crate::token::TextMode;
 use std::alloc::AllocError;
-use std::collections::VecDeque;
 
 /// What was fed and not yet read, and whether that is all.
 #[derive(Drop)]
 pub struct Input {
-    pub queue: VecDeque<char>,
+    pub queue: Queue,
     pub finished: bool,
 }
 
@@ -34,12 +37,19 @@ fn is_plain(mode: TextMode, c: char) -> bool
     }
 }
 
+/// Whether a code point is plain text in each mode, and tells no error.
+fn is_clean(c: char) -> bool
+    ensures { (mode : TextMode) → result ≡ true → is_plain mode c ≡ true }
+{
+    c > '<' || !(c == '<' || c == '&' || c == '\0')
+}
+
 impl Input {
     /// The code point at a place of the rest.
     pub(crate) fn peek(&self, at: usize) -> Peek
         ensures { Peeks self.now at result }
     {
-        match self.queue.get(at) {
+        match self.queue.unread().get(at) {
             Some(c) => Peek::Is(Some(*c)),
             None if self.finished => Peek::Is(None),
             None => Peek::Wait,
@@ -52,7 +62,24 @@ impl Input {
         ensures items { self.old.queue.items ≡ result ∷ self.new.queue.items }
         ensures finished { self.new.finished ≡ self.old.finished }
     {
-        self.queue.pop_front().unwrap()
+        let c = self.queue.unread()[0];
+        self.queue.skip(1);
+        c
+    }
+
+    /// The length of a front of the rest that is plain text and tells no error: the longest without U+0000, `&` and `<`.
+    pub(crate) fn clean_len(&self) -> usize
+        ensures fit { result ≤ length self.now.queue.items }
+        ensures plain { (mode : TextMode) → AllPass (is_plain mode) (take result self.now.queue.items) }
+    {
+        let mut len = 0;
+        for c in self.queue.unread() {
+            if !is_clean(*c) {
+                return len;
+            }
+            len += 1;
+        }
+        len
     }
 
     /// Takes the first code point where it is plain text.
@@ -60,7 +87,7 @@ impl Input {
     pub(crate) fn take_plain(&mut self, mode: TextMode) -> Option<char>
         ensures { MatchOption result ((plain_front mode self.old.queue.items ≡ []) × (self.new ≡ self.old)) (λ c. (is_plain mode c ≡ true) × (self.old.queue.items ≡ c ∷ self.new.queue.items) × (self.new.finished ≡ self.old.finished)) }
     {
-        match self.queue.get(0) {
+        match self.queue.unread().get(0) {
             None => None,
             Some(c) => {
                 if is_plain(mode, *c) {
@@ -78,9 +105,7 @@ impl Input {
         ensures items { self.new.queue.items ≡ drop count self.old.queue.items }
         ensures finished { self.new.finished ≡ self.old.finished }
     {
-        for _i in 0..count {
-            self.queue.pop_front();
-        }
+        self.queue.skip(count);
     }
 
     /// Adds a piece at the end.
@@ -89,9 +114,6 @@ impl Input {
         ensures room { length self.new.queue.items ≤ length self.old.queue.items + length text.now }
         ensures finished { self.new.finished ≡ self.old.finished }
     {
-        for c in text {
-            self.queue.push_back(*c)?;
-        }
-        Ok(())
+        self.queue.extend(text)
     }
 }

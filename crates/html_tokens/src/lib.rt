@@ -3,14 +3,17 @@
 
 mod attributes;
 mod comment;
+mod copied;
 mod doctype;
 mod doctype_faults;
 mod fault_name;
 mod faults;
 mod input;
+mod keyed;
 mod machine;
 mod marks;
 mod opener;
+mod queue;
 mod reference;
 mod tag;
 mod token;

@@ -1,11 +1,13 @@
 // The state machine.
 ghost use Rattle.std.specs.Prelude.{◌≡◌, ℕ, ◌≤◌, ◌+◌, ◌^◌, ◌<◌, List, [], ◌++◌, false, Some, length, slice_get, MatchOption, cond, IfOk, OnErr, OnOk, IfSome, IfNone, true};
-ghost use Rattle.html_tokens.specs.Fed.{Steps, Passes, IsComment, IsTag, IsDoctype, EndsComment, EndsTag, EndsDoctype, BeginsTag, BeginsDoctype, GivesChars, slack};
+ghost use Rattle.html_tokens.specs.Fed.{Skips, Steps, Passes, IsComment, IsTag, IsDoctype, EndsComment, EndsTag, EndsDoctype, BeginsTag, BeginsDoctype, GivesChars, slack};
 ghost use Rattle.html_tokens.specs.Input.{Decided, IsShort};
 ghost use Rattle.html_tokens.specs.Tokens.{token, opener, opened_len};
 ghost use Rattle.html_tokens.specs.Tag.{reads_refs};
 ghost use Rattle.html_tokens.specs.Bounds.{IsBounded, IsWithin};
-ghost use Rattle.html_tokens.specs.Runs.{is_text, plain_front, plain_tokens, gave_all};
+ghost use Rattle.std.specs.Prelude.{take};
+ghost use Rattle.html_tokens.specs.Copied.{AllPass};
+ghost use Rattle.html_tokens.specs.Runs.{is_plain, is_text, plain_front, plain_tokens, gave_all};
 ghost use Rattle.html_tokens.specs.Marks.{begin_at, is_end_mark, region_in};
 ghost use Rattle.html_charref.specs.Number.{char_of};
 ghost use Rattle.html_tokens.specs.Stream.{Run, IsAt, gave, fed, ended, answered, IsPrompt, tokens_of};
@@ -18,12 +20,12 @@ use crate::faults::{Fault, Faults, opening_fault};
 use crate::input::{Input, Peek};
 use crate::marks::is_end_mark;
 use crate::opener::opener;
+use crate::queue::Queue;
 use crate::reference::{NumberDraft, digit, named, ref_opener, value_ref};
 use crate::tag::{TagDraft, TagReading};
 use crate::token::{Begin, Name, Opener, RefOpener, Region, Span, TextMode, Token, TokenKind};
 use html_charref::{EntityTable, RefText, Str, add_digit, numeric};
 use std::alloc::{AllocError, Global};
-use std::collections::VecDeque;
 use std::mem;
 
 /// What is being read.
@@ -81,7 +83,7 @@ impl<'a> Machine<'a> {
     {
         // For the rule of the table, which this call tells.
         let _longest = table.longest_name();
-        let queue = VecDeque::new(alloc);
+        let queue = Queue::new(alloc);
         let input = Input {
             queue,
             finished: false,
@@ -591,7 +593,7 @@ impl<'a> Machine<'a> {
                 self.last_name = Some(Name::of(self.alloc, draft.name.0.as_str())?);
                 let kind = TokenKind::Start {
                     name: draft.name,
-                    attrs: draft.attrs,
+                    attrs: draft.attrs.into_attrs(),
                     self_closing,
                 };
                 Ok(Progress::Given(token(kind, draft.start, self.place)))
@@ -772,6 +774,7 @@ impl<'a> Machine<'a> {
         out: &mut Vec<char>,
     ) -> Result<Option<u64>, AllocError>
         requires room { self.old.place + length self.old.input.queue.items < 2 ^ 64 }
+        ensures refused { OnErr result (out.new.items ≡ out.old.items) }
         ensures text { OnOk result (out.new.items ≡ out.old.items ++ cond (is_text self.old.state) (plain_front self.old.mode self.old.input.queue.items) []) }
         ensures place { IfOk result (λ found. MatchOption found (cond (is_text self.old.state) (plain_front self.old.mode self.old.input.queue.items) [] ≡ []) (λ place. place ≡ self.old.place)) }
         ensures given { OnOk result ((run : Run) → IsAt self.old run → IsAt self.new (gave_all run (plain_tokens self.old.place (cond (is_text self.old.state) (plain_front self.old.mode self.old.input.queue.items) [])))) }
@@ -784,8 +787,11 @@ impl<'a> Machine<'a> {
             return Ok(None);
         }
         let start = self.place;
-        self.take_plain(faults, out)?;
-        faults.check()?;
+        let kept = out.len();
+        if let Err(error) = self.take_plain(faults, out) {
+            out.truncate(kept);
+            return Err(error);
+        }
         Ok(if self.place == start {
             None
         } else {
@@ -793,10 +799,11 @@ impl<'a> Machine<'a> {
         })
     }
 
-    /// Appends the plain text at the front of the rest.
+    /// Appends the plain text at the front of the rest; where that is refused, some of it.
     fn take_plain(&mut self, faults: &mut Faults, out: &mut Vec<char>) -> Result<(), AllocError>
         requires state { self.old.state ≡ State.Text Region.Plain }
         requires room { self.old.place + length self.old.input.queue.items < 2 ^ 64 }
+        ensures kept { OnErr result (take (length out.old.items) out.new.items ≡ out.old.items) }
         ensures text { OnOk result (out.new.items ≡ out.old.items ++ plain_front self.old.mode self.old.input.queue.items) }
         ensures place { OnOk result (self.new.place ≡ self.old.place + length (plain_front self.old.mode self.old.input.queue.items)) }
         ensures given { OnOk result ((run : Run) → IsAt self.old run → IsAt self.new (gave_all run (plain_tokens self.old.place (plain_front self.old.mode self.old.input.queue.items)))) }
@@ -806,10 +813,142 @@ impl<'a> Machine<'a> {
         ensures within { IsBounded self.old faults.old → OnErr result (IsWithin self.new.place faults.new) }
     {
         let mode = self.mode;
+        self.take_clean(faults, out)?;
         'taking: while let Some(c) = self.input.take_plain(mode) {
             faults.text_char(c, self.place);
             self.place += 1;
             out.push(c)?;
+            self.take_clean(faults, out)?;
+        }
+        faults.check()
+    }
+
+    /// Appends a front of the rest that is plain text, where no error waits for it, and answers its length.
+    fn take_clean(&mut self, faults: &Faults, out: &mut Vec<char>) -> Result<usize, AllocError>
+        requires room { self.old.place + length self.old.input.queue.items < 2 ^ 64 }
+        ensures fit { IfOk result (λ n. n ≤ length self.old.input.queue.items) }
+        ensures plain { IfOk result (λ n. (mode : TextMode) → AllPass (is_plain mode) (take n self.old.input.queue.items)) }
+        ensures text { IfOk result (λ n. out.new.items ≡ out.old.items ++ take n self.old.input.queue.items) }
+        ensures passes { IfOk result (λ n. Passes self.old n self.old.state self.new) }
+        ensures err { OnErr result (self.new ≡ self.old) }
+        ensures kept { OnErr result (out.new.items ≡ out.old.items) }
+    {
+        if !faults.is_quiet() {
+            return Ok(0);
+        }
+        let len = self.input.clean_len();
+        out.extend_from_slice(&self.input.queue.unread()[..len])?;
+        self.pass(len);
+        Ok(len)
+    }
+
+    /// Copies the longest front of the rest that the tag being read takes as it stands.
+    fn copy_in_tag(&mut self) -> Result<(), AllocError>
+        requires room { self.old.place + length self.old.input.queue.items < 2 ^ 64 }
+        ensures skips { OnOk result (Skips self.old self.new) }
+        ensures room { self.new.place + length self.new.input.queue.items ≤ self.old.place + length self.old.input.queue.items }
+        ensures fewer { length self.new.input.queue.items ≤ length self.old.input.queue.items }
+        ensures finished { self.new.input.finished ≡ self.old.input.finished }
+        ensures bounded { (faults : Faults) → IsBounded self.old faults → OnOk result (IsBounded self.new faults) }
+        ensures within { (faults : Faults) → IsBounded self.old faults → OnErr result (IsWithin self.new.place faults) }
+    {
+        let State::Tag(draft) = &mut self.state else {
+            return Ok(());
+        };
+        let copied = draft.copy_front(self.input.queue.unread())?;
+        self.pass(copied);
+        Ok(())
+    }
+
+    /// Copies the longest front of the rest that the comment being read takes as it stands.
+    fn copy_in_comment(&mut self) -> Result<(), AllocError>
+        requires room { self.old.place + length self.old.input.queue.items < 2 ^ 64 }
+        ensures skips { OnOk result (Skips self.old self.new) }
+        ensures room { self.new.place + length self.new.input.queue.items ≤ self.old.place + length self.old.input.queue.items }
+        ensures fewer { length self.new.input.queue.items ≤ length self.old.input.queue.items }
+        ensures finished { self.new.input.finished ≡ self.old.input.finished }
+        ensures bounded { (faults : Faults) → IsBounded self.old faults → OnOk result (IsBounded self.new faults) }
+        ensures within { (faults : Faults) → IsBounded self.old faults → OnErr result (IsWithin self.new.place faults) }
+    {
+        let State::Comment(draft) = &mut self.state else {
+            return Ok(());
+        };
+        let copied = draft.copy_front(self.input.queue.unread())?;
+        self.pass(copied);
+        Ok(())
+    }
+
+    /// Copies the longest front of the rest that what is being read takes as it stands, where no error waits for it.
+    fn copy_front(&mut self, faults: &Faults) -> Result<(), AllocError>
+        requires room { self.old.place + length self.old.input.queue.items < 2 ^ 64 }
+        ensures skips { OnOk result (Skips self.old self.new) }
+        ensures room { self.new.place + length self.new.input.queue.items ≤ self.old.place + length self.old.input.queue.items }
+        ensures fewer { length self.new.input.queue.items ≤ length self.old.input.queue.items }
+        ensures finished { self.new.input.finished ≡ self.old.input.finished }
+        ensures bounded { IsBounded self.old faults.now → OnOk result (IsBounded self.new faults.now) }
+        ensures within { IsBounded self.old faults.now → OnErr result (IsWithin self.new.place faults.now) }
+    {
+        if !faults.is_quiet() {
+            return Ok(());
+        }
+        match &self.state {
+            State::Tag(_) => self.copy_in_tag(),
+            State::Comment(_) => self.copy_in_comment(),
+            State::Text(_)
+            | State::Number(_)
+            | State::Second(..)
+            | State::Doctype(_)
+            | State::Ended => Ok(()),
+        }
+    }
+
+    /// Reads a code point in a tag that no token can come of: none that may close the tag or begin a reference. Whether
+    /// there was one.
+    fn tag_on(&mut self, faults: &mut Faults) -> Result<bool, AllocError>
+        requires room { self.old.place + length self.old.input.queue.items < 2 ^ 64 }
+        ensures skips { OnOk result (Skips self.old self.new) }
+        ensures fewer { IfOk result (λ on. on ≡ true → length self.new.input.queue.items < length self.old.input.queue.items) }
+        ensures room { self.new.place + length self.new.input.queue.items ≤ self.old.place + length self.old.input.queue.items }
+        ensures left { length self.new.input.queue.items ≤ length self.old.input.queue.items }
+        ensures finished { self.new.input.finished ≡ self.old.input.finished }
+        ensures bounded { IsBounded self.old faults.old → OnOk result (IsBounded self.new faults.new) }
+        ensures within { IsBounded self.old faults.old → OnErr result (IsWithin self.new.place faults.new) }
+    {
+        let State::Tag(draft) = &mut self.state else {
+            return Ok(false);
+        };
+        let c = match self.input.peek(0) {
+            Peek::Wait => return Ok(false),
+            Peek::Is(None) => return Ok(false),
+            Peek::Is(Some(c)) => c,
+        };
+        if c == '>' || c == '/' || c == '&' {
+            return Ok(false);
+        }
+        faults.tag_char(draft, c, None, self.place);
+        match draft.read(c, None)? {
+            TagReading::More => {
+                self.pass(1);
+                Ok(true)
+            }
+            // Nothing but `>` and `/>` closes a tag.
+            TagReading::Closed(..) => Err(AllocError),
+        }
+    }
+
+    /// Reads on as long as no token can come of it.
+    fn read_on(&mut self, faults: &mut Faults) -> Result<(), AllocError>
+        requires room { self.old.place + length self.old.input.queue.items < 2 ^ 64 }
+        ensures skips { OnOk result (Skips self.old self.new) }
+        ensures room { self.new.place + length self.new.input.queue.items ≤ self.old.place + length self.old.input.queue.items }
+        ensures fewer { length self.new.input.queue.items ≤ length self.old.input.queue.items }
+        ensures finished { self.new.input.finished ≡ self.old.input.finished }
+        ensures bounded { IsBounded self.old faults.old → OnOk result (IsBounded self.new faults.new) }
+        ensures within { IsBounded self.old faults.old → OnErr result (IsWithin self.new.place faults.new) }
+    {
+        self.copy_front(faults)?;
+        'reading: while self.tag_on(faults)? {
+            self.copy_front(faults)?;
         }
         Ok(())
     }
@@ -826,6 +965,7 @@ impl<'a> Machine<'a> {
         ensures within { IsBounded self.old faults.old → OnErr result (IsWithin self.new.place faults.new) }
     {
         loop {
+            self.read_on(faults)?;
             if let State::Ended = &self.state {
                 return Ok(None);
             }

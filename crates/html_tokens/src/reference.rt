@@ -92,8 +92,9 @@ pub(crate) fn named(table: &EntityTable, input: &Input) -> Option<Option<(u32, R
     ensures { MatchOption result (IsShort input.now (longest_len table.now)) (λ found. Decided input.now (longest table.now) found × IfSome found (λ m. (0 < m.0) × (m.0 ≤ length input.now.queue.items) × (m.0 ≤ longest_len table.now))) }
 {
     let mut walk = table.walk();
-    for at in 0..input.queue.len() {
-        match walk.step(input.queue[at]) {
+    let rest = input.queue.unread();
+    for at in 0..rest.len() {
+        match walk.step(rest[at]) {
             Step::More => {}
             Step::End(found) => return Some(found),
         }

@@ -1,5 +1,6 @@
 // Tags.
 ghost use Rattle.std.specs.Prelude.{length, ◌≡◌, ℕ, ◌≤◌, ◌+◌, ◌∷◌, [], ◌++◌, OnOk, IfOk, true, false, Option};
+ghost use Rattle.html_tokens.specs.Copied.{copied_in, CopiesTag};
 ghost use Rattle.html_tokens.specs.Cut.{is_space, ends_unquoted};
 ghost use Rattle.html_tokens.specs.Tag.{name_char, ReadsTag, ends_name, ends_attr, AddsAttr, reads_refs, is_number, Settles, OpensRef, ReadsRef, IsInside, GoesOn};
 ghost use Rattle.html_tokens.specs.Reference.{is_digit};
@@ -7,8 +8,10 @@ ghost use Rattle.html_charref.specs.Number.{char_of};
 ghost use Rattle.html_charref.specs.Entities.{codes_with};
 ghost use Rattle.html_tokens.specs.Fed.{new_tag};
 
-use crate::attributes::{Attr, Attrs};
+use crate::attributes::Attr;
 use crate::comment::shown;
+use crate::copied::Copied;
+use crate::keyed::KeyedAttrs;
 use crate::reference::{ValueRef, digit};
 use html_charref::{Base, Str, add_digit, numeric};
 use std::alloc::{AllocError, Global};
@@ -34,6 +37,19 @@ pub enum ValueEnd {
     Space,
 }
 
+impl ValueEnd {
+    /// What a value takes as it stands that closes so.
+    fn copied(self) -> Copied
+        ensures { result ≡ copied_in self }
+    {
+        match self {
+            ValueEnd::DoubleQuote => Copied::DoubleQuoted,
+            ValueEnd::SingleQuote => Copied::SingleQuoted,
+            ValueEnd::Space => Copied::Unquoted,
+        }
+    }
+}
+
 /// A tag that is being read.
 #[derive(Drop)]
 pub struct TagDraft {
@@ -41,7 +57,7 @@ pub struct TagDraft {
     pub is_end: bool,
     pub start: u64,
     pub name: Str,
-    pub attrs: Attrs,
+    pub attrs: KeyedAttrs,
     pub part: Part,
     pub attr_name: Str,
     pub attr_value: Str,
@@ -93,7 +109,7 @@ impl TagDraft {
             is_end,
             start,
             name: Str::new(alloc),
-            attrs: Attrs::new(alloc),
+            attrs: KeyedAttrs::new(alloc),
             part: Part::Name,
             attr_name: Str::new(alloc),
             attr_value: Str::new(alloc),
@@ -107,6 +123,19 @@ impl TagDraft {
         match self.part {
             Part::Name | Part::Attributes | Part::AttrName | Part::AfterName => false,
             Part::Value | Part::Inside(_) | Part::Number(..) => true,
+        }
+    }
+
+    /// Copies the longest front of the rest that the name or value being read takes as it stands, and answers its length.
+    pub(crate) fn copy_front(&mut self, rest: &[char]) -> Result<usize, AllocError>
+        ensures copies { IfOk result (λ n. CopiesTag self.old rest.now n self.new) }
+        ensures attrs { self.new.attrs ≡ self.old.attrs }
+    {
+        match self.part {
+            Part::Name => Copied::Name.copy(rest, &mut self.name),
+            Part::AttrName => Copied::Name.copy(rest, &mut self.attr_name),
+            Part::Inside(end) => end.copied().copy(rest, &mut self.attr_value),
+            Part::Attributes | Part::AfterName | Part::Value | Part::Number(..) => Ok(0),
         }
     }
 
@@ -414,7 +443,7 @@ impl TagDraft {
         let name = mem::replace(&mut self.attr_name, Str::new(self.alloc));
         let value = mem::replace(&mut self.attr_value, Str::new(self.alloc));
         self.part = Part::Attributes;
-        if !self.attrs.has_name(&name) {
+        if !self.attrs.search(&name).0 {
             self.attrs.push(Attr { name, value })?;
         }
         Ok(())

@@ -184,10 +184,11 @@ impl<'a> Tokenizer<'a> {
     /// points of plain text: each is a Char, and stands for itself. Plain text ends before each `<` and each `&` that
     /// has to be looked at, before a U+0000 that becomes U+FFFD, and where a script is escaped.
     ///
-    /// Refused with `Stopped` after a refusal, else with `OutOfMemory`.
+    /// Refused with `Stopped` after a refusal, else with `OutOfMemory`; `out` is then as it was.
     #[tactic(auto, using(crate::proofs::StreamLemmas::unsaid, crate::proofs::StreamLemmas::said), unfolding(crate::specs::Given::Fed, crate::specs::Given::Awaits, crate::specs::Given::fed_len, crate::specs::Given::is_stopped, crate::specs::Given::is_finished, crate::specs::Given::plain_next))]
     pub fn next_run(&mut self, out: &mut Vec<char>) -> Result<Option<u64>, TokenError>
         ensures text { OnOk result (out.new.items ≡ out.old.items ++ plain_next self.old) }
+        ensures refused { OnErr result (out.new.items ≡ out.old.items) }
         ensures some { IfOk result (λ found. IfNone found (plain_next self.old ≡ [])) }
         ensures none { IfOk result (λ found. IfNone found ((run : Run) → Fed self.old run → Fed self.new run)) }
         ensures given { IfOk result (λ found. IfSome found (λ place. (run : Run) → Fed self.old run → Fed self.new (gave_all run (plain_tokens place (plain_next self.old))))) }

@@ -1,7 +1,5 @@
-use Rattle.std.proofs.Common.{rules, length, arith}
-use Rattle.std.specs.Str.{chars}
+use Rattle.std.proofs.Common.{rules, arith}
 use Rattle.std.proofs.lemmas.Str.{chars_from_encodes}
-use Rattle.html_input.proofs.Counting.{chars_few}
 use Rattle.html_input.proofs.count.char_count.Goals as goal
 
 pub returns-clause-count : goal.returns-clause-count

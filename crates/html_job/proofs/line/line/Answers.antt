@@ -17,7 +17,9 @@ returns-clause-app c =
           ∙ ap (λ f. f.has_globals) c.subcommand_required.ensures ∙ ap (λ f. f.has_globals) c.about.ensures ∙ c.new.ensures.local;
     } in
     let tree = subcommand_added _ _ _ _ _ named (is _ _ c.in_ok-tree.ensures.app c.in_ok-tree.ensures.local) c.in_ok-subcommand.ensures in
-    IfOk-weaker c.subcommand-2.result _ _ (λ r h. (subcommand_added _ _ r _ _ tree (is _ _ c.in_ok-suite.ensures.app c.in_ok-suite.ensures.local) h).app) c.subcommand-2.ensures
+    let errors = subcommand_added _ _ _ _ _ tree (is _ _ c.in_ok-errors.ensures.app c.in_ok-errors.ensures.local) c.in_ok-subcommand-2.ensures in
+    let normalise = subcommand_added _ _ _ _ _ errors (is _ _ c.in_ok-normalise.ensures.app c.in_ok-normalise.ensures.local) c.in_ok-subcommand-3.ensures in
+    IfOk-weaker c.subcommand-4.result _ _ (λ r h. (subcommand_added _ _ r _ _ normalise (is _ _ c.in_ok-suite.ensures.app c.in_ok-suite.ensures.local) h).app) c.subcommand-4.ensures
 
 pub returns-clause-local : goal.returns-clause-local
 returns-clause-local c =
@@ -30,4 +32,6 @@ returns-clause-local c =
           ∙ ap (λ f. f.has_globals) c.subcommand_required.ensures ∙ ap (λ f. f.has_globals) c.about.ensures ∙ c.new.ensures.local;
     } in
     let tree = subcommand_added _ _ _ _ _ named (is _ _ c.in_ok-tree.ensures.app c.in_ok-tree.ensures.local) c.in_ok-subcommand.ensures in
-    IfOk-weaker c.subcommand-2.result _ _ (λ r h. (subcommand_added _ _ r _ _ tree (is _ _ c.in_ok-suite.ensures.app c.in_ok-suite.ensures.local) h).local) c.subcommand-2.ensures
+    let errors = subcommand_added _ _ _ _ _ tree (is _ _ c.in_ok-errors.ensures.app c.in_ok-errors.ensures.local) c.in_ok-subcommand-2.ensures in
+    let normalise = subcommand_added _ _ _ _ _ errors (is _ _ c.in_ok-normalise.ensures.app c.in_ok-normalise.ensures.local) c.in_ok-subcommand-3.ensures in
+    IfOk-weaker c.subcommand-4.result _ _ (λ r h. (subcommand_added _ _ r _ _ normalise (is _ _ c.in_ok-suite.ensures.app c.in_ok-suite.ensures.local) h).local) c.subcommand-4.ensures

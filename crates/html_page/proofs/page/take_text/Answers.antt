@@ -4,7 +4,7 @@ use Rattle.html_page.specs.Label.{Label}
 use Rattle.html_page.specs.Open.{Builds}
 use Rattle.html_page.specs.Pieces.{chars_in}
 use Rattle.html_page.specs.Trees.{with_text}
-use Rattle.html_page.proofs.Texts.{texts-some, with_text-some}
+use Rattle.html_page.proofs.TextTokens.{texts-some, with_text-some}
 use Rattle.html_page.proofs.page.take_text.Goals as goal
 
 pub returns-in_ok-text : goal.returns-in_ok-text

@@ -3,6 +3,7 @@ use Rattle.html_names.specs.Names.{tag_of}
 use Rattle.html_names.specs.Sets.{is_template}
 use Rattle.html_arena.specs.Tree.{Tree, children_of, empty_tree}
 use Rattle.html_arena.specs.Make.{made}
+use Rattle.html_arena.specs.Walking.{IsRoot}
 use Rattle.html_arena.specs.declared.data.NewNode.TheVariants.{Document}
 use Rattle.html_page.specs.Label.Label.{document, doctype, element}
 use Rattle.html_arena.specs.Forest.Forest.{empty}
@@ -30,6 +31,7 @@ returns-clause-building c =
     let bare : a1 ≡ made (empty_tree None) Document = c.in_ok-document.ensures.made ∙ ap (λ t. made t Document) c.new-arena.ensures in
     let one : length a1.labels ≡ 1 = ap (λ (t : Tree). length t.labels) bare in
     let root : IsLabelled a1 0 document = subst (λ (t : Tree). IsLabelled t 0 document) (sym bare) (record { label_is = refl; no_contents = refl }) in
+    let alone : IsRoot a1 0 = subst (λ (t : Tree). IsRoot t 0) (sym bare) (record { inside = omega arith; alone = refl; no_host = refl }) in
     let none : children_of a1 0 ≡ [] = ap (λ (t : Tree). children_of t 0) bare in
     let zero_is : c.in_ok-document.document ≡ 0 = c.in_ok-document.ensures.id ∙ ap (λ (t : Tree). length t.labels) c.new-arena.ensures in
     let d2 : IsAdded a1 a2 0 (doctype (Some (codes "html")) None None) =
@@ -45,6 +47,6 @@ returns-clause-building c =
     let d5 : IsAdded a4 a5 2 (element (codes "body") []) =
     subst (λ (x : ℕ). IsAdded a4 a5 x (element (codes "body") [])) two_is
     (subst (λ n. IsAdded a4 a5 c.in_ok-html.html (element n [])) chars-body c.in_ok-body.ensures.added) in
-    let o = Open-page a1 a2 a3 a4 a5 one root none d2 d3 d4 d5 c.in_ok-body.body c.in_ok-body.ensures.id in
+    let o = Open-page a1 a2 a3 a4 a5 one alone root none d2 d3 d4 d5 c.in_ok-body.body c.in_ok-body.ensures.id in
     let r : IsOpen a5 c.in_ok-body.body (reverse c.new.result.items) empty [] = subst (λ es. IsOpen a5 c.in_ok-body.body (reverse es) empty []) (sym c.new.ensures.items) o in
     record { top = r.top; around = r.around }

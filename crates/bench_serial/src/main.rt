@@ -1,0 +1,108 @@
+//! Writes trees of several shapes, and says how many bytes they are. Given a number, it takes shapes so many times as
+//! large, and says too how long that took.
+#![tactic(auto)]
+
+mod build;
+
+use build::{Shape, build, is_root};
+use html_page::{DeviceFault, EntityTable, Profile, Sink, parse, serialise};
+use std::env;
+use std::time::Instant;
+
+const PAGE: &[u8] = b"<!DOCTYPE html><html><head></head><body></body></html>";
+
+/// A thousandth of each shape, but for its depth.
+const SHAPES: [Shape; 4] = [
+    Shape {
+        name: "nodes",
+        elements: 500,
+        depth: 64,
+        character: 'x',
+        copies: 4,
+    },
+    Shape {
+        name: "text",
+        elements: 1,
+        depth: 1,
+        character: 'x',
+        copies: 16_000,
+    },
+    Shape {
+        name: "escapes",
+        elements: 1,
+        depth: 1,
+        character: '&',
+        copies: 4_000,
+    },
+    Shape {
+        name: "deep",
+        elements: 200,
+        depth: 200_000,
+        character: 'x',
+        copies: 1,
+    },
+];
+
+/// A writer that counts the bytes.
+#[derive(Drop)]
+struct Counter {
+    bytes: u64,
+}
+
+impl Sink for Counter {
+    ghost use Rattle.std.specs.Prelude.{None, false};
+
+    ghost taken = { λ _. None };
+
+    ghost failed = { λ _. false };
+
+    ghost stalled = { λ _. false };
+
+    fn write(&mut self, bytes: &[u8]) -> Result<usize, DeviceFault> {
+        self.bytes = self.bytes.saturating_add(bytes.len() as u64);
+        Ok(bytes.len())
+    }
+}
+
+fn main(rt: HostRuntime) -> anyhow::Result<()> {
+    let words: Vec<String> = env::args(&rt)?.collect(rt.alloc())?;
+    let given = words
+        .get(1)
+        .and_then(|word| word.as_str().parse::<u32>().ok());
+    for shape in SHAPES {
+        measure(&rt, shape, given)?;
+    }
+    Ok(())
+}
+
+/// Writes one shape.
+fn measure(rt: &HostRuntime, shape: Shape, given: Option<u32>) -> anyhow::Result<()> {
+    let times = u64::from(given.unwrap_or(1));
+    let table = EntityTable::core(rt.alloc())?;
+    let mut page = parse(rt.alloc(), &table, PAGE)?;
+    let root = page.root;
+    if !is_root(&page.arena, root) {
+        return Ok(());
+    }
+    let mut large = shape;
+    if shape.elements > 1 {
+        large.elements = shape.elements.saturating_mul(times);
+    } else {
+        large.copies = shape.copies.saturating_mul(times);
+    }
+    build(rt.alloc(), &mut page.arena, root, large)?;
+    let nodes = page.arena.len();
+    let mut counter = Counter { bytes: 0 };
+    let start = Instant::now(rt)?;
+    if is_root(&page.arena, root) {
+        serialise(&page, Profile::One, &mut counter)?;
+    }
+    let took = start.elapsed(rt)?.as_micros();
+    let name = shape.name;
+    let bytes = counter.bytes;
+    println!(rt; "{name:>8} {nodes:>9} nodes {bytes:>9} bytes")?;
+    if given.is_some() {
+        println!(rt; "{took:>8} us")?;
+    }
+    Ok(())
+}

@@ -1,0 +1,23 @@
+use Rattle.std.proofs.Common.{rules, ◌≡◌, List, [], ◌∷◌, ◌++◌, ◌∙◌, subst}
+use Rattle.html_open.specs.declared.entry.Entry.{Entry}
+use Rattle.html_open.specs.declared.entry.Entry.TheVariants.{Node}
+use Rattle.html_open.specs.Entries.{IsDisplaced}
+use Rattle.html_open.proofs.PushKeeps.{pushed-is, pushed-keeps, pushed-nodes}
+use Rattle.html_open.proofs.list.FormattingList.push.Goals as goal
+
+pub take_out-requires-clause-nodes_in : goal.take_out-requires-clause-nodes_in
+take_out-requires-clause-nodes_in c =
+    pushed-nodes c.args.arena.now c.args.node c.args.self.now c.push.new.self.items c.requires.nodes_in c.requires.node_in (search rules)
+
+pub returns-clause-list : goal.returns-clause-list
+returns-clause-list c =
+    let d = subst (λ (v : List Entry). IsDisplaced c.args.arena.now c.args.node v c.displaced-displaced.result) (c.as_slice.ensures.value ∙ c.self.view_is) c.displaced-displaced.ensures in
+    let e : c.push.new.self.items ≡ c.args.self.now ++ Node c.args.node ∷ [] = search rules in
+    pushed-is c.args.arena.now c.args.node c.args.self.now c.push.new.self.items c.take_out.new.self c.displaced-displaced.result d e c.take_out.ensures.list
+
+pub returns-clause-keeps : goal.returns-clause-keeps
+returns-clause-keeps c = λ s k p.
+    let d = subst (λ (v : List Entry). IsDisplaced c.args.arena.now c.args.node v c.displaced-displaced.result) (c.as_slice.ensures.value ∙ c.self.view_is) c.displaced-displaced.ensures in
+    let e : c.push.new.self.items ≡ c.args.self.now ++ Node c.args.node ∷ [] = search rules in
+    pushed-keeps s c.args.node c.args.self.now c.push.new.self.items c.take_out.new.self c.args.arena.now c.take_out.new.arena c.set_mark.new.self c.charge.new.self c.charge-2.new.self
+    c.displaced-displaced.result c.base_steps-steps.result c.compared-compared.result c.forest.ensures.well_formed.as_many_marks d e c.take_out.ensures.list c.take_out.ensures.tree c.set_mark.ensures c.charge.ensures c.charge-2.ensures k p

@@ -1,0 +1,14 @@
+use Rattle.std.proofs.Common.{ℕ, ◌+◌, List, ◌∙◌, ap}
+use Rattle.html_open.specs.Marking.{charged}
+use Rattle.html_open.specs.Placing.{place_steps}
+use Rattle.html_open.proofs.Fostering.{steps-fostered}
+use Rattle.html_open.proofs.placing.place.Goals as goal
+
+pub returns-then-is_fostered-clause-steps : goal.returns-then-is_fostered-clause-steps
+returns-then-is_fostered-clause-steps c =
+    c.charge.ensures
+    ∙ ap (charged c.args.arena.now)
+    (ap (λ n. 1 + n) c.steps_to.ensures
+    ∙ steps-fostered c.args.arena.now c.as_slice-nodes.result.now c.args.target c.last_index-found.result c.target_node-target.result c.args.foster c.is_fostered.result
+    c.target_node-target.ensures.node c.is_fostered.ensures c.if-is_fostered.true c.last_index-found.ensures.index
+    ∙ ap (λ (v : List ℕ). place_steps c.args.arena.now v c.args.target c.args.foster) c.as_slice-nodes.ensures)

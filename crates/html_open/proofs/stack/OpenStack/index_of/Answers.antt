@@ -1,0 +1,13 @@
+use Rattle.std.proofs.Common.{eqb, ◌∙◌, ap, length, refl}
+use Rattle.html_open.specs.Lists.{looked}
+use Rattle.html_open.specs.Marking.{charged}
+use Rattle.html_open.proofs.Lists.{steps_index}
+use Rattle.html_open.proofs.stack.OpenStack.index_of.Goals as goal
+
+pub returns-clause-steps : goal.returns-clause-steps
+returns-clause-steps c =
+    c.charge.ensures
+    ∙ ap (charged c.args.arena.now)
+    (c.steps_to.ensures
+    ∙ steps_index (eqb c.args.node) c.as_slice-nodes.result.now c.last_index-found.result (length c.as_slice-nodes.result.now) refl c.last_index-found.ensures.index
+    ∙ ap (looked (eqb c.args.node)) (c.as_slice-nodes.ensures.value ∙ c.self.view_is))

@@ -1,0 +1,19 @@
+//! The open elements of a page: the stack, the list of active formatting elements, and the place for a new node.
+#![tactic(auto)]
+
+mod attributes;
+mod entry;
+mod error;
+mod list;
+mod places;
+mod placing;
+mod pushing;
+mod search;
+mod stack;
+
+pub use error::OpenError;
+pub use html_names::Scope;
+pub use list::FormattingList;
+pub use places::Place;
+pub use placing::place;
+pub use stack::OpenStack;

@@ -1,0 +1,243 @@
+//! Trees as HTML.
+
+ghost use Rattle.std.specs.Prelude.{◌≡◌, ◌⊎◌, ◌<◌, ◌≤◌, true, length, OnOk, OnErr, IfErr};
+ghost use Rattle.std.specs.Io.KnownBytes.{Appends};
+ghost use Rattle.std.specs.Str.{encode_utf8_all};
+ghost use Rattle.html_device.specs.Device.{AppendsFront};
+ghost use Rattle.html_arena.specs.Below.{above, kids};
+ghost use Rattle.html_arena.specs.Data.{tag_in, name_in};
+ghost use Rattle.html_arena.specs.Forest.{Forest};
+ghost use Rattle.html_arena.specs.Steps.{node_in};
+ghost use Rattle.html_arena.specs.Tree.{label_of};
+ghost use Rattle.html_arena.specs.Walking.{IsRoot};
+ghost use Rattle.html_names.specs.Names.{tag_of};
+ghost use Rattle.html_page.specs.Html.{attribute, start_tag, closing, opening};
+ghost use Rattle.html_page.specs.Label.{Label, label_for};
+ghost use Rattle.html_page.specs.Putting.{Puts, held};
+ghost use Rattle.html_page.specs.Serialised.{HasNames, event_text, forest_below, html_below, is_raw_below, most_written};
+ghost use Rattle.html_page.specs.Shows.{Shows};
+
+use crate::error::ParseError;
+use crate::escape::{Escape, put_between, put_escaped};
+use crate::output::Output;
+use crate::page::Page;
+use crate::profile::Profile;
+use html_arena::{Arena, ElementData, Event, NodeData, NodeId, Show, Walk};
+use html_charref::Str;
+use html_device::{DeviceFault, Sink};
+use html_tokens::Attr;
+
+/// Puts an attribute.
+fn put_attribute<W: Sink>(
+    output: &mut Output,
+    writer: &mut W,
+    profile: Profile,
+    attr: &Attr,
+) -> Result<(), DeviceFault>
+    ensures bytes { Puts (W.taken writer.old) (held output.old) (W.taken writer.new) (held output.new) result (encode_utf8_all (attribute profile attr.now)) }
+    ensures fault { OnErr result ((W.failed writer.new ≡ true) ⊎ (W.stalled writer.new ≡ true)) }
+{
+    put_between(output, writer, " ", attr.name.as_str(), "=\"")?;
+    put_escaped(output, writer, Escape::Value(profile), attr.value.as_str())?;
+    output.put(writer, b"\"")
+}
+
+/// Puts a start tag.
+fn put_start_tag<W: Sink>(
+    output: &mut Output,
+    writer: &mut W,
+    profile: Profile,
+    name: &Str,
+    attrs: &[Attr],
+) -> Result<(), DeviceFault>
+    ensures bytes { Puts (W.taken writer.old) (held output.old) (W.taken writer.new) (held output.new) result (encode_utf8_all (start_tag profile name.now attrs.now)) }
+    ensures fault { OnErr result ((W.failed writer.new ≡ true) ⊎ (W.stalled writer.new ≡ true)) }
+{
+    put_between(output, writer, "<", name.as_str(), "")?;
+    for attr in attrs {
+        put_attribute(output, writer, profile, attr)?;
+    }
+    output.put(writer, b">")
+}
+
+/// Puts what stands for a node before the nodes below it.
+fn put_opening<W: Sink>(
+    output: &mut Output,
+    writer: &mut W,
+    profile: Profile,
+    raw: bool,
+    node: &NodeData,
+) -> Result<(), DeviceFault>
+    ensures bytes { Puts (W.taken writer.old) (held output.old) (W.taken writer.new) (held output.new) result (encode_utf8_all (opening profile raw (label_for node.now))) }
+    ensures fault { OnErr result ((W.failed writer.new ≡ true) ⊎ (W.stalled writer.new ≡ true)) }
+{
+    match node {
+        NodeData::Document | NodeData::Contents { .. } => Ok(()),
+        NodeData::Element(element) => put_start_tag(
+            output,
+            writer,
+            profile,
+            &element.name,
+            element.attrs.as_slice(),
+        ),
+        NodeData::Text { text } => {
+            if raw {
+                output.put(writer, text.as_str().as_bytes())
+            } else {
+                put_escaped(output, writer, Escape::Text, text.as_str())
+            }
+        }
+        NodeData::Comment { text, .. } => {
+            put_between(output, writer, "<!--", text.as_str(), "-->")
+        }
+        NodeData::Doctype { name, .. } => match name {
+            Some(name) => put_between(output, writer, "<!DOCTYPE ", name.as_str(), ">"),
+            None => output.put(writer, b"<!DOCTYPE >"),
+        },
+    }
+}
+
+/// Puts what stands for a node after the nodes below it.
+fn put_closing<W: Sink>(
+    output: &mut Output,
+    writer: &mut W,
+    node: &NodeData,
+) -> Result<(), DeviceFault>
+    requires tagged { tag_in node.now ≡ tag_of (name_in node.now) }
+    ensures bytes { Puts (W.taken writer.old) (held output.old) (W.taken writer.new) (held output.new) result (encode_utf8_all (closing (label_for node.now))) }
+    ensures fault { OnErr result ((W.failed writer.new ≡ true) ⊎ (W.stalled writer.new ≡ true)) }
+{
+    match node {
+        NodeData::Element(element) => put_end_tag(output, writer, element),
+        _ => Ok(()),
+    }
+}
+
+/// Puts the end tag of an element, if it has one.
+fn put_end_tag<W: Sink>(
+    output: &mut Output,
+    writer: &mut W,
+    element: &ElementData,
+) -> Result<(), DeviceFault>
+    requires tagged { element.now.tag ≡ tag_of element.now.name }
+    ensures bytes { Puts (W.taken writer.old) (held output.old) (W.taken writer.new) (held output.new) result (encode_utf8_all (closing (Label.element element.now.name element.now.attrs))) }
+    ensures fault { OnErr result ((W.failed writer.new ≡ true) ⊎ (W.stalled writer.new ≡ true)) }
+{
+    if element.tag.is_void() {
+        return Ok(());
+    }
+    put_between(output, writer, "</", element.name.as_str(), ">")
+}
+
+/// Whether a text at this place is written as it is.
+fn is_raw_at(arena: &Arena, node: NodeId) -> bool
+    requires { node < length arena.now.labels }
+    ensures { result ≡ is_raw_below arena.now (above arena.now node) }
+{
+    match arena.above(node) {
+        Some(above) => arena.tag(above).is_raw_text(),
+        None => false,
+    }
+}
+
+/// Puts what is written where a walk enters or leaves a node.
+fn put_event<W: Sink>(
+    output: &mut Output,
+    writer: &mut W,
+    profile: Profile,
+    arena: &Arena,
+    event: Event,
+) -> Result<(), DeviceFault>
+    requires { node_in event < length arena.now.labels }
+    ensures bytes { Puts (W.taken writer.old) (held output.old) (W.taken writer.new) (held output.new) result (encode_utf8_all (event_text profile arena.now event)) }
+    ensures fault { OnErr result ((W.failed writer.new ≡ true) ⊎ (W.stalled writer.new ≡ true)) }
+{
+    arena.forest();
+    match event {
+        Event::Enter(node) => {
+            let raw = is_raw_at(arena, node);
+            put_opening(output, writer, profile, raw, arena.node(node))
+        }
+        Event::Leave(node) => put_closing(output, writer, arena.node(node)),
+    }
+}
+
+/// Puts all that stands below a root.
+fn put_below<W: Sink>(
+    output: &mut Output,
+    writer: &mut W,
+    profile: Profile,
+    arena: &Arena,
+    root: NodeId,
+) -> Result<(), DeviceFault>
+    requires { IsRoot arena.now root }
+    ensures bytes { Puts (W.taken writer.old) (held output.old) (W.taken writer.new) (held output.new) result (encode_utf8_all (html_below profile arena.now root)) }
+    ensures fault { OnErr result ((W.failed writer.new ≡ true) ⊎ (W.stalled writer.new ≡ true)) }
+{
+    arena.forest();
+    let mut walk = Walk::new(arena, Show::Written, root);
+    'events: while let Some(event) = walk.next() {
+        put_event(output, writer, profile, arena, event)?;
+    }
+    Ok(())
+}
+
+/// Writes all that stands below a root, and the last bytes that are kept.
+fn write_below<W: Sink>(
+    writer: &mut W,
+    profile: Profile,
+    arena: &Arena,
+    root: NodeId,
+) -> Result<(), DeviceFault>
+    requires { IsRoot arena.now root }
+    ensures ok { OnOk result (Appends (W.taken writer.old) (W.taken writer.new) (encode_utf8_all (html_below profile arena.now root))) }
+    ensures err { OnErr result (AppendsFront (W.taken writer.old) (W.taken writer.new) (encode_utf8_all (html_below profile arena.now root))) }
+    ensures fault { OnErr result ((W.failed writer.new ≡ true) ⊎ (W.stalled writer.new ≡ true)) }
+{
+    let mut output = Output::new();
+    put_below(&mut output, writer, profile, arena, root)?;
+    output.flush(writer)
+}
+
+/// A law of every arena: what stands below a root is one forest, and its text is no longer than this.
+fn law_of(arena: &Arena, root: NodeId, profile: Profile)
+    requires { IsRoot arena.now root }
+    ensures shows { Shows arena.now (kids Show.All arena.now root) (forest_below arena.now root) }
+    ensures only { (f : Forest Label) → Shows arena.now (kids Show.All arena.now root) f → f ≡ forest_below arena.now root }
+    ensures size { HasNames arena.now → length (html_below profile arena.now root) ≤ most_written arena.now }
+{
+    let _profile = profile;
+    arena.forest();
+    let _walk = Walk::new(arena, Show::All, root);
+}
+
+/// Writes the trees below the root of a page, as text in UTF-8. It takes no memory, and goes through the nodes by their
+/// links.
+///
+/// # Errors
+///
+/// `Write` where the writer failed, or took no bytes. A front of the text was written then.
+pub fn serialise<W: Sink>(page: &Page, profile: Profile, writer: &mut W) -> Result<(), ParseError>
+    requires root { IsRoot page.now.arena page.now.root }
+
+    // All of the text was written.
+    ensures ok { OnOk result (Appends (W.taken writer.old) (W.taken writer.new) (encode_utf8_all (html_below profile page.now.arena page.now.root))) }
+
+    // A front of it was written.
+    ensures err { OnErr result (AppendsFront (W.taken writer.old) (W.taken writer.new) (encode_utf8_all (html_below profile page.now.arena page.now.root))) }
+
+    // It is the writer that failed, or took no bytes.
+    ensures cause { IfErr result (λ e. e ≡ ParseError.Write) }
+    ensures fault { OnErr result ((W.failed writer.new ≡ true) ⊎ (W.stalled writer.new ≡ true)) }
+
+    // The text is that of the one forest that stands below the root, and no longer than this.
+    ensures shows { Shows page.now.arena (kids Show.All page.now.arena page.now.root) (forest_below page.now.arena page.now.root) }
+    ensures only { (f : Forest Label) → Shows page.now.arena (kids Show.All page.now.arena page.now.root) f → f ≡ forest_below page.now.arena page.now.root }
+    ensures size { HasNames page.now.arena → length (html_below profile page.now.arena page.now.root) ≤ most_written page.now.arena }
+{
+    law_of(&page.arena, page.root, profile);
+    match write_below(writer, profile, &page.arena, page.root) {
+        Ok(()) => Ok(()),
+        Err(_) => Err(ParseError::Write),
+    }
+}

@@ -1,0 +1,10 @@
+use Rattle.std.proofs.Common.{◌≡◌, ◌++◌, take}
+use Rattle.html_tokens.specs.Copied.{AllPass, is_copied}
+use Rattle.html_tokens.proofs.copied.Copied.copy.Given as goal
+
+abbrev pub invariant-loop-c : goal.invariant-loop-c
+invariant-loop-c l = record {
+  copied : l.copied ≡ l.c-index;
+  passes : AllPass (is_copied l.self) (take l.c-index l.rest);
+  text : l.text ≡ l.fn.text ++ take l.c-index l.rest;
+}

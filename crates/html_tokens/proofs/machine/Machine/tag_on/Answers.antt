@@ -1,0 +1,12 @@
+use Rattle.std.proofs.Common.{None, ◌<◌, length, arith}
+use Rattle.html_tokens.proofs.StreamLemmas.{more_skips}
+use Rattle.html_tokens.proofs.TagLemmas.{tag_more}
+use Rattle.html_tokens.proofs.machine.Machine.tag_on.Goals as goal
+
+pub returns-in-More-clause-skips : goal.returns-in-More-clause-skips
+returns-in-More-clause-skips c =
+    let first = rw c.in-Is-Some.field-0-is at c.in-Is-Some.ensures in
+    let some : 0 < length c.args.self.now.input.queue.items = first.1 in
+    more_skips c.args.self.now c.pass.new.self
+    (tag_more c.args.self.now c.pass.new.self c.in-Tag.draft c.read.new.self c.in-Is-Some.c None c.in-Tag.is (rw c.in-More.is at c.in_ok-read.ensures.reads)
+    first.0 (λ e. absurd (c.if-c-eq47.false e)) (omega arith) c.pass.ensures)

@@ -1,0 +1,5 @@
+-- The unread code points of a queue.
+use Rattle.std.specs.Prelude.{ℕ, List}
+
+pub record Unread : Type 0 where
+  pub items : List ℕ

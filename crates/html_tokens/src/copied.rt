@@ -1,0 +1,55 @@
+// Fronts of the rest that are copied as they stand.
+ghost use Rattle.std.specs.Prelude.{◌≡◌, ◌≤◌, ◌++◌, length, take, IfOk};
+ghost use Rattle.html_tokens.specs.Copied.{AllPass, is_copied};
+
+use crate::tag::{ends_attr, ends_unquoted};
+use html_charref::Str;
+use std::alloc::AllocError;
+
+/// A text that is being read, by the code points that it takes as they stand: they end nothing, begin nothing, become
+/// nothing else and tell no error.
+#[derive(Clone, Copy)]
+pub enum Copied {
+    Name,
+    DoubleQuoted,
+    SingleQuoted,
+    Unquoted,
+    Comment,
+    Bogus,
+    Id(char),
+}
+
+impl Copied {
+    fn takes(self, c: char) -> bool
+        ensures { result ≡ is_copied self c }
+    {
+        match self {
+            Copied::Name => !(ends_attr(c) || matches!(c, '\0' | '"' | '\'' | '<' | 'A'..='Z')),
+            Copied::DoubleQuoted => !matches!(c, '\0' | '"' | '&'),
+            Copied::SingleQuoted => !matches!(c, '\0' | '\'' | '&'),
+            Copied::Unquoted => {
+                !(ends_unquoted(c) || matches!(c, '\0' | '"' | '\'' | '&' | '<' | '=' | '`'))
+            }
+            Copied::Comment => !matches!(c, '\0' | '-' | '<'),
+            Copied::Bogus => !matches!(c, '\0' | '>'),
+            Copied::Id(quote) => !(c == quote || matches!(c, '\0' | '>')),
+        }
+    }
+
+    /// Adds the longest front of the rest that the text takes as it stands, and answers its length.
+    pub(crate) fn copy(self, rest: &[char], text: &mut Str) -> Result<usize, AllocError>
+        ensures fit { IfOk result (λ n. n ≤ length rest.now) }
+        ensures passes { IfOk result (λ n. AllPass (is_copied self) (take n rest.now)) }
+        ensures text { IfOk result (λ n. text.new ≡ text.old ++ take n rest.now) }
+    {
+        let mut copied = 0;
+        for c in rest {
+            if !self.takes(*c) {
+                return Ok(copied);
+            }
+            text.push(*c)?;
+            copied += 1;
+        }
+        Ok(copied)
+    }
+}
