@@ -18,7 +18,8 @@ use Rattle.html_tokens.specs.declared.attributes.Attr.{Attr}
 use Rattle.html_tokens.specs.declared.tag.ValueEnd.TheVariants as ends
 use Rattle.html_tokens.proofs.CostCuts.{cond_both}
 use Rattle.html_tokens.proofs.Cuts.{cut_closed, cut_longer}
-use Rattle.html_tokens.proofs.ValueLemmas.{value_skip, tail_skip, cut_by}
+use Rattle.html_tokens.specs.Copied.{cut_by}
+use Rattle.html_tokens.proofs.ValueLemmas.{value_skip, tail_skip}
 use Rattle.html_page.proofs.CoreRows.{core_longest}
 use Rattle.html_page.proofs.TextReads.{IsEscape, past_front}
 use Rattle.html_page.specs.declared.profile.Profile.{Profile}

@@ -84,8 +84,7 @@ fn attributes_and_escapes(rt: HostRuntime) -> Result<(), Fail> {
     let page = parse(
         rt.alloc(),
         &table,
-        "<!DOCTYPE html><html><head></head><body><div b=\"1&amp;2\" a='x'>&lt;&nbsp;</div></body></html>"
-            .as_bytes(),
+        "<!DOCTYPE html><html><head></head><body><div b=\"1&amp;2\" a='x'>&lt;&nbsp;</div></body></html>".as_bytes(),
     )?;
     assert_eq!(rt; page.arena.len(), 7);
     assert_eq!(rt; page.tokens.len(), 12);
@@ -103,13 +102,34 @@ fn attributes_and_escapes(rt: HostRuntime) -> Result<(), Fail> {
 #[test]
 fn tokens_of_no_plain_page(rt: HostRuntime) {
     let rows: [(&[u8], u64); 7] = [
-        (b"<!DOCTYPE html PUBLIC 'a'><html><head></head><body></body></html>", 0),
-        (b"<!DOCTYPE html><html lang=a><head></head><body></body></html>", 15),
-        (b"<!DOCTYPE html><html><head></head><body><div/></div></body></html>", 40),
-        (b"<!DOCTYPE html><html><head></head><body><div <=1></div></body></html>", 40),
-        (b"<!DOCTYPE html><html><head></head><body><b></i></body></html>", 43),
-        (b"<!DOCTYPE html><html><head></head><body></body><!----></html>", 47),
-        (b"<!DOCTYPE html><html><head></head><body></body></html><b>", 54),
+        (
+            b"<!DOCTYPE html PUBLIC 'a'><html><head></head><body></body></html>",
+            0,
+        ),
+        (
+            b"<!DOCTYPE html><html lang=a><head></head><body></body></html>",
+            15,
+        ),
+        (
+            b"<!DOCTYPE html><html><head></head><body><div/></div></body></html>",
+            40,
+        ),
+        (
+            b"<!DOCTYPE html><html><head></head><body><div <=1></div></body></html>",
+            40,
+        ),
+        (
+            b"<!DOCTYPE html><html><head></head><body><b></i></body></html>",
+            43,
+        ),
+        (
+            b"<!DOCTYPE html><html><head></head><body></body><!----></html>",
+            47,
+        ),
+        (
+            b"<!DOCTYPE html><html><head></head><body></body></html><b>",
+            54,
+        ),
     ];
     for (bytes, at) in rows {
         assert_eq!(rt; refusal(rt.alloc(), bytes), not_yet(at));

@@ -64,7 +64,7 @@ returns-in-Other-clause-tree c =
     let token : Token = c.in-Some.token.now in
     let here : slice_get (kinds tokens) at ≡ Some token.kind = kinds-get tokens at token (get-index tokens at token l.3.0 l.1) in
     let other : IsPieceOf (innermost_name (reverse builder.«open».items)) token.kind piece.Other =
-        subst (λ (o : Option PlainName). IsPieceOf o token.kind piece.Other) c.current_name.ensures c.in-Other.ensures in
+    subst (λ (o : Option PlainName). IsPieceOf o token.kind piece.Other) c.current_name.ensures c.in-Other.ensures in
     IfOk-weaker c.close.result _ _ (λ arena h. tree-of tokens at builder s token.kind here other arena h) c.close.ensures.closed
 
 pub returns-in-Other-clause-cause : goal.returns-in-Other-clause-cause
@@ -78,7 +78,7 @@ returns-in-Other-clause-cause c =
     let token : Token = c.in-Some.token.now in
     let here : slice_get (kinds tokens) at ≡ Some token.kind = kinds-get tokens at token (get-index tokens at token l.3.0 l.1) in
     let other : IsPieceOf (innermost_name (reverse builder.«open».items)) token.kind piece.Other =
-        subst (λ (o : Option PlainName). IsPieceOf o token.kind piece.Other) c.current_name.ensures c.in-Other.ensures in
+    subst (λ (o : Option PlainName). IsPieceOf o token.kind piece.Other) c.current_name.ensures c.in-Other.ensures in
     IfErr-weaker c.close.result _ _ (λ e h. cause-of tokens at builder s token.kind here other e h) c.close.ensures.unclosed
 
 pub pieces-preserved : goal.pieces-preserved
@@ -94,14 +94,14 @@ pieces-preserved c =
     elim c.match-piece_of.branch [
       | in-Start+in_ok-start-in-Start w ↦
           let p : IsPieceOf (innermost_name (reverse builder.«open».items)) token.kind (piece.Start w.in-Start.name) =
-              subst (λ (o : Option PlainName). IsPieceOf o token.kind (piece.Start w.in-Start.name)) c.current_name.ensures w.in-Start.ensures in
+          subst (λ (o : Option PlainName). IsPieceOf o token.kind (piece.Start w.in-Start.name)) c.current_name.ensures w.in-Start.ensures in
           record {
             reading = subst (λ (b : Builder). IsReading tokens (at + 1) b) (sym w.builder-is)
                 (after-start tokens at builder s token.kind here w.start.new.self w.in-Start.name w.attrs_of.result.now p w.attrs_of.ensures w.in_ok-start-in-Start.ensures.building w.in_ok-start-in-Start.ensures.few);
           }
       | in-End w ↦
           let p : IsPieceOf (innermost_name (reverse builder.«open».items)) token.kind piece.End =
-              subst (λ (o : Option PlainName). IsPieceOf o token.kind piece.End) c.current_name.ensures w.in-End.ensures in
+          subst (λ (o : Option PlainName). IsPieceOf o token.kind piece.End) c.current_name.ensures w.in-End.ensures in
           record {
             reading = subst (λ (b : Builder). IsReading tokens (at + 1) b) (sym w.builder-is)
                 (after-end tokens at builder s token.kind here w.end.new.self p w.end.ensures.building w.end.ensures.few);
