@@ -22,9 +22,9 @@ pub fn parse_from<S: Source>(
     table: &EntityTable,
     reader: &mut S,
 ) -> Result<Page, ParseError>
-    ensures page { IfOk result (λ page. (bytes : List ℕ) × Consumes (S.remaining reader.old) (S.remaining reader.new) bytes × IsPageOf bytes page) }
+    ensures page { IfOk result (λ page. (bytes : List ℕ) × Consumes (S.remaining reader.old) (S.remaining reader.new) bytes × IsPageOf table.now bytes page) }
     ensures end { OnOk result (IsAtEnd (S.remaining reader.new)) }
-    ensures cause { IfErr result (IsReaderCause (S.remaining reader.old) (S.remaining reader.new) (S.failed reader.new)) }
+    ensures cause { IfErr result (IsReaderCause table.now (S.remaining reader.old) (S.remaining reader.new) (S.failed reader.new)) }
 {
     let mut parser = Parser::document(alloc, table);
     feed_from(&mut parser, reader)?;
@@ -34,8 +34,8 @@ pub fn parse_from<S: Source>(
 
 /// Feeds a new parser all that a reader has.
 fn feed_from<S: Source>(parser: &mut Parser<'_>, reader: &mut S) -> Result<(), ParseError>
-    requires { IsFed parser.old [] }
-    ensures fed { OnOk result ((bytes : List ℕ) × Consumes (S.remaining reader.old) (S.remaining reader.new) bytes × IsFed parser.new bytes) }
+    requires { IsFed parser.old.table.now parser.old [] }
+    ensures fed { OnOk result ((bytes : List ℕ) × Consumes (S.remaining reader.old) (S.remaining reader.new) bytes × IsFed parser.old.table.now parser.new bytes) }
     ensures end { OnOk result (IsAtEnd (S.remaining reader.new)) }
     ensures cause { IfErr result (IsPieceCause (S.remaining reader.old) (S.remaining reader.new) (S.failed reader.new)) }
 {

@@ -13,7 +13,7 @@ returns-in_err-feed-clause-cause g c =
     let i = c.pieces.invariant in
     let piece : List ℕ = take c.in-Ok.count c.read.new.buf in
     rw (p.1, p.2) (piece-cause _ _ _ (i.0 ++ piece) c.in_err-feed.field-0.0 (Consumes-trans _ _ _ i.0 piece i.1 c.in-Ok.ensures.bytes.0)
-    (c.in_err-feed.ensures.cause i.0 i.2))
+    (c.in_err-feed.ensures.cause _ i.0 i.2))
 
 pub pieces-preserved : goal.pieces-preserved
 pieces-preserved g c =
@@ -21,10 +21,10 @@ pieces-preserved g c =
     let piece : List ℕ = take c.in-Ok.count c.read.new.buf in
     let len : length piece ≡ c.in-Ok.count = length-take-le c.in-Ok.count c.read.new.buf c.in-Ok.ensures.bound in
     let few : length i.0 + length piece ≤ 8589934592 =
-    c.in_ok-feed.ensures.few i.0 i.2 in (
+    c.in_ok-feed.ensures.few _ i.0 i.2 in (
       i.0 ++ piece,
       Consumes-trans _ _ _ i.0 piece i.1 c.in-Ok.ensures.bytes.0,
-      c.in_ok-feed.ensures.fed i.0 i.2,
+      c.in_ok-feed.ensures.fed _ i.0 i.2,
       omega (arith, length-append i.0 piece, len, i.3),
       omega (arith, few, len, i.3),
     )
