@@ -1,15 +1,14 @@
 -- The five names that every page may use read as their characters, whatever follows them.
-use Rattle.std.specs.Prelude.{nat_eq, nat_lt, slice_get, Some, ◌&&◌}
+use Rattle.std.specs.Prelude.{nat_eq, nat_lt, slice_get, Some}
 use Rattle.std.specs.Char.{is_ascii_alphanumeric}
 use Rattle.std.specs.List.{starts_with, list_all}
 use Rattle.std.proofs.lemmas.Bool.{true≢false}
 use Rattle.std.proofs.lemmas.Bool.Decides.{nat_tests}
-use Rattle.std.proofs.Common.{ℕ, suc, zero, ◌≡◌, ◌+◌, ◌<◌, ◌≤◌, ◌⊎◌, inl, inr, List, [], ◌∷◌, ◌++◌, length, true, false, refl, sym, ap, ◌∙◌, subst, arith, length-append, append-nil, ⊎_elim}
+use Rattle.std.proofs.Common.{ℕ, ◌≡◌, ◌+◌, ◌<◌, ◌≤◌, ◌⊎◌, inl, inr, List, [], ◌∷◌, ◌++◌, length, true, false, refl, sym, ap, ◌∙◌, subst, arith, length-append, append-nil, ⊎_elim}
 use Rattle.std.proofs.lemmas.Bool.{cases_lt}
 use Rattle.html_charref.specs.declared.table.Row.{Row}
-use Rattle.html_charref.specs.declared.table.RefText.{RefText}
 use Rattle.html_charref.specs.Entities.{one_character}
-use Rattle.html_charref.specs.Table.{IsTable, IsName, begins, goes_on, match_of, longest}
+use Rattle.html_charref.specs.Table.{IsTable, IsName, goes_on, match_of, longest}
 use Rattle.html_charref.proofs.LongestLemmas.{bool_cases, both, eq_of, begins-cases, begins-itself, longest-more, longest-is}
 use Rattle.html_charref.proofs.Names.{not_below_front}
 use Rattle.html_charref.proofs.Rows.{in_order}

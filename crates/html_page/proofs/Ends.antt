@@ -1,30 +1,29 @@
 -- Where the tokens of a plain page end, or go on no more.
-use Rattle.std.specs.Prelude.{slice_get, codes, Option, Some, None}
+use Rattle.std.specs.Prelude.{slice_get, codes, Some, None}
 use Rattle.std.proofs.lemmas.Bool.{cases_lt}
 use Rattle.std.proofs.Math.Seq.{take-add}
 use Rattle.std.proofs.lemmas.List.{take-append-drop, length-take-le, length-drop, take_all}
-use Rattle.std.proofs.Common.{◌≡◌, ◌≢◌, ◌⊎◌, inl, inr, ⊎_elim, ℕ, zero, suc, ◌+◌, ◌-◌, ◌<◌, ◌≤◌, false, List, [], ◌∷◌, ◌++◌, length, take, drop, reverse, refl, sym, ap, ◌∙◌, subst, arith, length-append, append_assoc}
+use Rattle.std.proofs.Common.{◌≡◌, ◌≢◌, inl, inr, ⊎_elim, ℕ, zero, suc, ◌+◌, ◌-◌, ◌<◌, ◌≤◌, List, [], ◌∷◌, ◌++◌, length, take, drop, reverse, refl, sym, ap, ◌∙◌, subst, arith, length-append, append_assoc}
 use Rattle.html_arena.specs.Forest.{Forest}
-use Rattle.html_arena.specs.Tree.{Tree}
 use Rattle.html_arena.specs.Walking.{IsRoot}
 use Rattle.html_tokens.specs.declared.token.Token.{Token}
 use Rattle.html_tokens.specs.declared.token.TokenKind.{TokenKind}
-use Rattle.html_tokens.specs.declared.token.TokenKind.TheVariants.{Start, End, Char, Comment, Doctype, Eof}
+use Rattle.html_tokens.specs.declared.token.TokenKind.TheVariants.{End}
 use Rattle.html_page.specs.Label.{Label}
-use Rattle.html_page.specs.Plain.{page_of, IsContent}
+use Rattle.html_page.specs.Plain.{page_of}
 use Rattle.html_arena.specs.Forest.Forest.{empty}
-use Rattle.html_page.specs.PageTokens.{kinds, kinds_then, page_kinds, ArePlain, IsPlainFront, IsLongestFront}
+use Rattle.html_page.specs.PageTokens.{kinds, kinds_then, page_kinds, ArePlain, IsPlainFront}
 use Rattle.html_page.specs.Pieces.{prolog, epilog, IsTextKind, IsTagKind}
-use Rattle.html_page.specs.Open.{Before, Builds, IsAround, IsOpenAt, innermost, innermost_name, top_label}
+use Rattle.html_page.specs.Open.{Before, IsAround, IsOpenAt, innermost, innermost_name, top_label}
 use Rattle.html_page.specs.Shows.{Shows}
 use Rattle.html_page.specs.Trees.{EndsAt, IsTreeOf, SharesEpilog}
 use Rattle.html_page.specs.declared.build.Builder.{Builder}
 use Rattle.html_page.specs.declared.build.OpenElement.{OpenElement}
-use Rattle.html_page.proofs.Fits.{get-drop, get-within, kinds-drop}
+use Rattle.html_page.proofs.Fits.{get-drop, kinds-drop}
 use Rattle.html_page.proofs.Fronts.{front_then, front-more, names_of, Follows, plain-follows, plain-written, front-plain}
 use Rattle.html_page.proofs.Once.{kinds-length}
 use Rattle.html_page.proofs.Opens.{Shows-page}
-use Rattle.html_page.proofs.Steps.{HasRead, IsPast, follows-piece}
+use Rattle.html_page.proofs.Steps.{HasRead, follows-piece}
 
 take-get : (l rest : List TokenKind) (m j : ℕ) → j < m → m ≤ length l → slice_get (take m l ++ rest) j ≡ slice_get l j
 take-get l rest zero j p q = absurd (omega arith)

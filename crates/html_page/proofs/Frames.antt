@@ -1,5 +1,5 @@
 -- Tests of the tokens around what a body holds.
-use Rattle.std.specs.Prelude.{slice_get, Option, Some, None, IsTrue, ◌↔◌}
+use Rattle.std.specs.Prelude.{slice_get, Some, IsTrue, ◌↔◌}
 use Rattle.std.proofs.Common.{◌≡◌, ℕ, Bool, List, sym, ap, ◌∙◌}
 use Rattle.html_tokens.specs.declared.token.TokenKind.{TokenKind}
 

@@ -1,9 +1,8 @@
 -- The tokens read so far, and how those of a plain page go on.
-use Rattle.std.specs.Prelude.{codes, Some, None}
+use Rattle.std.specs.Prelude.{codes}
 use Rattle.std.specs.List.{AllByRecursion}
-use Rattle.std.proofs.lemmas.Bool.{true≢false, false≢true}
 use Rattle.std.proofs.lemmas.List.{append_cancel_left}
-use Rattle.std.proofs.Common.{ℕ, suc, zero, ◌≡◌, ◌≢◌, ◌+◌, ◌<◌, ◌≤◌, Bool, List, [], ◌∷◌, ◌++◌, length, true, false, refl, sym, ap, ◌∙◌, subst, arith, length-append, append_assoc, append-nil}
+use Rattle.std.proofs.Common.{ℕ, ◌≡◌, ◌≢◌, Bool, List, [], ◌∷◌, ◌++◌, true, false, refl, sym, ap, ◌∙◌, subst, append_assoc}
 use Rattle.html_arena.specs.Forest.{Forest}
 use Rattle.html_arena.specs.Forest.Forest.{empty, tree}
 use Rattle.html_tokens.specs.declared.attributes.Attr.{Attr}
@@ -12,7 +11,7 @@ use Rattle.html_tokens.specs.declared.token.TokenKind.TheVariants.{Start, End, C
 use Rattle.html_page.specs.Forest.{join, single}
 use Rattle.html_page.specs.Label.{Label}
 use Rattle.html_page.specs.Label.Label.{document, doctype, element, text, comment}
-use Rattle.html_page.specs.Plain.{name_of, page_of, IsPlainChar, ArePlainAttrs, IsContent, IsPlainPage}
+use Rattle.html_page.specs.Plain.{name_of, page_of, IsPlainChar, ArePlainAttrs, IsContent}
 use Rattle.html_page.specs.PageTokens.{chars_then, kinds_then, page_kinds, ArePlain, IsPlainFront}
 use Rattle.html_page.specs.Pieces.{prolog, epilog}
 use Rattle.html_page.specs.Open.{Before}

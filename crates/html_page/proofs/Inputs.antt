@@ -1,11 +1,10 @@
 -- From what the decoder says of its bytes to what the parser says of them.
-use Rattle.std.proofs.Common.{◌≡◌, ℕ, ◌+◌, ◌*◌, ◌-◌, ◌<◌, ◌≤◌, Bool, true, false, List, [], ◌∷◌, ◌++◌, length, take, refl, sym, ap, ◌∙◌, subst, arith, ⊎_elim}
+use Rattle.std.proofs.Common.{◌≡◌, ℕ, ◌<◌, ◌≤◌, true, false, List, [], ◌∷◌, ◌++◌, length, refl, sym, ◌∙◌, subst, arith, ⊎_elim}
 use Rattle.std.proofs.lemmas.Bool.{cases_Bool, cond-true, cond-false}
-use Rattle.std.proofs.lemmas.List.{take_all}
 use Rattle.std.specs.Prelude.{◌==◌}
 use Rattle.html_charref.specs.declared.table.Row.{Row}
 use Rattle.html_input.specs.Decode.{decode, code_points, normalise_newlines, starts_with_line_feed}
-use Rattle.html_input.specs.Fed.{Fed, pending_of, without_last}
+use Rattle.html_input.specs.Fed.{Fed}
 use Rattle.html_input.specs.declared.decoder.Decoder.{Decoder}
 use Rattle.html_input.specs.declared.decoder.TheConstants.{LIMIT}
 use Rattle.html_input.specs.declared.error.InputError.{InputError}
@@ -13,7 +12,7 @@ use Rattle.html_input.specs.declared.error.InputError.TheVariants as input
 use Rattle.html_input.specs.Added.{added}
 use Rattle.html_page.specs.Causes.{cause_of}
 use Rattle.html_page.specs.TokenList.{behind_mark, IsListCause}
-use Rattle.html_page.specs.Parsed.{IsTextPage, IsTextCause, IsPageOf, IsCause, IsFeedCause, IsNotYet, tokens_in, most_nodes}
+use Rattle.html_page.specs.Parsed.{IsTextPage, IsTextCause, IsPageOf, IsCause, IsFeedCause, IsNotYet, tokens_in}
 use Rattle.html_page.specs.declared.page.Page.{Page}
 use Rattle.html_page.specs.declared.error.ParseError.{ParseError}
 use Rattle.html_page.specs.declared.error.ParseError.TheVariants.{OutOfMemory, InputTooLong, ForeignContent, BadContext, Read, Write, Stopped, NodeBudget, HeldBudget, NotYet}

@@ -2,9 +2,9 @@
 use Rattle.std.specs.Prelude.{Some, None, cond, ◌==◌, ◌||◌, codes}
 use Rattle.std.specs.List.{AllByRecursion, flat_map, list_any}
 use Rattle.std.specs.Str.{bytes_eq}
-use Rattle.std.proofs.lemmas.Bool.{cond-true, cond-false}
+use Rattle.std.proofs.lemmas.Bool.{cond-false}
 use Rattle.std.proofs.lemmas.Bool.Decides.{nat_tests}
-use Rattle.std.proofs.Common.{ℕ, suc, zero, ◌≡◌, ◌≢◌, ◌+◌, ◌<◌, ◌≤◌, Bool, List, [], ◌∷◌, ◌++◌, length, drop, map, true, false, refl, sym, ap, ◌∙◌, subst, arith, length-append, append_assoc, append-nil, add-zero}
+use Rattle.std.proofs.Common.{ℕ, ◌≡◌, ◌≢◌, ◌+◌, ◌<◌, Bool, List, [], ◌∷◌, ◌++◌, length, map, true, false, refl, sym, ap, ◌∙◌, subst, arith, length-append, append_assoc, append-nil, add-zero}
 use Rattle.html_arena.specs.Forest.{Forest}
 use Rattle.html_arena.specs.Forest.Forest.{empty, tree}
 use Rattle.html_names.specs.Names.{tag_of as names_tag_of}
@@ -12,24 +12,24 @@ use Rattle.html_charref.specs.declared.table.Row.{Row}
 use Rattle.html_charref.specs.Table.{IsTable}
 use Rattle.html_tokens.specs.Cost.{AreApart}
 use Rattle.html_tokens.specs.Cut.{cut, stop_mark}
-use Rattle.html_tokens.specs.Tag.{Tag, Tail, tail, tail_by, tag_of, with_attrs, firsts_after, add_first, has_name, name_char, ends_name}
-use Rattle.html_tokens.specs.Tokens.{opener, open_piece, tag_piece, tag_kind, tag_tokens, token, piece, begun_piece}
+use Rattle.html_tokens.specs.Tag.{Tag, Tail, tail, tail_by, tag_of, with_attrs, firsts_after, has_name, name_char, ends_name}
+use Rattle.html_tokens.specs.Tokens.{opener, open_piece, tag_tokens, token, piece, begun_piece}
 use Rattle.html_tokens.specs.declared.attributes.Attr.{Attr}
 use Rattle.html_tokens.specs.declared.token.Begin.TheVariants as begins
 use Rattle.html_tokens.specs.declared.token.Opener.TheVariants as opens
 use Rattle.html_tokens.specs.declared.token.TextMode.TheVariants.{Data}
 use Rattle.html_tokens.specs.declared.token.TokenKind.{TokenKind}
-use Rattle.html_tokens.specs.declared.token.TokenKind.TheVariants.{Start, End, Char, Doctype, Eof}
+use Rattle.html_tokens.specs.declared.token.TokenKind.TheVariants.{Start, End, Char, Doctype}
 use Rattle.html_tokens.proofs.CostCuts.{cond_both}
 use Rattle.html_tokens.proofs.TokensLemmas.{tokens_end}
 use Rattle.html_tokens.proofs.ValueLemmas.{tail_skip}
 use Rattle.html_page.proofs.TextReads.{Reads, reads-none, reads-then, reads-char, reads-piece, reads-escape, IsEscape, past_front}
-use Rattle.html_page.proofs.TagReads.{cut_at_stop, tail_attrs, tail_closed, amp, lt, gt, nbsp}
+use Rattle.html_page.proofs.TagReads.{cut_at_stop, tail_attrs, amp, lt, gt, nbsp}
 use Rattle.html_page.specs.Forest.{single}
 use Rattle.html_page.specs.Label.{Label}
 use Rattle.html_page.specs.Label.Label.{document, doctype, element, text, comment}
 use Rattle.html_page.specs.Html.{html_of, opening, start_tag, end_tag, attribute as attribute_text, escaped_in_text, is_void_name, is_raw_name}
-use Rattle.html_page.specs.Plain.{name_of, page_of, IsPlainChar, IsPlainAttr, ArePlainAttrs, IsContent, IsPlainPage}
+use Rattle.html_page.specs.Plain.{name_of, page_of, IsPlainChar, ArePlainAttrs, IsContent, IsPlainPage}
 use Rattle.html_page.specs.PageTokens.{kinds, chars_then, kinds_then, page_kinds, HasCore}
 use Rattle.html_page.specs.Parsed.{tokens_in}
 use Rattle.html_page.specs.declared.plain.PlainName.{PlainName}

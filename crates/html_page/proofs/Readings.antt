@@ -1,5 +1,5 @@
 -- Refusals while bytes come from a reader, and after their end.
-use Rattle.std.proofs.Common.{◌≡◌, ◌⊎◌, inl, inr, ℕ, Bool, true, List, Option}
+use Rattle.std.proofs.Common.{inl, inr, ℕ, Bool, List, Option}
 use Rattle.std.specs.Io.KnownBytes.{Consumes, IsAtEnd}
 use Rattle.html_charref.specs.declared.table.Row.{Row}
 use Rattle.html_page.specs.Parsed.{IsCause, IsFeedCause}

@@ -1,28 +1,28 @@
 -- From one token to the next, as the loop over tokens goes.
-use Rattle.std.specs.Prelude.{slice_get, codes, Option, Some, None}
-use Rattle.std.proofs.Common.{◌≡◌, ◌≢◌, ◌⊎◌, ⊎_elim, ℕ, ◌+◌, ◌<◌, ◌≤◌, false, List, [], ◌∷◌, length, take, drop, reverse, refl, sym, ap, ◌∙◌, subst}
+use Rattle.std.specs.Prelude.{slice_get, Some, None}
+use Rattle.std.proofs.Common.{◌≡◌, ◌≢◌, ⊎_elim, ℕ, ◌+◌, ◌≤◌, false, List, [], ◌∷◌, length, take, drop, reverse, refl, sym, ap, ◌∙◌, subst}
 use Rattle.html_arena.specs.Forest.{Forest}
 use Rattle.html_arena.specs.Forest.Forest.{empty}
 use Rattle.html_arena.specs.Tree.{Tree}
 use Rattle.html_tokens.specs.declared.attributes.Attr.{Attr}
 use Rattle.html_tokens.specs.declared.token.Token.{Token}
 use Rattle.html_tokens.specs.declared.token.TokenKind.{TokenKind}
-use Rattle.html_tokens.specs.declared.token.TokenKind.TheVariants.{Start, End}
+use Rattle.html_tokens.specs.declared.token.TokenKind.TheVariants.{Start}
 use Rattle.html_page.specs.Forest.{join, single}
 use Rattle.html_page.specs.Label.{Label}
 use Rattle.html_page.specs.Label.Label.{element}
 use Rattle.html_page.specs.Plain.{name_of, ArePlainAttrs}
 use Rattle.html_page.specs.PageTokens.{kinds, place_at}
-use Rattle.html_page.specs.Pieces.{chars_in, attrs_in, IsPieceOf, IsTagKind, IsTextKind}
+use Rattle.html_page.specs.Pieces.{chars_in, attrs_in, IsPieceOf}
 use Rattle.html_page.specs.Open.{Before, Builds, IsAround, innermost_name}
-use Rattle.html_page.specs.Trees.{EndsAt, IsTreeOf, IsTreeCause, IsClosed, IsUnclosed, SharesEpilog, TakesText, with_text}
+use Rattle.html_page.specs.Trees.{IsTreeOf, IsTreeCause, IsClosed, IsUnclosed, SharesEpilog, TakesText, with_text}
 use Rattle.html_page.specs.declared.build.Builder.{Builder}
 use Rattle.html_page.specs.declared.build.OpenElement.{OpenElement}
 use Rattle.html_page.specs.declared.error.ParseError.{ParseError}
 use Rattle.html_page.specs.declared.error.ParseError.TheVariants.{NotYet}
 use Rattle.html_page.specs.declared.pieces.Piece.TheVariants as piece
 use Rattle.html_page.specs.declared.plain.PlainName.{PlainName}
-use Rattle.html_page.proofs.Steps.{HasRead, IsAt, IsPast, IsReading, Past-text, At-start, At-end}
+use Rattle.html_page.proofs.Steps.{HasRead, IsPast, IsReading, Past-text, At-start, At-end}
 use Rattle.html_page.proofs.Ends.{Ends-open, Ends-closing, Tree-closed}
 
 -- no text begins at a token

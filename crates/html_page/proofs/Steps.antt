@@ -1,10 +1,9 @@
 -- The builder stands at a token.
-use Rattle.std.specs.Prelude.{slice_get, codes, Option, Some, None}
+use Rattle.std.specs.Prelude.{slice_get, Some}
 use Rattle.std.specs.List.{AllByRecursion}
-use Rattle.std.proofs.lemmas.Bool.{cases_lt}
 use Rattle.std.proofs.Math.Seq.{take-add}
-use Rattle.std.proofs.lemmas.List.{take-append-drop, length-take-le, length-drop, take_all}
-use Rattle.std.proofs.Common.{◌≡◌, ◌≢◌, ◌⊎◌, inl, inr, ⊎_elim, ℕ, zero, suc, ◌+◌, ◌-◌, ◌<◌, ◌≤◌, Bool, true, false, List, [], ◌∷◌, ◌++◌, length, take, drop, reverse, refl, sym, ap, ◌∙◌, subst, arith, length-append, append_assoc, append-nil}
+use Rattle.std.proofs.lemmas.List.{length-drop}
+use Rattle.std.proofs.Common.{◌≡◌, ◌⊎◌, inl, inr, ℕ, ◌+◌, ◌≤◌, true, false, List, [], ◌∷◌, ◌++◌, length, take, drop, refl, sym, ap, ◌∙◌, arith, append_assoc, append-nil}
 use Rattle.html_arena.specs.Forest.{Forest}
 use Rattle.html_arena.specs.Forest.Forest.{empty}
 use Rattle.html_arena.specs.Tree.{Tree}
@@ -15,18 +14,18 @@ use Rattle.html_tokens.specs.declared.token.TokenKind.TheVariants.{Start, End, C
 use Rattle.html_page.specs.Forest.{join, single}
 use Rattle.html_page.specs.Label.{Label}
 use Rattle.html_page.specs.Label.Label.{element, text}
-use Rattle.html_page.specs.Plain.{name_of, page_of, ArePlainAttrs, IsContent, IsPlainChar}
-use Rattle.html_page.specs.PageTokens.{kinds, chars_then, kinds_then, page_kinds, ArePlain, IsPlainFront, IsLongestFront}
-use Rattle.html_page.specs.Pieces.{prolog, epilog, chars_in, IsTextKind, IsTagKind, IsPieceOf, current_name}
+use Rattle.html_page.specs.Plain.{name_of, ArePlainAttrs, IsContent, IsPlainChar}
+use Rattle.html_page.specs.PageTokens.{kinds, chars_then}
+use Rattle.html_page.specs.Pieces.{prolog, chars_in, IsTextKind, IsTagKind}
 use Rattle.html_page.specs.Open.{Before, Builds, IsAround, innermost_name}
-use Rattle.html_page.specs.Trees.{EndsAt, with_text, TakesText}
+use Rattle.html_page.specs.Trees.{with_text, TakesText}
 use Rattle.html_page.specs.declared.build.Builder.{Builder}
 use Rattle.html_page.specs.declared.build.OpenElement.{OpenElement}
 use Rattle.html_page.specs.declared.plain.PlainName.{PlainName}
 use Rattle.html_page.proofs.Fits.{kinds-drop, kinds-take, get-drop, get-within, take-next}
-use Rattle.html_page.proofs.Fronts.{front_then, front-more, front-join, IsContentOuter, ends_after, ends-join, content-element, content-text, names_of, Follows, plain-follows, front-plain, front-shorter}
+use Rattle.html_page.proofs.Fronts.{front_then, front-more, front-join, IsContentOuter, ends_after, ends-join, content-element, content-text, names_of, Follows}
 use Rattle.html_page.proofs.Once.{kinds-length}
-use Rattle.html_page.proofs.TextTokens.{texts-kinds, texts-plain, with_text-some}
+use Rattle.html_page.proofs.TextTokens.{texts-kinds, texts-plain}
 
 -- `d` is done in the innermost open element, and `outer` around it, by the tokens up to a place
 pub record HasRead (tokens : List Token) (at : ℕ) (builder : Builder) (d : Forest Label) (outer : List Before) : Type 0 where

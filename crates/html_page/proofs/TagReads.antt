@@ -1,19 +1,17 @@
 -- What the tags of a plain page are read as, whatever follows them.
-use Rattle.std.specs.Prelude.{slice_get, Some, None, Option, cond, ◌==◌, ◌||◌, ◌&&◌, not, codes}
+use Rattle.std.specs.Prelude.{slice_get, Some, None, ◌==◌, ◌||◌, not, codes}
 use Rattle.std.specs.List.{AllByRecursion, flat_map}
-use Rattle.std.specs.Str.{bytes_eq}
-use Rattle.std.proofs.lemmas.Bool.{cond-true, cond-false, cases_Bool, true≢false}
+use Rattle.std.proofs.lemmas.Bool.{cond-true, cond-false, true≢false}
 use Rattle.std.proofs.lemmas.Bool.Decides.{nat_tests}
-use Rattle.std.proofs.Common.{ℕ, suc, zero, ◌≡◌, ◌≢◌, ◌+◌, ◌-◌, ◌<◌, ◌≤◌, Bool, List, [], ◌∷◌, ◌++◌, length, drop, map, true, false, refl, sym, ap, ◌∙◌, subst, arith, length-append, append_assoc, append-nil, add-zero, ⊎_elim}
+use Rattle.std.proofs.Common.{ℕ, suc, ◌≡◌, ◌+◌, ◌-◌, ◌<◌, Bool, List, [], ◌∷◌, ◌++◌, length, map, true, false, refl, sym, ap, ◌∙◌, subst, arith, length-append, append_assoc, add-zero}
 use Rattle.html_charref.specs.declared.table.Row.{Row}
 use Rattle.html_charref.specs.Entities.{one_character}
 use Rattle.html_charref.specs.Table.{IsTable, longest}
-use Rattle.html_tokens.specs.Cut.{Cut, cut, longer, is, stop_mark, shown, passes, is_space, quote_mark}
+use Rattle.html_tokens.specs.Cut.{Cut, cut, longer, is, stop_mark, is_space}
 use Rattle.html_tokens.specs.Draft.{passed}
-use Rattle.html_tokens.specs.Reference.{Reference, ref_opener, named_by}
+use Rattle.html_tokens.specs.Reference.{named_by}
 use Rattle.html_tokens.specs.Value.{value_cut, value_reference, value_reference_by, value_named, with_codes}
-use Rattle.html_tokens.specs.Tag.{Tail, Named, Tag, tail, tail_by, tag_of, value, after_name, after_some, attribute, attr, with_attr, longer_tail, with_attrs, firsts_after, add_first, has_name, name_char, ends_name, ends_attr, between}
-use Rattle.html_tokens.specs.Cost.{AreApart}
+use Rattle.html_tokens.specs.Tag.{Tail, Named, tail, tail_by, value, after_name, after_some, attribute, attr, with_attr, longer_tail, name_char, ends_name, ends_attr, between}
 use Rattle.html_tokens.specs.declared.attributes.Attr.{Attr}
 use Rattle.html_tokens.specs.declared.tag.ValueEnd.TheVariants as ends
 use Rattle.html_tokens.proofs.CostCuts.{cond_both}
@@ -26,7 +24,7 @@ use Rattle.html_page.specs.declared.profile.Profile.{Profile}
 use Rattle.html_page.specs.declared.profile.Profile.TheVariants.{One, Two}
 use Rattle.html_page.specs.Html.{escaped_in_value, attribute as attribute_text}
 use Rattle.html_page.specs.PageTokens.{HasCore}
-use Rattle.html_page.specs.Plain.{IsPlainChar, IsPlainAttr, ArePlainAttrs, is_name_char}
+use Rattle.html_page.specs.Plain.{IsPlainChar, IsPlainAttr, is_name_char}
 
 -- a name runs up to the first code point that ends it
 pub cut_at_stop : (p : ℕ → Bool) (xs : List ℕ) (c : ℕ) (rest : List ℕ) → AllByRecursion (λ x. p x ≡ false) xs → p c ≡ true → cut (stop_mark p) (xs ++ c ∷ rest) ≡ record { before = xs; len = length xs }

@@ -1,13 +1,12 @@
 -- What a front of a text is read as, whatever follows it.
-use Rattle.std.specs.Prelude.{slice_get, Some, None, Option, option_to_list, cond, ◌==◌, codes}
-use Rattle.std.proofs.lemmas.Bool.{cond-true, cond-false}
+use Rattle.std.specs.Prelude.{slice_get, Some, None, Option, ◌==◌}
+use Rattle.std.proofs.lemmas.Bool.{cond-false}
 use Rattle.std.proofs.lemmas.Bool.Decides.{nat_tests}
-use Rattle.std.proofs.Common.{ℕ, suc, zero, ◌≡◌, ◌≢◌, ◌+◌, ◌<◌, ◌≤◌, List, [], ◌∷◌, ◌++◌, length, drop, map, true, false, refl, sym, ap, ◌∙◌, subst, arith, length-append, append_assoc, add-zero}
+use Rattle.std.proofs.Common.{ℕ, ◌≡◌, ◌≢◌, ◌+◌, ◌<◌, List, [], ◌∷◌, ◌++◌, length, drop, true, false, refl, sym, ap, ◌∙◌, subst, arith, length-append, append_assoc, add-zero}
 use Rattle.html_charref.specs.declared.table.Row.{Row}
-use Rattle.html_charref.specs.declared.table.RefText.{RefText}
 use Rattle.html_charref.specs.Entities.{one_character}
-use Rattle.html_charref.specs.Table.{IsTable, longest}
-use Rattle.html_tokens.specs.Tokens.{tokens_after, token, char_at, piece, ref_tokens, begun_piece, mode_after_kind, name_after_kind, Piece}
+use Rattle.html_charref.specs.Table.{IsTable}
+use Rattle.html_tokens.specs.Tokens.{tokens_after, token, piece, ref_tokens, begun_piece, mode_after_kind, name_after_kind}
 use Rattle.html_tokens.specs.Marks.{begin_at, is_stop}
 use Rattle.html_tokens.specs.Reference.{Reference, ref_opener}
 use Rattle.html_tokens.specs.declared.token.Begin.{Begin}
@@ -22,7 +21,7 @@ use Rattle.html_tokens.proofs.TokensLemmas.{tokens_skip, tokens_text, tokens_beg
 use Rattle.html_tokens.proofs.StepLemmas.{named_some}
 use Rattle.html_page.proofs.CoreRows.{core_longest}
 use Rattle.html_page.proofs.TokenLists.{same_tokens}
-use Rattle.html_page.specs.PageTokens.{kinds, chars_then}
+use Rattle.html_page.specs.PageTokens.{kinds}
 
 -- the tokens of a text from a place on, spans aside
 abbrev pub rest_kinds : List Row → Option (List ℕ) → ℕ → List ℕ → List TokenKind

@@ -1,16 +1,14 @@
 -- From the tree of a token list to the page of a text.
-use Rattle.std.proofs.Common.{◌≡◌, ℕ, ◌≤◌, ◌<◌, ◌+◌, false, List, [], ◌∷◌, length, sym, ap, ◌∙◌, subst, arith}
+use Rattle.std.proofs.Common.{◌≡◌, ℕ, ◌≤◌, ◌<◌, List, [], ◌∷◌, length, sym, ap, ◌∙◌, subst, arith}
 use Rattle.html_charref.specs.declared.table.Row.{Row}
 use Rattle.html_charref.specs.Table.{IsTable}
 use Rattle.html_arena.specs.Forest.{Forest}
-use Rattle.html_arena.specs.Tree.{Tree}
 use Rattle.html_arena.specs.Walking.{IsRoot}
 use Rattle.html_tokens.specs.Cost.{AreCosted}
 use Rattle.html_tokens.specs.declared.token.Token.{Token}
-use Rattle.html_page.specs.Html.{html_of}
 use Rattle.html_page.specs.Label.{Label}
 use Rattle.html_page.specs.Parsed.{IsTextPage, IsTextCause, tokens_in}
-use Rattle.html_page.specs.PageTokens.{kinds, page_kinds, HasCore}
+use Rattle.html_page.specs.PageTokens.{kinds, page_kinds}
 use Rattle.html_page.specs.Plain.{IsPlainPage}
 use Rattle.html_page.specs.Shows.{Shows}
 use Rattle.html_page.specs.TokenList.{most_errors}
@@ -18,7 +16,6 @@ use Rattle.html_page.specs.Trees.{IsTreeOf, IsTreeCause}
 use Rattle.html_page.specs.declared.error.ParseError.{ParseError}
 use Rattle.html_page.specs.declared.error.ParseError.TheVariants.{OutOfMemory, InputTooLong, ForeignContent, BadContext, Read, Write, Stopped, NodeBudget, HeldBudget, NotYet}
 use Rattle.html_page.specs.declared.page.Page.{Page}
-use Rattle.html_page.specs.declared.profile.Profile.{Profile}
 use Rattle.html_page.proofs.Once.{page-once, front-within}
 use Rattle.html_page.proofs.PageReads.{page-tokens}
 

@@ -1,11 +1,10 @@
 -- How the tokens of a plain page go on inside an element.
-use Rattle.std.specs.Prelude.{◌≡◌, ℕ, ◌≤◌, ◌<◌, Bool, true, false, List, [], ◌∷◌, codes, length, slice_get, Option, Some, None}
+use Rattle.std.specs.Prelude.{◌≡◌, ℕ, true, false, List, [], ◌∷◌, codes, Option, Some, None}
 use Rattle.html_tokens.specs.declared.attributes.Attr.{Attr}
 use Rattle.html_tokens.specs.declared.token.Token.{Token}
 use Rattle.html_tokens.specs.declared.token.TokenKind.{TokenKind}
 use Rattle.html_tokens.specs.declared.token.TokenKind.TheVariants as kinds
-use Rattle.std.specs.List.{AllByRecursion}
-use Rattle.html_page.specs.Plain.{name_of, IsPlainChar, IsPlainAttr, ArePlainAttrs}
+use Rattle.html_page.specs.Plain.{name_of, IsPlainChar, ArePlainAttrs}
 use Rattle.html_page.specs.declared.plain.PlainName.{PlainName}
 use Rattle.html_page.specs.declared.pieces.Piece.{Piece}
 use Rattle.html_page.specs.declared.pieces.Piece.TheVariants as piece

@@ -54,16 +54,19 @@ fn prints_trees(rt: HostRuntime) -> Result<(), Fail> {
 }
 
 /// A plain page with attributes and escapes, in profile One.
-const MARKED: &str = "<!DOCTYPE html><html><head></head><body><div id=\"a<b\" class=\"&amp;&quot;\">x &lt; y&nbsp;<i></i>&amp;</div></body></html>";
+const MARKED: &str =
+    "<!DOCTYPE html><html><head></head><body><div id=\"a<b\" class=\"&amp;&quot;\">x &lt; y&nbsp;<i></i>&amp;</div></body></html>";
 
 /// The same in profile Two.
-const MARKED_TWO: &str = "<!DOCTYPE html><html><head></head><body><div id=\"a&lt;b\" class=\"&amp;&quot;\">x &lt; y&nbsp;<i></i>&amp;</div></body></html>";
+const MARKED_TWO: &str =
+    "<!DOCTYPE html><html><head></head><body><div id=\"a&lt;b\" class=\"&amp;&quot;\">x &lt; y&nbsp;<i></i>&amp;</div></body></html>";
 
 #[test]
 fn prints_attributes_and_escapes(rt: HostRuntime) -> Result<(), Fail> {
     let (status, written, _) = tree_of(rt.alloc(), MARKED.as_bytes())?;
     assert_eq!(rt; status, DONE);
-    let lines = "|     <div>\n|       class=\"&\"\"\n|       id=\"a<b\"\n|       \"x < y\u{A0}\"\n|       <i>\n|       \"&\"\n";
+    let lines =
+        "|     <div>\n|       class=\"&\"\"\n|       id=\"a<b\"\n|       \"x < y\u{A0}\"\n|       <i>\n|       \"&\"\n";
     assert!(rt; written.as_slice().ends_with(lines.as_bytes()));
     for (text, profile, want) in [
         (MARKED, Profile::One, MARKED),

@@ -1,9 +1,9 @@
-use Rattle.std.proofs.Common.{◌≡◌, ℕ, ◌+◌, List, [], ◌∷◌, ◌++◌, take, sym, ap, ◌∙◌, subst}
+use Rattle.std.proofs.Common.{ℕ, List, [], ◌∷◌, ◌++◌, take, sym, ap, ◌∙◌, subst}
 use Rattle.std.proofs.lemmas.List.{take_more}
 use Rattle.html_tokens.specs.declared.token.Token.{Token}
 use Rattle.html_page.specs.Open.{IsFilled}
 use Rattle.html_page.specs.Pieces.{chars_in, char_before}
-use Rattle.html_page.proofs.Added.{filled-none, filled-text, filled-then, chars_in-more}
+use Rattle.html_page.proofs.Added.{filled-text, filled-then, chars_in-more}
 use Rattle.html_page.proofs.build.fill.Goals as goal
 
 pub fill_char-requires-clause-is_text : goal.fill_char-requires-clause-is_text

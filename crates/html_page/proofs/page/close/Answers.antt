@@ -1,4 +1,4 @@
-use Rattle.std.proofs.Common.{◌≡◌, ◌≢◌, ◌≤◌, ◌<◌, ◌+◌, inr, ℕ, List, length, take, drop, false, refl, sym, ap, ◌∙◌, arith, reverse}
+use Rattle.std.proofs.Common.{◌≡◌, ◌≢◌, ◌≤◌, ◌<◌, inr, ℕ, length, take, drop, false, refl, sym, ◌∙◌, arith, reverse}
 use Rattle.std.specs.Prelude.{slice_get, None, Option, is_some}
 use Rattle.std.proofs.lemmas.List.{take_rest}
 use Rattle.html_page.specs.PageTokens.{kinds}

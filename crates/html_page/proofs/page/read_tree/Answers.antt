@@ -1,31 +1,19 @@
-use Rattle.std.proofs.Common.{◌≡◌, ◌≢◌, ◌≤◌, ◌<◌, ◌+◌, ⊎_elim, ℕ, List, [], ◌∷◌, length, take, drop, false, refl, sym, ap, ◌∙◌, subst, arith, reverse}
-use Rattle.std.specs.Prelude.{slice_get, Option, Some, None}
+use Rattle.std.proofs.Common.{◌≡◌, ◌<◌, ◌+◌, ℕ, drop, refl, sym, subst, arith, reverse}
+use Rattle.std.specs.Prelude.{slice_get, Option, Some}
 use Rattle.std.proofs.lemmas.List.{take_rest}
 use Rattle.std.proofs.lemmas.Result.{IfOk-weaker, IfErr-weaker}
-use Rattle.html_arena.specs.Forest.{Forest}
-use Rattle.html_arena.specs.Forest.Forest.{empty}
-use Rattle.html_arena.specs.Tree.{Tree}
-use Rattle.html_tokens.specs.declared.attributes.Attr.{Attr}
 use Rattle.html_tokens.specs.declared.token.Token.{Token}
-use Rattle.html_tokens.specs.declared.token.TokenKind.{TokenKind}
-use Rattle.html_tokens.specs.declared.token.TokenKind.TheVariants.{Start, End}
-use Rattle.html_page.specs.Forest.{join, single}
-use Rattle.html_page.specs.Label.{Label}
-use Rattle.html_page.specs.Label.Label.{element}
-use Rattle.html_page.specs.Plain.{name_of, ArePlainAttrs}
-use Rattle.html_page.specs.PageTokens.{kinds, place_at}
-use Rattle.html_page.specs.Pieces.{prolog, chars_in, attrs_in, IsPieceOf}
-use Rattle.html_page.specs.Open.{Before, Builds, innermost_name}
-use Rattle.html_page.specs.Trees.{EndsAt, IsTreeOf, IsTreeCause, IsClosed, IsUnclosed, TakesText, with_text}
+use Rattle.html_page.specs.PageTokens.{kinds}
+use Rattle.html_page.specs.Pieces.{IsPieceOf}
+use Rattle.html_page.specs.Open.{innermost_name}
+use Rattle.html_page.specs.Trees.{IsTreeCause, TakesText}
 use Rattle.html_page.specs.declared.build.Builder.{Builder}
-use Rattle.html_page.specs.declared.error.ParseError.{ParseError}
-use Rattle.html_page.specs.declared.error.ParseError.TheVariants.{NotYet}
 use Rattle.html_page.specs.declared.pieces.Piece.TheVariants as piece
 use Rattle.html_page.specs.declared.plain.PlainName.{PlainName}
 use Rattle.html_page.proofs.Fits.{get-index, get-past, kinds-get}
-use Rattle.html_page.proofs.Steps.{IsAt, IsPast, IsReading, Past-text, At-start, At-end, At-prolog}
-use Rattle.html_page.proofs.Ends.{Ends-none, Ends-open, Ends-closing, Ends-prolog, Tree-closed}
-use Rattle.html_page.proofs.Rests.{Stands, past, tree-of, cause-of, after-start, after-end}
+use Rattle.html_page.proofs.Steps.{IsReading}
+use Rattle.html_page.proofs.Ends.{Ends-none, Ends-prolog}
+use Rattle.html_page.proofs.Rests.{past, tree-of, cause-of, after-start, after-end}
 use Rattle.html_page.proofs.page.read_tree.Goals.{in-Start+in_ok-start-in-Start, in-End}
 use Rattle.html_page.proofs.page.read_tree.Goals as goal
 

@@ -1,9 +1,8 @@
-use Rattle.std.proofs.Common.{◌≡◌, ◌≢◌, ◌≤◌, List, ℕ, [], take, length, sym, subst, arith}
+use Rattle.std.proofs.Common.{take, sym, subst, arith}
 use Rattle.html_arena.specs.Forest.{Forest}
 use Rattle.html_page.specs.Label.{Label}
 use Rattle.html_page.specs.Open.{Builds}
 use Rattle.html_page.specs.Pieces.{chars_in}
-use Rattle.html_page.specs.Trees.{with_text}
 use Rattle.html_page.proofs.TextTokens.{texts-some, with_text-some}
 use Rattle.html_page.proofs.page.take_text.Goals as goal
 

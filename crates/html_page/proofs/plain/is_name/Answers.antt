@@ -1,10 +1,10 @@
-use Rattle.std.proofs.Common.{◌≡◌, ℕ, List, ◌∷◌, ◌++◌, [], length, drop, ◌+◌, sym, subst, ◌∙◌, map-id, chars, true, false, refl}
+use Rattle.std.proofs.Common.{◌≡◌, ◌∷◌, ◌++◌, length, drop, ◌+◌, sym, subst, ◌∙◌, map-id, chars, true, refl}
 use Rattle.std.specs.List.{AllByRecursion}
 use Rattle.std.proofs.lemmas.Bool.{true≢false}
 use Rattle.std.proofs.lemmas.Iterator.{YieldsList-from_chars}
 use Rattle.std.proofs.lemmas.Iterator.Consumers.{YieldsList-so_far, YieldsList-turn, YieldsList-end}
 use Rattle.html_page.specs.Plain.{is_name_char}
-use Rattle.html_page.proofs.Alls.{all-append, all-middle, turned}
+use Rattle.html_page.proofs.Alls.{all-middle, turned}
 use Rattle.html_page.proofs.plain.is_name.Goals as goal
 
 pub returns-then-not-is_name_char : goal.returns-then-not-is_name_char

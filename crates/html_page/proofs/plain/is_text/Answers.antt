@@ -1,5 +1,5 @@
-use Rattle.std.proofs.Common.{◌≡◌, List, ℕ, ap, sym, subst, ◌∙◌, true, chars}
-use Rattle.std.specs.Str.{bytes_eq, encode_utf8_all}
+use Rattle.std.proofs.Common.{ap, sym, ◌∙◌, chars}
+use Rattle.std.specs.Str.{encode_utf8_all}
 use Rattle.std.proofs.lemmas.Slice.Eq.{bytes_eq-Decides}
 use Rattle.std.proofs.lemmas.Str.{encodes-chars}
 use Rattle.html_page.proofs.plain.is_text.Goals as goal

@@ -1,4 +1,3 @@
-use Rattle.std.proofs.Common.{◌≡◌, true}
 use Rattle.std.specs.List.{AllByRecursion}
 use Rattle.html_page.specs.Plain.{IsPlainChar}
 use Rattle.html_page.proofs.plain.is_value.Given as goal

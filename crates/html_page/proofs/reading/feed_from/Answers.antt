@@ -1,9 +1,7 @@
-use Rattle.std.proofs.Common.{◌≡◌, ◌-◌, ◌+◌, ◌≤◌, ℕ, List, ◌++◌, length, length-append, take, subst, arith}
+use Rattle.std.proofs.Common.{◌≡◌, ◌+◌, ◌≤◌, ℕ, List, ◌++◌, length, length-append, take, arith}
 use Rattle.std.proofs.KnownBytes.{Consumes-trans}
 use Rattle.std.proofs.lemmas.List.{length-take-le}
 use Rattle.std.proofs.lemmas.Result.{err_from_is_err_and}
-use Rattle.html_page.specs.Fed.{IsFed}
-use Rattle.html_page.specs.Parsed.{IsFeedCause}
 use Rattle.html_page.proofs.Readings.{piece-cause}
 use Rattle.html_page.proofs.reading.feed_from.Goals as goal
 

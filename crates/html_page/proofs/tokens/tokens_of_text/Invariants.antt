@@ -1,4 +1,4 @@
-use Rattle.std.proofs.Common.{◌≡◌, ◌≤◌, ◌+◌, ◌-◌, false, length, option_map}
+use Rattle.std.proofs.Common.{◌≡◌, ◌+◌, ◌-◌, false, length, option_map}
 use Rattle.std.specs.Str.{chars}
 use Rattle.html_tokens.specs.Cost.{AreCosted}
 use Rattle.html_tokens.specs.Given.{Fed, is_stopped}

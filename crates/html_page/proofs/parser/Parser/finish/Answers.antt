@@ -1,4 +1,4 @@
-use Rattle.std.proofs.Common.{◌≡◌, ◌∙◌, ap, List, subst, Err}
+use Rattle.std.proofs.Common.{◌∙◌, ap, List, subst, Err}
 use Rattle.std.proofs.lemmas.Result.{err_from_is_err_and}
 use Rattle.html_charref.specs.declared.table.Row.{Row}
 use Rattle.html_input.specs.declared.decoder.TheConstants.{LIMIT}
