@@ -1,6 +1,6 @@
 //! One job, over any reader and writers.
 
-ghost use Rattle.std.specs.Prelude.{◌≡◌, ◌<◌, List, IfOk, IfSome, OnOk, MatchOption, Ok};
+ghost use Rattle.std.specs.Prelude.{◌≡◌, ◌≢◌, ◌<◌, List, IfOk, IfErr, IfSome, OnOk, MatchOption, Ok, Err};
 ghost use Rattle.std.specs.Io.KnownBytes.{Appends};
 ghost use Rattle.html_arena.specs.Walking.{IsRoot};
 ghost use Rattle.html_charref.specs.Entities.{core_rows, entities_of};
@@ -118,7 +118,8 @@ fn answer_nothing<R: Source>(
 
 /// The table of a file of named character references, or without one the table of five names.
 pub fn table_of(alloc: Global, entities: Option<&[u8]>) -> Result<EntityTable, EntityError>
-    ensures { IfOk result (λ table. MatchOption entities.entry (table ≡ core_rows) (λ bytes. entities_of bytes.now ≡ Ok table)) }
+    ensures table { IfOk result (λ table. MatchOption entities.entry (table ≡ core_rows) (λ bytes. entities_of bytes.now ≡ Ok table)) }
+    ensures cause { IfErr result (λ e. e ≢ EntityError.OutOfMemory → MatchOption entities.entry ⊥ (λ bytes. entities_of bytes.now ≡ Err e)) }
 {
     match entities {
         Some(bytes) => EntityTable::read(alloc, bytes),
