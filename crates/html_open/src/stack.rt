@@ -139,9 +139,9 @@ impl OpenStack {
         ensures steps { arena.new ≡ charged arena.old (looked (eqb node) self.now) }
     {
         let nodes = self.nodes.as_slice();
-        let found = last_index(nodes, arena, &Sought::Node(node));
-        arena.charge(steps_to(nodes.len(), found));
-        found
+        let index = last_index(nodes, arena, &Sought::Node(node));
+        arena.charge(steps_to(nodes.len(), index));
+        index
     }
 
     /// Whether an element is on the stack, by its mark. One step.

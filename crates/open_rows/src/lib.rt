@@ -5,6 +5,8 @@
 mod page;
 mod refusal;
 #[cfg(test)]
+mod script;
+#[cfg(test)]
 mod tests;
 
 pub use page::Page;

@@ -65,6 +65,14 @@ impl Page {
         &self.arena
     }
 
+    /// The parent of a node.
+    pub fn parent(&self, node: NodeId) -> Result<Option<NodeId>, Refusal> {
+        if !is_node(&self.arena, node) {
+            return Err(Refusal::Condition);
+        }
+        Ok(self.arena.parent(node))
+    }
+
     /// The number of open elements.
     pub fn depth(&self) -> usize {
         self.stack.len()
