@@ -4,5 +4,10 @@ mod Popping
 mod Naming
 mod Clearing
 mod Fostering
+mod Inserted
+mod Anew
+mod Standing
+mod Searching
+mod Reopened
 mod Pushes
 mod PushKeeps
