@@ -81,7 +81,7 @@ fn push_place(text: &mut String, alloc: Global, place: Place) -> Result<(), Refu
 }
 
 /// Calls that change the page.
-fn edit(page: &mut Page, alloc: Global, call: Call) -> Result<(), Refusal> {
+pub fn edit(page: &mut Page, alloc: Global, call: Call) -> Result<(), Refusal> {
     match call {
         Call::Make(name) => make(page, alloc, name, false),
         Call::Named(name) => make(page, alloc, name, true),

@@ -1,7 +1,7 @@
 // The calls on the stack and the list with ample memory, on small pages whose answers and steps are known; and with memory refused.
-use crate::script::{Call, build, run, stack};
+use crate::script::{Call, build, edit, run, stack};
 use crate::{Page, Refusal};
-use html_arena::{ArenaError, Limits};
+use html_arena::{ArenaError, Limits, NodeId};
 use html_names::Tag;
 use html_open::{OpenError, Scope};
 use std::alloc::Global;
@@ -314,5 +314,26 @@ fn refused_reopening_is_told(rt: HostRuntime) -> Result<(), Fail> {
         Ok(held) => assert_eq!(rt; held, 10),
         Err(error) => assert!(rt; is_out_of_memory(error)),
     }
+    Ok(())
+}
+
+// To be run with each allocation refused in turn: a call that is refused changes nothing, and is then made.
+#[test]
+fn refusals_change_nothing(rt: HostRuntime) -> Result<(), Fail> {
+    let alloc = rt.alloc();
+    let mut page = Page::new(alloc);
+    let calls = [Call::Make("b"), Call::Push(0), Call::Marker, Call::Enter(0)];
+    for call in &calls {
+        let steps = page.arena().meter().steps;
+        let depth = page.depth();
+        if let Err(error) = edit(&mut page, alloc, *call) {
+            assert!(rt; is_out_of_memory(error));
+            assert_eq!(rt; page.arena().meter().steps, steps);
+            assert_eq!(rt; page.depth(), depth);
+            edit(&mut page, alloc, *call)?;
+        }
+    }
+    assert!(rt; page.is_open(NodeId::at(0))?);
+    assert!(rt; page.is_listed(NodeId::at(0))?);
     Ok(())
 }
