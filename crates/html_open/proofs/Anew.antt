@@ -1,5 +1,5 @@
 -- One entry is opened anew: what is true between calls is kept.
-use Rattle.std.proofs.Common.{◌≡◌, ◌≢◌, ℕ, zero, suc, ◌+◌, ◌<◌, Bool, true, false, cond, eqb, List, [], ◌∷◌, ◌++◌, length, take, drop, get_or, set, Option, Some, None, inl, inr, refl, sym, ◌∙◌, ap, subst, arith}
+use Rattle.std.proofs.Common.{◌≡◌, ℕ, zero, suc, ◌<◌, Bool, true, false, List, [], ◌∷◌, ◌++◌, length, take, drop, get_or, set, None, inl, inr, refl, sym, ◌∙◌, ap, subst, arith}
 use Rattle.std.proofs.lemmas.List.{length-set}
 use Rattle.html_names.specs.Sets.{is_formatting}
 use Rattle.html_names.specs.Tags.{is_same}
@@ -9,18 +9,18 @@ use Rattle.html_arena.specs.declared.marks.Mark.TheVariants.{OnStack, InList}
 use Rattle.html_arena.specs.declared.marks.Mark.{Mark}
 use Rattle.html_arena.specs.Data.{IsElement, label_in, origin_in, tag_in}
 use Rattle.html_arena.specs.Marks.{with_mark}
-use Rattle.html_arena.specs.Siblings.{has, Distinct}
-use Rattle.html_arena.specs.Tree.{Tree, ancestors, label_of, marks_of, parent_of, tag_at, with_marked}
+use Rattle.html_arena.specs.Siblings.{has}
+use Rattle.html_arena.specs.Tree.{Tree, marks_of, tag_at, with_marked}
 use Rattle.html_open.specs.declared.entry.Entry.{Entry}
-use Rattle.html_open.specs.declared.entry.Entry.TheVariants.{Marker, Node}
+use Rattle.html_open.specs.declared.entry.Entry.TheVariants.{Node}
 use Rattle.html_open.specs.declared.places.Place.{Place}
 use Rattle.html_open.specs.Entries.{nodes_of}
 use Rattle.html_open.specs.Marking.{charged}
 use Rattle.html_open.specs.Opened.{AreNodes, AreOneByOrigin, IsOpen, IsOrdered, open_at, origin_at}
-use Rattle.html_open.specs.Placing.{CanPlace, table}
+use Rattle.html_open.specs.Placing.{CanPlace}
 use Rattle.html_open.specs.Reopenings.{IsInserted}
 use Rattle.html_open.proofs.Inserted.{element-new, label-old, longer, origin-new, tag-new}
-use Rattle.html_open.proofs.Keeps.{CanAdd, Core, Distinct-remove, cases_bool, cases_eqb, core-charged, core-drop_list, core-list, core-push, core_by, eqb-self, has-insert, has-less, has-more, nodes-append, whole_by}
+use Rattle.html_open.proofs.Keeps.{Core, Distinct-remove, cases_bool, cases_eqb, core-charged, core-drop_list, core-list, core-push, core_by, eqb-self, has-insert, has-less, has-more, nodes-append, whole_by}
 
 pub split-at : (xs : List Entry) (i : ℕ) (x : ℕ) (d : Entry) → i < length xs → get_or xs i d ≡ Node x → xs ≡ take i xs ++ Node x ∷ drop (suc i) xs
 split-at [] i x d l e = absurd (omega arith)

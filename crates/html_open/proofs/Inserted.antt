@@ -1,16 +1,15 @@
 -- A clone of an element is put at a place.
-use Rattle.std.proofs.Common.{◌≡◌, ◌≢◌, ℕ, zero, suc, ◌+◌, ◌<◌, Bool, true, false, cond, eqb, List, [], ◌∷◌, ◌++◌, length, get_or, Option, Some, None, inl, inr, refl, sym, ◌∙◌, ap, subst, length-append, arith}
+use Rattle.std.proofs.Common.{◌≡◌, ◌≢◌, ℕ, zero, suc, ◌+◌, ◌<◌, true, false, List, [], ◌∷◌, ◌++◌, length, get_or, Option, Some, None, refl, sym, ◌∙◌, ap, subst, length-append, arith}
 use Rattle.html_names.specs.Sets.{is_formatting}
 use Rattle.html_arena.specs.declared.data.NodeData.{NodeData}
 use Rattle.html_arena.specs.declared.data.NodeData.TheVariants.{Document, Contents, Element, Text, Comment, Doctype}
 use Rattle.html_arena.specs.declared.data.NewNode.TheVariants.{CloneOf}
-use Rattle.html_arena.specs.declared.marks.Mark.{Mark}
 use Rattle.html_arena.specs.Data.{IsElement, cloned, origin_in, tag_in}
 use Rattle.html_arena.specs.Laws.{IsGrown}
 use Rattle.html_arena.specs.Make.{made}
 use Rattle.html_arena.specs.Marks.{has_mark, no_marks}
 use Rattle.html_arena.specs.Siblings.{has}
-use Rattle.html_arena.specs.Tree.{Tree, ancestors, children_of, inserted, label_of, marked, parent_of, tag_at}
+use Rattle.html_arena.specs.Tree.{Tree, ancestors, children_of, inserted, label_of, parent_of, tag_at}
 use Rattle.html_open.specs.declared.places.Place.{Place}
 use Rattle.html_open.specs.declared.places.Place.TheVariants.{Last, Before}
 use Rattle.html_open.specs.Marking.{charged}

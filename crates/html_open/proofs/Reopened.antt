@@ -1,11 +1,10 @@
 -- Entries are opened anew, one after another.
 use mathlib.Core.Path.{fun_ext}
-use Rattle.std.proofs.Common.{◌≡◌, ◌≢◌, ℕ, zero, suc, ◌+◌, ◌-◌, ◌*◌, ◌^◌, ◌<◌, ◌≤◌, min, Bool, true, false, cond, eqb, List, [], ◌∷◌, ◌++◌, length, map, take, drop, get_or, set, Option, Some, None, Err, inl, inr, refl, sym, ◌∙◌, ap, subst, append_assoc, length-append, arith}
+use Rattle.std.proofs.Common.{◌≡◌, ◌≢◌, ℕ, suc, ◌+◌, ◌^◌, ◌<◌, ◌≤◌, Bool, true, false, cond, List, [], ◌∷◌, ◌++◌, length, map, get_or, set, Option, Some, None, inl, inr, refl, sym, ◌∙◌, ap, subst, append_assoc, length-append, arith}
 use Rattle.std.proofs.lemmas.List.{append-nil, length-set, length-take-le}
 use Rattle.std.specs.List.{list_any, range_with_len}
 use Rattle.html_arena.specs.declared.arena.ArenaError.{ArenaError}
 use Rattle.html_arena.specs.declared.arena.ArenaError.TheVariants as arena
-use Rattle.html_arena.specs.declared.data.NodeData.{NodeData}
 use Rattle.html_arena.specs.declared.data.NodeData.TheVariants.{Document}
 use Rattle.html_arena.specs.declared.data.NewNode.TheVariants.{CloneOf}
 use Rattle.html_arena.specs.declared.marks.Mark.TheVariants.{OnStack}
@@ -13,7 +12,7 @@ use Rattle.html_arena.specs.Budget.{budget}
 use Rattle.html_arena.specs.Data.{IsElement, cloned, label_in}
 use Rattle.html_arena.specs.Make.{made, made_weight}
 use Rattle.html_arena.specs.Siblings.{has}
-use Rattle.html_arena.specs.Tree.{Tree, WellFormed, children_of, inserted, label_of, marked, more, parent_of}
+use Rattle.html_arena.specs.Tree.{Tree, WellFormed, children_of, inserted, label_of, more, parent_of}
 use Rattle.html_open.specs.declared.entry.Entry.{Entry}
 use Rattle.html_open.specs.declared.entry.Entry.TheVariants.{Marker, Node}
 use Rattle.html_open.specs.declared.error.OpenError.{OpenError}
@@ -23,13 +22,13 @@ use Rattle.html_open.specs.declared.places.Place.TheVariants.{Last, Before}
 use Rattle.html_open.specs.Entries.{nodes_of}
 use Rattle.html_open.specs.Lists.{above, after_index, below, last_index, last_where, up_to}
 use Rattle.html_open.specs.Marking.{charged}
-use Rattle.html_open.specs.Opened.{AreNodes, IsMarked, IsOpen, Open, open_at}
-use Rattle.html_open.specs.Placing.{CanPlace, by_table, fostered, fosters, outside_table, place_of, place_steps, put, table, target_of, template}
+use Rattle.html_open.specs.Opened.{IsMarked, IsOpen, Open, open_at}
+use Rattle.html_open.specs.Placing.{CanPlace, by_table, fosters, outside_table, place_of, place_steps, put, table, target_of, template}
 use Rattle.html_open.specs.Reopening.{IsCause, IsPassed, IsSameTree, KeepsClosed, Reopened, clone_steps, clones_of, closed, fresh, reopen_steps, search_steps, stands, with_clone, with_clones}
 use Rattle.html_open.specs.Reopenings.{IsRefused, with_reopened}
 use Rattle.html_open.specs.Searches.{open_or_marker}
 use Rattle.html_open.proofs.Inserted.{get-before, get-default}
-use Rattle.html_open.proofs.Keeps.{cases_bool, cases_eqb, eqb-self, has-append, has-less, nodes-append, open-charged}
+use Rattle.html_open.proofs.Keeps.{cases_bool, cases_eqb, eqb-self, has-append, nodes-append, open-charged}
 use Rattle.html_open.proofs.Lists.{after-length, after-up_to, get_or-default}
 use Rattle.html_open.proofs.Standing.{element-in}
 

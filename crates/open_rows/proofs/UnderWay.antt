@@ -1,32 +1,30 @@
 -- What is true of a page under way is kept.
-use Rattle.std.proofs.Common.{◌≡◌, ◌≢◌, ℕ, zero, suc, ◌+◌, ◌<◌, ◌≤◌, Bool, true, false, cond, eqb, List, [], ◌∷◌, ◌++◌, length, map, get_or, slice_index, Option, Some, None, Result, Ok, Err, OnOk, OnErr, ◌⊎◌, inl, inr, refl, sym, ◌∙◌, ap, subst, length-append, arith}
+use Rattle.std.proofs.Common.{◌≡◌, ◌≢◌, ℕ, zero, suc, ◌+◌, ◌<◌, Bool, true, false, cond, eqb, List, [], ◌∷◌, ◌++◌, length, map, get_or, slice_index, Option, Some, None, Result, Ok, Err, OnOk, OnErr, ◌⊎◌, inl, inr, refl, sym, ◌∙◌, ap, subst, arith}
 use Rattle.std.proofs.lemmas.Bool.Decides.{nat_tests}
 use Rattle.html_names.specs.Sets.{is_formatting, is_template}
 use Rattle.html_names.specs.Names.{tag_of}
-use Rattle.html_names.specs.declared.tag.Tag.{Tag}
 use Rattle.html_names.specs.declared.tag.Tag.TheVariants as tag
 use Rattle.html_tokens.specs.declared.attributes.Attr.{Attr}
 use Rattle.html_arena.specs.declared.arena.Limits.{Limits}
 use Rattle.html_arena.specs.declared.data.NodeData.{NodeData}
 use Rattle.html_arena.specs.declared.data.NodeData.TheVariants as node
 use Rattle.html_arena.specs.declared.data.NewNode.TheVariants.{Element}
-use Rattle.html_arena.specs.declared.data.Origin.{Origin}
 use Rattle.html_arena.specs.declared.data.Origin.TheVariants.{Nothing, Token}
 use Rattle.html_arena.specs.declared.marks.Mark.{Mark}
 use Rattle.html_arena.specs.declared.marks.Mark.TheVariants.{OnStack, InList}
 use Rattle.html_arena.specs.declared.marks.Marks.{Marks}
 use Rattle.html_arena.specs.Data.{IsElement, cloned, label_in, origin_in, tag_in}
 use Rattle.html_arena.specs.Laws.{IsGrown, IsLinked}
-use Rattle.html_arena.specs.Make.{label_for, made, nodes_made}
+use Rattle.html_arena.specs.Make.{label_for, made}
 use Rattle.html_arena.specs.Marks.{has_mark, no_marks}
-use Rattle.html_arena.specs.Siblings.{Distinct, first_of, has}
+use Rattle.html_arena.specs.Siblings.{first_of, has}
 use Rattle.html_arena.specs.Tree.{Tree, WellFormed, ancestors, ancestors_within, appended, children_of, empty_tree, label_of, marked, more, named, parent_of, tag_at, with_marked}
 use Rattle.html_open.specs.declared.entry.Entry.{Entry}
-use Rattle.html_open.specs.Entries.{has_node, nodes_of}
+use Rattle.html_open.specs.Entries.{has_node}
 use Rattle.html_open.specs.declared.error.OpenError.{OpenError}
 use Rattle.html_open.specs.Marking.{all_unmarked, charged, unmarked}
-use Rattle.html_open.specs.Opened.{AreNodes, AreOneByOrigin, CanList, CanPush, IsMarked, IsOpen, IsOrdered, open_at, origin_at}
-use Rattle.html_open.specs.Placing.{CanPlace, table}
+use Rattle.html_open.specs.Opened.{AreNodes, CanList, CanPush, IsOpen, IsOrdered, open_at, origin_at}
+use Rattle.html_open.specs.Placing.{CanPlace}
 use Rattle.html_open.specs.Reopening.{clones_of, closed}
 use Rattle.open_rows.specs.Pages.{IsNewest, IsPage}
 

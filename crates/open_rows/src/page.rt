@@ -16,7 +16,7 @@ use std::marker::Model;
 
 /// A page under way. Each element comes from a token of its own, and may be opened and listed until the next is made.
 #[derive(Drop)]
-pub struct Page {
+pub(crate) struct Page {
     arena: Arena,
     stack: OpenStack,
     list: FormattingList,
@@ -39,7 +39,7 @@ impl Model for Page {
 
 impl Page {
     /// A page without nodes.
-    pub fn new(alloc: Global) -> Page {
+    pub(crate) fn new(alloc: Global) -> Page {
         Page {
             arena: Arena::new(alloc),
             stack: OpenStack::new(alloc),
@@ -50,7 +50,7 @@ impl Page {
     }
 
     /// A page without nodes, within limits.
-    pub fn within(alloc: Global, limits: Limits) -> Page {
+    pub(crate) fn within(alloc: Global, limits: Limits) -> Page {
         Page {
             arena: Arena::within(alloc, limits),
             stack: OpenStack::new(alloc),
@@ -61,12 +61,12 @@ impl Page {
     }
 
     /// The tree.
-    pub fn arena(&self) -> &Arena {
+    pub(crate) fn arena(&self) -> &Arena {
         &self.arena
     }
 
     /// The parent of a node.
-    pub fn parent(&self, node: NodeId) -> Result<Option<NodeId>, Refusal> {
+    pub(crate) fn parent(&self, node: NodeId) -> Result<Option<NodeId>, Refusal> {
         if !is_node(&self.arena, node) {
             return Err(Refusal::Condition);
         }
@@ -74,12 +74,12 @@ impl Page {
     }
 
     /// The number of open elements.
-    pub fn depth(&self) -> usize {
+    pub(crate) fn depth(&self) -> usize {
         self.stack.len()
     }
 
     /// Makes an element, which stands alone.
-    pub fn make(&mut self, name: Str, attrs: Attrs) -> Result<NodeId, Refusal> {
+    pub(crate) fn make(&mut self, name: Str, attrs: Attrs) -> Result<NodeId, Refusal> {
         if self.tokens == u64::MAX {
             return Err(Refusal::Condition);
         }
@@ -96,7 +96,7 @@ impl Page {
     }
 
     /// Makes an element that stands alone and has no children and is not open the last child of a node.
-    pub fn link(&mut self, parent: NodeId, child: NodeId) -> Result<(), Refusal> {
+    pub(crate) fn link(&mut self, parent: NodeId, child: NodeId) -> Result<(), Refusal> {
         if !is_node(&self.arena, parent) || !is_childless(&self.arena, child) || child == parent {
             return Err(Refusal::Condition);
         }
@@ -109,7 +109,7 @@ impl Page {
     }
 
     /// Opens the newest element, which has no children.
-    pub fn push(&mut self, node: NodeId) -> Result<(), Refusal> {
+    pub(crate) fn push(&mut self, node: NodeId) -> Result<(), Refusal> {
         if !is_childless(&self.arena, node) || !is_newest(self.newest, node) {
             return Err(Refusal::Condition);
         }
@@ -122,7 +122,7 @@ impl Page {
     }
 
     /// Lists the newest element, which is a formatting element.
-    pub fn enter(&mut self, node: NodeId) -> Result<(), Refusal> {
+    pub(crate) fn enter(&mut self, node: NodeId) -> Result<(), Refusal> {
         if !is_node(&self.arena, node) || !is_newest(self.newest, node) {
             return Err(Refusal::Condition);
         }
@@ -134,18 +134,18 @@ impl Page {
     }
 
     /// Adds a marker to the list.
-    pub fn marker(&mut self) -> Result<(), Refusal> {
+    pub(crate) fn marker(&mut self) -> Result<(), Refusal> {
         self.list.marker(&mut self.arena)?;
         Ok(())
     }
 
     /// Closes the current node.
-    pub fn pop(&mut self) -> Option<NodeId> {
+    pub(crate) fn pop(&mut self) -> Option<NodeId> {
         self.stack.pop(&mut self.arena)
     }
 
     /// Closes an element, wherever it stands.
-    pub fn remove(&mut self, node: NodeId) -> Result<(), Refusal> {
+    pub(crate) fn remove(&mut self, node: NodeId) -> Result<(), Refusal> {
         if !is_node(&self.arena, node) {
             return Err(Refusal::Condition);
         }
@@ -154,12 +154,12 @@ impl Page {
     }
 
     /// The current node.
-    pub fn current(&mut self) -> Option<NodeId> {
+    pub(crate) fn current(&mut self) -> Option<NodeId> {
         self.stack.current(&mut self.arena)
     }
 
     /// The open element at an index.
-    pub fn at(&mut self, index: usize) -> Result<NodeId, Refusal> {
+    pub(crate) fn at(&mut self, index: usize) -> Result<NodeId, Refusal> {
         if index >= self.stack.len() {
             return Err(Refusal::Condition);
         }
@@ -167,12 +167,12 @@ impl Page {
     }
 
     /// The index of an open element.
-    pub fn index_of(&mut self, node: NodeId) -> Option<usize> {
+    pub(crate) fn index_of(&mut self, node: NodeId) -> Option<usize> {
         self.stack.index_of(&mut self.arena, node)
     }
 
     /// Whether an element is open.
-    pub fn is_open(&mut self, node: NodeId) -> Result<bool, Refusal> {
+    pub(crate) fn is_open(&mut self, node: NodeId) -> Result<bool, Refusal> {
         if !is_node(&self.arena, node) {
             return Err(Refusal::Condition);
         }
@@ -180,27 +180,27 @@ impl Page {
     }
 
     /// Whether an element of this name is in a scope.
-    pub fn has_in_scope(&mut self, name: Tag, scope: Scope) -> bool {
+    pub(crate) fn has_in_scope(&mut self, name: Tag, scope: Scope) -> bool {
         self.stack.has_in_scope(&mut self.arena, name, scope)
     }
 
     /// Closes the elements whose end tags are implied, but for one name.
-    pub fn implied(&mut self, except: Option<Tag>) {
+    pub(crate) fn implied(&mut self, except: Option<Tag>) {
         self.stack.implied(&mut self.arena, except);
     }
 
     /// Takes entries off the list up to the last marker.
-    pub fn clear_to_marker(&mut self) {
+    pub(crate) fn clear_to_marker(&mut self) {
         self.list.clear_to_marker(&mut self.arena);
     }
 
     /// The last listed element of this name after the last marker.
-    pub fn last_named(&mut self, name: Tag) -> Option<NodeId> {
+    pub(crate) fn last_named(&mut self, name: Tag) -> Option<NodeId> {
         self.list.last_named(&mut self.arena, name)
     }
 
     /// Takes an element out of the list.
-    pub fn forget(&mut self, node: NodeId) -> Result<(), Refusal> {
+    pub(crate) fn forget(&mut self, node: NodeId) -> Result<(), Refusal> {
         if !is_node(&self.arena, node) {
             return Err(Refusal::Condition);
         }
@@ -209,7 +209,7 @@ impl Page {
     }
 
     /// Whether an element is in the list.
-    pub fn is_listed(&mut self, node: NodeId) -> Result<bool, Refusal> {
+    pub(crate) fn is_listed(&mut self, node: NodeId) -> Result<bool, Refusal> {
         if !is_node(&self.arena, node) {
             return Err(Refusal::Condition);
         }
@@ -217,7 +217,7 @@ impl Page {
     }
 
     /// The place for a node. One step more than its own, for a look at the first element.
-    pub fn place(&mut self, target: Option<NodeId>, foster: bool) -> Result<Place, Refusal> {
+    pub(crate) fn place(&mut self, target: Option<NodeId>, foster: bool) -> Result<Place, Refusal> {
         if let Some(target) = target {
             if !is_node(&self.arena, target) {
                 return Err(Refusal::Condition);
@@ -231,7 +231,7 @@ impl Page {
 
     /// Opens anew the listed elements that are not open. One step more than its own, for a look at the first element. After a
     /// refusal there is no page.
-    pub fn reopen(mut self, foster: bool) -> Result<Page, Refusal> {
+    pub(crate) fn reopen(mut self, foster: bool) -> Result<Page, Refusal> {
         if !can_place(&self.stack, &mut self.arena) {
             return Err(Refusal::Condition);
         }

@@ -6,7 +6,7 @@ use thiserror::Error;
 
 /// Why a call was not made.
 #[derive(Clone, Copy, Debug, PartialEq, Eq, Error)]
-pub enum Refusal {
+pub(crate) enum Refusal {
     #[error("{0}")]
     Arena(ArenaError),
     #[error("{0}")]

@@ -1,5 +1,6 @@
 // Calls on a page by the numbers of nodes, and what they answer and cost, as text.
-use crate::{Page, Refusal};
+use crate::page::Page;
+use crate::refusal::Refusal;
 use html_arena::NodeId;
 use html_charref::Str;
 use html_names::Tag;
@@ -9,7 +10,7 @@ use std::alloc::{AllocError, Global};
 
 /// A call on nodes by their numbers.
 #[derive(Clone, Copy)]
-pub enum Call {
+pub(crate) enum Call {
     Make(&'static str),
     /// An element with the attribute `id="a"`.
     Named(&'static str),
@@ -81,7 +82,7 @@ fn push_place(text: &mut String, alloc: Global, place: Place) -> Result<(), Refu
 }
 
 /// Calls that change the page.
-pub fn edit(page: &mut Page, alloc: Global, call: Call) -> Result<(), Refusal> {
+pub(crate) fn edit(page: &mut Page, alloc: Global, call: Call) -> Result<(), Refusal> {
     match call {
         Call::Make(name) => make(page, alloc, name, false),
         Call::Named(name) => make(page, alloc, name, true),
@@ -144,7 +145,7 @@ fn find_place(
 }
 
 /// Makes a call.
-pub fn apply(
+pub(crate) fn apply(
     mut page: Page,
     alloc: Global,
     call: Call,
@@ -165,7 +166,7 @@ pub fn apply(
 }
 
 /// Makes calls, one after another.
-pub fn build(mut page: Page, alloc: Global, calls: &[Call]) -> Result<Page, Refusal> {
+pub(crate) fn build(mut page: Page, alloc: Global, calls: &[Call]) -> Result<Page, Refusal> {
     let mut text = String::new(alloc);
     for call in calls {
         page = apply(page, alloc, *call, &mut text)?;
@@ -174,7 +175,11 @@ pub fn build(mut page: Page, alloc: Global, calls: &[Call]) -> Result<Page, Refu
 }
 
 /// Makes calls, and says of each what it answers, a slash, and its steps.
-pub fn run(mut page: Page, alloc: Global, calls: &[Call]) -> Result<(Page, String), Refusal> {
+pub(crate) fn run(
+    mut page: Page,
+    alloc: Global,
+    calls: &[Call],
+) -> Result<(Page, String), Refusal> {
     let mut text = String::new(alloc);
     for call in calls {
         let start = page.arena().meter().steps;
@@ -187,7 +192,7 @@ pub fn run(mut page: Page, alloc: Global, calls: &[Call]) -> Result<(Page, Strin
 }
 
 /// The numbers of the open elements, each after its parent's.
-pub fn stack(mut page: Page, alloc: Global) -> Result<String, Refusal> {
+pub(crate) fn stack(mut page: Page, alloc: Global) -> Result<String, Refusal> {
     let mut text = String::new(alloc);
     for index in 0..page.depth() {
         let node = page.at(index)?;

@@ -1,6 +1,7 @@
 // The calls on the stack and the list with ample memory, on small pages whose answers and steps are known; and with memory refused.
+use crate::page::Page;
+use crate::refusal::Refusal;
 use crate::script::{Call, build, edit, run, stack};
-use crate::{Page, Refusal};
 use html_arena::{ArenaError, Limits, NodeId};
 use html_names::Tag;
 use html_open::{OpenError, Scope};

@@ -1,9 +1,8 @@
-use Rattle.std.proofs.Common.{sym, ap, subst, ◌∙◌}
+use Rattle.std.proofs.Common.{subst}
 use Rattle.html_arena.specs.Tree.{Tree}
 use Rattle.html_open.specs.declared.places.Place.{Place}
-use Rattle.html_open.specs.Placing.{place_of, place_steps}
+use Rattle.html_open.specs.Placing.{place_steps}
 use Rattle.html_open.specs.Reopenings.{IsInserted}
-use Rattle.html_open.specs.Marking.{charged}
 use Rattle.std.proofs.Common.{None}
 use Rattle.html_open.proofs.Inserted.{grown-inserted, inserted-charged}
 use Rattle.html_open.proofs.reopening.insert_clone.Goals as goal

@@ -1,7 +1,6 @@
-use Rattle.std.proofs.Common.{◌<◌, ◌≡◌, false, length, refl, sym, ap, subst, ◌∙◌}
-use Rattle.html_arena.specs.Tree.{Tree, named}
-use Rattle.html_names.specs.declared.tag.Tag.TheVariants as tag
-use Rattle.open_rows.proofs.UnderWay.{first-can, first-in}
+use Rattle.std.proofs.Common.{◌<◌, length, refl, sym, subst}
+use Rattle.html_arena.specs.Tree.{Tree}
+use Rattle.open_rows.proofs.UnderWay.{first-in}
 use Rattle.open_rows.proofs.page.can_place.Goals as goal
 
 pub is_named-requires : goal.is_named-requires

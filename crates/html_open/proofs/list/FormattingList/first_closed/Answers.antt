@@ -1,7 +1,4 @@
-use Rattle.std.proofs.Common.{◌≡◌, ℕ, ◌+◌, ◌-◌, ◌*◌, length, List, Option, Some, None, refl, sym, ap, ◌∙◌, arith}
-use Rattle.html_open.specs.declared.entry.Entry.{Entry}
-use Rattle.html_open.specs.declared.entry.Entry.TheVariants.{Marker}
-use Rattle.html_open.specs.Lists.{above, after_index, last_index}
+use Rattle.std.proofs.Common.{◌+◌, ◌-◌, ◌*◌, length, ap, ◌∙◌}
 use Rattle.html_open.specs.Marking.{charged}
 use Rattle.html_open.specs.Reopening.{search_steps}
 use Rattle.html_open.specs.Reopenings.{end_steps_at}

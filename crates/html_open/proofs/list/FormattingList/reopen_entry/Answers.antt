@@ -1,14 +1,11 @@
-use Rattle.std.proofs.Common.{◌≡◌, ◌<◌, ◌++◌, ◌∷◌, [], List, length, take, drop, suc, true, false, None, Some, get_or, set, refl, sym, ap, subst, ◌∙◌, arith}
-use Rattle.html_arena.specs.Siblings.{has}
+use Rattle.std.proofs.Common.{◌≡◌, ◌++◌, ◌∷◌, [], List, length, take, drop, suc, true, false, None, set, sym, ap, subst, ◌∙◌, arith}
 use Rattle.html_arena.specs.declared.marks.Mark.TheVariants.{OnStack, InList}
-use Rattle.html_arena.specs.Tree.{Tree, children_of, parent_of, with_marked}
+use Rattle.html_arena.specs.Tree.{Tree, children_of, with_marked}
 use Rattle.html_open.specs.declared.entry.Entry.{Entry}
 use Rattle.html_open.specs.declared.entry.Entry.TheVariants.{Marker, Node}
-use Rattle.html_open.specs.Entries.{nodes_of}
 use Rattle.html_open.specs.Marking.{charged}
 use Rattle.html_open.specs.Opened.{IsOpen, open_at}
 use Rattle.html_open.specs.Placing.{CanPlace, place_of}
-use Rattle.html_open.specs.Reopenings.{IsInserted}
 use Rattle.html_open.proofs.Anew.{can-place, can-same, reopened-keeps, set-at, split-at}
 use Rattle.html_open.proofs.Inserted.{longer}
 use Rattle.html_open.proofs.Lists.{node-at}

@@ -1,5 +1,4 @@
-use Rattle.std.proofs.Common.{rules, ◌∷◌, [], ◌++◌, false, refl, sym, ap, subst, ◌∙◌, eqb, cond, true}
-use Rattle.html_arena.specs.Siblings.{has}
+use Rattle.std.proofs.Common.{rules, ◌∷◌, [], ◌++◌, refl, sym}
 use Rattle.html_arena.specs.Tree.{ancestors, children_of}
 use Rattle.open_rows.proofs.UnderWay.{apart-from, none-below, page-linked}
 use Rattle.open_rows.proofs.page.Page.link.Goals as goal

@@ -1,4 +1,4 @@
-use Rattle.std.proofs.Common.{◌≡◌, ◌+◌, Some, refl, sym, ap, subst, ◌∙◌}
+use Rattle.std.proofs.Common.{◌+◌, Some, refl, sym, subst}
 use Rattle.html_arena.specs.declared.data.NewNode.TheVariants.{Element}
 use Rattle.html_arena.specs.declared.data.Origin.TheVariants.{Token}
 use Rattle.html_arena.specs.Make.{nodes_made}

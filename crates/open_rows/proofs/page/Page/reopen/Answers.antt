@@ -1,5 +1,4 @@
 use Rattle.open_rows.proofs.UnderWay.{page-reopened, page-steps}
-use Rattle.html_arena.specs.Tree.{Tree}
 use Rattle.open_rows.proofs.page.Page.reopen.Goals as goal
 
 pub reopen-requires-clause-is_open : goal.reopen-requires-clause-is_open

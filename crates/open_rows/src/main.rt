@@ -1,8 +1,15 @@
-//! Opens many elements, looks through them, and opens listed elements anew many times over. Given how many are opened, it says too what
-//! that took.
+//! A page under way, as a builder keeps it: elements are made, linked, opened and listed, so that the calls of html_open
+//! can be seen at work. Its tests are rows of calls with their answers. The program opens many elements, looks through
+//! them, and opens listed elements anew many times over; given how many are opened, it says too what that took.
 #![tactic(auto)]
 
 mod measures;
+mod page;
+mod refusal;
+#[cfg(test)]
+mod script;
+#[cfg(test)]
+mod tests;
 mod work;
 
 use measures::{measure_open, measure_reopened};

@@ -1,6 +1,6 @@
 // What is done, and what it took.
+use crate::page::Page;
 use crate::work::{list_many, look, make_many, open_many, reopen_many};
-use open_rows::Page;
 use std::time::Instant;
 
 /// How often a scope is looked through.

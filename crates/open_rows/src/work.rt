@@ -1,9 +1,10 @@
 // What is measured.
+use crate::page::Page;
+use crate::refusal::Refusal;
 use html_charref::Str;
 use html_names::Tag;
 use html_open::Scope;
 use html_tokens::{Attr, Attrs};
-use open_rows::{Page, Refusal};
 use std::alloc::Global;
 
 /// Makes so many elements.
