@@ -1,6 +1,7 @@
 //! The open elements of a page: the stack, the list of active formatting elements, and the place for a new node.
 #![tactic(auto)]
 
+mod adoption;
 mod attributes;
 mod entry;
 mod error;
@@ -11,6 +12,7 @@ mod pushing;
 mod search;
 mod stack;
 
+pub use adoption::{AdoptEnd, adopt};
 pub use error::OpenError;
 pub use html_names::Scope;
 pub use list::FormattingList;

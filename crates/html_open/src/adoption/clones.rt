@@ -1,0 +1,44 @@
+// The clones of a round: of which elements they are made, and how.
+use crate::error::OpenError;
+use html_arena::{Arena, ArenaError, Mark, NewNode, NodeId};
+use std::alloc::{AllocError, Global};
+
+/// How many of the elements between the formatting element and the special one may be cloned.
+const MOST_CLONED: usize = 3;
+
+/// Of the last three of the elements between the formatting element and the special one those in the list, the last first.
+pub(crate) fn elements_to_clone(
+    alloc: Global,
+    inner: &[NodeId],
+    arena: &Arena,
+) -> Result<Vec<NodeId>, AllocError> {
+    let from = inner.len().saturating_sub(MOST_CLONED);
+    let mut chosen = Vec::new(alloc);
+    let mut at = inner.len();
+    while at > from {
+        at -= 1;
+        let node = inner[at];
+        if arena.marked(node, Mark::InList) {
+            chosen.push(node)?;
+        }
+    }
+    Ok(chosen)
+}
+
+/// Makes a clone of each element, in order.
+pub(crate) fn make_clones(arena: &mut Arena, originals: &[NodeId]) -> Result<(), OpenError> {
+    for node in originals {
+        make_clone(arena, *node)?;
+    }
+    Ok(())
+}
+
+/// Makes a clone of an element.
+pub(crate) fn make_clone(arena: &mut Arena, node: NodeId) -> Result<NodeId, OpenError> {
+    match arena.make(NewNode::CloneOf(node)) {
+        Ok(clone) => Ok(clone),
+        Err(ArenaError::OutOfMemory) => Err(OpenError::OutOfMemory),
+        Err(ArenaError::NodeBudget) => Err(OpenError::NodeBudget),
+        Err(ArenaError::HeldBudget) => Err(OpenError::HeldBudget),
+    }
+}
