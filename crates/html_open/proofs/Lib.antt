@@ -6,3 +6,7 @@ mod Clearing
 mod Fostering
 mod Pushes
 mod PushKeeps
+mod Finding
+mod Marked
+mod Upwards
+mod Hangs

@@ -1,10 +1,20 @@
 // The adoption agency: what an end tag of a formatting name does to the open elements (13.2.6.4.7).
+ghost use Rattle.std.specs.Prelude.{◌≡◌, ℕ, ◌+◌, ◌<◌, ◌≤◌, IfOk, OnOk, Some, eqb, false, length, true};
+ghost use Rattle.html_names.specs.declared.tag.Tag.{Tag};
+ghost use Rattle.html_arena.specs.Siblings.{first_of, last_of};
+ghost use Rattle.html_arena.specs.Tree.{WellFormed};
+ghost use Rattle.html_open.specs.AdoptFinding.{IsPlain};
+ghost use Rattle.html_open.specs.Adopting.{Adopted, Closed, IsUnchanged, Popped, pops_at_once};
+ghost use Rattle.html_open.specs.Entries.{has_node};
+ghost use Rattle.html_open.specs.Opened.{IsOpen, open_at};
+ghost use Rattle.html_open.specs.Placing.{CanPlace};
+
 use crate::adoption::find::{Found, find};
 use crate::adoption::round::round;
 use crate::error::OpenError;
 use crate::list::FormattingList;
 use crate::stack::OpenStack;
-use html_arena::{Arena, Mark, NodeId};
+use html_arena::{Arena, NodeId};
 use html_names::Tag;
 
 /// How many rounds there are at most.
@@ -27,8 +37,16 @@ pub fn adopt(
     arena: &mut Arena,
     name: Tag,
     foster: bool,
-) -> Result<AdoptEnd, OpenError> {
-    if pop_unlisted(stack, arena, name) {
+) -> Result<AdoptEnd, OpenError>
+    requires open { IsOpen (open_at stack.old list.old arena.old) }
+    requires can_place { CanPlace arena.old stack.old }
+    requires first_not_listed { (x : ℕ) → first_of stack.old ≡ Some x → has_node x list.old ≡ false }
+    ensures adopted { IfOk result (λ end. Adopted name foster end (open_at stack.old list.old arena.old) (open_at stack.new list.new arena.new)) }
+    ensures kept { OnOk result (IsOpen (open_at stack.new list.new arena.new)) }
+    ensures clones { length arena.new.labels ≤ length arena.old.labels + 32 }
+    ensures well_formed { WellFormed arena.new }
+{
+    if pop_unlisted(stack, list, arena, name) {
         return Ok(AdoptEnd::Done);
     }
     for _ in 0..ROUNDS {
@@ -50,11 +68,23 @@ pub fn adopt(
 }
 
 /// Pops the current node where it has the name and is not in the list.
-fn pop_unlisted(stack: &mut OpenStack, arena: &mut Arena, name: Tag) -> bool {
+fn pop_unlisted(
+    stack: &mut OpenStack,
+    list: &FormattingList,
+    arena: &mut Arena,
+    name: Tag,
+) -> bool
+    requires open { IsOpen (open_at stack.old list.now arena.old) }
+    ensures yes { result ≡ true → Popped name (open_at stack.old list.now arena.old) (open_at stack.new list.now arena.new) }
+    ensures no { result ≡ false → pops_at_once name (open_at stack.old list.now arena.old) (last_of stack.old) ≡ false }
+    ensures same_stack { result ≡ false → stack.new ≡ stack.old }
+    ensures same_tree { result ≡ false → arena.new ≡ record arena.old { steps = arena.new.steps } }
+    ensures kept { IsOpen (open_at stack.new list.now arena.new) }
+{
     let Some(current) = stack.current(arena) else {
         return false;
     };
-    if !arena.is_named(current, name) || arena.marked(current, Mark::InList) {
+    if !arena.is_named(current, name) || list.contains(arena, current) {
         return false;
     }
     let _ = stack.pop(arena);
@@ -68,7 +98,12 @@ fn close(
     arena: &mut Arena,
     node: NodeId,
     at: usize,
-) {
+)
+    requires open { IsOpen (open_at stack.old list.old arena.old) }
+    requires plain { (s : Tag) × IsPlain s (open_at stack.old list.old arena.old) node at }
+    ensures closed { (s : Tag) → IsPlain s (open_at stack.old list.old arena.old) node at → Closed s (open_at stack.old list.old arena.old) (open_at stack.new list.new arena.new) }
+    ensures kept { IsOpen (open_at stack.new list.new arena.new) }
+{
     arena.charge((stack.len() - at) as u128);
     stack.pop_to(arena, at);
     list.remove(arena, node);

@@ -1,4 +1,12 @@
 // The clones of a round: of which elements they are made, and how.
+ghost use Rattle.std.specs.Prelude.{◌≡◌, ◌<◌, [], ◌∷◌, IfOk, OnOk, length, true};
+ghost use Rattle.html_names.specs.Sets.{is_formatting};
+ghost use Rattle.html_arena.specs.declared.marks.Mark.TheVariants.{InList};
+ghost use Rattle.html_arena.specs.Tree.{marked, tag_at};
+ghost use Rattle.html_open.specs.Adopting.{originals};
+ghost use Rattle.html_open.specs.Cloning.{AreCloned, AreFormatting};
+ghost use Rattle.html_open.specs.Opened.{AreNodes};
+
 use crate::error::OpenError;
 use html_arena::{Arena, ArenaError, Mark, NewNode, NodeId};
 use std::alloc::{AllocError, Global};
@@ -11,7 +19,10 @@ pub(crate) fn elements_to_clone(
     alloc: Global,
     inner: &[NodeId],
     arena: &Arena,
-) -> Result<Vec<NodeId>, AllocError> {
+) -> Result<Vec<NodeId>, AllocError>
+    requires { AreNodes arena.now inner.now }
+    ensures { IfOk result (λ v. v.items ≡ originals (marked arena.now InList) inner.now) }
+{
     let from = inner.len().saturating_sub(MOST_CLONED);
     let mut chosen = Vec::new(alloc);
     let mut at = inner.len();
@@ -26,7 +37,10 @@ pub(crate) fn elements_to_clone(
 }
 
 /// Makes a clone of each element, in order.
-pub(crate) fn make_clones(arena: &mut Arena, originals: &[NodeId]) -> Result<(), OpenError> {
+pub(crate) fn make_clones(arena: &mut Arena, originals: &[NodeId]) -> Result<(), OpenError>
+    requires { AreFormatting arena.old originals.now }
+    ensures { OnOk result (AreCloned arena.old arena.new originals.now) }
+{
     for node in originals {
         make_clone(arena, *node)?;
     }
@@ -34,7 +48,12 @@ pub(crate) fn make_clones(arena: &mut Arena, originals: &[NodeId]) -> Result<(),
 }
 
 /// Makes a clone of an element.
-pub(crate) fn make_clone(arena: &mut Arena, node: NodeId) -> Result<NodeId, OpenError> {
+pub(crate) fn make_clone(arena: &mut Arena, node: NodeId) -> Result<NodeId, OpenError>
+    requires node_in { node < length arena.old.labels }
+    requires formatting { is_formatting (tag_at arena.old node) ≡ true }
+    ensures number { IfOk result (λ id. id ≡ length arena.old.labels) }
+    ensures cloned { OnOk result (AreCloned arena.old arena.new (node ∷ [])) }
+{
     match arena.make(NewNode::CloneOf(node)) {
         Ok(clone) => Ok(clone),
         Err(ArenaError::OutOfMemory) => Err(OpenError::OutOfMemory),

@@ -1,4 +1,11 @@
 // What a round of the adoption agency finds: the formatting element, and the special element after it.
+ghost use Rattle.std.specs.Prelude.{◌≡◌, ℕ, ◌+◌, ◌<◌, ◌≤◌, drop, eqb, length};
+ghost use Rattle.std.specs.List.{list_any};
+ghost use Rattle.html_names.specs.declared.sets.Scope.TheVariants.{Default};
+ghost use Rattle.html_open.specs.AdoptFinding.{IsFirstIndex, IsFound, special};
+ghost use Rattle.html_open.specs.Opened.{AreNodes, IsOpen, open_at};
+ghost use Rattle.html_open.specs.Scopes.{ends};
+
 use crate::list::FormattingList;
 use crate::search::PRESENCE;
 use crate::stack::OpenStack;
@@ -27,7 +34,11 @@ pub(crate) fn find(
     list: &FormattingList,
     arena: &mut Arena,
     name: Tag,
-) -> Found {
+) -> Found
+    requires open { IsOpen (open_at stack.now list.now arena.old) }
+    ensures found { IsFound name (open_at stack.now list.now arena.old) result }
+    ensures tree { arena.new ≡ record arena.old { steps = arena.new.steps } }
+{
     let Some(node) = list.last_named(arena, name) else {
         return Found::NoEntry;
     };
@@ -50,7 +61,11 @@ pub(crate) fn find(
 }
 
 /// Whether an element after the one at an index ends the scope.
-fn ends_after(nodes: &[NodeId], arena: &Arena, at: usize) -> bool {
+fn ends_after(nodes: &[NodeId], arena: &Arena, at: usize) -> bool
+    requires nodes_in { AreNodes arena.now nodes.now }
+    requires at_in { at < length nodes.now }
+    ensures { result ≡ list_any (ends arena.now Default) (drop (at + 1) nodes.now) }
+{
     for node in &nodes[at + 1..] {
         if arena.tag(*node).ends_scope(Scope::Default) {
             return true;
@@ -60,7 +75,11 @@ fn ends_after(nodes: &[NodeId], arena: &Arena, at: usize) -> bool {
 }
 
 /// The index of the first special element from an index on.
-fn first_special(nodes: &[NodeId], arena: &Arena, from: usize) -> Option<usize> {
+fn first_special(nodes: &[NodeId], arena: &Arena, from: usize) -> Option<usize>
+    requires nodes_in { AreNodes arena.now nodes.now }
+    requires from_in { from ≤ length nodes.now }
+    ensures { IsFirstIndex (special arena.now) nodes.now from result }
+{
     for index in from..nodes.len() {
         if arena.tag(nodes[index]).is_special() {
             return Some(index);

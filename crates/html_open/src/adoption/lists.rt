@@ -1,4 +1,15 @@
 // What stands on the stack and in the list after a round.
+ghost use Rattle.std.specs.Prelude.{◌≡◌, ◌+◌, ◌-◌, ◌<◌, ◌≤◌, ◌^◌, ◌∷◌, ◌++◌, IfOk, OnOk, drop, false, length, map, slice_index, take};
+ghost use Rattle.std.specs.List.{flat_map};
+ghost use Rattle.html_arena.specs.declared.marks.Mark.TheVariants.{InList};
+ghost use Rattle.html_arena.specs.Siblings.{first_of, has, is_in};
+ghost use Rattle.html_arena.specs.Tree.{marked};
+ghost use Rattle.html_open.specs.declared.entry.Entry.TheVariants.{Node};
+ghost use Rattle.html_open.specs.Adopting.{clone_number, clones_down, heirs, relisted};
+ghost use Rattle.html_open.specs.Cloning.{HaveEntered, HaveLeft};
+ghost use Rattle.html_open.specs.Entries.{nodes_of};
+ghost use Rattle.html_open.specs.Opened.{AreNodes};
+
 use crate::entry::Entry;
 use html_arena::{Arena, Mark, NodeId};
 use std::alloc::{AllocError, Global};
@@ -25,7 +36,12 @@ pub(crate) fn restacked(
     block_at: usize,
     first: usize,
     clone: NodeId,
-) -> Result<Vec<NodeId>, AllocError> {
+) -> Result<Vec<NodeId>, AllocError>
+    requires ordered { at ≤ block_at }
+    requires block_in { block_at < length nodes.now }
+    requires clones { first ≤ clone }
+    ensures { IfOk result (λ v. v.items ≡ take at nodes.now ++ clones_down first (clone - first) ++ slice_index nodes.now block_at ∷ clone ∷ drop (block_at + 1) nodes.now) }
+{
     let mut stack = Vec::new(alloc);
     stack.extend_from_slice(&nodes[..at])?;
     let mut number = clone.index();
@@ -40,16 +56,26 @@ pub(crate) fn restacked(
 }
 
 /// Clears both marks of each element.
-pub(crate) fn leave(arena: &mut Arena, nodes: &[NodeId]) {
+pub(crate) fn leave(arena: &mut Arena, nodes: &[NodeId])
+    requires { AreNodes arena.old nodes.now }
+    ensures same { arena.new ≡ record arena.old { marks = arena.new.marks } }
+    ensures marks { HaveLeft arena.old arena.new nodes.now }
+{
     for node in nodes {
+        arena.forest();
         arena.set_mark(*node, Mark::OnStack, false);
         arena.set_mark(*node, Mark::InList, false);
     }
 }
 
 /// Sets both marks of the nodes from one number to before another.
-pub(crate) fn enter(arena: &mut Arena, first: usize, end: usize) {
+pub(crate) fn enter(arena: &mut Arena, first: usize, end: usize)
+    requires { end ≤ length arena.old.labels }
+    ensures same { arena.new ≡ record arena.old { marks = arena.new.marks } }
+    ensures marks { HaveEntered arena.old arena.new first end }
+{
     for number in first..end {
+        arena.forest();
         let node = NodeId::at(number);
         arena.set_mark(node, Mark::OnStack, true);
         arena.set_mark(node, Mark::InList, true);
@@ -62,7 +88,11 @@ pub(crate) fn relisted(
     entries: &[Entry],
     arena: &Arena,
     plan: &Plan<'_>,
-) -> Result<Vec<Entry>, AllocError> {
+) -> Result<Vec<Entry>, AllocError>
+    requires nodes_in { AreNodes arena.now (nodes_of entries.now) }
+    requires clones { plan.now.first + length plan.now.originals.now < 2 ^ 64 }
+    ensures { IfOk result (λ v. v.items ≡ flat_map (relisted plan.now.formatting (marked arena.now InList) plan.now.originals.now plan.now.first plan.now.clone) entries.now) }
+{
     let mut list = Vec::new(alloc);
     for entry in entries {
         match *entry {
@@ -79,16 +109,21 @@ fn push_relisted(
     node: NodeId,
     arena: &Arena,
     plan: &Plan<'_>,
-) -> Result<(), AllocError> {
+) -> Result<(), AllocError>
+    requires node_in { node < length arena.now.labels }
+    requires clones { plan.now.first + length plan.now.originals.now < 2 ^ 64 }
+    ensures { OnOk result (list.new.items ≡ list.old.items ++ map Node (heirs plan.now.formatting (marked arena.now InList) plan.now.originals.now plan.now.first plan.now.clone node)) }
+{
     if node == plan.formatting {
         if plan.originals.is_empty() {
             list.push(Entry::Node(plan.clone))?;
         }
         return Ok(());
     }
-    if let Some(index) = index_in(plan.originals, node) {
-        list.push(Entry::Node(NodeId::at(plan.first + index)))?;
-        if index == 0 {
+    if contains(plan.originals, node) {
+        let number = number_of_clone(plan.first, plan.originals, node);
+        list.push(Entry::Node(NodeId::at(number)))?;
+        if is_first(plan.originals, node) {
             list.push(Entry::Node(plan.clone))?;
         }
         return Ok(());
@@ -99,12 +134,39 @@ fn push_relisted(
     Ok(())
 }
 
-/// The index of an element.
-fn index_in(nodes: &[NodeId], node: NodeId) -> Option<usize> {
-    for index in 0..nodes.len() {
-        if nodes[index] == node {
-            return Some(index);
+/// Whether an element is one of these.
+fn contains(nodes: &[NodeId], node: NodeId) -> bool
+    ensures { result ≡ has node nodes.now }
+{
+    for other in nodes {
+        if node == *other {
+            return true;
         }
     }
-    None
+    false
+}
+
+/// Whether an element is the first of these.
+fn is_first(nodes: &[NodeId], node: NodeId) -> bool
+    ensures { result ≡ is_in node (first_of nodes.now) }
+{
+    if nodes.is_empty() {
+        return false;
+    }
+    node == nodes[0]
+}
+
+/// The number of the clone of an element, where those of the originals follow one another.
+fn number_of_clone(first: usize, originals: &[NodeId], node: NodeId) -> usize
+    requires { first + length originals.now < 2 ^ 64 }
+    ensures { result ≡ clone_number first originals.now node }
+{
+    let mut number = first;
+    for other in originals {
+        if node == *other {
+            return number;
+        }
+        number += 1;
+    }
+    number
 }

@@ -1,4 +1,11 @@
 // A round of the adoption agency.
+ghost use Rattle.std.specs.Prelude.{◌≡◌, ℕ, ◌<◌, OnOk};
+ghost use Rattle.html_names.specs.declared.tag.Tag.{Tag};
+ghost use Rattle.html_open.specs.AdoptFinding.{IsBlock};
+ghost use Rattle.html_open.specs.Adopting.{Round};
+ghost use Rattle.html_open.specs.Opened.{IsOpen, open_at};
+ghost use Rattle.html_open.specs.Placing.{CanPlace};
+
 use crate::adoption::chain::hang;
 use crate::adoption::clones::{elements_to_clone, make_clone, make_clones};
 use crate::adoption::lists::{Plan, enter, leave, relisted, restacked};
@@ -16,7 +23,15 @@ pub(crate) fn round(
     at: usize,
     block_at: usize,
     foster: bool,
-) -> Result<(), OpenError> {
+) -> Result<(), OpenError>
+    requires open { IsOpen (open_at stack.old list.old arena.old) }
+    requires can_place { CanPlace arena.old stack.old }
+    requires inside { 0 < at }
+    requires block { (s : Tag) × IsBlock s (open_at stack.old list.old arena.old) at block_at }
+    ensures round { OnOk result ((s : Tag) → IsBlock s (open_at stack.old list.old arena.old) at block_at → Round s foster (open_at stack.old list.old arena.old) (open_at stack.new list.new arena.new)) }
+    ensures kept { OnOk result (IsOpen (open_at stack.new list.new arena.new)) }
+    ensures can_place { OnOk result (CanPlace arena.new stack.new) }
+{
     let alloc = stack.allocator();
     let nodes = stack.as_slice();
     let entries = list.entries.as_slice();
