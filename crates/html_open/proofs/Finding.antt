@@ -1,5 +1,5 @@
 -- What the adoption agency looks for, by indices of the stack.
-use Rattle.std.proofs.Common.{◌≡◌, ℕ, ◌+◌, ◌<◌, ◌≤◌, Bool, true, false, cond, eqb, ◌&&◌, not, List, [], ◌∷◌, ◌++◌, length, drop, get_or, Option, Some, None, inl, inr, refl, sym, ◌∙◌, ap, subst, arith}
+use Rattle.std.proofs.Common.{◌≡◌, ℕ, zero, suc, ◌+◌, ◌<◌, ◌≤◌, Bool, true, false, cond, eqb, ◌&&◌, not, take, List, [], ◌∷◌, ◌++◌, length, drop, get_or, Option, Some, None, inl, inr, refl, sym, ◌∙◌, ap, subst, arith}
 use Rattle.std.specs.List.{list_any}
 use Rattle.html_names.specs.declared.tag.Tag.{Tag}
 use Rattle.html_names.specs.declared.sets.Scope.TheVariants as scope
@@ -13,9 +13,8 @@ use Rattle.html_open.specs.declared.entry.Entry.TheVariants.{Marker, Node}
 use Rattle.html_open.specs.AdoptFinding.{IsBlock, IsFirstFrom, IsFirstIndex, IsFormatting, IsOffStack, IsOutOfScope, IsPlain, element_in_scope, special}
 use Rattle.html_open.specs.Entries.{entry_named, is_marker, last_named, node_in, nodes_of}
 use Rattle.html_open.specs.Lists.{above, last_index, last_where}
-use Rattle.html_open.specs.Opened.{Open, IsOpen}
+use Rattle.html_open.specs.Opened.{AreNodes, Open, IsOpen}
 use Rattle.html_open.specs.Scopes.{ends}
-use Rattle.html_open.proofs.Fostering.{last_where-passes}
 use Rattle.html_open.proofs.Keeps.{cases_bool, cases_eqb, eqb-true}
 use Rattle.html_open.proofs.Lists.{after-above, any-has, last_index-any, last_where-at, looked-some, not_any}
 
@@ -54,6 +53,16 @@ last-node p (e ∷ es) x h = elim (cases_bool (list_any p es)) [
 
 pub last_named-in : (t : Tree) (s : Tag) (es : List Entry) (x : ℕ) → last_named t s es ≡ Some x → has x (nodes_of es) ≡ true
 last_named-in t s es x h = above-node is_marker es x (last-node (entry_named t s) (above is_marker es) x h)
+
+last_where-passes : {X : Type 0} (p : X → Bool) (xs : List X) (y : X) → last_where p xs ≡ Some y → p y ≡ true
+last_where-passes p [] y h = absurd (let k = h in cc)
+last_where-passes p (x ∷ xs) y h = elim (cases_bool (list_any p xs)) [
+  | inl e ↦ last_where-passes p xs y (rw e at h)
+  | inr e ↦ elim (cases_bool (p x)) [
+    | inl f ↦ (let q : x ≡ y = (let k = rw (e, f) at h in cc) in subst (λ v. p v ≡ true) q f)
+    | inr f ↦ absurd (let k = rw (e, f) at h in cc)
+  ]
+]
 
 pub same-ends : (t u : Tree) (xs : List ℕ) → u.labels ≡ t.labels → list_any (ends u scope.Default) xs ≡ list_any (ends t scope.Default) xs
 same-ends t u xs e = ap (λ (ls : List NodeData). list_any (λ x. ends_scope scope.Default (tag_in (label_in ls x))) xs) e
@@ -99,3 +108,18 @@ module _ (s : Tag) (o : Open) (f : ℕ) (entry : last_named o.tree s o.list ≡ 
 
     pub block : list_any (ends o.tree scope.Default) (drop (at + 1) o.stack) ≡ false → (b : ℕ) → IsFirstFrom (special o.tree) o.stack (at + 1) b → IsBlock s o at b
     block e b n = (let k = formatting e in record { formatting = subst (λ (v : ℕ). IsFormatting s o v at) (sym k.element_is) k; block = n })
+
+-- what is taken from a list was in it
+pub has-take : (x n : ℕ) (xs : List ℕ) → has x (take n xs) ≡ true → has x xs ≡ true
+has-take x zero [] h = h
+has-take x (suc n) [] h = h
+has-take x zero (y ∷ ys) h = absurd (let k = h in cc)
+has-take x (suc n) (y ∷ ys) h = elim (cases_eqb x y) [ inl q ↦ rw q.0 refl | inr q ↦ rw q.0 (has-take x n ys (rw q.0 at h)) ]
+
+pub has-drop : (x n : ℕ) (xs : List ℕ) → has x (drop n xs) ≡ true → has x xs ≡ true
+has-drop x zero xs h = h
+has-drop x (suc n) [] h = h
+has-drop x (suc n) (y ∷ ys) h = (let k = has-drop x n ys h in elim (cases_eqb x y) [ inl q ↦ rw q.0 refl | inr q ↦ rw q.0 k ])
+
+pub nodes-drop : (t : Tree) (xs : List ℕ) (n m : ℕ) → AreNodes t xs → AreNodes t (take m (drop n xs))
+nodes-drop t xs n m h x e = h x (has-drop x n xs (has-take x m (drop n xs) e))

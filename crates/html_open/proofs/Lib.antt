@@ -10,3 +10,5 @@ mod Finding
 mod Marked
 mod Upwards
 mod Hangs
+mod Clones
+mod Closing

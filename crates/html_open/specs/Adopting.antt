@@ -83,7 +83,7 @@ pub record Round (s : Tag) (foster : Bool) (old new : Open) : Type 0 where
   pub inner : List ℕ
   pub g : ℕ
   pub upper : List ℕ
-  pub stack_was : old.stack ≡ lower ++ a ∷ f ∷ inner ++ g ∷ upper
+  pub stack_was : old.stack ≡ lower ++ (a ∷ f ∷ (inner ++ (g ∷ upper)))
   pub formatting : last_named old.tree s old.list ≡ Some f
   pub in_scope : element_in_scope old.tree f old.stack ≡ true
   pub none_between : list_any (special old.tree) inner ≡ false
@@ -93,7 +93,7 @@ pub record Round (s : Tag) (foster : Bool) (old new : Open) : Type 0 where
   pub cs_are : cs ≡ originals (λ x. has_node x old.list) inner
   pub k : ℕ
   pub k_is : k ≡ length old.tree.labels + length cs
-  pub stack_is : new.stack ≡ lower ++ a ∷ clones_down (length old.tree.labels) (length cs) ++ g ∷ k ∷ upper
+  pub stack_is : new.stack ≡ lower ++ (a ∷ (clones_down (length old.tree.labels) (length cs) ++ (g ∷ k ∷ upper)))
   pub list_is : new.list ≡ flat_map (relisted f (λ x. not (has x inner)) cs (length old.tree.labels) k) old.list
   pub labels_are : new.tree.labels ≡ old.tree.labels ++ map (λ x. cloned (label_of old.tree x)) (cs ++ f ∷ [])
   pub children_are : (x : ℕ) → children_of new.tree x

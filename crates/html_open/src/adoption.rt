@@ -84,7 +84,10 @@ fn pop_unlisted(
     let Some(current) = stack.current(arena) else {
         return false;
     };
-    if !arena.is_named(current, name) || list.contains(arena, current) {
+    if !arena.is_named(current, name) {
+        return false;
+    }
+    if list.contains(arena, current) {
         return false;
     }
     let _ = stack.pop(arena);

@@ -40,7 +40,7 @@ pub(crate) fn restacked(
     requires ordered { at ≤ block_at }
     requires block_in { block_at < length nodes.now }
     requires clones { first ≤ clone }
-    ensures { IfOk result (λ v. v.items ≡ take at nodes.now ++ clones_down first (clone - first) ++ slice_index nodes.now block_at ∷ clone ∷ drop (block_at + 1) nodes.now) }
+    ensures { IfOk result (λ v. v.items ≡ take at nodes.now ++ (clones_down first (clone - first) ++ (slice_index nodes.now block_at ∷ clone ∷ drop (block_at + 1) nodes.now))) }
 {
     let mut stack = Vec::new(alloc);
     stack.extend_from_slice(&nodes[..at])?;
@@ -70,7 +70,8 @@ pub(crate) fn leave(arena: &mut Arena, nodes: &[NodeId])
 
 /// Sets both marks of the nodes from one number to before another.
 pub(crate) fn enter(arena: &mut Arena, first: usize, end: usize)
-    requires { end ≤ length arena.old.labels }
+    requires ordered { first ≤ end }
+    requires end_in { end ≤ length arena.old.labels }
     ensures same { arena.new ≡ record arena.old { marks = arena.new.marks } }
     ensures marks { HaveEntered arena.old arena.new first end }
 {
