@@ -12,3 +12,5 @@ mod Upwards
 mod Hangs
 mod Clones
 mod Closing
+mod Numbering
+mod Ordering

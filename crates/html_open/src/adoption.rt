@@ -116,4 +116,5 @@ mod chain;
 mod clones;
 mod find;
 mod lists;
+mod probe;
 mod round;
