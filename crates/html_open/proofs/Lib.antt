@@ -14,3 +14,4 @@ mod Clones
 mod Closing
 mod Numbering
 mod Ordering
+mod SafePlaces

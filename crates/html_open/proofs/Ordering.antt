@@ -47,7 +47,7 @@ distinct-left (x ∷ xs) ys d = (elim (cases_bool (has x xs)) [
   | inr e ↦ e
 ], distinct-left xs ys d.1)
 
-ordered-cross : (t : Tree) (xs ys : List ℕ) → IsOrdered t (xs ++ ys) → (x y : ℕ) → has x xs ≡ true → has y ys ≡ true → has y (ancestors t x) ≡ false
+pub ordered-cross : (t : Tree) (xs ys : List ℕ) → IsOrdered t (xs ++ ys) → (x y : ℕ) → has x xs ≡ true → has y ys ≡ true → has y (ancestors t x) ≡ false
 ordered-cross t [] ys o x y a b = absurd (let k = a in cc)
 ordered-cross t (z ∷ zs) ys o x y a b = elim (has-head x z zs a) [
   | inl q ↦ subst (λ (v : ℕ). has y (ancestors t v) ≡ false) (sym q) (o.0 y (has-right y zs ys b))
