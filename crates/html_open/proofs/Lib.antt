@@ -15,3 +15,4 @@ mod Closing
 mod Numbering
 mod Ordering
 mod SafePlaces
+mod Rounding

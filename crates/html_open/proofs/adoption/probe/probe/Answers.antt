@@ -2,6 +2,7 @@ use Rattle.std.proofs.Common.{◌≡◌, refl}
 use Rattle.html_open.proofs.Numbering
 use Rattle.html_open.proofs.Ordering
 use Rattle.html_open.proofs.SafePlaces
+use Rattle.html_open.proofs.Rounding
 use Rattle.html_open.proofs.adoption.probe.probe.Goals as goal
 
 pub returns : goal.returns
