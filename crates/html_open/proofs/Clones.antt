@@ -1,6 +1,6 @@
 -- What is made for a round.
 use Rattle.std.proofs.Common.{◌≡◌, ℕ, ◌+◌, ◌-◌, ◌<◌, ◌≤◌, Bool, true, false, cond, List, [], ◌∷◌, ◌++◌, length, get_or, map, take, refl, sym, ◌∙◌, ap, subst, append_assoc, length-append, arith, Option, Some, None, zero, suc}
-use Rattle.std.proofs.lemmas.List.{get_or_append_left, take_more, append-nil}
+use Rattle.std.proofs.lemmas.List.{get_or_append_left, length-map, take_more, append-nil}
 use Rattle.html_names.specs.Sets.{is_formatting}
 use Rattle.html_arena.specs.declared.data.NodeData.{NodeData}
 use Rattle.html_arena.specs.declared.data.NodeData.TheVariants.{Document}
@@ -18,6 +18,10 @@ map-append f (x ∷ xs) ys = ap (λ zs. f x ∷ zs) (map-append f xs ys)
 -- the labels of the other nodes stay
 pub cloned-label : (t u : Tree) (xs : List ℕ) → AreCloned t u xs → (x : ℕ) → x < length t.labels → label_of u x ≡ label_of t x
 cloned-label t u xs h x b = ap (λ (ls : List NodeData). label_in ls x) h.labels_are ∙ get_or_append_left t.labels (map (λ y. cloned (label_of t y)) xs) Document x b
+
+pub cloned-length : (t u : Tree) (xs : List ℕ) → AreCloned t u xs → length u.labels ≡ length t.labels + length xs
+cloned-length t u xs h =
+    (let a = ap length h.labels_are in let b = length-append t.labels (map (λ x. cloned (label_of t x)) xs) in let c = length-map xs (λ x. cloned (label_of t x)) in omega (arith, a, b, c))
 
 pub cloned-formatting : (t u : Tree) (xs ys : List ℕ) → AreCloned t u xs → AreFormatting t ys → AreFormatting u ys
 cloned-formatting t u xs ys h f = λ x e. (

@@ -16,3 +16,5 @@ mod Numbering
 mod Ordering
 mod SafePlaces
 mod Rounding
+mod Splitting
+mod Readied

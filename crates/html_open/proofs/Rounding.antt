@@ -110,12 +110,12 @@ cloned-origin (Text c) = refl
 cloned-origin (Comment c j) = refl
 cloned-origin (Doctype b p s j) = refl
 
-get-right : {A : Type 0} (xs ys : List A) (x : ℕ) (d : A) → length xs ≤ x → get_or (xs ++ ys) x d ≡ get_or ys (x - length xs) d
+pub get-right : {A : Type 0} (xs ys : List A) (x : ℕ) (d : A) → length xs ≤ x → get_or (xs ++ ys) x d ≡ get_or ys (x - length xs) d
 get-right [] ys x d h = ap (λ (i : ℕ). get_or ys i d) (let e : x ≡ x - 0 = omega arith in e)
 get-right (z ∷ zs) ys zero d h = absurd (omega arith)
 get-right (z ∷ zs) ys (suc x) d h = get-right zs ys x d (omega arith) ∙ ap (λ (i : ℕ). get_or ys i d) (let e : x - length zs ≡ suc x - suc (length zs) = omega arith in e)
 
-get-map : {A B : Type 0} (f : A → B) (xs : List A) (i : ℕ) (d : A) (e : B) → i < length xs → get_or (map f xs) i e ≡ f (get_or xs i d)
+pub get-map : {A B : Type 0} (f : A → B) (xs : List A) (i : ℕ) (d : A) (e : B) → i < length xs → get_or (map f xs) i e ≡ f (get_or xs i d)
 get-map f [] i d e h = absurd (omega arith)
 get-map f (x ∷ xs) zero d e h = refl
 get-map f (x ∷ xs) (suc i) d e h = get-map f xs i d e (omega arith)

@@ -1,5 +1,5 @@
 // The clones of a round: of which elements they are made, and how.
-ghost use Rattle.std.specs.Prelude.{◌≡◌, ◌<◌, [], ◌∷◌, IfOk, OnOk, length, true};
+ghost use Rattle.std.specs.Prelude.{◌≡◌, ◌+◌, ◌<◌, [], ◌∷◌, ◌++◌, IfOk, OnOk, length, true};
 ghost use Rattle.html_names.specs.Sets.{is_formatting};
 ghost use Rattle.html_arena.specs.declared.marks.Mark.TheVariants.{InList};
 ghost use Rattle.html_arena.specs.Tree.{marked, tag_at};
@@ -36,8 +36,24 @@ pub(crate) fn elements_to_clone(
     Ok(chosen)
 }
 
+/// Makes a clone of each element, in order, and one of the formatting element after them.
+pub(crate) fn clone_all(
+    arena: &mut Arena,
+    originals: &[NodeId],
+    formatting: NodeId,
+) -> Result<NodeId, OpenError>
+    requires originals { AreFormatting arena.old originals.now }
+    requires formatting { AreFormatting arena.old (formatting ∷ []) }
+    ensures number { IfOk result (λ id. id ≡ length arena.old.labels + length originals.now) }
+    ensures cloned { OnOk result (AreCloned arena.old arena.new (originals.now ++ formatting ∷ [])) }
+{
+    make_clones(arena, originals)?;
+    let clone = make_clone(arena, formatting)?;
+    Ok(clone)
+}
+
 /// Makes a clone of each element, in order.
-pub(crate) fn make_clones(arena: &mut Arena, originals: &[NodeId]) -> Result<(), OpenError>
+fn make_clones(arena: &mut Arena, originals: &[NodeId]) -> Result<(), OpenError>
     requires { AreFormatting arena.old originals.now }
     ensures { OnOk result (AreCloned arena.old arena.new originals.now) }
 {
@@ -48,7 +64,7 @@ pub(crate) fn make_clones(arena: &mut Arena, originals: &[NodeId]) -> Result<(),
 }
 
 /// Makes a clone of an element.
-pub(crate) fn make_clone(arena: &mut Arena, node: NodeId) -> Result<NodeId, OpenError>
+fn make_clone(arena: &mut Arena, node: NodeId) -> Result<NodeId, OpenError>
     requires node_in { node < length arena.old.labels }
     requires formatting { is_formatting (tag_at arena.old node) ≡ true }
     ensures number { IfOk result (λ id. id ≡ length arena.old.labels) }

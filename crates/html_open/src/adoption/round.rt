@@ -7,7 +7,7 @@ ghost use Rattle.html_open.specs.Opened.{IsOpen, open_at};
 ghost use Rattle.html_open.specs.Placing.{CanPlace};
 
 use crate::adoption::chain::hang;
-use crate::adoption::clones::{elements_to_clone, make_clone, make_clones};
+use crate::adoption::clones::{clone_all, elements_to_clone};
 use crate::adoption::lists::{Plan, enter, leave, relisted, restacked};
 use crate::error::OpenError;
 use crate::list::FormattingList;
@@ -39,8 +39,7 @@ pub(crate) fn round(
     let target = place(stack, arena, Some(nodes[at - 1]), foster);
     let originals = elements_to_clone(alloc, &nodes[at + 1..block_at], arena)?;
     let first = arena.len() as usize;
-    make_clones(arena, originals.as_slice())?;
-    let clone = make_clone(arena, nodes[at])?;
+    let clone = clone_all(arena, originals.as_slice(), nodes[at])?;
     let new_nodes = restacked(alloc, nodes, at, block_at, first, clone)?;
     leave(arena, &nodes[at..block_at]);
     let plan = Plan {
