@@ -18,3 +18,4 @@ mod SafePlaces
 mod Rounding
 mod Splitting
 mod Readied
+mod Regrouping

@@ -28,6 +28,9 @@ module _ (s : List ℕ) (at b : ℕ) (lt : at < b) (within : b < length s) where
   pub split : s ≡ take at s ++ (get_or s at 0 ∷ (take (b - (at + 1)) (drop (at + 1) s) ++ (get_or s b 0 ∷ drop (b + 1) s)))
   split = sym (take-append-drop at s) ∙ ap (λ ys. take at s ++ ys) (next at (omega arith) ∙ ap (λ ys. get_or s at 0 ∷ ys) middle)
 
+  pub rest-of : drop at s ≡ get_or s at 0 ∷ (take (b - (at + 1)) (drop (at + 1) s) ++ (get_or s b 0 ∷ drop (b + 1) s))
+  rest-of = next at (omega arith) ∙ ap (λ ys. get_or s at 0 ∷ ys) middle
+
   pub left-is : take (b - at) (drop at s) ≡ get_or s at 0 ∷ take (b - (at + 1)) (drop (at + 1) s)
   left-is =
       ap (take (b - at)) (next at (omega arith)) ∙ ap (λ (i : ℕ). take i (get_or s at 0 ∷ drop (at + 1) s)) (let e : b - at ≡ suc (b - (at + 1)) = omega arith in e)

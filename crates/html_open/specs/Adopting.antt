@@ -1,17 +1,18 @@
 -- The adoption agency (13.2.6.4.7): what an end tag of a formatting name leaves of the stack, the list and the tree.
-use Rattle.std.specs.Prelude.{◌≡◌, ℕ, zero, suc, ◌+◌, ◌-◌, ◌<◌, Bool, true, false, cond, eqb, ◌&&◌, not, List, [], ◌∷◌, ◌++◌, length, map, filter, reverse, drop, Option, Some, None}
+use Rattle.std.specs.Prelude.{◌≡◌, ℕ, zero, suc, ◌+◌, ◌-◌, ◌<◌, Bool, true, false, cond, eqb, ◌&&◌, not, List, [], ◌∷◌, ◌++◌, length, map, filter, reverse, drop, take, slice_index, Option, Some, None}
 use Rattle.std.specs.List.{flat_map, list_any}
 use Rattle.html_names.specs.declared.tag.Tag.{Tag}
 use Rattle.html_arena.specs.Data.{cloned}
 use Rattle.html_arena.specs.Siblings.{has, is_in, first_of, last_of}
-use Rattle.html_arena.specs.Tree.{Tree, label_of, named, children_of}
+use Rattle.html_arena.specs.Tree.{Tree, label_of, named, children_of, parent_of}
 use Rattle.html_open.specs.declared.adoption.AdoptEnd.{AdoptEnd}
 use Rattle.html_open.specs.declared.adoption.AdoptEnd.TheVariants.{Done, OtherEndTag}
 use Rattle.html_open.specs.declared.entry.Entry.{Entry}
 use Rattle.html_open.specs.declared.entry.Entry.TheVariants.{Marker, Node}
+use Rattle.html_open.specs.declared.places.Place.{Place}
 use Rattle.html_open.specs.AdoptFinding.{element_in_scope, special}
 use Rattle.html_open.specs.Entries.{has_node, last_named, without_node}
-use Rattle.html_open.specs.Hanging.{chain_top, chained, with_put}
+use Rattle.html_open.specs.Hanging.{chain_top, chained, hung_parent, with_put}
 use Rattle.html_open.specs.Lists.{above, below}
 use Rattle.html_open.specs.Opened.{Open}
 use Rattle.html_open.specs.Placing.{place_at}
@@ -98,6 +99,19 @@ pub record Round (s : Tag) (foster : Bool) (old new : Open) : Type 0 where
   pub labels_are : new.tree.labels ≡ old.tree.labels ++ map (λ x. cloned (label_of old.tree x)) (cs ++ f ∷ [])
   pub children_are : (x : ℕ) → children_of new.tree x
       ≡ with_put old.tree (place_at old.tree old.stack a foster) (chain_top g (length old.tree.labels) k) x (chained old.tree g (length old.tree.labels) k x)
+  pub limits_are : new.tree.limits ≡ old.tree.limits
+
+-- the same for the elements at two indices of the stack, and what is put at a place
+pub record IsRegrouped (at b : ℕ) (target : Place) (old new : Open) : Type 0 where
+  pub cs : List ℕ
+  pub cs_are : cs ≡ originals (λ x. has_node x old.list) (take (b - (at + 1)) (drop (at + 1) old.stack))
+  pub stack_is : new.stack ≡ take at old.stack ++ (clones_down (length old.tree.labels) (length cs) ++ (slice_index old.stack b ∷ (length old.tree.labels + length cs) ∷ drop (b + 1) old.stack))
+  pub list_is : new.list ≡ flat_map (relisted (slice_index old.stack at) (λ x. not (has x (take (b - (at + 1)) (drop (at + 1) old.stack)))) cs (length old.tree.labels) (length old.tree.labels + length cs)) old.list
+  pub labels_are : new.tree.labels ≡ old.tree.labels ++ map (λ x. cloned (label_of old.tree x)) (cs ++ slice_index old.stack at ∷ [])
+  pub parents_are : (x : ℕ) → parent_of new.tree x
+      ≡ hung_parent old.tree (slice_index old.stack b) (length old.tree.labels) (length old.tree.labels + length cs) target x
+  pub children_are : (x : ℕ) → children_of new.tree x
+      ≡ with_put old.tree target (chain_top (slice_index old.stack b) (length old.tree.labels) (length old.tree.labels + length cs)) x (chained old.tree (slice_index old.stack b) (length old.tree.labels) (length old.tree.labels + length cs) x)
   pub limits_are : new.tree.limits ≡ old.tree.limits
 
 -- nothing changes
