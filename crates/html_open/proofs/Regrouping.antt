@@ -37,6 +37,21 @@ index-is s i x h e = e ∙ same s i h
     same (y ∷ ys) zero h = refl
     same (y ∷ ys) (suc i) h = same ys i (omega arith)
 
+pub new-stack : (nodes new : List ℕ) (at b first clone n c : ℕ) → first ≡ n → clone ≡ n + c
+    → new ≡ take at nodes ++ (clones_down first (clone - first) ++ (get_or nodes b 0 ∷ clone ∷ drop (b + 1) nodes))
+    → new ≡ take at nodes ++ (clones_down n c ++ (get_or nodes b 0 ∷ ((n + c) ∷ drop (b + 1) nodes)))
+new-stack nodes new at b first clone n c e f h =
+    let g : clone - first ≡ c = omega arith in
+    h ∙ ap (λ (i : ℕ). take at nodes ++ (clones_down first i ++ (get_or nodes b 0 ∷ clone ∷ drop (b + 1) nodes))) g
+    ∙ ap (λ (i : ℕ). take at nodes ++ (clones_down i c ++ (get_or nodes b 0 ∷ clone ∷ drop (b + 1) nodes))) e
+    ∙ ap (λ (i : ℕ). take at nodes ++ (clones_down n c ++ (get_or nodes b 0 ∷ i ∷ drop (b + 1) nodes))) f
+
+pub new-list : (f' : ℕ) (p : ℕ → Bool) (cs' cs : List ℕ) (first clone n k f : ℕ) (es : List Entry) → f' ≡ f → cs' ≡ cs → first ≡ n → clone ≡ k
+    → flat_map (relisted f' p cs' first clone) es ≡ flat_map (relisted f p cs n k) es
+new-list f' p cs' cs first clone n k f es a b c d =
+    ap (λ (i : ℕ). flat_map (relisted i p cs' first clone) es) a ∙ ap (λ (v : List ℕ). flat_map (relisted f p v first clone) es) b
+    ∙ ap (λ (i : ℕ). flat_map (relisted f p cs i clone) es) c ∙ ap (λ (i : ℕ). flat_map (relisted f p cs n i) es) d
+
 module _ (nodes : List ℕ) (entries : List Entry) (t : Tree) (at b : ℕ) (w : WellFormed t) (opened : IsOpen (open_at nodes entries t)) (s : Tag) (blk : IsBlock s (open_at nodes entries t) at b) where
   abbrev f : ℕ
   f = get_or nodes at 0

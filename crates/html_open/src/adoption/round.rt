@@ -77,6 +77,7 @@ fn regroup(
     let originals = elements_to_clone(alloc, &nodes[at + 1..block_at], arena)?;
     let first = arena.len() as usize;
     let clone = clone_all(arena, originals.as_slice(), nodes[at])?;
+    let end = arena.len() as usize;
     let new_nodes = restacked(alloc, nodes, at, block_at, first, clone)?;
     leave(arena, &nodes[at..block_at]);
     let plan = Plan {
@@ -86,7 +87,7 @@ fn regroup(
         clone,
     };
     let new_entries = relisted(alloc, entries, arena, &plan)?;
-    enter(arena, first, clone.index() + 1);
+    enter(arena, first, end);
     hang(arena, nodes[block_at], first, clone, target);
     Ok(Regrouped {
         nodes: new_nodes,
