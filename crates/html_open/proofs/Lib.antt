@@ -19,3 +19,4 @@ mod Rounding
 mod Splitting
 mod Readied
 mod Regrouping
+mod Rounds

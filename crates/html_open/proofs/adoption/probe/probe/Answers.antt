@@ -6,6 +6,7 @@ use Rattle.html_open.proofs.Rounding
 use Rattle.html_open.proofs.Splitting
 use Rattle.html_open.proofs.Readied
 use Rattle.html_open.proofs.Regrouping
+use Rattle.html_open.proofs.Rounds
 use Rattle.html_open.proofs.adoption.probe.probe.Goals as goal
 
 pub returns : goal.returns

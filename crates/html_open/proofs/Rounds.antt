@@ -1,0 +1,128 @@
+-- A round, and the place to which it moves what it clones.
+use Rattle.std.proofs.Common.{◌≡◌, ◌≢◌, ℕ, ◌+◌, ◌-◌, ◌<◌, ◌≤◌, Bool, true, false, List, [], ◌∷◌, ◌++◌, length, take, drop, get_or, Option, Some, None, refl, sym, ◌∙◌, ap, subst, append_assoc, arith}
+use Rattle.std.specs.List.{list_any}
+use Rattle.html_names.specs.declared.tag.Tag.{Tag}
+use Rattle.html_arena.specs.Siblings.{has}
+use Rattle.html_arena.specs.Tree.{Tree, WellFormed, ancestors, children_of, parent_of}
+use Rattle.html_open.specs.declared.entry.Entry.{Entry}
+use Rattle.html_open.specs.declared.places.Place.{Place}
+use Rattle.html_open.specs.declared.places.Place.TheVariants.{Last, Before}
+use Rattle.html_open.specs.AdoptFinding.{element_in_scope, IsBlock, IsFirstFrom, IsFormatting, special}
+use Rattle.html_open.specs.Adopting.{IsRegrouped, Round, clones_down}
+use Rattle.html_open.specs.Hanging.{chain_top, chained, with_put}
+use Rattle.html_open.specs.Marking.{charged}
+use Rattle.html_open.specs.Opened.{IsOpen, Open, open_at}
+use Rattle.html_open.specs.Placing.{IsPlace, place_at, way_up}
+use Rattle.html_open.specs.Entries.{nodes_of}
+use Rattle.html_open.proofs.Finding.{last_named-in}
+use Rattle.html_open.proofs.Keeps.{Core, core}
+use Rattle.html_open.proofs.SafePlaces.{no-table-after, no-template-after, place-safe}
+use Rattle.html_open.proofs.Splitting.{before-in, between, front-is, rest-of, split}
+
+-- counted steps change no place
+pub way-charged : (t : Tree) (a : ℕ) (p : Place) → way_up (charged t a) p ≡ way_up t p
+way-charged t a (Last p) = refl
+way-charged t a (Before p) = refl
+
+pub place-charged : (t : Tree) (a : ℕ) (p : Place) → IsPlace t p → IsPlace (charged t a) p
+place-charged t a (Last p) h = h
+place-charged t a (Before p) h = h
+
+pub put-charged : (t : Tree) (a : ℕ) (p : Place) (c x : ℕ) (ys : List ℕ) → with_put (charged t a) p c x ys ≡ with_put t p c x ys
+put-charged t a (Last p) c x ys = refl
+put-charged t a (Before p) c x ys = refl
+
+pub block-charged : (s : Tag) (stack : List ℕ) (entries : List Entry) (t : Tree) (a at b : ℕ) → IsBlock s (open_at stack entries t) at b → IsBlock s (open_at stack entries (charged t a)) at b
+block-charged s stack entries t a at b k = record {
+  formatting = record {
+    entry = k.formatting.entry;
+    on_stack = k.formatting.on_stack;
+    index_is = k.formatting.index_is;
+    within = k.formatting.within;
+    element_is = k.formatting.element_is;
+    in_scope = k.formatting.in_scope;
+  };
+  block = record { within = k.block.within; after = k.block.after; passes = k.block.passes; none_before = k.block.none_before };
+}
+
+module _ (stack : List ℕ) (entries : List Entry) (t : Tree) (at b : ℕ) (w : WellFormed t) (opened : IsOpen (open_at stack entries t)) (s : Tag) (blk : IsBlock s (open_at stack entries t) at b) (pos : 0 < at) (foster : Bool) where
+  abbrev f : ℕ
+  f = get_or stack at 0
+
+  abbrev inner : List ℕ
+  inner = take (b - (at + 1)) (drop (at + 1) stack)
+
+  abbrev g : ℕ
+  g = get_or stack b 0
+
+  abbrev upper : List ℕ
+  upper = drop (b + 1) stack
+
+  abbrev a : ℕ
+  a = get_or stack (at - 1) 0
+
+  abbrev X : List ℕ
+  X = take at stack
+
+  abbrev Z : List ℕ
+  Z = f ∷ (inner ++ (g ∷ upper))
+
+  lt : at < b
+  lt = (let e = blk.block.after in omega arith)
+
+  within : b < length stack
+  within = blk.block.within
+
+  split-is : stack ≡ X ++ Z
+  split-is = split stack at b lt within
+
+  c : Core (X ++ Z) (nodes_of entries) t
+  c = subst (λ (v : List ℕ). Core v (nodes_of entries) t) split-is (core (open_at stack entries t) opened)
+
+  f-listed : has f (nodes_of entries) ≡ true
+  f-listed = last_named-in t s entries f blk.formatting.entry
+
+  scope-at : element_in_scope t f (X ++ Z) ≡ true
+  scope-at = subst (λ (v : List ℕ). element_in_scope t f v ≡ true) split-is blk.formatting.in_scope
+
+  pub way-in : (y : ℕ) → has y (way_up t (place_at t stack a foster)) ≡ true → y < length t.labels
+  way-in y h =
+      (place-safe t w X Z a foster c.stack_in c.elements c.stack_once c.ordered (before-in stack at b lt within pos)
+      (no-table-after t f X (inner ++ (g ∷ upper)) c.stack_once (c.formatting f f-listed) scope-at) (no-template-after t f X (inner ++ (g ∷ upper)) c.stack_once (c.formatting f f-listed) scope-at)).way_in y
+      (subst (λ (v : List ℕ). has y (way_up t (place_at t v a foster)) ≡ true) split-is h)
+
+  pub apart : (y : ℕ) → has y (drop at stack) ≡ true → has y (way_up t (place_at t stack a foster)) ≡ false
+  apart y h =
+      subst (λ (v : List ℕ). has y (way_up t (place_at t v a foster)) ≡ false) (sym split-is)
+      ((place-safe t w X Z a foster c.stack_in c.elements c.stack_once c.ordered (before-in stack at b lt within pos)
+      (no-table-after t f X (inner ++ (g ∷ upper)) c.stack_once (c.formatting f f-listed) scope-at) (no-template-after t f X (inner ++ (g ∷ upper)) c.stack_once (c.formatting f f-listed) scope-at)).apart y
+      (subst (λ (v : List ℕ). has y v ≡ true) (rest-of stack at b lt within) h))
+
+  pub round-is : (new : Open) (i j : ℕ) (target : Place) → target ≡ place_at t stack a foster → IsRegrouped at b target (open_at stack entries (charged (charged t i) j)) new → Round s foster (open_at stack entries t) new
+  round-is new i j target e r = record {
+    lower = take (at - 1) stack;
+    a = a;
+    f = f;
+    inner = inner;
+    g = g;
+    upper = upper;
+    stack_was = split-is ∙ ap (λ v. v ++ Z) (front-is stack at b lt within pos) ∙ append_assoc (take (at - 1) stack) (a ∷ []) Z;
+    formatting = blk.formatting.entry;
+    in_scope = blk.formatting.in_scope;
+    none_between = sym (ap (list_any (special t)) (between stack at b lt within)) ∙ blk.block.none_before;
+    g_special = blk.block.passes;
+    cs = r.cs;
+    cs_are = r.cs_are;
+    k = length t.labels + length r.cs;
+    k_is = refl;
+    stack_is =
+        r.stack_is ∙ ap (λ v. v ++ (clones_down (length t.labels) (length r.cs) ++ (g ∷ (length t.labels + length r.cs) ∷ upper))) (front-is stack at b lt within pos)
+        ∙ append_assoc (take (at - 1) stack) (a ∷ []) (clones_down (length t.labels) (length r.cs) ++ (g ∷ (length t.labels + length r.cs) ∷ upper));
+    list_is = r.list_is;
+    labels_are = r.labels_are;
+    children_are = λ x.
+        r.children_are x ∙ put-charged (charged t i) j target (chain_top g (length t.labels) (length t.labels + length r.cs)) x (chained t g (length t.labels) (length t.labels + length r.cs) x)
+        ∙ put-charged t i target (chain_top g (length t.labels) (length t.labels + length r.cs)) x (chained t g (length t.labels) (length t.labels + length r.cs) x)
+        ∙ ap (λ (p : Place). with_put t p (chain_top g (length t.labels) (length t.labels + length r.cs)) x (chained t g (length t.labels) (length t.labels + length r.cs) x)) e;
+    limits_are = r.limits_are;
+  }
