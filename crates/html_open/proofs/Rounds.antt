@@ -10,30 +10,64 @@ use Rattle.html_open.specs.declared.places.Place.TheVariants.{Last, Before}
 use Rattle.html_open.specs.AdoptFinding.{element_in_scope, IsBlock, IsFirstFrom, IsFormatting, special}
 use Rattle.html_open.specs.Adopting.{IsRegrouped, Round, clones_down}
 use Rattle.html_open.specs.Hanging.{chain_top, chained, with_put}
-use Rattle.html_open.specs.Marking.{charged}
-use Rattle.html_open.specs.Opened.{IsOpen, Open, open_at}
+use Rattle.html_open.specs.Opened.{IsOpen, IsOrdered, Open, open_at}
 use Rattle.html_open.specs.Placing.{IsPlace, place_at, way_up}
 use Rattle.html_open.specs.Entries.{nodes_of}
 use Rattle.html_open.proofs.Finding.{last_named-in}
 use Rattle.html_open.proofs.Keeps.{Core, core}
+use Rattle.html_open.proofs.Lists.{get_or-default}
+use Rattle.html_open.proofs.Ordering.{has-left}
 use Rattle.html_open.proofs.SafePlaces.{no-table-after, no-template-after, place-safe}
 use Rattle.html_open.proofs.Splitting.{before-in, between, front-is, rest-of, split}
 
+-- other steps are counted
+abbrev pub stepped : Tree → ℕ → Tree
+stepped t a = record t { steps = a }
+
+pub steps-alone : (t u : Tree) (v : ℕ) → u ≡ stepped t v → u ≡ stepped t u.steps
+steps-alone t u v e = e ∙ sym (ap (λ (x : Tree). stepped t x.steps) e)
+
+pub steps-then : (t u v : Tree) → u ≡ stepped t u.steps → v ≡ stepped u v.steps → v ≡ stepped t v.steps
+steps-then t u v e f = f ∙ ap (λ (x : Tree). stepped x v.steps) e
+
+pub open-stepped : (s : List ℕ) (l : List Entry) (t : Tree) (n : ℕ) → IsOpen (open_at s l t) → IsOpen (open_at s l (stepped t n))
+open-stepped s l t n h = record {
+  stack_in = h.stack_in;
+  elements = h.elements;
+  stack_once = h.stack_once;
+  ordered = go s h.ordered;
+  list_in = h.list_in;
+  formatting = h.formatting;
+  list_once = h.list_once;
+  on_stack = h.on_stack;
+  in_list = h.in_list;
+  stack_origins = h.stack_origins;
+  list_origins = h.list_origins;
+  shared_origins = h.shared_origins;
+}
+  where
+    go : (xs : List ℕ) → IsOrdered t xs → IsOrdered (stepped t n) xs
+    go [] h = tt
+    go (x ∷ xs) h = (h.0, go xs h.1)
+
+pub before-is : (nodes s : List ℕ) → nodes ≡ s → (i x : ℕ) → i < length s → get_or nodes i x ≡ get_or s i 0
+before-is nodes s e i x h = ap (λ (v : List ℕ). get_or v i x) e ∙ get_or-default s i x 0 h
+
 -- counted steps change no place
-pub way-charged : (t : Tree) (a : ℕ) (p : Place) → way_up (charged t a) p ≡ way_up t p
-way-charged t a (Last p) = refl
-way-charged t a (Before p) = refl
+pub way-stepped : (t : Tree) (a : ℕ) (p : Place) → way_up (stepped t a) p ≡ way_up t p
+way-stepped t a (Last p) = refl
+way-stepped t a (Before p) = refl
 
-pub place-charged : (t : Tree) (a : ℕ) (p : Place) → IsPlace t p → IsPlace (charged t a) p
-place-charged t a (Last p) h = h
-place-charged t a (Before p) h = h
+pub place-stepped : (t : Tree) (a : ℕ) (p : Place) → IsPlace t p → IsPlace (stepped t a) p
+place-stepped t a (Last p) h = h
+place-stepped t a (Before p) h = h
 
-pub put-charged : (t : Tree) (a : ℕ) (p : Place) (c x : ℕ) (ys : List ℕ) → with_put (charged t a) p c x ys ≡ with_put t p c x ys
-put-charged t a (Last p) c x ys = refl
-put-charged t a (Before p) c x ys = refl
+pub put-stepped : (t : Tree) (a : ℕ) (p : Place) (c x : ℕ) (ys : List ℕ) → with_put (stepped t a) p c x ys ≡ with_put t p c x ys
+put-stepped t a (Last p) c x ys = refl
+put-stepped t a (Before p) c x ys = refl
 
-pub block-charged : (s : Tag) (stack : List ℕ) (entries : List Entry) (t : Tree) (a at b : ℕ) → IsBlock s (open_at stack entries t) at b → IsBlock s (open_at stack entries (charged t a)) at b
-block-charged s stack entries t a at b k = record {
+pub block-stepped : (s : Tag) (stack : List ℕ) (entries : List Entry) (t : Tree) (a at b : ℕ) → IsBlock s (open_at stack entries t) at b → IsBlock s (open_at stack entries (stepped t a)) at b
+block-stepped s stack entries t a at b k = record {
   formatting = record {
     entry = k.formatting.entry;
     on_stack = k.formatting.on_stack;
@@ -82,6 +116,12 @@ module _ (stack : List ℕ) (entries : List Entry) (t : Tree) (at b : ℕ) (w : 
   f-listed : has f (nodes_of entries) ≡ true
   f-listed = last_named-in t s entries f blk.formatting.entry
 
+  pub at-less : at - 1 < length stack
+  at-less = (let p = lt in let q = within in omega arith)
+
+  pub a-within : a < length t.labels
+  a-within = c.stack_in a (has-left a X Z (before-in stack at b lt within pos))
+
   scope-at : element_in_scope t f (X ++ Z) ≡ true
   scope-at = subst (λ (v : List ℕ). element_in_scope t f v ≡ true) split-is blk.formatting.in_scope
 
@@ -98,8 +138,8 @@ module _ (stack : List ℕ) (entries : List Entry) (t : Tree) (at b : ℕ) (w : 
       (no-table-after t f X (inner ++ (g ∷ upper)) c.stack_once (c.formatting f f-listed) scope-at) (no-template-after t f X (inner ++ (g ∷ upper)) c.stack_once (c.formatting f f-listed) scope-at)).apart y
       (subst (λ (v : List ℕ). has y v ≡ true) (rest-of stack at b lt within) h))
 
-  pub round-is : (new : Open) (i j : ℕ) (target : Place) → target ≡ place_at t stack a foster → IsRegrouped at b target (open_at stack entries (charged (charged t i) j)) new → Round s foster (open_at stack entries t) new
-  round-is new i j target e r = record {
+  pub round-is : (new : Open) (i : ℕ) (target : Place) → target ≡ place_at t stack a foster → IsRegrouped at b target (open_at stack entries (stepped t i)) new → Round s foster (open_at stack entries t) new
+  round-is new i target e r = record {
     lower = take (at - 1) stack;
     a = a;
     f = f;
@@ -121,8 +161,7 @@ module _ (stack : List ℕ) (entries : List Entry) (t : Tree) (at b : ℕ) (w : 
     list_is = r.list_is;
     labels_are = r.labels_are;
     children_are = λ x.
-        r.children_are x ∙ put-charged (charged t i) j target (chain_top g (length t.labels) (length t.labels + length r.cs)) x (chained t g (length t.labels) (length t.labels + length r.cs) x)
-        ∙ put-charged t i target (chain_top g (length t.labels) (length t.labels + length r.cs)) x (chained t g (length t.labels) (length t.labels + length r.cs) x)
+        r.children_are x ∙ put-stepped t i target (chain_top g (length t.labels) (length t.labels + length r.cs)) x (chained t g (length t.labels) (length t.labels + length r.cs) x)
         ∙ ap (λ (p : Place). with_put t p (chain_top g (length t.labels) (length t.labels + length r.cs)) x (chained t g (length t.labels) (length t.labels + length r.cs) x)) e;
     limits_are = r.limits_are;
   }

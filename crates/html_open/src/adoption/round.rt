@@ -41,8 +41,8 @@ pub(crate) fn round(
     requires block { (s : Tag) × IsBlock s (open_at stack.old list.old arena.old) at block_at }
     ensures round { OnOk result ((s : Tag) → IsBlock s (open_at stack.old list.old arena.old) at block_at → Round s foster (open_at stack.old list.old arena.old) (open_at stack.new list.new arena.new)) }
     ensures kept { OnOk result (IsOpen (open_at stack.new list.new arena.new)) }
-    ensures can_place { OnOk result (CanPlace arena.new stack.new) }
 {
+    arena.forest();
     let alloc = stack.allocator();
     let nodes = stack.as_slice();
     let entries = list.entries.as_slice();
