@@ -240,6 +240,15 @@ module _ (t v : Tree) (w : WellFormed t) (X inner upper : List ℕ) (f g c : ℕ
       ]) in
       has-more p x (ancestors t x) (above-closed t w x z p b h (sym (v-old z (line-in x b z h) ne nc) ∙ e))
 
+  -- what stands before the formatting element keeps its parent
+  pub front-parent : (x : ℕ) → has x X ≡ true → parent_of v x ≡ parent_of t x
+  front-parent x m =
+      v-old x (nodes x (has-left x X rest m)) (distinct-cross X rest d x g m g-rest)
+      (elim (cases_bool (has x (children_of t g))) [
+        | inl r ↦ absurd (let a = above-closed t w x x g (nodes x (has-left x X rest m)) (has-first x (ancestors t x)) (w.child_has_parent g x r) in let e = ordered-cross t X rest o x g m g-rest in cc)
+        | inr r ↦ r
+      ])
+
   low-x : (x y : ℕ) → has x X ≡ true → (has y (x ∷ ancestors t x) ≡ true → ⊥) → has y (ancestors v x) ≡ false
   low-x x y m out = not-above v (λ (z : ℕ). has z (x ∷ ancestors t x) ≡ true) (A-closed x m) x y (has-first x (ancestors t x)) out
 

@@ -3,17 +3,18 @@ use Rattle.std.proofs.Common.{◌≡◌, ◌≢◌, ℕ, zero, suc, ◌+◌, ◌
 use Rattle.std.specs.List.{flat_map, list_any}
 use Rattle.html_names.specs.declared.tag.Tag.{Tag}
 use Rattle.html_names.specs.Sets.{is_formatting}
+use Rattle.html_arena.specs.declared.data.NodeData.{NodeData}
 use Rattle.html_arena.specs.declared.marks.Mark.{Mark}
 use Rattle.html_arena.specs.declared.marks.Mark.TheVariants.{OnStack, InList}
 use Rattle.html_arena.specs.declared.marks.Marks.{Marks}
 use Rattle.html_arena.specs.Marks.{has_mark, no_marks}
-use Rattle.html_arena.specs.Data.{IsElement, cloned, is_linkable}
+use Rattle.html_arena.specs.Data.{IsElement, cloned, is_linkable, label_in, tag_in}
 use Rattle.html_arena.specs.Siblings.{has, Distinct}
 use Rattle.html_arena.specs.Tree.{Tree, WellFormed, children_of, label_of, marked, parent_of, tag_at}
 use Rattle.html_open.specs.declared.entry.Entry.{Entry}
 use Rattle.html_open.specs.declared.places.Place.{Place}
 use Rattle.html_open.specs.AdoptFinding.{IsBlock, special}
-use Rattle.html_open.specs.Adopting.{IsRegrouped, clones_down, heirs, originals, relisted}
+use Rattle.html_open.specs.Adopting.{IsKept, IsRegrouped, clones_down, heirs, originals, relisted}
 use Rattle.html_open.specs.Cloning.{AreCloned, AreFormatting, HaveEntered, HaveLeft}
 use Rattle.html_open.specs.Entries.{has_node, nodes_of}
 use Rattle.html_open.specs.Hanging.{Hung, StandAlone, hung_parent}
@@ -23,9 +24,9 @@ use Rattle.html_open.proofs.Clones.{cloned-length}
 use Rattle.html_open.proofs.Finding.{has-drop, last_named-in, nodes-drop}
 use Rattle.html_open.proofs.Keeps.{Core, cases_bool, cases_eqb, core, whole_by}
 use Rattle.html_open.proofs.Numbering.{originals-distinct, originals-in, originals-same}
-use Rattle.html_open.proofs.Ordering.{distinct-left, distinct-right, has-either, has-head, has-left, has-right, ordered-after}
-use Rattle.html_open.proofs.Readied.{Readied, children-after, fresh, linkable-old, longer, parents-after, place-same, ready, way-same}
-use Rattle.html_open.proofs.Rounding.{core-after, relisted-nodes, relisted-same}
+use Rattle.html_open.proofs.Ordering.{front-parent, distinct-left, distinct-right, has-either, has-head, has-left, has-right, ordered-after}
+use Rattle.html_open.proofs.Readied.{Readied, label-same, children-after, fresh, linkable-old, longer, parents-after, place-same, ready, way-same}
+use Rattle.html_open.proofs.Rounding.{core-after, still-unlisted, relisted-nodes, relisted-same}
 use Rattle.html_open.proofs.Splitting.{left-is, rest-of, split}
 use Rattle.html_open.proofs.Upwards.{has-first, has-more}
 
@@ -213,6 +214,19 @@ module _ (nodes : List ℕ) (entries : List Entry) (t : Tree) (at b : ℕ) (w : 
                 (subst (λ (z : List ℕ). Core z (flat_map (heirs f (λ x. not (has x inner)) cs n k) (nodes_of entries)) v) (sym e)
                 (core-after t v X inner upper cs (nodes_of entries) f g split-core f-listed cs-in cs-once (h.nodes.labels_are ∙ readied.labels_are)
                 (λ m x. ap (λ (ms : List Marks). has_mark m (get_or ms x no_marks)) h.nodes.marks_are ∙ readied.marks_are m x) ordered))
+
+            -- what stands before the formatting element keeps its parent, its tag and its absence from the list
+            pub front-kept : (list : List Entry) → list ≡ flat_map (relisted f (marked u2 InList) cs n k) entries → (x : ℕ) → has x (take at nodes) ≡ true → IsKept t v entries list x
+            front-kept list q x m =
+                let b = split-core.stack_in x (has-left x X (f ∷ (inner ++ (g ∷ upper))) m) in
+                record {
+                  parent_is = front-parent t v w X inner upper f g (length cs) target split-core.stack_once split-core.ordered split-core.stack_in way-in safe parents x m;
+                  tag_is = ap (λ (ls : List NodeData). tag_in (label_in ls x)) h.nodes.labels_are ∙ ap tag_in (label-same t u3 w (cs ++ f ∷ []) (f ∷ inner) (k + 1) readied xs-elements x b);
+                  unlisted = λ e.
+                      ap (has x) (ap nodes_of (q ∙ list-is) ∙ relisted-nodes f (λ x. not (has x inner)) cs n k entries)
+                      ∙ still-unlisted t v X inner upper cs (nodes_of entries) f g split-core f-listed cs-in cs-once (h.nodes.labels_are ∙ readied.labels_are)
+                      (λ m x. ap (λ (ms : List Marks). has_mark m (get_or ms x no_marks)) h.nodes.marks_are ∙ readied.marks_are m x) ordered x b e;
+                }
 
             pub regrouped : (new : List ℕ) (list : List Entry) → new ≡ X ++ (clones_down n (length cs) ++ (g ∷ (k ∷ upper))) → list ≡ flat_map (relisted f (marked u2 InList) cs n k) entries
                 → IsRegrouped at b target (open_at nodes entries t) (open_at new list v)

@@ -572,6 +572,13 @@ module _ (t v : Tree) (X inner upper cs l : List ℕ) (f g : ℕ) (core : Core (
       let z = b y j in
       src-once x y p.0 z.0 (one i (src x) (src y) p.1 z.1 (sym (origin-new x p.0) ∙ e) (sym (origin-new y z.0) ∙ q))
 
+  -- an element that was not in the list is not in the new one
+  pub still-unlisted : (x : ℕ) → x < length t.labels → has x l ≡ false → has x (flat_map (heirs f (λ y. not (has y inner)) cs (length t.labels) (length t.labels + length cs)) l) ≡ false
+  still-unlisted x b h = elim (cases_bool (has x (flat_map r l))) [
+    | inl e ↦ absurd (let z = subst (λ (y : ℕ). has y l ≡ true) (src-old x b) (list-comes x e).1 in cc)
+    | inr e ↦ e
+  ]
+
   pub core-after : Core after (flat_map r l) v
   core-after = record {
     stack_in = λ x h. in-new x (stack-comes x h).0;

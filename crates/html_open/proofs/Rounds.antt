@@ -1,22 +1,25 @@
 -- A round, and the place to which it moves what it clones.
-use Rattle.std.proofs.Common.{◌≡◌, ◌≢◌, ℕ, ◌+◌, ◌-◌, ◌<◌, ◌≤◌, Bool, true, false, List, [], ◌∷◌, ◌++◌, length, take, drop, get_or, Option, Some, None, refl, sym, ◌∙◌, ap, subst, append_assoc, arith}
+use Rattle.std.proofs.Common.{◌≡◌, ◌≢◌, ℕ, zero, suc, ◌+◌, ◌-◌, ◌<◌, ◌≤◌, Bool, true, false, List, [], ◌∷◌, ◌++◌, length, take, drop, get_or, Option, Some, None, refl, sym, ◌∙◌, ap, subst, append_assoc, arith}
 use Rattle.std.specs.List.{list_any}
 use Rattle.html_names.specs.declared.tag.Tag.{Tag}
-use Rattle.html_arena.specs.Siblings.{has}
+use Rattle.html_names.specs.declared.tag.Tag.TheVariants as tag
+use Rattle.html_names.specs.Tags.{is_same}
+use Rattle.html_arena.specs.Siblings.{first_of, has}
 use Rattle.html_arena.specs.Tree.{Tree, WellFormed, ancestors, children_of, parent_of}
 use Rattle.html_open.specs.declared.entry.Entry.{Entry}
 use Rattle.html_open.specs.declared.places.Place.{Place}
 use Rattle.html_open.specs.declared.places.Place.TheVariants.{Last, Before}
 use Rattle.html_open.specs.AdoptFinding.{element_in_scope, IsBlock, IsFirstFrom, IsFormatting, special}
-use Rattle.html_open.specs.Adopting.{IsRegrouped, Round, clones_down}
+use Rattle.html_open.specs.Adopting.{IsFirstFree, IsKept, IsRegrouped, Round, clones_down}
 use Rattle.html_open.specs.Hanging.{chain_top, chained, with_put}
 use Rattle.html_open.specs.Opened.{IsOpen, IsOrdered, Open, open_at}
-use Rattle.html_open.specs.Placing.{IsPlace, place_at, way_up}
-use Rattle.html_open.specs.Entries.{nodes_of}
+use Rattle.html_open.specs.Placing.{CanPlace, IsPlace, place_at, way_up}
+use Rattle.html_open.specs.Entries.{has_node, nodes_of}
 use Rattle.html_open.proofs.Finding.{last_named-in}
 use Rattle.html_open.proofs.Keeps.{Core, core}
 use Rattle.html_open.proofs.Lists.{get_or-default}
 use Rattle.html_open.proofs.Ordering.{has-left}
+use Rattle.html_open.proofs.Upwards.{has-first}
 use Rattle.html_open.proofs.SafePlaces.{no-table-after, no-template-after, place-safe}
 use Rattle.html_open.proofs.Splitting.{before-in, between, front-is, rest-of, split}
 
@@ -119,6 +122,9 @@ module _ (stack : List ℕ) (entries : List Entry) (t : Tree) (at b : ℕ) (w : 
   pub at-less : at - 1 < length stack
   at-less = (let p = lt in let q = within in omega arith)
 
+  pub at-below : at < length stack
+  at-below = (let p = lt in let q = within in omega arith)
+
   pub a-within : a < length t.labels
   a-within = c.stack_in a (has-left a X Z (before-in stack at b lt within pos))
 
@@ -165,3 +171,25 @@ module _ (stack : List ℕ) (entries : List Entry) (t : Tree) (at b : ℕ) (w : 
         ∙ ap (λ (p : Place). with_put t p (chain_top g (length t.labels) (length t.labels + length r.cs)) x (chained t g (length t.labels) (length t.labels + length r.cs) x)) e;
     limits_are = r.limits_are;
   }
+
+-- the first element stays first
+pub front-first : (stack new rest : List ℕ) (at : ℕ) → 0 < at → at < length stack → new ≡ take at stack ++ rest
+    → (y : ℕ) × (first_of stack ≡ Some y) × (first_of new ≡ Some y) × (has y (take at stack) ≡ true)
+front-first [] new rest at p l e = absurd (omega arith)
+front-first (y ∷ ys) new rest zero p l e = absurd (omega arith)
+front-first (y ∷ ys) new rest (suc i) p l e = (y, refl, ap first_of e, has-first y (take i ys))
+
+pub can-place-kept : (t v : Tree) (n : ℕ) (entries list : List Entry) (stack new rest : List ℕ) (at : ℕ) → 0 < at → at < length stack → new ≡ take at stack ++ rest
+    → ((x : ℕ) → has x (take at stack) ≡ true → IsKept (stepped t n) v entries list x) → CanPlace t stack → CanPlace v new
+can-place-kept t v n entries list [] new rest at p l e k c = absurd (omega arith)
+can-place-kept t v n entries list (y ∷ ys) new rest zero p l e k c = absurd (omega arith)
+can-place-kept t v n entries list (y ∷ ys) new rest (suc i) p l e k c =
+    let r = k y (has-first y (take i ys)) in
+    subst (CanPlace v) (sym e) (λ h q. c (ap (λ g. is_same g tag.Table) (sym r.tag_is) ∙ h) (sym r.parent_is ∙ q))
+
+pub first-free-kept : (t v : Tree) (entries list : List Entry) (stack new rest : List ℕ) (at : ℕ) → 0 < at → at < length stack → new ≡ take at stack ++ rest
+    → ((x : ℕ) → has x (take at stack) ≡ true → IsKept t v entries list x) → IsFirstFree stack entries → IsFirstFree new list
+first-free-kept t v entries list stack new rest at p l e k c = λ x h.
+    let r = front-first stack new rest at p l e in
+    let q : r.0 ≡ x = (let a : Some r.0 ≡ Some x = sym r.2 ∙ h in cc) in
+    subst (λ (z : ℕ). has_node z list ≡ false) q ((k r.0 r.3).unlisted (c r.0 r.1))

@@ -4,7 +4,7 @@ use Rattle.std.specs.List.{flat_map, list_any}
 use Rattle.html_names.specs.declared.tag.Tag.{Tag}
 use Rattle.html_arena.specs.Data.{cloned}
 use Rattle.html_arena.specs.Siblings.{has, is_in, first_of, last_of}
-use Rattle.html_arena.specs.Tree.{Tree, label_of, named, children_of, parent_of}
+use Rattle.html_arena.specs.Tree.{Tree, label_of, named, children_of, parent_of, tag_at}
 use Rattle.html_open.specs.declared.adoption.AdoptEnd.{AdoptEnd}
 use Rattle.html_open.specs.declared.adoption.AdoptEnd.TheVariants.{Done, OtherEndTag}
 use Rattle.html_open.specs.declared.entry.Entry.{Entry}
@@ -113,6 +113,16 @@ pub record IsRegrouped (at b : ℕ) (target : Place) (old new : Open) : Type 0 w
   pub children_are : (x : ℕ) → children_of new.tree x
       ≡ with_put old.tree target (chain_top (slice_index old.stack b) (length old.tree.labels) (length old.tree.labels + length cs)) x (chained old.tree (slice_index old.stack b) (length old.tree.labels) (length old.tree.labels + length cs) x)
   pub limits_are : new.tree.limits ≡ old.tree.limits
+
+-- x has its parent and its tag, and is no more in the list than it was
+pub record IsKept (old new : Tree) (before after : List Entry) (x : ℕ) : Type 0 where
+  pub parent_is : parent_of new x ≡ parent_of old x
+  pub tag_is : tag_at new x ≡ tag_at old x
+  pub unlisted : has_node x before ≡ false → has_node x after ≡ false
+
+-- the first element of a stack is not in the list
+abbrev pub IsFirstFree : List ℕ → List Entry → Type 0
+IsFirstFree stack list = (x : ℕ) → first_of stack ≡ Some x → has_node x list ≡ false
 
 -- nothing changes
 pub record IsUnchanged (old new : Open) : Type 0 where

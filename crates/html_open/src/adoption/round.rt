@@ -1,9 +1,9 @@
 // A round of the adoption agency.
-ghost use Rattle.std.specs.Prelude.{◌≡◌, ℕ, ◌<◌, IfOk, OnOk, drop, false, length, true};
+ghost use Rattle.std.specs.Prelude.{◌≡◌, ℕ, ◌<◌, IfOk, OnOk, drop, take, false, length, true};
 ghost use Rattle.html_names.specs.declared.tag.Tag.{Tag};
 ghost use Rattle.html_arena.specs.Siblings.{has};
 ghost use Rattle.html_open.specs.AdoptFinding.{IsBlock};
-ghost use Rattle.html_open.specs.Adopting.{IsRegrouped, Round};
+ghost use Rattle.html_open.specs.Adopting.{IsFirstFree, IsKept, IsRegrouped, Round};
 ghost use Rattle.html_open.specs.Opened.{IsOpen, open_at};
 ghost use Rattle.html_open.specs.Placing.{CanPlace, IsPlace, way_up};
 
@@ -41,6 +41,8 @@ pub(crate) fn round(
     requires block { (s : Tag) × IsBlock s (open_at stack.old list.old arena.old) at block_at }
     ensures round { OnOk result ((s : Tag) → IsBlock s (open_at stack.old list.old arena.old) at block_at → Round s foster (open_at stack.old list.old arena.old) (open_at stack.new list.new arena.new)) }
     ensures kept { OnOk result (IsOpen (open_at stack.new list.new arena.new)) }
+    ensures can_place { OnOk result (CanPlace arena.new stack.new) }
+    ensures first_free { OnOk result (IsFirstFree stack.old list.old → IsFirstFree stack.new list.new) }
 {
     arena.forest();
     let alloc = stack.allocator();
@@ -71,6 +73,7 @@ fn regroup(
     requires way_in { (y : ℕ) → has y (way_up arena.old target) ≡ true → y < length arena.old.labels }
     requires apart { (y : ℕ) → has y (drop at nodes.now) ≡ true → has y (way_up arena.old target) ≡ false }
     ensures regrouped { IfOk result (λ r. IsRegrouped at block_at target (open_at nodes.now entries.now arena.old) (open_at r.nodes.items r.entries.items arena.new)) }
+    ensures front { IfOk result (λ r. (x : ℕ) → has x (take at nodes.now) ≡ true → IsKept arena.old arena.new entries.now r.entries.items x) }
     ensures kept { IfOk result (λ r. IsOpen (open_at r.nodes.items r.entries.items arena.new)) }
 {
     arena.forest();

@@ -1,14 +1,14 @@
-use Rattle.std.proofs.Common.{◌≡◌, ◌≤◌, ◌<◌, ◌+◌, ◌-◌, List, ℕ, Some, sym, ◌∙◌, ap, subst, length, drop, get_or, arith, true, false}
+use Rattle.std.proofs.Common.{◌≡◌, ◌≤◌, ◌<◌, ◌+◌, ◌-◌, ◌++◌, ◌∷◌, take, List, ℕ, Some, sym, ◌∙◌, ap, subst, length, drop, get_or, arith, true, false}
 use Rattle.html_names.specs.declared.tag.Tag.{Tag}
 use Rattle.html_arena.specs.Siblings.{has}
 use Rattle.html_arena.specs.Tree.{Tree}
 use Rattle.html_open.specs.declared.entry.Entry.{Entry}
 use Rattle.html_open.specs.declared.places.Place.{Place}
 use Rattle.html_open.specs.AdoptFinding.{IsBlock}
-use Rattle.html_open.specs.Adopting.{IsRegrouped, Round}
+use Rattle.html_open.specs.Adopting.{IsKept, IsRegrouped, Round, clones_down}
 use Rattle.html_open.specs.Opened.{IsOpen, open_at}
 use Rattle.html_open.specs.Placing.{IsPlace, place_at, place_of, way_up}
-use Rattle.html_open.proofs.Rounds.{apart, at-less, before-is, block-stepped, open-stepped, place-stepped, round-is, stepped, steps-then, way-in, way-stepped, a-within}
+use Rattle.html_open.proofs.Rounds.{at-below, can-place-kept, first-free-kept, apart, at-less, before-is, block-stepped, open-stepped, place-stepped, round-is, stepped, steps-then, way-in, way-stepped, a-within}
 use Rattle.html_open.proofs.adoption.round.round.Goals as goal
 
 pub place-target-requires-clause-target_in : goal.place-target-requires-clause-target_in
@@ -59,3 +59,13 @@ returns-clause-round c = λ s k.
 
 pub returns-clause-kept : goal.returns-clause-kept
 returns-clause-kept c = subst (λ (v : List ℕ). IsOpen (open_at v c.in_ok-regrouped.regrouped.entries.items c.regroup.new.arena)) (sym c.replace.ensures) c.in_ok-regrouped.ensures.kept
+
+pub returns-clause-can_place : goal.returns-clause-can_place
+returns-clause-can_place c = can-place-kept c.args.arena.now c.regroup.new.arena c.place-target.new.arena.steps c.args.list.now c.in_ok-regrouped.regrouped.entries.items c.args.stack.now c.replace.new.self (clones_down (length c.place-target.new.arena.labels) (length c.in_ok-regrouped.ensures.regrouped.cs) ++ (get_or c.as_slice-nodes.result.now c.args.block_at 0 ∷ (length c.place-target.new.arena.labels + length c.in_ok-regrouped.ensures.regrouped.cs) ∷ drop (c.args.block_at + 1) c.as_slice-nodes.result.now)) c.args.at c.requires.inside (at-below c.args.stack.now c.args.list.now c.args.arena.now c.args.at c.args.block_at c.forest.ensures.well_formed c.requires.«open» c.requires.block.0 c.requires.block.1 c.requires.inside c.args.foster)
+    (c.replace.ensures ∙ c.in_ok-regrouped.ensures.regrouped.stack_is ∙ ap (λ (v : List ℕ). take c.args.at v ++ (clones_down (length c.place-target.new.arena.labels) (length c.in_ok-regrouped.ensures.regrouped.cs) ++ (get_or c.as_slice-nodes.result.now c.args.block_at 0 ∷ (length c.place-target.new.arena.labels + length c.in_ok-regrouped.ensures.regrouped.cs) ∷ drop (c.args.block_at + 1) c.as_slice-nodes.result.now))) c.as_slice-nodes.ensures)
+    (λ x h. subst (λ (t : Tree). IsKept t c.regroup.new.arena c.args.list.now c.in_ok-regrouped.regrouped.entries.items x) (steps-then c.args.arena.now c.charge.new.self c.place-target.new.arena (c.charge.ensures ∙ sym (ap (λ (v : Tree). stepped c.args.arena.now v.steps) c.charge.ensures)) (c.place-target.ensures.steps ∙ sym (ap (λ (v : Tree). stepped c.charge.new.self v.steps) c.place-target.ensures.steps))) (subst (λ (v : List Entry). IsKept c.place-target.new.arena c.regroup.new.arena v c.in_ok-regrouped.regrouped.entries.items x) (c.as_slice-entries.ensures.value ∙ c.list.view_is) (c.in_ok-regrouped.ensures.front x (subst (λ (v : List ℕ). has x (take c.args.at v) ≡ true) (sym c.as_slice-nodes.ensures) h)))) c.requires.can_place
+
+pub returns-clause-first_free : goal.returns-clause-first_free
+returns-clause-first_free c = first-free-kept (stepped c.args.arena.now c.place-target.new.arena.steps) c.regroup.new.arena c.args.list.now c.in_ok-regrouped.regrouped.entries.items c.args.stack.now c.replace.new.self (clones_down (length c.place-target.new.arena.labels) (length c.in_ok-regrouped.ensures.regrouped.cs) ++ (get_or c.as_slice-nodes.result.now c.args.block_at 0 ∷ (length c.place-target.new.arena.labels + length c.in_ok-regrouped.ensures.regrouped.cs) ∷ drop (c.args.block_at + 1) c.as_slice-nodes.result.now)) c.args.at c.requires.inside (at-below c.args.stack.now c.args.list.now c.args.arena.now c.args.at c.args.block_at c.forest.ensures.well_formed c.requires.«open» c.requires.block.0 c.requires.block.1 c.requires.inside c.args.foster)
+    (c.replace.ensures ∙ c.in_ok-regrouped.ensures.regrouped.stack_is ∙ ap (λ (v : List ℕ). take c.args.at v ++ (clones_down (length c.place-target.new.arena.labels) (length c.in_ok-regrouped.ensures.regrouped.cs) ++ (get_or c.as_slice-nodes.result.now c.args.block_at 0 ∷ (length c.place-target.new.arena.labels + length c.in_ok-regrouped.ensures.regrouped.cs) ∷ drop (c.args.block_at + 1) c.as_slice-nodes.result.now))) c.as_slice-nodes.ensures)
+    (λ x h. subst (λ (t : Tree). IsKept t c.regroup.new.arena c.args.list.now c.in_ok-regrouped.regrouped.entries.items x) (steps-then c.args.arena.now c.charge.new.self c.place-target.new.arena (c.charge.ensures ∙ sym (ap (λ (v : Tree). stepped c.args.arena.now v.steps) c.charge.ensures)) (c.place-target.ensures.steps ∙ sym (ap (λ (v : Tree). stepped c.charge.new.self v.steps) c.place-target.ensures.steps))) (subst (λ (v : List Entry). IsKept c.place-target.new.arena c.regroup.new.arena v c.in_ok-regrouped.regrouped.entries.items x) (c.as_slice-entries.ensures.value ∙ c.list.view_is) (c.in_ok-regrouped.ensures.front x (subst (λ (v : List ℕ). has x (take c.args.at v) ≡ true) (sym c.as_slice-nodes.ensures) h))))
