@@ -123,7 +123,6 @@ chain-none t g n = record {
 
 -- one node more is in the chain
 module _ (old t u : Tree) (g n i m : ℕ) (low : g < n) (n_le : n ≤ i) (lt : i < m) (done : Chained old t g n i) (fresh : StandAlone old n m) where
-
   -- the node that joins stands alone
   next-children : children_of t i ≡ []
   next-children = done.children_are i ∙ rw (past n i i i (omega arith)) (fresh.no_children i n_le lt)

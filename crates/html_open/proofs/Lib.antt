@@ -20,3 +20,5 @@ mod Splitting
 mod Readied
 mod Regrouping
 mod Rounds
+
+mod Looping

@@ -42,10 +42,13 @@ distinct-right (x ∷ xs) ys d = distinct-right xs ys d.1
 
 pub distinct-left : (xs ys : List ℕ) → Distinct (xs ++ ys) → Distinct xs
 distinct-left [] ys d = tt
-distinct-left (x ∷ xs) ys d = (elim (cases_bool (has x xs)) [
-  | inl e ↦ absurd (let k = has-left x xs ys e in let m = d.0 in cc)
-  | inr e ↦ e
-], distinct-left xs ys d.1)
+distinct-left (x ∷ xs) ys d = (
+  elim (cases_bool (has x xs)) [
+    | inl e ↦ absurd (let k = has-left x xs ys e in let m = d.0 in cc)
+    | inr e ↦ e
+  ],
+  distinct-left xs ys d.1,
+)
 
 pub ordered-cross : (t : Tree) (xs ys : List ℕ) → IsOrdered t (xs ++ ys) → (x y : ℕ) → has x xs ≡ true → has y ys ≡ true → has y (ancestors t x) ≡ false
 ordered-cross t [] ys o x y a b = absurd (let k = a in cc)
@@ -325,14 +328,14 @@ module _ (t v : Tree) (w : WellFormed t) (X inner upper : List ℕ) (f g c : ℕ
       ordered-make v X (clones_down n c ++ last)
       (ordered-sub t v X (distinct-left X rest d) (λ x y a b ne out. low-x x y a (not-line x y ne out)) (ordered-left t X rest o))
       (ordered-make v (clones_down n c) last (ordered-down c (omega arith)) ordered-last (λ x y a b.
-          let l = in-down c x a in
-          not-above v (C x) (C-closed x l.0) x y (inl (let l1 : x < n + c = l.1 in (omega arith, omega arith))) (λ e. elim (has-head y g (k ∷ upper) b) [
-            | inl q ↦ not-C x g g-rest l.0 (subst (C x) q e)
-            | inr q ↦ elim (has-head y k upper q) [
-              | inl r ↦ not-C-high x k (omega arith) (λ h. (let h1 : k < k = h.1 in omega arith)) (subst (C x) r e)
-              | inr r ↦ not-C x y (upper-rest y r) l.0 e
-            ]
-          ])))
+      let l = in-down c x a in
+      not-above v (C x) (C-closed x l.0) x y (inl (let l1 : x < n + c = l.1 in (omega arith, omega arith))) (λ e. elim (has-head y g (k ∷ upper) b) [
+        | inl q ↦ not-C x g g-rest l.0 (subst (C x) q e)
+        | inr q ↦ elim (has-head y k upper q) [
+          | inl r ↦ not-C-high x k (omega arith) (λ h. (let h1 : k < k = h.1 in omega arith)) (subst (C x) r e)
+          | inr r ↦ not-C x y (upper-rest y r) l.0 e
+        ]
+      ])))
       (λ x y a b. elim (has-either y (clones_down n c) last b) [
         | inl q ↦ low-x x y a (high-line x y a (in-down c y q).0)
         | inr q ↦ elim (has-head y g (k ∷ upper) q) [

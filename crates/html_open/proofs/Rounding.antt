@@ -42,22 +42,25 @@ flat-has r (z ∷ zs) x h = elim (has-either x (r z) (flat_map r zs) h) [
 
 distinct-append : (xs ys : List ℕ) → Distinct xs → Distinct ys → ((x : ℕ) → has x xs ≡ true → has x ys ≡ true → ⊥) → Distinct (xs ++ ys)
 distinct-append [] ys a b h = b
-distinct-append (x ∷ xs) ys a b h = (elim (cases_bool (has x (xs ++ ys))) [
-  | inl e ↦ elim (has-either x xs ys e) [
-    | inl q ↦ absurd (let k = a.0 in cc)
-    | inr q ↦ absurd (h x (has-first x xs) q)
-  ]
-  | inr e ↦ e
-], distinct-append xs ys a.1 b (λ y m. h y (has-more y x xs m)))
+distinct-append (x ∷ xs) ys a b h = (
+  elim (cases_bool (has x (xs ++ ys))) [
+    | inl e ↦ elim (has-either x xs ys e) [
+      | inl q ↦ absurd (let k = a.0 in cc)
+      | inr q ↦ absurd (h x (has-first x xs) q)
+    ]
+    | inr e ↦ e
+  ],
+  distinct-append xs ys a.1 b (λ y m. h y (has-more y x xs m)),
+)
 
 distinct-flat : (r : ℕ → List ℕ) (own : ℕ → ℕ) (xs : List ℕ) → Distinct xs → ((y : ℕ) → has y xs ≡ true → Distinct (r y))
     → ((y x : ℕ) → has y xs ≡ true → has x (r y) ≡ true → own x ≡ y) → Distinct (flat_map r xs)
 distinct-flat r own [] d e o = tt
 distinct-flat r own (y ∷ ys) d e o =
     distinct-append (r y) (flat_map r ys) (e y (has-first y ys)) (distinct-flat r own ys d.1 (λ z m. e z (has-more z y ys m)) (λ z x m. o z x (has-more z y ys m))) (λ x a b.
-        let k = flat-has r ys x b in
-        let q : y ≡ k.0 = sym (o y x (has-first y ys) a) ∙ o k.0 x (has-more k.0 y ys k.1) k.2 in
-        (let m = d.0 in let l : has y ys ≡ true = subst (λ (v : ℕ). has v ys ≡ true) (sym q) k.1 in cc))
+    let k = flat-has r ys x b in
+    let q : y ≡ k.0 = sym (o y x (has-first y ys) a) ∙ o k.0 x (has-more k.0 y ys k.1) k.2 in
+    (let m = d.0 in let l : has y ys ≡ true = subst (λ (v : ℕ). has v ys ≡ true) (sym q) k.1 in cc))
 
 -- the nodes of the new list
 nodes-map : (ys : List ℕ) (es : List Entry) → nodes_of (map Node ys ++ es) ≡ ys ++ nodes_of es
@@ -450,8 +453,7 @@ module _ (t v : Tree) (X inner upper cs l : List ℕ) (f g : ℕ) (core : Core (
       let d = core.stack_once in
       let tail-d = distinct-right inner (g ∷ upper) (distinct-right X rest d).1 in
       distinct-append X (clones_down n (length cs) ++ (g ∷ (k ∷ upper))) (distinct-left X rest d)
-      (distinct-append (clones_down n (length cs)) (g ∷ (k ∷ upper)) (Distinct-down n (length cs))
-      (
+      (distinct-append (clones_down n (length cs)) (g ∷ (k ∷ upper)) (Distinct-down n (length cs)) (
         elim (cases_bool (has g (k ∷ upper))) [
           | inl e ↦ absurd (elim (has-head g k upper e) [
             | inl q ↦ (let b = core.stack_in g (has-right g X rest (has-more g f (inner ++ (g ∷ upper)) (has-right g inner (g ∷ upper) (has-first g upper)))) in let z : g ≡ k = q in omega arith)
@@ -468,28 +470,28 @@ module _ (t v : Tree) (X inner upper cs l : List ℕ) (f g : ℕ) (core : Core (
         ),
       )
       (λ x a b.
-          let i = in-down x a in
-          let i0 : n ≤ x = i.0 in
-          let i1 : x < k = i.1 in
-          elim (has-head x g (k ∷ upper) b) [
-            | inl q ↦ old-high x i0 (subst (λ (y : ℕ). has y (g ∷ upper) ≡ true) (sym q) (has-first g upper))
-            | inr q ↦ elim (has-head x k upper q) [
-              | inl p ↦ (let z : x ≡ k = p in omega arith)
-              | inr p ↦ old-high x i0 (has-more x g upper p)
-            ]
-          ]))
+      let i = in-down x a in
+      let i0 : n ≤ x = i.0 in
+      let i1 : x < k = i.1 in
+      elim (has-head x g (k ∷ upper) b) [
+        | inl q ↦ old-high x i0 (subst (λ (y : ℕ). has y (g ∷ upper) ≡ true) (sym q) (has-first g upper))
+        | inr q ↦ elim (has-head x k upper q) [
+          | inl p ↦ (let z : x ≡ k = p in omega arith)
+          | inr p ↦ old-high x i0 (has-more x g upper p)
+        ]
+      ]))
       (λ x a b.
-          let lo = core.stack_in x (has-left x X rest a) in
-          elim (has-either x (clones_down n (length cs)) (g ∷ (k ∷ upper)) b) [
-            | inl q ↦ (let i0 : n ≤ x = (in-down x q).0 in omega arith)
-            | inr q ↦ elim (has-head x g (k ∷ upper) q) [
-              | inl p ↦ distinct-cross X rest d x g a (has-more g f (inner ++ (g ∷ upper)) (has-right g inner (g ∷ upper) (has-first g upper))) p
-              | inr p ↦ elim (has-head x k upper p) [
-                | inl z ↦ (let y : x ≡ k = z in omega arith)
-                | inr z ↦ distinct-cross X rest d x x a (has-more x f (inner ++ (g ∷ upper)) (has-right x inner (g ∷ upper) (has-more x g upper z))) refl
-              ]
-            ]
-          ])
+      let lo = core.stack_in x (has-left x X rest a) in
+      elim (has-either x (clones_down n (length cs)) (g ∷ (k ∷ upper)) b) [
+        | inl q ↦ (let i0 : n ≤ x = (in-down x q).0 in omega arith)
+        | inr q ↦ elim (has-head x g (k ∷ upper) q) [
+          | inl p ↦ distinct-cross X rest d x g a (has-more g f (inner ++ (g ∷ upper)) (has-right g inner (g ∷ upper) (has-first g upper))) p
+          | inr p ↦ elim (has-head x k upper p) [
+            | inl z ↦ (let y : x ≡ k = z in omega arith)
+            | inr z ↦ distinct-cross X rest d x x a (has-more x f (inner ++ (g ∷ upper)) (has-right x inner (g ∷ upper) (has-more x g upper z))) refl
+          ]
+        ]
+      ])
     where
       old-high : (x : ℕ) → n ≤ x → has x (g ∷ upper) ≡ true → ⊥
       old-high x a h = (let b = core.stack_in x (has-right x X rest (has-more x f (inner ++ (g ∷ upper)) (has-right x inner (g ∷ upper) h))) in omega arith)

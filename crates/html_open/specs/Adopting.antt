@@ -178,6 +178,11 @@ pub data Ends (s : Tag) : AdoptEnd → Open → Open → Type 0 where
   out_of_scope : (o p : Open) → OutOfScope s o p → Ends s Done o p
   no_entry : (o p : Open) → NoEntry s o p → Ends s OtherEndTag o p
 
+-- one round, or an end
+abbrev pub IsTurn : Tag → Bool → Option AdoptEnd → Open → Open → Type 0
+IsTurn s foster None o p = Round s foster o p
+IsTurn s foster (Some end) o p = Ends s end o p
+
 pub data Adopted (s : Tag) (foster : Bool) : AdoptEnd → Open → Open → Type 0 where
   popped : (o p : Open) → Popped s o p → Adopted s foster Done o p
   eight : (o p : Open) → pops_at_once s o (last_of o.stack) ≡ false → Rounds s foster 8 o p → Adopted s foster Done o p

@@ -1,11 +1,10 @@
 // The adoption agency: what an end tag of a formatting name does to the open elements (13.2.6.4.7).
-ghost use Rattle.std.specs.Prelude.{◌≡◌, ℕ, ◌+◌, ◌<◌, ◌≤◌, IfOk, OnOk, Some, eqb, false, length, true};
+ghost use Rattle.std.specs.Prelude.{◌≡◌, ℕ, ◌+◌, ◌≤◌, IfOk, None, OnOk, false, length, true};
 ghost use Rattle.html_names.specs.declared.tag.Tag.{Tag};
-ghost use Rattle.html_arena.specs.Siblings.{first_of, last_of};
+ghost use Rattle.html_arena.specs.Siblings.{last_of};
 ghost use Rattle.html_arena.specs.Tree.{WellFormed};
 ghost use Rattle.html_open.specs.AdoptFinding.{IsPlain};
-ghost use Rattle.html_open.specs.Adopting.{Adopted, Closed, IsUnchanged, Popped, pops_at_once};
-ghost use Rattle.html_open.specs.Entries.{has_node};
+ghost use Rattle.html_open.specs.Adopting.{Adopted, Closed, IsFirstFree, IsTurn, Popped, pops_at_once};
 ghost use Rattle.html_open.specs.Opened.{IsOpen, open_at};
 ghost use Rattle.html_open.specs.Placing.{CanPlace};
 
@@ -30,7 +29,7 @@ pub enum AdoptEnd {
 }
 
 /// Follows an end tag of a formatting name: the elements that are open inside the formatting element are closed, or, where a special
-/// element stands among them, cloned into it.
+/// element stands among them, cloned into it. A current node of the name that is not in the list is popped, and no more.
 pub fn adopt(
     stack: &mut OpenStack,
     list: &mut FormattingList,
@@ -40,31 +39,76 @@ pub fn adopt(
 ) -> Result<AdoptEnd, OpenError>
     requires open { IsOpen (open_at stack.old list.old arena.old) }
     requires can_place { CanPlace arena.old stack.old }
-    requires first_not_listed { (x : ℕ) → first_of stack.old ≡ Some x → has_node x list.old ≡ false }
+    requires first_free { IsFirstFree stack.old list.old }
     ensures adopted { IfOk result (λ end. Adopted name foster end (open_at stack.old list.old arena.old) (open_at stack.new list.new arena.new)) }
     ensures kept { OnOk result (IsOpen (open_at stack.new list.new arena.new)) }
-    ensures clones { length arena.new.labels ≤ length arena.old.labels + 32 }
+    ensures clones { OnOk result (length arena.new.labels ≤ length arena.old.labels + 32) }
     ensures well_formed { WellFormed arena.new }
+{
+    let end = follow(stack, list, arena, name, foster);
+    arena.forest();
+    end
+}
+
+/// Follows an end tag of a formatting name.
+fn follow(
+    stack: &mut OpenStack,
+    list: &mut FormattingList,
+    arena: &mut Arena,
+    name: Tag,
+    foster: bool,
+) -> Result<AdoptEnd, OpenError>
+    requires open { IsOpen (open_at stack.old list.old arena.old) }
+    requires can_place { CanPlace arena.old stack.old }
+    requires first_free { IsFirstFree stack.old list.old }
+    ensures adopted { IfOk result (λ end. Adopted name foster end (open_at stack.old list.old arena.old) (open_at stack.new list.new arena.new)) }
+    ensures kept { OnOk result (IsOpen (open_at stack.new list.new arena.new)) }
+    ensures clones { OnOk result (length arena.new.labels ≤ length arena.old.labels + 32) }
 {
     if pop_unlisted(stack, list, arena, name) {
         return Ok(AdoptEnd::Done);
     }
-    for _ in 0..ROUNDS {
-        match find(stack, list, arena, name) {
-            Found::NoEntry => return Ok(AdoptEnd::OtherEndTag),
-            Found::OffStack(node) => {
-                list.remove(arena, node);
-                return Ok(AdoptEnd::Done);
-            }
-            Found::OutOfScope => return Ok(AdoptEnd::Done),
-            Found::Plain { node, at } => {
-                close(stack, list, arena, node, at);
-                return Ok(AdoptEnd::Done);
-            }
-            Found::Block { at, block_at } => round(stack, list, arena, at, block_at, foster)?,
+    for _round in 0..ROUNDS {
+        match turn(stack, list, arena, name, foster)? {
+            Some(end) => return Ok(end),
+            None => {}
         }
     }
     Ok(AdoptEnd::Done)
+}
+
+/// Goes one round, or ends, and says how.
+fn turn(
+    stack: &mut OpenStack,
+    list: &mut FormattingList,
+    arena: &mut Arena,
+    name: Tag,
+    foster: bool,
+) -> Result<Option<AdoptEnd>, OpenError>
+    requires open { IsOpen (open_at stack.old list.old arena.old) }
+    requires can_place { CanPlace arena.old stack.old }
+    requires first_free { IsFirstFree stack.old list.old }
+    ensures turned { IfOk result (λ end. IsTurn name foster end (open_at stack.old list.old arena.old) (open_at stack.new list.new arena.new)) }
+    ensures kept { OnOk result (IsOpen (open_at stack.new list.new arena.new)) }
+    ensures can_place { IfOk result (λ end. end ≡ None → CanPlace arena.new stack.new) }
+    ensures first_free { IfOk result (λ end. end ≡ None → IsFirstFree stack.new list.new) }
+{
+    match find(stack, list, arena, name) {
+        Found::NoEntry => Ok(Some(AdoptEnd::OtherEndTag)),
+        Found::OffStack(node) => {
+            list.remove(arena, node);
+            Ok(Some(AdoptEnd::Done))
+        }
+        Found::OutOfScope => Ok(Some(AdoptEnd::Done)),
+        Found::Plain { node, at } => {
+            close(stack, list, arena, node, at);
+            Ok(Some(AdoptEnd::Done))
+        }
+        Found::Block { at, block_at } => {
+            round(stack, list, arena, at, block_at, foster)?;
+            Ok(None)
+        }
+    }
 }
 
 /// Pops the current node where it has the name and is not in the list.
@@ -116,5 +160,4 @@ mod chain;
 mod clones;
 mod find;
 mod lists;
-mod probe;
 mod round;

@@ -29,12 +29,7 @@ pub(crate) enum Found {
 
 /// Finds the formatting element of a round, and the first special element after it. Steps: those of `last_named`, one for the test of
 /// presence, those of `index_of`, and one for each element looked at from the formatting element on.
-pub(crate) fn find(
-    stack: &OpenStack,
-    list: &FormattingList,
-    arena: &mut Arena,
-    name: Tag,
-) -> Found
+pub(crate) fn find(stack: &OpenStack, list: &FormattingList, arena: &mut Arena, name: Tag) -> Found
     requires open { IsOpen (open_at stack.now list.now arena.old) }
     ensures found { IsFound name (open_at stack.now list.now arena.old) result }
     ensures tree { arena.new ≡ record arena.old { steps = arena.new.steps } }

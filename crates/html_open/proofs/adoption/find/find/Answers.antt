@@ -34,10 +34,11 @@ ends_after-requires-clause-at_in c =
 
 pub returns-then-ends_after-clause-found : goal.returns-then-ends_after-clause-found
 returns-then-ends_after-clause-found c =
-    let e = ap (λ (t : Tree). t.labels) c.charge-2.ensures ∙ ap (λ (t : Tree). t.labels) c.index_of.ensures.steps ∙ ap (λ (t : Tree). t.labels) c.charge.ensures ∙ ap (λ (t : Tree). t.labels) c.last_named.ensures.steps in
-    (c.in-Some.node,
-    out c.args.name (open_at c.args.stack.now c.args.list.now c.args.arena.now) c.in-Some.node (sym c.last_named.ensures.node ∙ c.in-Some.is) c.in-Some-index_of.at (sym c.index_of.ensures.index ∙ c.in-Some-index_of.is)
-    (ap (λ (v : List ℕ). list_any (ends c.args.arena.now Default) (drop (c.in-Some-index_of.at + 1) v)) (sym c.as_slice-nodes.ensures) ∙ sym (same-ends c.args.arena.now c.charge-2.new.self (drop (c.in-Some-index_of.at + 1) c.as_slice-nodes.result.now) e) ∙ sym c.ends_after.ensures ∙ c.if-ends_after.true))
+    let e = ap (λ (t : Tree). t.labels) c.charge-2.ensures ∙ ap (λ (t : Tree). t.labels) c.index_of.ensures.steps ∙ ap (λ (t : Tree). t.labels) c.charge.ensures ∙ ap (λ (t : Tree). t.labels) c.last_named.ensures.steps in (
+      c.in-Some.node,
+      out c.args.name (open_at c.args.stack.now c.args.list.now c.args.arena.now) c.in-Some.node (sym c.last_named.ensures.node ∙ c.in-Some.is) c.in-Some-index_of.at (sym c.index_of.ensures.index ∙ c.in-Some-index_of.is)
+          (ap (λ (v : List ℕ). list_any (ends c.args.arena.now Default) (drop (c.in-Some-index_of.at + 1) v)) (sym c.as_slice-nodes.ensures) ∙ sym (same-ends c.args.arena.now c.charge-2.new.self (drop (c.in-Some-index_of.at + 1) c.as_slice-nodes.result.now) e) ∙ sym c.ends_after.ensures ∙ c.if-ends_after.true),
+    )
 
 pub overflow_add-at : goal.overflow_add-at
 overflow_add-at c =

@@ -25,12 +25,13 @@ regroup-requires-clause-open c =
     (subst (λ (t : Tree). IsOpen (open_at c.args.stack.now c.args.list.now t)) (sym (steps-then c.args.arena.now c.charge.new.self c.place-target.new.arena (c.charge.ensures ∙ sym (ap (λ (v : Tree). stepped c.args.arena.now v.steps) c.charge.ensures)) (c.place-target.ensures.steps ∙ sym (ap (λ (v : Tree). stepped c.charge.new.self v.steps) c.place-target.ensures.steps)))) (open-stepped c.args.stack.now c.args.list.now c.args.arena.now c.place-target.new.arena.steps c.requires.«open»)))
 
 pub regroup-requires-clause-block : goal.regroup-requires-clause-block
-regroup-requires-clause-block c =
-    (c.requires.block.0,
-    subst (λ (v : List ℕ). IsBlock c.requires.block.0 (open_at v c.as_slice-entries.result.now c.place-target.new.arena) c.args.at c.args.block_at) (sym c.as_slice-nodes.ensures)
-    (subst (λ (v : List Entry). IsBlock c.requires.block.0 (open_at c.args.stack.now v c.place-target.new.arena) c.args.at c.args.block_at) (sym (c.as_slice-entries.ensures.value ∙ c.list.view_is))
-    (subst (λ (t : Tree). IsBlock c.requires.block.0 (open_at c.args.stack.now c.args.list.now t) c.args.at c.args.block_at) (sym (steps-then c.args.arena.now c.charge.new.self c.place-target.new.arena (c.charge.ensures ∙ sym (ap (λ (v : Tree). stepped c.args.arena.now v.steps) c.charge.ensures)) (c.place-target.ensures.steps ∙ sym (ap (λ (v : Tree). stepped c.charge.new.self v.steps) c.place-target.ensures.steps))))
-    (block-stepped c.requires.block.0 c.args.stack.now c.args.list.now c.args.arena.now c.place-target.new.arena.steps c.args.at c.args.block_at c.requires.block.1))))
+regroup-requires-clause-block c = (
+  c.requires.block.0,
+  subst (λ (v : List ℕ). IsBlock c.requires.block.0 (open_at v c.as_slice-entries.result.now c.place-target.new.arena) c.args.at c.args.block_at) (sym c.as_slice-nodes.ensures)
+      (subst (λ (v : List Entry). IsBlock c.requires.block.0 (open_at c.args.stack.now v c.place-target.new.arena) c.args.at c.args.block_at) (sym (c.as_slice-entries.ensures.value ∙ c.list.view_is))
+      (subst (λ (t : Tree). IsBlock c.requires.block.0 (open_at c.args.stack.now c.args.list.now t) c.args.at c.args.block_at) (sym (steps-then c.args.arena.now c.charge.new.self c.place-target.new.arena (c.charge.ensures ∙ sym (ap (λ (v : Tree). stepped c.args.arena.now v.steps) c.charge.ensures)) (c.place-target.ensures.steps ∙ sym (ap (λ (v : Tree). stepped c.charge.new.self v.steps) c.place-target.ensures.steps))))
+      (block-stepped c.requires.block.0 c.args.stack.now c.args.list.now c.args.arena.now c.place-target.new.arena.steps c.args.at c.args.block_at c.requires.block.1))),
+)
 
 pub regroup-requires-clause-place_in : goal.regroup-requires-clause-place_in
 regroup-requires-clause-place_in c = subst (λ (t : Tree). IsPlace t c.place-target.result) (sym (c.place-target.ensures.steps ∙ sym (ap (λ (v : Tree). stepped c.charge.new.self v.steps) c.place-target.ensures.steps))) (place-stepped c.charge.new.self c.place-target.new.arena.steps c.place-target.result c.place-target.ensures.there)
