@@ -20,5 +20,4 @@ mod Splitting
 mod Readied
 mod Regrouping
 mod Rounds
-
 mod Looping

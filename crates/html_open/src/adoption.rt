@@ -68,10 +68,9 @@ fn follow(
     if pop_unlisted(stack, list, arena, name) {
         return Ok(AdoptEnd::Done);
     }
-    for _round in 0..ROUNDS {
-        match turn(stack, list, arena, name, foster)? {
-            Some(end) => return Ok(end),
-            None => {}
+    'rounding: for _index in 0..ROUNDS {
+        if let Some(end) = turn(stack, list, arena, name, foster)? {
+            return Ok(end);
         }
     }
     Ok(AdoptEnd::Done)
@@ -112,12 +111,7 @@ fn turn(
 }
 
 /// Pops the current node where it has the name and is not in the list.
-fn pop_unlisted(
-    stack: &mut OpenStack,
-    list: &FormattingList,
-    arena: &mut Arena,
-    name: Tag,
-) -> bool
+fn pop_unlisted(stack: &mut OpenStack, list: &FormattingList, arena: &mut Arena, name: Tag) -> bool
     requires open { IsOpen (open_at stack.old list.now arena.old) }
     ensures yes { result ≡ true → Popped name (open_at stack.old list.now arena.old) (open_at stack.new list.now arena.new) }
     ensures no { result ≡ false → pops_at_once name (open_at stack.old list.now arena.old) (last_of stack.old) ≡ false }
