@@ -51,13 +51,13 @@ fn repeated(alloc: Global, piece: &str, times: u32) -> Result<Vec<char>, AllocEr
     Ok(text)
 }
 
-/// A start tag of so many attributes, the names of which have six letters.
-fn wide_tag(alloc: Global, count: u32) -> Result<Vec<char>, AllocError> {
+/// A start tag of so many attributes, with so many names of six letters again and again.
+fn wide_tag(alloc: Global, count: u32, names: u32) -> Result<Vec<char>, AllocError> {
     let mut text: Vec<char> = Vec::new(alloc);
     text.extend("<p".chars())?;
     for number in 0..count {
         text.push(' ')?;
-        let mut rest = number;
+        let mut rest = number.checked_rem(names).unwrap_or(0);
         for _ in 0..6u32 {
             let letter = b'a' + (rest % 26) as u8;
             text.push(char::from(letter))?;
@@ -111,20 +111,52 @@ fn count_runs(alloc: Global, table: &EntityTable, text: &[char]) -> Result<Count
     })
 }
 
+/// How many code points a piece has, where a text is fed in pieces.
+const PIECE: usize = 4_096;
+
+/// The same, where the text comes in pieces and what was put out is let go after each.
+fn count_pieces(alloc: Global, table: &EntityTable, text: &[char]) -> Result<Counts, TokenError> {
+    let mut tokenizer = Tokenizer::new(alloc, table, TextMode::Data, None)?;
+    let mut out = Vec::new(alloc);
+    let mut tokens = 0u64;
+    for piece in text.chunks(PIECE) {
+        tokenizer.feed(piece)?;
+        for _ in 0..=piece.len() {
+            if tokenizer.next_run(&mut out)?.is_none() && tokenizer.next()?.is_none() {
+                break;
+            }
+        }
+        tokens = tokens.wrapping_add(out.len() as u64);
+        out.clear();
+    }
+    Ok(Counts {
+        code_points: text.len(),
+        tokens,
+    })
+}
+
+/// What is taken of a text: its tokens, or its runs and the tokens between them, of the whole text or piece by piece.
+#[derive(Clone, Copy)]
+enum Taken {
+    Tokens,
+    Runs,
+    Pieces,
+}
+
 fn show(
     rt: &(impl Print + CpuClock),
     alloc: Global,
     table: &EntityTable,
     name: &str,
     text: &[char],
-    in_runs: bool,
+    taken: Taken,
     is_timed: bool,
 ) -> Result<()> {
     let before = rt.thread_cpu_time()?.as_micros();
-    let counts = if in_runs {
-        count_runs(alloc, table, text)?
-    } else {
-        count(alloc, table, text)?
+    let counts = match taken {
+        Taken::Tokens => count(alloc, table, text)?,
+        Taken::Runs => count_runs(alloc, table, text)?,
+        Taken::Pieces => count_pieces(alloc, table, text)?,
     };
     let micros = rt.thread_cpu_time()?.as_micros().saturating_sub(before);
     let code_points = counts.code_points;
@@ -158,18 +190,37 @@ fn main(rt: HostRuntime) -> Result<()> {
         if is_wanted(&wanted, load.name) {
             let times = if is_timed { load.times } else { 2 };
             let text = repeated(alloc, load.piece, times)?;
-            show(&rt, alloc, &table, load.name, &text, false, is_timed)?;
+            show(
+                &rt,
+                alloc,
+                &table,
+                load.name,
+                &text,
+                Taken::Tokens,
+                is_timed,
+            )?;
         }
     }
-    if is_wanted(&wanted, "text in runs") {
-        let times = if is_timed { LOADS[0].times } else { 2 };
-        let text = repeated(alloc, LOADS[0].piece, times)?;
-        show(&rt, alloc, &table, "text in runs", &text, true, is_timed)?;
+    for (name, taken) in [
+        ("text in runs", Taken::Runs),
+        ("text in runs, in pieces", Taken::Pieces),
+    ] {
+        if is_wanted(&wanted, name) {
+            let times = if is_timed { LOADS[0].times } else { 2 };
+            let text = repeated(alloc, LOADS[0].piece, times)?;
+            show(&rt, alloc, &table, name, &text, taken, is_timed)?;
+        }
     }
-    if is_wanted(&wanted, "one wide tag") {
-        let attributes = if is_timed { ATTRIBUTES } else { 30 };
-        let text = wide_tag(alloc, attributes)?;
-        show(&rt, alloc, &table, "one wide tag", &text, false, is_timed)?;
+    for (name, is_twice) in [
+        ("one wide tag", false),
+        ("one wide tag, each name twice", true),
+    ] {
+        if is_wanted(&wanted, name) {
+            let attributes = if is_timed { ATTRIBUTES } else { 30 };
+            let names = if is_twice { attributes / 2 } else { attributes };
+            let text = wide_tag(alloc, attributes, names)?;
+            show(&rt, alloc, &table, name, &text, Taken::Tokens, is_timed)?;
+        }
     }
     let bytes = size_of::<Token>();
     println!(rt; "bytes a token: {bytes}")?;

@@ -70,7 +70,7 @@ module _ (t : Tree) (s : List ℕ) where
   pub later-is : (o : Option ℕ) (k : ℕ) → k ≡ after_index o → o ≡ last_index (table t) s → take (length s - k) (drop k s) ≡ above (table t) s
   later-is o k e h = take_all (length s - k) (drop k s) (let n = length-drop k s in omega arith) ∙ ap (λ n. drop n s) e ∙ after-above (table t) s o h
 
-  above-has : (p : ℕ → Bool) (xs : List ℕ) (x : ℕ) → has x (above p xs) ≡ true → has x xs ≡ true
+  pub above-has : (p : ℕ → Bool) (xs : List ℕ) (x : ℕ) → has x (above p xs) ≡ true → has x xs ≡ true
   above-has p [] x h = h
   above-has p (y ∷ ys) x h = elim (cases_bool (list_any p ys)) [
     | inl a ↦ tail (above-has p ys x (rw a at h))

@@ -43,7 +43,7 @@ has-insert x c [] ys = refl
 has-insert x c (y ∷ xs) ys =
     elim (cases_eqb x y) [ inl e ↦ rw e.0 (grind arith) | inr e ↦ rw e.0 (has-insert x c xs ys) ]
 
-has-tail : (x y : ℕ) (ys : List ℕ) → has x (y ∷ ys) ≡ false → (eqb x y ≡ false) × (has x ys ≡ false)
+pub has-tail : (x y : ℕ) (ys : List ℕ) → has x (y ∷ ys) ≡ false → (eqb x y ≡ false) × (has x ys ≡ false)
 has-tail x y ys h = elim (cases_eqb x y) [ inl e ↦ let t : eqb x y ≡ true = e.0 in absurd (grind arith) | inr e ↦ let t : eqb x y ≡ false = e.0 in (t, rw t at h) ]
 
 Distinct-insert : (c : ℕ) (xs ys : List ℕ) → Distinct (xs ++ ys) → has c (xs ++ ys) ≡ false → Distinct (xs ++ c ∷ ys)
@@ -53,7 +53,7 @@ Distinct-insert c (y ∷ xs) ys d h =
     let e : eqb y c ≡ false = eqb-swap c y t.0 in
     ((has-insert y c xs ys) ∙ rw e d.0, Distinct-insert c xs ys d.1 t.1)
 
-Distinct-remove : (c : ℕ) (xs ys : List ℕ) → Distinct (xs ++ c ∷ ys) → Distinct (xs ++ ys) × (has c (xs ++ ys) ≡ false)
+pub Distinct-remove : (c : ℕ) (xs ys : List ℕ) → Distinct (xs ++ c ∷ ys) → Distinct (xs ++ ys) × (has c (xs ++ ys) ≡ false)
 Distinct-remove c [] ys d = (d.1, d.0)
 Distinct-remove c (y ∷ xs) ys d =
     let r = Distinct-remove c xs ys d.1 in
@@ -66,7 +66,7 @@ Distinct-remove c (y ∷ xs) ys d =
     ]
 
 -- a member of the shorter list is one of the longer
-has-more : (x c : ℕ) (xs ys : List ℕ) → has x (xs ++ ys) ≡ true → has x (xs ++ c ∷ ys) ≡ true
+pub has-more : (x c : ℕ) (xs ys : List ℕ) → has x (xs ++ ys) ≡ true → has x (xs ++ c ∷ ys) ≡ true
 has-more x c xs ys h = has-insert x c xs ys ∙ elim (cases_eqb x c) [ inl e ↦ rw e.0 refl | inr e ↦ rw e.0 h ]
 
 -- a member of the longer list is the one more, or a member of the shorter

@@ -4,6 +4,11 @@ mod Popping
 mod Naming
 mod Clearing
 mod Fostering
+mod Inserted
+mod Anew
+mod Standing
+mod Searching
+mod Reopened
 mod Pushes
 mod PushKeeps
 mod Finding

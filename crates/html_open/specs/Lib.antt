@@ -8,5 +8,8 @@ pub mod Lists
 pub mod Marking
 pub mod Opened
 pub mod Placing
+pub mod Refusals
+pub mod Reopening
+pub mod Reopenings
 pub mod Scopes
 pub mod Searches

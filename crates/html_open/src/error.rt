@@ -1,7 +1,7 @@
 // Why a call was refused.
 ghost use Rattle.std.specs.Prelude.{◌≡◌};
 
-use std::alloc::AllocError;
+use html_arena::ArenaError;
 use thiserror::Error;
 
 /// Why a call was refused.
@@ -9,21 +9,23 @@ use thiserror::Error;
 pub enum OpenError {
     #[error("out of memory")]
     OutOfMemory,
-    /// No call answers this yet.
     #[error("the next clone would pass the limit on nodes")]
     NodeBudget,
-    /// No call answers this yet.
     #[error("the next clone would pass the limit on held code points")]
     HeldBudget,
 }
 
-impl From<AllocError> for OpenError {
+impl From<ArenaError> for OpenError {
     ghost use Rattle.std.specs.Prelude.{◌≡◌};
-    ghost use Rattle.html_open.specs.declared.error.OpenError.TheVariants.{OutOfMemory};
+    ghost use Rattle.html_open.specs.Refusals.{of_arena};
 
-    ghost from_gives = { λ _ e. e ≡ OutOfMemory };
+    ghost from_gives = { λ cause e. e ≡ of_arena cause };
 
-    fn from(_e: AllocError) -> OpenError {
-        OpenError::OutOfMemory
+    fn from(cause: ArenaError) -> OpenError {
+        match cause {
+            ArenaError::OutOfMemory => OpenError::OutOfMemory,
+            ArenaError::NodeBudget => OpenError::NodeBudget,
+            ArenaError::HeldBudget => OpenError::HeldBudget,
+        }
     }
 }

@@ -9,6 +9,7 @@ mod list;
 mod places;
 mod placing;
 mod pushing;
+mod reopening;
 mod search;
 mod stack;
 

@@ -1,5 +1,5 @@
 // The list of active formatting elements.
-ghost use Rattle.std.specs.Prelude.{◌≡◌, ℕ, ◌+◌, ◌<◌, ◌∷◌, [], ◌++◌, length, OnErr, OnOk, drop, false, take, true, ◌*◌, ◌≤◌};
+ghost use Rattle.std.specs.Prelude.{◌≡◌, ℕ, ◌+◌, ◌<◌, ◌∷◌, [], ◌++◌, length, IfErr, OnErr, OnOk, drop, false, take, true, ◌*◌, ◌≤◌};
 ghost use Rattle.html_arena.specs.declared.marks.Mark.TheVariants.{InList};
 ghost use Rattle.html_arena.specs.Tree.{with_marked};
 ghost use Rattle.html_open.specs.Lists.{IsBelow, below, looked};
@@ -55,6 +55,7 @@ impl FormattingList {
         ensures keeps { OnOk result ((s : _) → IsOpen (open_at s self.old arena.old) → CanList (open_at s self.old arena.old) node → IsOpen (open_at s self.new arena.new)) }
         ensures same_list { OnErr result (self.new ≡ self.old) }
         ensures same_tree { OnErr result (arena.new ≡ arena.old) }
+        ensures cause { IfErr result (λ e. e ≡ OpenError.OutOfMemory) }
     {
         arena.forest();
         let displaced = displaced(self.entries.as_slice(), arena, node);
@@ -77,6 +78,7 @@ impl FormattingList {
         ensures keeps { OnOk result ((s : _) → IsOpen (open_at s self.old arena.old) → IsOpen (open_at s self.new arena.new)) }
         ensures same_list { OnErr result (self.new ≡ self.old) }
         ensures same_tree { OnErr result (arena.new ≡ arena.old) }
+        ensures cause { IfErr result (λ e. e ≡ OpenError.OutOfMemory) }
     {
         if self.entries.push(Entry::Marker).is_err() {
             return Err(OpenError::OutOfMemory);

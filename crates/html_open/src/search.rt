@@ -4,10 +4,10 @@ ghost use Rattle.html_open.specs.Lists.{IsBelow, after_index, index_or_first, la
 ghost use Rattle.html_open.specs.Opened.{AreNodes};
 ghost use Rattle.html_open.specs.Entries.{named_or_marker, nodes_of};
 ghost use Rattle.html_open.specs.Scopes.{is_excepted, tag_stays};
-ghost use Rattle.html_open.specs.Searches.{IsEntry, ends_search, is_sought};
+ghost use Rattle.html_open.specs.Searches.{IsEntry, ends_search, is_sought, open_or_marker};
 
 use crate::entry::Entry;
-use html_arena::{Arena, NodeId};
+use html_arena::{Arena, Mark, NodeId};
 use html_names::{Scope, Tag};
 
 /// The steps of a test of presence.
@@ -31,6 +31,8 @@ pub(crate) enum SoughtEntry {
     Node(NodeId),
     /// An element of this tag, or a marker.
     NamedOrMarker(Tag),
+    /// An element that is marked as being on the stack, or a marker.
+    OpenOrMarker,
 }
 
 /// Whether an element is one that is sought.
@@ -74,6 +76,7 @@ fn ends_search(arena: &Arena, entry: Entry, sought: &SoughtEntry) -> bool
         SoughtEntry::Node(node) => entry.is_of(*node),
         SoughtEntry::Marker => entry.is_marker(),
         SoughtEntry::NamedOrMarker(tag) => is_named_or_marker(arena, entry, *tag),
+        SoughtEntry::OpenOrMarker => is_open_or_marker(arena, entry),
     }
 }
 
@@ -85,6 +88,17 @@ fn is_named_or_marker(arena: &Arena, entry: Entry, tag: Tag) -> bool
     match entry {
         Entry::Marker => true,
         Entry::Node(node) => arena.is_named(node, tag),
+    }
+}
+
+/// Whether an entry is a marker, or an element that is marked as being on the stack.
+fn is_open_or_marker(arena: &Arena, entry: Entry) -> bool
+    requires { IsEntry arena.now entry }
+    ensures { result ≡ open_or_marker arena.now entry }
+{
+    match entry.node() {
+        None => true,
+        Some(node) => arena.marked(node, Mark::OnStack),
     }
 }
 

@@ -1,5 +1,5 @@
 // The stack of open elements.
-ghost use Rattle.std.specs.Prelude.{◌≡◌, ℕ, ◌+◌, ◌<◌, ◌∷◌, [], ◌++◌, List, eqb, length, slice_index, None, OnErr, OnOk, drop, false, take, true, ◌≤◌};
+ghost use Rattle.std.specs.Prelude.{◌≡◌, ℕ, ◌+◌, ◌<◌, ◌∷◌, [], ◌++◌, List, eqb, length, slice_index, None, IfErr, OnErr, OnOk, drop, false, take, true, ◌≤◌};
 ghost use Rattle.html_arena.specs.declared.marks.Mark.TheVariants.{OnStack};
 ghost use Rattle.html_arena.specs.Siblings.{has, last_of};
 ghost use Rattle.html_arena.specs.Tree.{more, named, tag_at, with_marked};
@@ -68,6 +68,7 @@ impl OpenStack {
         ensures keeps { OnOk result ((l : _) → IsOpen (open_at self.old l arena.old) → CanPush (open_at self.old l arena.old) node → IsOpen (open_at self.new l arena.new)) }
         ensures same_stack { OnErr result (self.new ≡ self.old) }
         ensures same_tree { OnErr result (arena.new ≡ arena.old) }
+        ensures cause { IfErr result (λ e. e ≡ OpenError.OutOfMemory) }
     {
         if self.nodes.push(node).is_err() {
             return Err(OpenError::OutOfMemory);
@@ -138,9 +139,9 @@ impl OpenStack {
         ensures steps { arena.new ≡ charged arena.old (looked (eqb node) self.now) }
     {
         let nodes = self.nodes.as_slice();
-        let found = last_index(nodes, arena, &Sought::Node(node));
-        arena.charge(steps_to(nodes.len(), found));
-        found
+        let index = last_index(nodes, arena, &Sought::Node(node));
+        arena.charge(steps_to(nodes.len(), index));
+        index
     }
 
     /// Whether an element is on the stack, by its mark. One step.

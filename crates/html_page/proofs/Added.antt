@@ -1,7 +1,7 @@
 -- What a new node leaves, from what the arena says of `make`, `append` and `append_text`.
-use Rattle.std.proofs.Common.{◌≡◌, ◌≢◌, ℕ, zero, suc, ◌+◌, ◌<◌, Bool, true, false, cond, eqb, List, [], ◌∷◌, ◌++◌, length, get_or, set, Option, Some, None, codes, refl, sym, ap, ◌∙◌, subst, arith, append_assoc, inl, inr}
+use Rattle.std.proofs.Common.{◌≡◌, ◌≢◌, ℕ, ◌<◌, true, false, eqb, List, [], ◌∷◌, ◌++◌, length, get_or, None, codes, refl, sym, ap, ◌∙◌, subst, arith, append_assoc, append-nil, inl, inr}
 use Rattle.std.proofs.lemmas.Bool.Decides.{nat_tests}
-use Rattle.std.proofs.lemmas.List.{get_or_append_left, get_or_push, length_push, get_or-set_same, get_or-set_other, length-set}
+use Rattle.std.proofs.lemmas.List.{get_or-set_same, get_or-set_other, length-set}
 use Rattle.html_arena.specs.declared.data.NodeData.{NodeData}
 use Rattle.html_arena.specs.declared.data.NodeData.TheVariants as node
 use Rattle.html_arena.specs.declared.data.NewNode.{NewNode}
@@ -18,6 +18,10 @@ use Rattle.html_page.specs.Plain.{name_of}
 use Rattle.html_page.specs.declared.plain.PlainName.{PlainName}
 use Rattle.html_page.specs.declared.plain.PlainName.TheVariants.{Div, Span, Section, Article, B, I, Em, Strong}
 use Rattle.html_page.specs.Label.{label_for}
+use Rattle.html_tokens.specs.declared.token.Token.{Token}
+use Rattle.html_tokens.specs.declared.token.TokenKind.{TokenKind}
+use Rattle.html_tokens.specs.declared.token.TokenKind.TheVariants as kinds
+use Rattle.html_page.specs.Pieces.{chars_in, char_before}
 use Rattle.html_page.specs.Open.{IsAdded, IsFilled}
 use Rattle.html_page.proofs.Kin.{cases_eqb}
 
@@ -164,3 +168,37 @@ chars-name B = refl
 chars-name I = refl
 chars-name Em = refl
 chars-name Strong = refl
+
+-- nothing was added to a text
+pub filled-none : (t : Tree) (x : ℕ) → IsFilled t t x []
+filled-none t x = record { same_length = refl; same_children = refl; label_is = λ s e. e ∙ ap node.Text (sym (append-nil s)); others = λ k ne. refl; roots = λ k r. r }
+
+-- one code point was added to a text
+pub filled-one : (t : Tree) (x c : ℕ) → x < length t.labels → IsText (label_of t x) → IsFilled t (texted t x c) x (c ∷ [])
+filled-one t x c l h = let s = text-of (label_of t x) h in filled-more t t x c s.0 [] l s.1 (filled-none t x)
+
+-- one text was added to a text, and then another
+pub filled-then : (a b d : Tree) (x : ℕ) (s t : List ℕ) → IsFilled a b x s → IsFilled b d x t → IsFilled a d x (s ++ t)
+filled-then a b d x s t f g = record {
+  same_length = g.same_length ∙ f.same_length;
+  same_children = g.same_children ∙ f.same_children;
+  label_is = λ u e. g.label_is (u ++ s) (f.label_is u e) ∙ ap node.Text (append_assoc u s t);
+  others = λ k ne. g.others k ne ∙ f.others k ne;
+  roots = λ k r. g.roots k (f.roots k r);
+}
+
+char_before-append : (kind : TokenKind) (xs : List ℕ) → char_before kind xs ≡ char_before kind [] ++ xs
+char_before-append (kinds.Char c) xs = refl
+char_before-append (kinds.Start n a s) xs = refl
+char_before-append (kinds.End n) xs = refl
+char_before-append (kinds.Comment s) xs = refl
+char_before-append (kinds.Doctype n p s f) xs = refl
+char_before-append kinds.Eof xs = refl
+
+pub chars_in-more : (tokens : List Token) (t : Token) → chars_in (tokens ++ t ∷ []) ≡ chars_in tokens ++ char_before t.kind []
+chars_in-more [] t = refl
+chars_in-more (u ∷ tokens) t =
+    ap (char_before u.kind) (chars_in-more tokens t)
+    ∙ char_before-append u.kind (chars_in tokens ++ char_before t.kind [])
+    ∙ sym (append_assoc (char_before u.kind []) (chars_in tokens) (char_before t.kind []))
+    ∙ ap (λ (x : List ℕ). x ++ char_before t.kind []) (sym (char_before-append u.kind (chars_in tokens)))

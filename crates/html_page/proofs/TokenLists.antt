@@ -1,5 +1,5 @@
 -- The tokens of a text after none of which anything is said of the mode.
-use Rattle.std.proofs.Common.{◌≡◌, ℕ, zero, suc, ◌+◌, ◌-◌, ◌<◌, ◌≤◌, List, [], ◌∷◌, ◌++◌, length, map, drop, Option, Some, None, Bool, true, false, refl, ap, sym, subst, ◌∙◌, arith, length-append}
+use Rattle.std.proofs.Common.{◌≡◌, ℕ, zero, suc, ◌+◌, ◌-◌, ◌≤◌, List, [], ◌∷◌, ◌++◌, length, map, drop, Option, None, true, refl, ap, sym, subst, ◌∙◌, arith, length-append}
 use Rattle.std.proofs.Math.Seq.{drop-nil}
 use Rattle.std.specs.List.{AllByRecursion}
 use Rattle.html_charref.specs.declared.table.Row.{Row}
@@ -27,7 +27,7 @@ same_mode : (tokens : List Token) (switches : List (Option TextMode)) (mode : Te
 same_mode [] switches mode h = refl
 same_mode (t ∷ ts) switches mode h = ap (λ (s : Option TextMode). mode_after_kind t.kind s mode) (none_of switches h)
 
-same_tokens : (rows : List Row) (k : ℕ) (mode : TextMode) (name : Option (List ℕ)) (place : ℕ) (text : List ℕ) (switches : List (Option TextMode)) → AreNone switches →
+pub same_tokens : (rows : List Row) (k : ℕ) (mode : TextMode) (name : Option (List ℕ)) (place : ℕ) (text : List ℕ) (switches : List (Option TextMode)) → AreNone switches →
     tokens_after rows k mode name place text switches ≡ tokens_after rows k mode name place text []
 unfolding tokens_after
 same_tokens rows k mode name place [] switches h = refl

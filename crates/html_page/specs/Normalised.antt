@@ -2,6 +2,7 @@
 use Rattle.std.specs.Prelude.{◌≡◌, ◌≤◌, ◌⊎◌, ℕ, Bool, true, List, Option, length}
 use Rattle.std.specs.Str.{encode_utf8_all}
 use Rattle.std.specs.Io.KnownBytes.{Consumes, IsAtEnd}
+use Rattle.html_charref.specs.declared.table.Row.{Row}
 use Rattle.html_device.specs.Device.{AppendsFront}
 use Rattle.html_page.specs.declared.error.ParseError.{ParseError}
 use Rattle.html_page.specs.declared.error.ParseError.TheVariants.{Write}
@@ -12,19 +13,19 @@ use Rattle.html_page.specs.Reading.{IsReaderCause}
 use Rattle.html_page.specs.Serialised.{HasNames, html_below, most_written}
 
 -- A reader was read from `old` to its end, and of the text of its page was written what `Written` says.
-pub record IsNormalised (profile : Profile) (Written : List ℕ → Type 0) (old new : Option (List ℕ)) : Type 0 where
+pub record IsNormalised (rows : List Row) (profile : Profile) (Written : List ℕ → Type 0) (old new : Option (List ℕ)) : Type 0 where
   pub bytes : List ℕ
   pub consumed : Consumes old new bytes
   pub at_end : IsAtEnd new
   pub page : Page
-  pub is_page : IsPageOf bytes page
+  pub is_page : IsPageOf rows bytes page
   pub written : Written (encode_utf8_all (html_below profile page.arena page.root))
   pub few : HasNames page.arena → length (html_below profile page.arena page.root) ≤ most_written page.arena
 
 -- why not all was written: the writer failed or took no bytes, and a front was written; or nothing was, since the input
 -- was refused
-abbrev pub IsNormaliseCause : Profile → (reader new_reader : Option (List ℕ)) → Bool → (writer new_writer : Option (List ℕ)) → (failed stalled : Bool) → ParseError → Type 0
-IsNormaliseCause profile reader new_reader read_failed writer new_writer failed stalled Write =
-    IsNormalised profile (AppendsFront writer new_writer) reader new_reader × ((failed ≡ true) ⊎ (stalled ≡ true))
-IsNormaliseCause profile reader new_reader read_failed writer new_writer failed stalled e =
-    IsReaderCause reader new_reader read_failed e × (new_writer ≡ writer)
+abbrev pub IsNormaliseCause : List Row → Profile → (reader new_reader : Option (List ℕ)) → Bool → (writer new_writer : Option (List ℕ)) → (failed stalled : Bool) → ParseError → Type 0
+IsNormaliseCause rows profile reader new_reader read_failed writer new_writer failed stalled Write =
+    IsNormalised rows profile (AppendsFront writer new_writer) reader new_reader × ((failed ≡ true) ⊎ (stalled ≡ true))
+IsNormaliseCause rows profile reader new_reader read_failed writer new_writer failed stalled e =
+    IsReaderCause rows reader new_reader read_failed e × (new_writer ≡ writer)

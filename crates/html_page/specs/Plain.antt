@@ -1,6 +1,8 @@
 -- Plain pages: their text has one tree, by rules that any reader of HTML knows.
-use Rattle.std.specs.Prelude.{◌≡◌, ◌≢◌, ℕ, Bool, true, false, List, [], codes, Some, None}
+use Rattle.std.specs.Prelude.{◌≡◌, ◌≢◌, ℕ, Bool, true, false, ◌||◌, ◌==◌, not, List, [], codes, Some, None}
 use Rattle.std.specs.List.{AllByRecursion}
+use Rattle.html_tokens.specs.Cost.{AreApart}
+use Rattle.html_tokens.specs.Tag.{between, ends_attr}
 use Rattle.html_tokens.specs.declared.attributes.Attr.{Attr}
 use Rattle.html_arena.specs.Forest.{Forest}
 use Rattle.html_page.specs.Forest.{single}
@@ -41,3 +43,29 @@ page_of content =
 -- a plain page
 abbrev pub IsPlain : (ℕ → Type 0) → (List Attr → Type 0) → Forest Label → Type 0
 IsPlain Char Attributes page = (content : Forest Label) × (page ≡ page_of content) × IsPlainForest Char Attributes false content
+
+-- a code point of a plain page's texts and values: neither U+0000 nor CR
+pub record IsPlainChar (c : ℕ) : Type 0 where
+  pub not_null : c ≢ 0
+  pub not_return : c ≢ 13
+
+-- A code point of an attribute's name: no ASCII capital, no white space, and neither CR, U+0000, '/', '>', '=', '<', '"'
+-- nor '''.
+abbrev pub is_name_char : ℕ → Bool
+is_name_char c = not (ends_attr c || (between 65 90 c || (c == 0 || (c == 13 || (c == 60 || (c == 34 || c == 39))))))
+
+-- an attribute of a plain page
+pub record IsPlainAttr (a : Attr) : Type 0 where
+  pub some : a.name ≢ []
+  pub name : AllByRecursion (λ c. is_name_char c ≡ true) a.name
+  pub value : AllByRecursion IsPlainChar a.value
+
+-- the attributes of an element of a plain page: no two have one name
+abbrev pub ArePlainAttrs : List Attr → Type 0
+ArePlainAttrs attrs = AllByRecursion IsPlainAttr attrs × AreApart attrs
+
+abbrev pub IsContent : Bool → Forest Label → Type 0
+IsContent = IsPlainForest IsPlainChar ArePlainAttrs
+
+abbrev pub IsPlainPage : Forest Label → Type 0
+IsPlainPage = IsPlain IsPlainChar ArePlainAttrs

@@ -1,6 +1,7 @@
 -- Why a page could not be had from a reader.
 use Rattle.std.specs.Prelude.{◌≡◌, ◌⊎◌, ℕ, Bool, true, List, Option}
 use Rattle.std.specs.Io.KnownBytes.{Consumes, IsAtEnd}
+use Rattle.html_charref.specs.declared.table.Row.{Row}
 use Rattle.html_page.specs.Parsed.{IsCause, IsFeedCause}
 use Rattle.html_page.specs.declared.error.ParseError.{ParseError}
 use Rattle.html_page.specs.declared.error.ParseError.TheVariants.{Read}
@@ -11,7 +12,7 @@ IsPieceCause old new failed Read = failed ≡ true
 IsPieceCause old new failed e = (bytes : List ℕ) × Consumes old new bytes × IsFeedCause bytes e
 
 -- the same, or the input was refused by all its bytes, after their end
-abbrev pub IsReaderCause : Option (List ℕ) → Option (List ℕ) → Bool → ParseError → Type 0
-IsReaderCause old new failed Read = failed ≡ true
-IsReaderCause old new failed e =
-    (bytes : List ℕ) × Consumes old new bytes × (IsFeedCause bytes e ⊎ (IsAtEnd new × IsCause bytes e))
+abbrev pub IsReaderCause : List Row → Option (List ℕ) → Option (List ℕ) → Bool → ParseError → Type 0
+IsReaderCause rows old new failed Read = failed ≡ true
+IsReaderCause rows old new failed e =
+    (bytes : List ℕ) × Consumes old new bytes × (IsFeedCause bytes e ⊎ (IsAtEnd new × IsCause rows bytes e))

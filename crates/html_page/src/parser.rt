@@ -1,6 +1,7 @@
 //! Bytes in pieces to a page.
 
 ghost use Rattle.std.specs.Prelude.{◌≡◌, ◌≢◌, ◌++◌, ◌+◌, ◌*◌, ◌^◌, ◌≤◌, ◌↔◌, List, ℕ, [], OnOk, OnErr, IfOk, IfErr, Err, length};
+ghost use Rattle.html_charref.specs.declared.table.Row.{Row};
 ghost use Rattle.html_input.specs.Decode.{code_points};
 ghost use Rattle.html_input.specs.declared.decoder.TheConstants.{LIMIT};
 ghost use Rattle.html_page.specs.Parsed.{IsPageOf, IsCause, IsFeedCause};
@@ -12,11 +13,11 @@ use html_input::{Decoder, LIMIT, count_code_points};
 use std::alloc::Global;
 
 /// A parser that takes its input in pieces, cut anywhere. Once it refused a piece it takes no more. It reads named
-/// character references by a table, which it borrows; no page that it reads today has one.
+/// character references by a table, which it borrows.
 #[derive(Drop)]
 pub struct Parser<'a> {
     alloc: Global,
-    table: &'a EntityTable,
+    pub(crate) table: &'a EntityTable,
     pub(crate) decoder: Decoder,
     pub(crate) text: Vec<char>,
 }
@@ -26,7 +27,7 @@ impl<'a> Parser<'a> {
 
     /// A parser of a document.
     pub fn document(alloc: Global, table: &'a EntityTable) -> Parser<'a>
-        ensures { IsFed result [] }
+        ensures { IsFed table.now result [] }
     {
         Parser {
             alloc,
@@ -38,9 +39,9 @@ impl<'a> Parser<'a> {
 
     /// Takes a piece of the input.
     pub fn feed(&mut self, piece: &[u8]) -> Result<(), ParseError>
-        ensures fed { OnOk result ((bytes : List ℕ) → IsFed self.old bytes → IsFed self.new (bytes ++ piece.now)) }
-        ensures few { OnOk result ((bytes : List ℕ) → IsFed self.old bytes → length bytes + length piece.now ≤ 2 ^ 33) }
-        ensures cause { IfErr result (λ e. (bytes : List ℕ) → IsFed self.old bytes → IsFeedCause (bytes ++ piece.now) e) }
+        ensures fed { OnOk result ((rows : List Row) (bytes : List ℕ) → IsFed rows self.old bytes → IsFed rows self.new (bytes ++ piece.now)) }
+        ensures few { OnOk result ((rows : List Row) (bytes : List ℕ) → IsFed rows self.old bytes → length bytes + length piece.now ≤ 2 ^ 33) }
+        ensures cause { IfErr result (λ e. (rows : List Row) (bytes : List ℕ) → IsFed rows self.old bytes → IsFeedCause (bytes ++ piece.now) e) }
         ensures refused { OnErr result (IsStopped self.new) }
         ensures stopped { (result ≡ Err ParseError.Stopped) ↔ IsStopped self.old }
     {
@@ -50,27 +51,28 @@ impl<'a> Parser<'a> {
 
     /// Ends the input: the page of all that was fed.
     pub fn finish(self) -> Result<Page, ParseError>
-        ensures page { IfOk result (λ page. (bytes : List ℕ) → IsFed self.entry bytes → IsPageOf bytes page) }
-        ensures cause { IfErr result (λ e. (bytes : List ℕ) → IsFed self.entry bytes → IsCause bytes e) }
+        ensures page { IfOk result (λ page. (rows : List Row) (bytes : List ℕ) → IsFed rows self.entry bytes → IsPageOf rows bytes page) }
+        ensures cause { IfErr result (λ e. (rows : List Row) (bytes : List ℕ) → IsFed rows self.entry bytes → IsCause rows bytes e) }
         ensures stopped { IsStopped self.entry → result ≡ Err ParseError.Stopped }
     {
         let Parser {
             alloc,
+            table,
             mut decoder,
             mut text,
-            ..
         } = self;
         decoder.finish(&mut text)?;
-        let page = read_page(alloc, text.as_slice(), decoder.count())?;
+        let page = read_page(alloc, table, text.as_slice(), decoder.count())?;
         Ok(page)
     }
 }
 
 /// The page of an input. An input of more code points than `LIMIT` is refused as too long, before all else. What is no
-/// small page's text is refused with the length of the longest front of its text with which some small page begins.
+/// plain page, by its tokens, is refused with the start of the token after the longest front of them with which the
+/// tokens of some plain page begin.
 pub fn parse(alloc: Global, table: &EntityTable, bytes: &[u8]) -> Result<Page, ParseError>
-    ensures page { IfOk result (IsPageOf bytes.now) }
-    ensures cause { IfErr result (IsCause bytes.now) }
+    ensures page { IfOk result (IsPageOf table.now bytes.now) }
+    ensures cause { IfErr result (IsCause table.now bytes.now) }
     ensures within { IfErr result (λ e. e ≢ ParseError.InputTooLong → length (code_points bytes.now) ≤ LIMIT) }
 {
     if count_code_points(bytes) as u64 > LIMIT {

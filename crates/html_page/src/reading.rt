@@ -10,11 +10,8 @@ use crate::error::ParseError;
 use crate::page::Page;
 use crate::parser::Parser;
 use html_charref::EntityTable;
-use html_device::Source;
+use html_device::{FeedAllError, Pieces, Source, feed_all};
 use std::alloc::Global;
-
-// How many bytes one read asks for.
-const READ_SIZE: usize = 4096;
 
 /// The page of all that a reader has. Any fault of the reader is `Read`, an interruption too.
 pub fn parse_from<S: Source>(
@@ -22,9 +19,9 @@ pub fn parse_from<S: Source>(
     table: &EntityTable,
     reader: &mut S,
 ) -> Result<Page, ParseError>
-    ensures page { IfOk result (λ page. (bytes : List ℕ) × Consumes (S.remaining reader.old) (S.remaining reader.new) bytes × IsPageOf bytes page) }
+    ensures page { IfOk result (λ page. (bytes : List ℕ) × Consumes (S.remaining reader.old) (S.remaining reader.new) bytes × IsPageOf table.now bytes page) }
     ensures end { OnOk result (IsAtEnd (S.remaining reader.new)) }
-    ensures cause { IfErr result (IsReaderCause (S.remaining reader.old) (S.remaining reader.new) (S.failed reader.new)) }
+    ensures cause { IfErr result (IsReaderCause table.now (S.remaining reader.old) (S.remaining reader.new) (S.failed reader.new)) }
 {
     let mut parser = Parser::document(alloc, table);
     feed_from(&mut parser, reader)?;
@@ -34,21 +31,33 @@ pub fn parse_from<S: Source>(
 
 /// Feeds a new parser all that a reader has.
 fn feed_from<S: Source>(parser: &mut Parser<'_>, reader: &mut S) -> Result<(), ParseError>
-    requires { IsFed parser.old [] }
-    ensures fed { OnOk result ((bytes : List ℕ) × Consumes (S.remaining reader.old) (S.remaining reader.new) bytes × IsFed parser.new bytes) }
+    requires { IsFed parser.old.table.now parser.old [] }
+    ensures fed { OnOk result ((bytes : List ℕ) × Consumes (S.remaining reader.old) (S.remaining reader.new) bytes × IsFed parser.old.table.now parser.new bytes) }
     ensures end { OnOk result (IsAtEnd (S.remaining reader.new)) }
     ensures cause { IfErr result (IsPieceCause (S.remaining reader.old) (S.remaining reader.new) (S.failed reader.new)) }
 {
-    let mut buffer = [0u8; READ_SIZE];
-    let mut taken = 0u64;
-    'pieces: loop {
-        let Ok(count) = reader.read(&mut buffer) else {
-            return Err(ParseError::Read);
-        };
-        if count == 0 {
-            return Ok(());
-        }
-        parser.feed(&buffer[..count])?;
-        taken += count as u64;
+    match feed_all(reader, parser) {
+        Ok(()) => Ok(()),
+        Err(FeedAllError::Read) => Err(ParseError::Read),
+        Err(FeedAllError::Refused(error)) => Err(error),
+    }
+}
+
+impl Pieces for Parser<'_> {
+    ghost use Rattle.std.specs.Prelude.{List};
+    ghost use Rattle.html_charref.specs.declared.table.Row.{Row};
+    ghost use Rattle.html_page.specs.Fed.{IsFed};
+    ghost use Rattle.html_page.specs.Parsed.{IsFeedCause};
+
+    type Refusal = ParseError;
+
+    ghost Start = { List Row };
+
+    ghost Fed = { λ rows parser bytes. IsFed rows parser bytes };
+
+    ghost Refuses = { λ _ bytes error. IsFeedCause bytes error };
+
+    fn feed(&mut self, piece: &[u8]) -> Result<(), ParseError> {
+        Parser::feed(self, piece)
     }
 }

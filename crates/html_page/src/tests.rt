@@ -1,6 +1,8 @@
-//! Small pages through the public call.
+//! Plain pages through the public calls.
 
-use crate::{EntityTable, FailAt, LIMIT, Page, ParseError, Parser, parse, parse_from, tokenize};
+use crate::{
+    EntityTable, FailAt, LIMIT, NodeId, Page, ParseError, Parser, parse, parse_from, tokenize,
+};
 use html_tokens::{FaultName, TextMode, TokenKind};
 use std::alloc::Global;
 use std::test::Fail;
@@ -48,7 +50,7 @@ fn empty_input(rt: HostRuntime) {
 #[test]
 fn unknown_element(rt: HostRuntime) {
     let bytes = b"<!DOCTYPE html><html><head></head><body><p>Hi</p></body></html>";
-    assert_eq!(rt; refusal(rt.alloc(), bytes), not_yet(41));
+    assert_eq!(rt; refusal(rt.alloc(), bytes), not_yet(40));
 }
 
 #[test]
@@ -64,9 +66,74 @@ fn more_after_the_page(rt: HostRuntime) {
 }
 
 #[test]
-fn greater_than_in_text(rt: HostRuntime) {
+fn greater_than_in_text(rt: HostRuntime) -> Result<(), Fail> {
+    let table = EntityTable::core(rt.alloc())?;
     let bytes = b"<!DOCTYPE html><html><head></head><body><div>H></div></body></html>";
+    let page = parse(rt.alloc(), &table, bytes)?;
+    assert_eq!(rt; page.arena.len(), 7);
+    let bytes = b"<!DOCTYPE html><html><head></head><body><div>a&#0;</div></body></html>";
+    assert_eq!(rt; refusal(rt.alloc(), bytes), None);
+    let bytes = b"<!DOCTYPE html><html><head></head><body><div>a&#13;</div></body></html>";
     assert_eq!(rt; refusal(rt.alloc(), bytes), not_yet(46));
+    Ok(())
+}
+
+#[test]
+fn attributes_and_escapes(rt: HostRuntime) -> Result<(), Fail> {
+    let table = EntityTable::core(rt.alloc())?;
+    let page = parse(
+        rt.alloc(),
+        &table,
+        "<!DOCTYPE html><html><head></head><body><div b=\"1&amp;2\" a='x'>&lt;&nbsp;</div></body></html>".as_bytes(),
+    )?;
+    assert_eq!(rt; page.arena.len(), 7);
+    assert_eq!(rt; page.tokens.len(), 12);
+    assert_eq!(rt; page.errors.len(), 0);
+    let div = NodeId::at(5);
+    let attrs = page.arena.attrs(div);
+    assert_eq!(rt; attrs.len(), 2);
+    assert_eq!(rt; attrs[0].name.as_str(), "b");
+    assert_eq!(rt; attrs[0].value.as_str(), "1&2");
+    assert_eq!(rt; attrs[1].name.as_str(), "a");
+    assert_eq!(rt; attrs[1].value.as_str(), "x");
+    Ok(())
+}
+
+#[test]
+fn tokens_of_no_plain_page(rt: HostRuntime) {
+    let rows: [(&[u8], u64); 7] = [
+        (
+            b"<!DOCTYPE html PUBLIC 'a'><html><head></head><body></body></html>",
+            0,
+        ),
+        (
+            b"<!DOCTYPE html><html lang=a><head></head><body></body></html>",
+            15,
+        ),
+        (
+            b"<!DOCTYPE html><html><head></head><body><div/></div></body></html>",
+            40,
+        ),
+        (
+            b"<!DOCTYPE html><html><head></head><body><div <=1></div></body></html>",
+            40,
+        ),
+        (
+            b"<!DOCTYPE html><html><head></head><body><b></i></body></html>",
+            43,
+        ),
+        (
+            b"<!DOCTYPE html><html><head></head><body></body><!----></html>",
+            47,
+        ),
+        (
+            b"<!DOCTYPE html><html><head></head><body></body></html><b>",
+            54,
+        ),
+    ];
+    for (bytes, at) in rows {
+        assert_eq!(rt; refusal(rt.alloc(), bytes), not_yet(at));
+    }
 }
 
 #[test]
@@ -77,7 +144,7 @@ fn texts_beyond_ascii(rt: HostRuntime) -> Result<(), Fail> {
     assert_eq!(rt; page.n, 57);
     assert_eq!(rt; page.arena.len(), 6);
     let bytes = "<!DOCTYPE html><html><head></head><body>é\u{A0}</body></html>".as_bytes();
-    assert_eq!(rt; refusal(rt.alloc(), bytes), not_yet(41));
+    assert_eq!(rt; refusal(rt.alloc(), bytes), None);
     Ok(())
 }
 
@@ -94,9 +161,7 @@ fn ends_of_lines(rt: HostRuntime) -> Result<(), Fail> {
 #[test]
 fn too_long_input(rt: HostRuntime) -> Result<(), Fail> {
     let mut bytes = Vec::new(rt.alloc());
-    bytes.resize(LIMIT as usize, b'a')?;
-    assert_eq!(rt; refusal(rt.alloc(), bytes.as_slice()), not_yet(0));
-    bytes.push(b'a')?;
+    bytes.resize(LIMIT as usize + 1, b'a')?;
     assert_eq!(rt;
         refusal(rt.alloc(), bytes.as_slice()),
         Some(ParseError::InputTooLong)
@@ -133,7 +198,7 @@ const REFUSED: [(&[u8], u64); 5] = [
     (b"", 0),
     (
         b"<!DOCTYPE html><html><head></head><body><p>Hi</p></body></html>",
-        41,
+        40,
     ),
     (b"<!DOCTYPE html><html><head></head><body><div>Hi", 47),
     (
@@ -141,7 +206,7 @@ const REFUSED: [(&[u8], u64); 5] = [
         67,
     ),
     (
-        b"<!DOCTYPE html><html><head></head><body><div>H></div></body></html>",
+        b"<!DOCTYPE html><html><head></head><body><div>H<p></div></body></html>",
         46,
     ),
 ];

@@ -4,6 +4,7 @@ ghost use Rattle.std.specs.Prelude.{◌≡◌, ◌≤◌, ◌∷◌, [], OnOk, I
 ghost use Rattle.std.specs.Str.{chars};
 ghost use Rattle.html_input.specs.Decode.{decode, code_points};
 ghost use Rattle.html_input.specs.declared.decoder.TheConstants.{LIMIT};
+ghost use Rattle.html_tokens.specs.Cost.{AreCosted};
 ghost use Rattle.html_tokens.specs.Stream.{tokens_of};
 ghost use Rattle.html_page.specs.TokenList.{behind_mark, marked_text, most_errors, most_steps, start_of, IsListCause};
 
@@ -68,7 +69,7 @@ fn text_of(alloc: Global, bytes: &[u8]) -> Result<Vec<char>, ParseError>
 }
 
 /// The tokens of a whole text.
-fn tokens_of_text(
+pub(crate) fn tokens_of_text(
     alloc: Global,
     table: &EntityTable,
     mode: TextMode,
@@ -77,6 +78,7 @@ fn tokens_of_text(
 ) -> Result<TokenList, ParseError>
     ensures tokens { IfOk result (λ list. list.tokens.items
         ≡ tokens_of text.now [] (start_of table.now mode (option_map (λ name. chars name.now) last_name.entry))) }
+    ensures cost { IfOk result (λ list. AreCosted (length text.now) list.tokens.items) }
     ensures errors { IfOk result (λ list. length list.errors.items ≤ most_errors (length text.now)) }
     ensures steps { IfOk result (λ list. list.steps ≤ most_steps (length text.now)) }
     ensures cause { IfErr result (λ e. e ≡ ParseError.OutOfMemory) }

@@ -1,5 +1,5 @@
 -- The events of a walk after the first.
-use Rattle.std.proofs.Common.{◌≡◌, ◌<◌, ℕ, suc, zero, List, ◌∷◌, length, subst, arith}
+use Rattle.std.proofs.Common.{◌≡◌, ◌<◌, ℕ, suc, List, ◌∷◌, subst, arith}
 use Rattle.std.specs.List.{All}
 use Rattle.html_arena.specs.declared.walk.Event.{Event}
 use Rattle.html_arena.specs.Steps.{node_in}

@@ -5,6 +5,9 @@ ghost use Rattle.std.specs.Prelude.{Some};
 use html_page::Kind;
 use std::fmt;
 
+/// How many spaces are written at once.
+const CHUNK: u64 = 64;
+
 /// So many spaces.
 #[derive(Clone, Copy, Debug)]
 pub(crate) struct Spaces(pub u64);
@@ -15,7 +18,13 @@ impl fmt::Display for Spaces {
     ghost output = { λ s. Some (replicate s.0 32) };
 
     fn fmt<W: fmt::Write>(&self, f: &mut fmt::Formatter<W>) -> fmt::Result {
-        'spaces: for _i in 0..self.0 {
+        'chunks: for _i in 0..self.0 / CHUNK {
+            write!(
+                f,
+                "                                                                "
+            )?;
+        }
+        'spaces: for _i in 0..self.0 % CHUNK {
             write!(f, " ")?;
         }
         Ok(())

@@ -1,6 +1,6 @@
 //! One job, over any reader and writers.
 
-ghost use Rattle.std.specs.Prelude.{◌≡◌, ◌<◌, IfOk, IfSome, OnOk, MatchOption, Ok};
+ghost use Rattle.std.specs.Prelude.{◌≡◌, ◌≢◌, ◌<◌, List, IfOk, IfErr, IfSome, OnOk, MatchOption, Ok, Err};
 ghost use Rattle.std.specs.Io.KnownBytes.{Appends};
 ghost use Rattle.html_arena.specs.Walking.{IsRoot};
 ghost use Rattle.html_charref.specs.Entities.{core_rows, entities_of};
@@ -8,7 +8,9 @@ ghost use Rattle.html_run.specs.Outcome.{status_of};
 ghost use Rattle.html_run.specs.Profiles.{profile_of};
 ghost use Rattle.html_input.specs.Decode.{decode};
 ghost use Rattle.html_page.specs.Normalised.{IsNormalised};
-ghost use Rattle.html_page.specs.Small.{IsSmallText};
+ghost use Rattle.html_charref.specs.declared.table.Row.{Row};
+ghost use Rattle.html_page.specs.PageTokens.{ArePlain, kinds};
+ghost use Rattle.html_page.specs.Parsed.{tokens_in};
 
 use crate::errors::{print_errors, tokens_from};
 use crate::printing::ToSink;
@@ -36,9 +38,12 @@ pub fn run<R: Source, W: Sink, F: Write>(
     writer: &mut W,
     faults: &mut F,
 ) -> u8
-    ensures done { job.now.command ≡ Command.Tree → result ≡ DONE → IfSome (R.remaining reader.old) (λ bytes. IsSmallText (decode bytes)) }
+    ensures done { job.now.command ≡ Command.Tree → result ≡ DONE → (rows : List Row)
+        × MatchOption entities.entry (rows ≡ core_rows) (λ bytes. entities_of bytes.now ≡ Ok rows)
+        × IfSome (R.remaining reader.old) (λ bytes. ArePlain (kinds (tokens_in rows (decode bytes)))) }
     ensures normalised { job.now.command ≡ Command.Normalise → result ≡ DONE
-        → IsNormalised (profile_of job.now.profile) (Appends (W.taken writer.old) (W.taken writer.new)) (R.remaining reader.old) (R.remaining reader.new) }
+        → (rows : List Row) × MatchOption entities.entry (rows ≡ core_rows) (λ bytes. entities_of bytes.now ≡ Ok rows)
+        × IsNormalised rows (profile_of job.now.profile) (Appends (W.taken writer.old) (W.taken writer.new)) (R.remaining reader.old) (R.remaining reader.new) }
     ensures status { result < 4 }
 {
     let input = job.input.unwrap_or("-");
@@ -78,7 +83,7 @@ fn answer_tree<R: Source, W: Sink>(
     reader: &mut R,
     writer: &mut W,
 ) -> Result<(), ParseError>
-    ensures { OnOk result (IfSome (R.remaining reader.old) (λ bytes. IsSmallText (decode bytes))) }
+    ensures { OnOk result (IfSome (R.remaining reader.old) (λ bytes. ArePlain (kinds (tokens_in table.now (decode bytes))))) }
 {
     match parse_from(alloc, table, reader) {
         Ok(page) => written(write_tree(alloc, &page, writer)),
@@ -113,7 +118,8 @@ fn answer_nothing<R: Source>(
 
 /// The table of a file of named character references, or without one the table of five names.
 pub fn table_of(alloc: Global, entities: Option<&[u8]>) -> Result<EntityTable, EntityError>
-    ensures { IfOk result (λ table. MatchOption entities.entry (table ≡ core_rows) (λ bytes. entities_of bytes.now ≡ Ok table)) }
+    ensures table { IfOk result (λ table. MatchOption entities.entry (table ≡ core_rows) (λ bytes. entities_of bytes.now ≡ Ok table)) }
+    ensures cause { IfErr result (λ e. e ≢ EntityError.OutOfMemory → MatchOption entities.entry ⊥ (λ bytes. entities_of bytes.now ≡ Err e)) }
 {
     match entities {
         Some(bytes) => EntityTable::read(alloc, bytes),

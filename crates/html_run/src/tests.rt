@@ -53,13 +53,43 @@ fn prints_trees(rt: HostRuntime) -> Result<(), Fail> {
     Ok(())
 }
 
+/// A plain page with attributes and escapes, in profile One.
+const MARKED: &str =
+    "<!DOCTYPE html><html><head></head><body><div id=\"a<b\" class=\"&amp;&quot;\">x &lt; y&nbsp;<i></i>&amp;</div></body></html>";
+
+/// The same in profile Two.
+const MARKED_TWO: &str =
+    "<!DOCTYPE html><html><head></head><body><div id=\"a&lt;b\" class=\"&amp;&quot;\">x &lt; y&nbsp;<i></i>&amp;</div></body></html>";
+
+#[test]
+fn prints_attributes_and_escapes(rt: HostRuntime) -> Result<(), Fail> {
+    let (status, written, _) = tree_of(rt.alloc(), MARKED.as_bytes())?;
+    assert_eq!(rt; status, DONE);
+    let lines =
+        "|     <div>\n|       class=\"&\"\"\n|       id=\"a<b\"\n|       \"x < y\u{A0}\"\n|       <i>\n|       \"&\"\n";
+    assert!(rt; written.as_slice().ends_with(lines.as_bytes()));
+    for (text, profile, want) in [
+        (MARKED, Profile::One, MARKED),
+        (MARKED_TWO, Profile::One, MARKED),
+        (MARKED, Profile::Two, MARKED_TWO),
+        (MARKED_TWO, Profile::Two, MARKED_TWO),
+    ] {
+        let mut job = job_of(rt.alloc(), Command::Normalise);
+        job.profile = profile;
+        let (status, written, _) = answer(rt.alloc(), &job, text.as_bytes())?;
+        assert_eq!(rt; status, DONE);
+        assert_eq!(rt; written.as_slice(), want.as_bytes());
+    }
+    Ok(())
+}
+
 #[test]
 fn tells_a_refusal(rt: HostRuntime) -> Result<(), Fail> {
     let rows: [(&[u8], &str); 3] = [
         (b"", "refused: not yet at 0\n"),
         (
             b"<!DOCTYPE html><html><head></head><body><p>Hi</p></body></html>",
-            "refused: not yet at 41\n",
+            "refused: not yet at 40\n",
         ),
         (
             b"<!DOCTYPE html><html><head></head><body><div>Hi</div></body></html>x",

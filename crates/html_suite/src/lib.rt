@@ -11,7 +11,5 @@ mod suite;
 #[cfg(test)]
 mod tests;
 mod texts;
-#[cfg(test)]
-mod tokenizer;
 
 pub use suite::suite_file;

@@ -15,4 +15,4 @@ pub mod DoctypeLemmas
 pub mod BoundLemmas
 pub mod RunLemmas
 pub mod CopyLemmas
-pub mod KeyLemmas
+pub mod PlaceLemmas

@@ -1,4 +1,4 @@
--- Code points that names, values, comments and ids take as they stand: they end nothing, begin nothing, become nothing else and tell no error.
+-- Code points that names, values and comments take as they stand: they end nothing, begin nothing, become nothing else and tell no error.
 use Rattle.std.specs.Prelude.{◌≡◌, ℕ, ◌+◌, ◌≤◌, List, [], ◌∷◌, ◌++◌, length, drop, Bool, true, not, ◌||◌, ◌==◌}
 use Rattle.html_tokens.specs.Cut.{Cut, ends_unquoted}
 use Rattle.html_tokens.specs.Draft.{draft_cut}
@@ -11,7 +11,7 @@ use Rattle.html_tokens.specs.declared.tag.TagDraft.{TagDraft}
 use Rattle.html_tokens.specs.declared.tag.ValueEnd.{ValueEnd}
 use Rattle.html_tokens.specs.declared.tag.ValueEnd.TheVariants as ends
 use Rattle.html_tokens.specs.declared.copied.Copied.{Copied}
-use Rattle.html_tokens.specs.declared.copied.Copied.TheVariants.{Name, DoubleQuoted, SingleQuoted, Unquoted, Comment, Bogus, Id}
+use Rattle.html_tokens.specs.declared.copied.Copied.TheVariants.{Name, DoubleQuoted, SingleQuoted, Unquoted, Comment, Bogus}
 
 -- each code point passes
 abbrev pub AllPass : (ℕ → Bool) → List ℕ → Type 0
@@ -25,7 +25,6 @@ is_copied SingleQuoted c = not (c == 0 || (c == 39 || c == 38))
 is_copied Unquoted c = not (ends_unquoted c || (c == 0 || (c == 34 || (c == 39 || (c == 38 || (c == 60 || (c == 61 || c == 96)))))))
 is_copied Comment c = not (c == 0 || (c == 45 || c == 60))
 is_copied Bogus c = not (c == 0 || c == 62)
-is_copied (Id quote) c = not (c == quote || (c == 0 || c == 62))
 
 -- what a value takes that closes so
 abbrev pub copied_in : ValueEnd → Copied

@@ -6,7 +6,7 @@ pub mod Reference
 pub mod Value
 pub mod Tag
 pub mod Copied
-pub mod Keys
+pub mod Places
 pub mod Marks
 pub mod Doctype
 pub mod Tokens

@@ -1,5 +1,5 @@
 -- A tag: its name, its attributes, and how it closes.
-use Rattle.std.specs.Prelude.{◌≡◌, ℕ, zero, suc, ◌+◌, ◌≤◌, ◌<◌, List, [], ◌∷◌, ◌++◌, length, map, drop, Bool, true, false, ◌&&◌, ◌||◌, ◌==◌, cond, nat_le, Option, slice_get, option_to_list}
+use Rattle.std.specs.Prelude.{◌≡◌, ℕ, zero, suc, ◌+◌, ◌≤◌, ◌<◌, List, [], ◌∷◌, ◌++◌, length, map, drop, Bool, true, false, ◌&&◌, ◌||◌, ◌==◌, cond, nat_le, Option, IsTrue, slice_get, option_to_list}
 use Rattle.std.specs.List.{list_any}
 use Rattle.std.specs.Str.{bytes_eq}
 use Rattle.html_tokens.specs.Cut.{Cut, cut, is, shown, stop_mark, is_space}
@@ -159,6 +159,11 @@ ReadsTag old c after More new =
 ReadsTag old c after (Closed self_closing n) new =
     ((rows : List Row) (rest : List ℕ) → (c ≡ 47 → slice_get rest 0 ≡ after) → draft_tag rows old (c ∷ rest) ≡ record { name = new.name; tail = record { attrs = new.attrs; self_closing = self_closing; closed = true; len = n } })
     × (new.start ≡ old.start) × (new.is_end ≡ old.is_end) × (n ≤ 1 + length (option_to_list after))
+
+-- only `>` and `/` close a tag
+abbrev pub ClosesAt : ℕ → TagReading → Type 0
+ClosesAt c More = Unit {0}
+ClosesAt c (Closed self_closing n) = IsTrue (c == 62 || c == 47)
 
 -- a number goes on at this code point
 abbrev pub GoesOn : Part → ℕ → Type 0

@@ -37,6 +37,21 @@ impl MadeWith<Global> for Attr {
     }
 }
 
+/// Whether an attribute of this name is there, and how many names were compared with it.
+pub(crate) fn search(attrs: &[Attr], name: &Str) -> (bool, usize)
+    ensures found { result.0 ≡ has_name name.now attrs.now }
+    ensures count { result.1 ≤ length attrs.now }
+{
+    let mut compared = 0;
+    for attr in attrs {
+        compared += 1;
+        if attr.name == *name {
+            return (true, compared);
+        }
+    }
+    (false, compared)
+}
+
 /// Attributes in order, seen as their list; up to four take no memory of their own.
 #[derive(Debug, Drop)]
 pub struct Attrs {
@@ -69,21 +84,6 @@ impl Attrs {
     {
         self.list.push(attr)?;
         Ok(())
-    }
-
-    /// Whether an attribute of this name is there, and how many names were compared with it.
-    pub(crate) fn search(&self, name: &Str) -> (bool, usize)
-        ensures found { result.0 ≡ has_name name.now self.now }
-        ensures count { result.1 ≤ length self.now }
-    {
-        let mut compared = 0;
-        for attr in self.list.as_slice() {
-            compared += 1;
-            if attr.name == *name {
-                return (true, compared);
-            }
-        }
-        (false, compared)
     }
 
     /// The attributes of a `Vec`, which takes no memory.

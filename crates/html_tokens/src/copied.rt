@@ -16,7 +16,6 @@ pub enum Copied {
     Unquoted,
     Comment,
     Bogus,
-    Id(char),
 }
 
 impl Copied {
@@ -32,7 +31,6 @@ impl Copied {
             }
             Copied::Comment => !matches!(c, '\0' | '-' | '<'),
             Copied::Bogus => !matches!(c, '\0' | '>'),
-            Copied::Id(quote) => !(c == quote || matches!(c, '\0' | '>')),
         }
     }
 

@@ -1,45 +1,60 @@
 // The attributes of a tag that is being read.
-ghost use Rattle.html_tokens.specs.Keys.{key_of};
+ghost use Rattle.html_tokens.specs.Places.{few};
 ghost use Rattle.html_tokens.specs.Tag.{has_name};
-ghost use Rattle.std.specs.Prelude.{◌≡◌, ◌≤◌, ◌∷◌, [], ◌++◌, length, OnErr, OnOk};
+ghost use Rattle.std.specs.Prelude.{◌≡◌, ◌≤◌, ◌∷◌, [], ◌++◌, length, take, OnErr, OnOk};
 
-use crate::attributes::{Attr, Attrs};
+use crate::attributes::{Attr, Attrs, search};
 use html_charref::Str;
-use smallvec::SmallVec;
 use std::alloc::{AllocError, Global};
+use std::collections::BTreeMap;
 use std::marker::Model;
 
-/// Attributes in order, seen as their list, with a key for each name: a name whose key is not there is not there, so
-/// that most names are never compared.
+/// So many names are looked at one after another.
+const FEW: usize = 16;
+
+/// Attributes in order, seen as their list. The names after the first few have their places in a tree, so that a tag of
+/// many attributes takes little time, whatever their names are.
 #[derive(Drop)]
 pub struct KeyedAttrs {
+    alloc: Global,
     attrs: Attrs,
-    keys: SmallVec<u64, 4>,
+    places: BTreeMap<String, usize>,
 }
 
 impl Model for KeyedAttrs {
-    ghost use Rattle.std.specs.Prelude.{List, map, ◌≡◌};
+    ghost use Rattle.std.specs.Prelude.{List};
     ghost use Rattle.html_tokens.specs.declared.attributes.Attr.{Attr};
-    ghost use Rattle.html_tokens.specs.Keys.{attr_key};
+    ghost use Rattle.html_tokens.specs.Places.{AreFound};
 
     ghost Value = { List Attr };
 
     ghost view = { λ a. a.attrs };
 
-    ghost invariant = { λ a. a.keys.items ≡ map attr_key a.attrs };
+    ghost invariant = { λ a. AreFound a.attrs a.places };
 }
 
-/// The key of a name.
-fn key(name: &Str) -> u64
-    ensures { result ≡ key_of name.now }
+/// The first few attributes.
+fn first_few(attrs: &[Attr]) -> &[Attr]
+    ensures { result.now ≡ take few attrs.now }
 {
-    let mut key = 0u64;
-    for byte in name.as_str().as_bytes() {
-        key = key
-            .wrapping_mul(0x9E37_79B9_7F4A_7C15)
-            .wrapping_add(*byte as u64);
+    if attrs.len() < FEW {
+        attrs
+    } else {
+        &attrs[..FEW]
     }
-    key
+}
+
+/// Whether an attribute of this name is there, and with how many names it was compared; it may be the one at this place.
+fn search_at(attrs: &[Attr], place: usize, name: &Str) -> (bool, usize)
+    ensures found { result.0 ≡ has_name name.now attrs.now }
+    ensures count { result.1 ≤ length attrs.now }
+{
+    if let Some(attr) = attrs.get(place) {
+        if attr.name == *name {
+            return (true, place + 1);
+        }
+    }
+    search(attrs, name)
 }
 
 impl KeyedAttrs {
@@ -47,8 +62,9 @@ impl KeyedAttrs {
         ensures { result ≡ [] }
     {
         KeyedAttrs {
+            alloc,
             attrs: Attrs::new(alloc),
-            keys: SmallVec::new(alloc),
+            places: BTreeMap::new(alloc),
         }
     }
 
@@ -57,10 +73,14 @@ impl KeyedAttrs {
         ensures ok { OnOk result (self.new ≡ self.old ++ attr ∷ []) }
         ensures err { OnErr result (self.new ≡ self.old) }
     {
-        let key = key(&attr.name);
-        self.keys.reserve(1)?;
+        if self.attrs.len() < FEW {
+            self.attrs.push(attr)?;
+            return Ok(());
+        }
+        let name = attr.name.as_str().to_string(self.alloc)?;
+        let place = self.attrs.len();
+        self.places.insert(name, place)?;
         self.attrs.push(attr)?;
-        self.keys.push_reserved(key);
         Ok(())
     }
 
@@ -69,10 +89,15 @@ impl KeyedAttrs {
         ensures found { result.0 ≡ has_name name.now self.now }
         ensures count { result.1 ≤ length self.now }
     {
-        if !self.keys.as_slice().contains(&key(name)) {
-            return (false, self.attrs.len());
+        let attrs = self.attrs.as_slice();
+        let (found, compared) = search(first_few(attrs), name);
+        if found {
+            return (true, compared);
         }
-        self.attrs.search(name)
+        match self.places.get(name.as_str()) {
+            None => (false, attrs.len()),
+            Some(place) => search_at(attrs, *place, name),
+        }
     }
 
     pub(crate) fn len(&self) -> usize
@@ -81,7 +106,7 @@ impl KeyedAttrs {
         self.attrs.len()
     }
 
-    /// The attributes without their keys.
+    /// The attributes without the places of their names.
     pub(crate) fn into_attrs(self) -> Attrs
         ensures { result ≡ self }
     {

@@ -931,8 +931,7 @@ impl<'a> Machine<'a> {
                 self.pass(1);
                 Ok(true)
             }
-            // Nothing but `>` and `/>` closes a tag.
-            TagReading::Closed(..) => Err(AllocError),
+            TagReading::Closed(..) => unreachable!(),
         }
     }
 

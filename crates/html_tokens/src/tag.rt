@@ -2,7 +2,7 @@
 ghost use Rattle.std.specs.Prelude.{length, ◌≡◌, ℕ, ◌≤◌, ◌+◌, ◌∷◌, [], ◌++◌, OnOk, IfOk, true, false, Option};
 ghost use Rattle.html_tokens.specs.Copied.{copied_in, CopiesTag};
 ghost use Rattle.html_tokens.specs.Cut.{is_space, ends_unquoted};
-ghost use Rattle.html_tokens.specs.Tag.{name_char, ReadsTag, ends_name, ends_attr, AddsAttr, reads_refs, is_number, Settles, OpensRef, ReadsRef, IsInside, GoesOn};
+ghost use Rattle.html_tokens.specs.Tag.{name_char, ReadsTag, ends_name, ends_attr, AddsAttr, reads_refs, is_number, Settles, OpensRef, ReadsRef, IsInside, GoesOn, ClosesAt};
 ghost use Rattle.html_tokens.specs.Reference.{is_digit};
 ghost use Rattle.html_charref.specs.Number.{char_of};
 ghost use Rattle.html_charref.specs.Entities.{codes_with};
@@ -143,6 +143,7 @@ impl TagDraft {
     pub(crate) fn read(&mut self, c: char, after: Option<char>) -> Result<TagReading, AllocError>
         requires plain { reads_refs self.old.part ≡ true → c ≡ 38 → ⊥ }
         ensures reads { IfOk result (λ reading. ReadsTag self.old c after reading self.new) }
+        ensures closes { IfOk result (λ reading. ClosesAt c reading) }
         ensures attrs { OnOk result (length self.new.attrs ≤ length self.old.attrs + 1) }
     {
         self.settle(c)?;
@@ -154,6 +155,7 @@ impl TagDraft {
         requires plain { reads_refs self.old.part ≡ true → c ≡ 38 → ⊥ }
         requires goes_on { GoesOn self.old.part c }
         ensures reads { IfOk result (λ reading. ReadsTag self.old c after reading self.new) }
+        ensures closes { IfOk result (λ reading. ClosesAt c reading) }
         ensures attrs { OnOk result (length self.new.attrs ≤ length self.old.attrs + 1) }
     {
         if let Part::Number(end, base, value) = self.part {
@@ -168,6 +170,7 @@ impl TagDraft {
         requires part { is_number self.old.part ≡ false }
         requires plain { reads_refs self.old.part ≡ true → c ≡ 38 → ⊥ }
         ensures reads { IfOk result (λ reading. ReadsTag self.old c after reading self.new) }
+        ensures closes { IfOk result (λ reading. ClosesAt c reading) }
         ensures attrs { OnOk result (length self.new.attrs ≤ length self.old.attrs + 1) }
     {
         match self.part {
@@ -187,6 +190,7 @@ impl TagDraft {
     fn read_name(&mut self, c: char, after: Option<char>) -> Result<TagReading, AllocError>
         requires { self.old.part ≡ Part.Name }
         ensures reads { IfOk result (λ reading. ReadsTag self.old c after reading self.new) }
+        ensures closes { IfOk result (λ reading. ClosesAt c reading) }
         ensures attrs { OnOk result (length self.new.attrs ≤ length self.old.attrs + 1) }
     {
         if ends_name(c) {
@@ -201,6 +205,7 @@ impl TagDraft {
     fn read_attributes(&mut self, c: char, after: Option<char>) -> Result<TagReading, AllocError>
         requires { self.old.part ≡ Part.Attributes }
         ensures reads { IfOk result (λ reading. ReadsTag self.old c after reading self.new) }
+        ensures closes { IfOk result (λ reading. ClosesAt c reading) }
         ensures attrs { self.new.attrs ≡ self.old.attrs }
     {
         if c == '>' {
@@ -225,6 +230,7 @@ impl TagDraft {
     fn read_attr_name(&mut self, c: char, after: Option<char>) -> Result<TagReading, AllocError>
         requires { self.old.part ≡ Part.AttrName }
         ensures reads { IfOk result (λ reading. ReadsTag self.old c after reading self.new) }
+        ensures closes { IfOk result (λ reading. ClosesAt c reading) }
         ensures attrs { OnOk result (length self.new.attrs ≤ length self.old.attrs + 1) }
     {
         if ends_attr(c) {
@@ -239,6 +245,7 @@ impl TagDraft {
     fn read_after_name(&mut self, c: char, after: Option<char>) -> Result<TagReading, AllocError>
         requires { self.old.part ≡ Part.AfterName }
         ensures reads { IfOk result (λ reading. ReadsTag self.old c after reading self.new) }
+        ensures closes { IfOk result (λ reading. ClosesAt c reading) }
         ensures attrs { OnOk result (length self.new.attrs ≤ length self.old.attrs + 1) }
     {
         if is_space(c) {
@@ -257,6 +264,7 @@ impl TagDraft {
         requires part { self.old.part ≡ Part.Value }
         requires plain { c ≡ 38 → ⊥ }
         ensures reads { IfOk result (λ reading. ReadsTag self.old c after reading self.new) }
+        ensures closes { IfOk result (λ reading. ClosesAt c reading) }
         ensures attrs { OnOk result (length self.new.attrs ≤ length self.old.attrs + 1) }
     {
         if is_space(c) {
@@ -279,6 +287,7 @@ impl TagDraft {
         requires part { self.old.part ≡ Part.Inside ValueEnd.DoubleQuote }
         requires plain { c ≡ 38 → ⊥ }
         ensures reads { IfOk result (λ reading. ReadsTag self.old c after reading self.new) }
+        ensures closes { IfOk result (λ reading. ClosesAt c reading) }
         ensures attrs { OnOk result (length self.new.attrs ≤ length self.old.attrs + 1) }
     {
         if c == '"' {
@@ -294,6 +303,7 @@ impl TagDraft {
         requires part { self.old.part ≡ Part.Inside ValueEnd.SingleQuote }
         requires plain { c ≡ 38 → ⊥ }
         ensures reads { IfOk result (λ reading. ReadsTag self.old c after reading self.new) }
+        ensures closes { IfOk result (λ reading. ClosesAt c reading) }
         ensures attrs { OnOk result (length self.new.attrs ≤ length self.old.attrs + 1) }
     {
         if c == '\'' {
@@ -309,6 +319,7 @@ impl TagDraft {
         requires part { self.old.part ≡ Part.Inside ValueEnd.Space }
         requires plain { c ≡ 38 → ⊥ }
         ensures reads { IfOk result (λ reading. ReadsTag self.old c after reading self.new) }
+        ensures closes { IfOk result (λ reading. ClosesAt c reading) }
         ensures attrs { OnOk result (length self.new.attrs ≤ length self.old.attrs + 1) }
     {
         if ends_unquoted(c) {

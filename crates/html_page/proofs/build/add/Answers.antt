@@ -1,11 +1,9 @@
-use Rattle.std.proofs.Common.{◌≡◌, ℕ, Bool, cond, get_or, List, true, false, [], ◌∷◌, ◌++◌, length, refl, subst, sym, ◌∙◌, ap, arith}
+use Rattle.std.proofs.Common.{◌≡◌, ℕ, Bool, cond, get_or, List, [], ◌∷◌, ◌++◌, length, subst, ◌∙◌, ap, arith}
 use Rattle.html_arena.specs.declared.data.NodeData.{NodeData}
 use Rattle.html_arena.specs.declared.data.NodeData.TheVariants as node
 use Rattle.html_arena.specs.Laws.{IsGrown, IsLinked}
-use Rattle.html_arena.specs.Make.{nodes_made}
 use Rattle.html_arena.specs.Make.{label_for as node_for}
-use Rattle.html_arena.specs.Siblings.{has}
-use Rattle.html_arena.specs.Tree.{Tree, ancestors, children_of, label_of, parent_of}
+use Rattle.html_arena.specs.Tree.{Tree, children_of, label_of}
 use Rattle.html_page.proofs.Added.{is-added, no-contents}
 use Rattle.html_page.proofs.build.add.Goals as goal
 

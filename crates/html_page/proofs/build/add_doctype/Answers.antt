@@ -1,4 +1,4 @@
-use Rattle.std.proofs.Common.{Some, None, ap, subst, ◌∙◌}
+use Rattle.std.proofs.Common.{Some, None, subst, ◌∙◌}
 use Rattle.html_page.specs.Label.Label.{doctype}
 use Rattle.html_page.specs.Open.{IsAdded}
 use Rattle.html_page.proofs.Added.{chars-html}

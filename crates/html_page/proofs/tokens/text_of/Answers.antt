@@ -1,4 +1,4 @@
-use Rattle.std.proofs.Common.{◌≡◌, ℕ, ◌<◌, List, [], ◌∷◌, ◌++◌, false, Err, ap, sym, subst, ◌∙◌, append-nil, length}
+use Rattle.std.proofs.Common.{ℕ, ◌<◌, List, [], false, Err, ap, sym, subst, ◌∙◌, append-nil, length}
 use Rattle.std.proofs.lemmas.Result.{err_from_is_err_and}
 use Rattle.html_input.specs.Decode.{code_points}
 use Rattle.html_input.specs.Fed.{Fed}

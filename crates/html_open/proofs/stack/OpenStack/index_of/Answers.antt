@@ -9,5 +9,5 @@ returns-clause-steps c =
     c.charge.ensures
     ∙ ap (charged c.args.arena.now)
     (c.steps_to.ensures
-    ∙ steps_index (eqb c.args.node) c.as_slice-nodes.result.now c.last_index-found.result (length c.as_slice-nodes.result.now) refl c.last_index-found.ensures.index
+    ∙ steps_index (eqb c.args.node) c.as_slice-nodes.result.now c.last_index-index.result (length c.as_slice-nodes.result.now) refl c.last_index-index.ensures.index
     ∙ ap (looked (eqb c.args.node)) (c.as_slice-nodes.ensures.value ∙ c.self.view_is))

@@ -1,4 +1,4 @@
-use Rattle.std.proofs.Common.{◌≡◌, ℕ, List, ◌+◌, [], length, refl, ap, ◌∙◌, sym, subst, arith, codes, Some, None, reverse}
+use Rattle.std.proofs.Common.{◌≡◌, ℕ, List, [], length, refl, ap, ◌∙◌, sym, subst, arith, codes, Some, None, reverse}
 use Rattle.html_names.specs.Names.{tag_of}
 use Rattle.html_names.specs.Sets.{is_template}
 use Rattle.html_arena.specs.Tree.{Tree, children_of, empty_tree}

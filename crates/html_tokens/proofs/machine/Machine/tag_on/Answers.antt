@@ -3,8 +3,8 @@ use Rattle.html_tokens.proofs.StreamLemmas.{more_skips}
 use Rattle.html_tokens.proofs.TagLemmas.{tag_more}
 use Rattle.html_tokens.proofs.machine.Machine.tag_on.Goals as goal
 
-pub returns-in-More-clause-skips : goal.returns-in-More-clause-skips
-returns-in-More-clause-skips c =
+pub returns-clause-skips : goal.returns-clause-skips
+returns-clause-skips c =
     let first = rw c.in-Is-Some.field-0-is at c.in-Is-Some.ensures in
     let some : 0 < length c.args.self.now.input.queue.items = first.1 in
     more_skips c.args.self.now c.pass.new.self

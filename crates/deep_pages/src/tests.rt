@@ -1,0 +1,85 @@
+use html_job::{Command, Job, Profile};
+use html_page::{DeviceFault, OverRead, OverWrite, Sink};
+use html_run::{DONE, run};
+use std::alloc::{AllocError, Global};
+use std::test::Fail;
+
+/// How many `div` elements stand one in the other.
+const DEPTH: usize = 100_000;
+
+/// A page of nested elements.
+fn nested(alloc: Global) -> Result<Vec<u8>, AllocError> {
+    let mut page = Vec::new(alloc);
+    page.extend_from_slice(b"<!DOCTYPE html><html><head></head><body>")?;
+    for _ in 0..DEPTH {
+        page.extend_from_slice(b"<div>")?;
+    }
+    for _ in 0..DEPTH {
+        page.extend_from_slice(b"</div>")?;
+    }
+    page.extend_from_slice(b"</body></html>")?;
+    Ok(page)
+}
+
+/// A writer that counts the bytes.
+#[derive(Drop)]
+struct Counter {
+    bytes: u64,
+}
+
+impl Sink for Counter {
+    ghost use Rattle.std.specs.Prelude.{None, false};
+
+    ghost taken = { λ _. None };
+
+    ghost failed = { λ _. false };
+
+    ghost stalled = { λ _. false };
+
+    fn write(&mut self, bytes: &[u8]) -> Result<usize, DeviceFault> {
+        self.bytes = self.bytes.saturating_add(bytes.len() as u64);
+        Ok(bytes.len())
+    }
+}
+
+fn job_of(alloc: Global, command: Command) -> Job<'static> {
+    Job {
+        command,
+        entities: None,
+        profile: Profile::One,
+        input: None,
+        files: Vec::new(alloc),
+    }
+}
+
+#[test]
+fn normalises_a_deep_page(rt: HostRuntime) -> Result<(), Fail> {
+    let alloc = rt.alloc();
+    let page = nested(alloc)?;
+    let job = job_of(alloc, Command::Normalise);
+    let mut reader = OverRead::new(page.as_slice());
+    let mut writer = OverWrite::new(Vec::new(alloc));
+    let mut faults = Vec::new(alloc);
+    let status = run(alloc, &job, None, &mut reader, &mut writer, &mut faults);
+    assert_eq!(rt; status, DONE);
+    assert!(rt; writer.into_inner().as_slice() == page.as_slice());
+    Ok(())
+}
+
+/// The lines of `html`, `head`, `body` and the doctype, and for each `div` its indentation and eight bytes: the first
+/// stands four spaces from the left, each further one two more.
+const PRINTED: u64 = 18 + 9 + 11 + 11 + 8 * 100_000 + 2 * (100_001 * 100_002 / 2 - 1);
+
+#[test]
+fn prints_a_deep_page(rt: HostRuntime) -> Result<(), Fail> {
+    let alloc = rt.alloc();
+    let page = nested(alloc)?;
+    let job = job_of(alloc, Command::Tree);
+    let mut reader = OverRead::new(page.as_slice());
+    let mut writer = Counter { bytes: 0 };
+    let mut faults = Vec::new(alloc);
+    let status = run(alloc, &job, None, &mut reader, &mut writer, &mut faults);
+    assert_eq!(rt; status, DONE);
+    assert_eq!(rt; writer.bytes, PRINTED);
+    Ok(())
+}

@@ -1,0 +1,77 @@
+use Rattle.std.proofs.Common.{rules, ◌≡◌, ◌<◌, length, ◌+◌, get_or, sym, ap, subst, ◌∙◌, arith}
+use Rattle.std.proofs.lemmas.Result.{err_from_is_err_and}
+use Rattle.html_open.specs.declared.entry.Entry.{Entry}
+use Rattle.html_open.specs.declared.entry.Entry.TheVariants.{Marker, Node}
+use Rattle.html_open.specs.Opened.{open_at}
+use Rattle.html_open.specs.Reopening.{IsCause}
+use Rattle.html_open.proofs.Reopened.{cause-is, entry-is, labels-are, next-absent, no-marker, reopened-is, reopening-starts, reopening-step, same-length, steps-are, way-as}
+use Rattle.html_open.proofs.list.FormattingList.reopen.Goals.{in-Node+in_ok-reopened, in_default}
+use Rattle.html_open.proofs.list.FormattingList.reopen.Goals as goal
+
+pub reopening-init : goal.reopening-init
+reopening-init c = record {
+  way = reopening-starts c.args.foster c.args.stack.now c.args.self.now c.args.arena.now c.first_closed-start.new.arena c.first_closed-start.result
+      c.requires.is_open c.requires.can_place c.first_closed-start.ensures.start c.first_closed-start.ensures.steps;
+  len_is = let v = ap length c.self.view_is in let n = c.len-len.ensures in search rules;
+}
+
+pub index-requires : goal.index-requires
+index-requires c = let t = c.reopening-test.true in let n = c.reopening.invariant.len_is in let v = ap length c.self-in-reopening.view_is in omega arith
+
+pub reopen_entry-reopened-requires-clause-absent : goal.reopen_entry-reopened-requires-clause-absent
+reopen_entry-reopened-requires-clause-absent c =
+    let b : c.reopening.index < length c.reopening.self = (let t = c.reopening-test.true in let n = c.reopening.invariant.len_is in omega arith) in
+    next-absent c.args.foster (open_at c.args.stack.now c.args.self.now c.args.arena.now) c.reopening.index c.reopening.stack c.reopening.self c.reopening.arena c.reopening.invariant.way
+    Marker c.in-Node.node b (entry-is c.self-in-reopening.inside.entries.items c.reopening.self c.reopening.index c.index.result.now (Node c.in-Node.node) c.self-in-reopening.view_is b c.index.ensures c.in-Node.is)
+
+pub returns-in_err-reopened-clause-cause : goal.returns-in_err-reopened-clause-cause
+returns-in_err-reopened-clause-cause c =
+    let p = err_from_is_err_and c.from_residual.result c.from_residual.ensures.1 in
+    let b : c.reopening.index < length c.reopening.self = (let t = c.reopening-test.true in let n = c.reopening.invariant.len_is in omega arith) in
+    let o = open_at c.args.stack.now c.args.self.now c.args.arena.now in
+    let h = entry-is c.self-in-reopening.inside.entries.items c.reopening.self c.reopening.index c.index.result.now (Node c.in-Node.node) c.self-in-reopening.view_is b c.index.ensures c.in-Node.is in
+    rw p.1
+    (subst (IsCause o c.args.foster) (sym p.2)
+    (cause-is c.args.foster o c.reopening.index c.reopening.stack c.reopening.self c.reopening.arena c.reopening.invariant.way Marker c.in-Node.node c.in_err-reopened.field-0.0 b h
+    c.in_err-reopened.ensures.cause))
+
+pub reopening-preserved : goal.reopening-preserved
+reopening-preserved c =
+    let b : c.reopening.index < length c.reopening.self = (let t = c.reopening-test.true in let n = c.reopening.invariant.len_is in omega arith) in
+    let o = open_at c.args.stack.now c.args.self.now c.args.arena.now in
+    let look : (e : Entry) → c.index.result.now ≡ e → get_or c.reopening.self c.reopening.index Marker ≡ e = λ e. entry-is c.self-in-reopening.inside.entries.items c.reopening.self c.reopening.index c.index.result.now e c.self-in-reopening.view_is b c.index.ensures in
+    elim c.match-index.branch [
+      | in-Node+in_ok-reopened w ↦
+          let s = w.reopen_entry-reopened.new.stack in
+          let l = w.reopen_entry-reopened.new.self in
+          let t = w.reopen_entry-reopened.new.arena in
+          record {
+            way = way-as c.args.foster o (c.reopening.index + 1) s c.match-index.stack l c.match-index.self t c.match-index.arena w.stack-is w.self-is w.arena-is
+                (reopening-step c.args.foster o c.reopening.index c.reopening.stack s c.reopening.self l c.reopening.arena t Marker w.in-Node.node c.forest.ensures.well_formed
+                c.reopening.invariant.way b (look (Node w.in-Node.node) w.in-Node.is) (record {
+                  list = w.in_ok-reopened.ensures.list;
+                  stack = w.in_ok-reopened.ensures.stack;
+                  tree = w.in_ok-reopened.ensures.tree;
+                  keeps = w.in_ok-reopened.ensures.keeps;
+                  can_place = w.in_ok-reopened.ensures.can_place;
+                  closed_kept = w.in_ok-reopened.ensures.closed;
+                }));
+            len_is = ap length w.self-is ∙ same-length c.reopening.self l c.reopening.index c.len-len.result (Node (length c.reopening.arena.labels)) c.reopening.invariant.len_is w.in_ok-reopened.ensures.list;
+          }
+      | in_default w ↦ absurd (no-marker c.args.foster o c.reopening.index c.reopening.stack c.reopening.self c.reopening.arena c.reopening.invariant.way Marker b (look Marker w.in_default.is))
+    ]
+
+pub returns-clause-reopened : goal.returns-clause-reopened
+returns-clause-reopened c =
+    reopened-is c.args.foster (open_at c.args.stack.now c.args.self.now c.args.arena.now) c.reopening.index c.reopening.stack c.reopening.self c.reopening.arena c.reopening.invariant.way
+    (let t = c.reopening-test.false in let n = c.reopening.invariant.len_is in omega arith)
+
+pub returns-clause-steps : goal.returns-clause-steps
+returns-clause-steps c =
+    steps-are c.args.foster (open_at c.args.stack.now c.args.self.now c.args.arena.now) c.reopening.index c.reopening.stack c.reopening.self c.reopening.arena c.reopening.invariant.way
+    (let t = c.reopening-test.false in let n = c.reopening.invariant.len_is in omega arith)
+
+pub returns-clause-clones : goal.returns-clause-clones
+returns-clause-clones c =
+    labels-are c.args.foster (open_at c.args.stack.now c.args.self.now c.args.arena.now) c.reopening.index c.reopening.stack c.reopening.self c.reopening.arena c.reopening.invariant.way
+    (let t = c.reopening-test.false in let n = c.reopening.invariant.len_is in omega arith)

@@ -1,0 +1,73 @@
+use Rattle.std.proofs.Common.{◌≡◌, ◌++◌, ◌∷◌, [], List, length, take, drop, suc, true, false, None, set, sym, ap, subst, ◌∙◌, arith}
+use Rattle.html_arena.specs.declared.marks.Mark.TheVariants.{OnStack, InList}
+use Rattle.html_arena.specs.Tree.{Tree, children_of, with_marked}
+use Rattle.html_open.specs.declared.entry.Entry.{Entry}
+use Rattle.html_open.specs.declared.entry.Entry.TheVariants.{Marker, Node}
+use Rattle.html_open.specs.Marking.{charged}
+use Rattle.html_open.specs.Opened.{IsOpen, open_at}
+use Rattle.html_open.specs.Placing.{CanPlace, place_of}
+use Rattle.html_open.proofs.Anew.{can-place, can-same, reopened-keeps, set-at, split-at}
+use Rattle.html_open.proofs.Inserted.{longer}
+use Rattle.html_open.proofs.Lists.{node-at}
+use Rattle.html_open.proofs.Standing.{element-in, not-parent, place-by}
+use Rattle.html_open.proofs.list.FormattingList.reopen_entry.Goals as goal
+
+pub insert_clone-requires-clause-node_in : goal.insert_clone-requires-clause-node_in
+insert_clone-requires-clause-node_in c = c.requires.is_open.list_in c.args.node (node-at c.args.self.now c.args.index c.args.node Marker c.requires.entry c.requires.index_in)
+
+pub insert_clone-requires-clause-formatting : goal.insert_clone-requires-clause-formatting
+insert_clone-requires-clause-formatting c = c.requires.is_open.formatting c.args.node (node-at c.args.self.now c.args.index c.args.node Marker c.requires.entry c.requires.index_in)
+
+pub set_mark-requires : goal.set_mark-requires
+set_mark-requires c =
+    let k = c.requires.is_open.list_in c.args.node (node-at c.args.self.now c.args.index c.args.node Marker c.requires.entry c.requires.index_in) in
+    let m = longer c.args.arena.now c.insert_clone.new.arena (place_of c.args.arena.now c.args.stack.now None c.args.foster) c.args.node c.in_ok-clone.ensures.laws in
+    omega arith
+
+-- the tree after the clone was put there
+tree_is : (t t1 t2 t3 t4 t5 : Tree) (x c d : _) → c ≡ d → t2 ≡ with_marked t1 InList x false → t3 ≡ charged (with_marked t2 OnStack c true) 1 → t4 ≡ with_marked t3 InList c true → t5 ≡ charged t4 1
+    → t5 ≡ charged (with_marked (charged (with_marked (with_marked t1 InList x false) OnStack d true) 1) InList d true) 1
+tree_is t t1 t2 t3 t4 t5 x c d a e f g h =
+    h ∙ ap (λ (v : Tree). charged v 1) (g ∙ ap (λ (v : Tree). with_marked v InList c true) (f ∙ ap (λ (v : Tree). charged (with_marked v OnStack c true) 1) e))
+    ∙ ap (λ v. charged (with_marked (charged (with_marked (with_marked t1 InList x false) OnStack v true) 1) InList v true) 1) a
+
+pub returns-clause-keeps : goal.returns-clause-keeps
+returns-clause-keeps c =
+    let t = c.args.arena.now in
+    let n = length t.labels in
+    let items = c.self.inside.entries.items in
+    let l1 = take c.args.index c.args.self.now in
+    let l2 = drop (suc c.args.index) c.args.self.now in
+    let k = reopened-keeps t c.insert_clone.new.arena (place_of t c.args.stack.now None c.args.foster) c.args.node c.in_ok-clone.ensures.laws
+    c.args.stack.now l1 l2 c.args.self.now c.forest-2.ensures.well_formed.as_many_marks c.requires.absent
+    (split-at c.args.self.now c.args.index c.args.node Marker c.requires.index_in c.requires.entry) c.requires.is_open in
+    let e = tree_is t c.insert_clone.new.arena c.set_mark.new.self c.push.new.arena c.set_mark-2.new.self c.charge.new.self c.args.node c.in_ok-clone.clone n
+    c.in_ok-clone.ensures.id c.set_mark.ensures c.in_ok-push.ensures.tree c.set_mark-2.ensures c.charge.ensures in
+    let s : c.push.new.self ≡ c.args.stack.now ++ n ∷ [] = c.in_ok-push.ensures.stack ∙ ap (λ v. c.args.stack.now ++ v ∷ []) c.in_ok-clone.ensures.id in
+    let l : set items c.args.index (Node c.in_ok-clone.clone) ≡ l1 ++ Node n ∷ l2 =
+    ap (λ (v : List Entry). set v c.args.index (Node c.in_ok-clone.clone)) c.self.view_is ∙ ap (λ v. set c.args.self.now c.args.index (Node v)) c.in_ok-clone.ensures.id
+    ∙ set-at c.args.self.now c.args.index (Node n) c.requires.index_in in
+    subst (λ (v : List _). IsOpen (open_at v (set items c.args.index (Node c.in_ok-clone.clone)) c.charge.new.self)) (sym s)
+    (subst (λ (v : List Entry). IsOpen (open_at (c.args.stack.now ++ n ∷ []) v c.charge.new.self)) (sym l)
+    (subst (λ (v : Tree). IsOpen (open_at (c.args.stack.now ++ n ∷ []) (l1 ++ Node n ∷ l2) v)) (sym e) k))
+
+pub returns-clause-can_place : goal.returns-clause-can_place
+returns-clause-can_place c =
+    let t = c.args.arena.now in
+    let n = length t.labels in
+    let e = tree_is t c.insert_clone.new.arena c.set_mark.new.self c.push.new.arena c.set_mark-2.new.self c.charge.new.self c.args.node c.in_ok-clone.clone n
+    c.in_ok-clone.ensures.id c.set_mark.ensures c.in_ok-push.ensures.tree c.set_mark-2.ensures c.charge.ensures in
+    let k = can-place t c.insert_clone.new.arena (place_of t c.args.stack.now None c.args.foster) c.args.node c.in_ok-clone.ensures.laws c.args.stack.now (c.in_ok-clone.clone ∷ []) c.requires.is_open.stack_in c.requires.can_place in
+    subst (CanPlace c.charge.new.self) (sym c.in_ok-push.ensures.stack)
+    (can-same c.insert_clone.new.arena c.charge.new.self (c.args.stack.now ++ c.in_ok-clone.clone ∷ []) (ap (λ (v : Tree). v.labels) e) (ap (λ (v : Tree). v.parents) e) k)
+
+pub returns-clause-closed : goal.returns-clause-closed
+returns-clause-closed c = λ y el off none.
+    let t = c.args.arena.now in
+    let e = tree_is t c.insert_clone.new.arena c.set_mark.new.self c.push.new.arena c.set_mark-2.new.self c.charge.new.self c.args.node c.in_ok-clone.clone (length t.labels)
+    c.in_ok-clone.ensures.id c.set_mark.ensures c.in_ok-push.ensures.tree c.set_mark-2.ensures c.charge.ensures in
+    let p = place_of t c.args.stack.now None c.args.foster in
+    ap (λ (v : Tree). children_of v y) e
+    ∙ c.in_ok-clone.ensures.laws.same_children y (element-in t y el)
+    (not-parent t c.args.stack.now c.forest.ensures.well_formed p y (place-by t c.args.stack.now c.forest.ensures.well_formed c.args.foster c.requires.can_place)
+    c.requires.is_open.elements el off none)

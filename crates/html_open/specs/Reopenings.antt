@@ -1,0 +1,45 @@
+-- One entry that is opened anew: what the parts of reopening do.
+use Rattle.std.specs.Prelude.{◌≡◌, ◌≢◌, ℕ, ◌<◌, Bool, true, false, List, [], ◌∷◌, ◌++◌, length, slice_index_or, Option, Some, None, Err}
+use Rattle.html_arena.specs.declared.arena.ArenaError.TheVariants as arena
+use Rattle.html_arena.specs.declared.data.NewNode.TheVariants.{CloneOf}
+use Rattle.html_arena.specs.declared.marks.Mark.{Mark}
+use Rattle.html_arena.specs.declared.marks.Mark.TheVariants.{OnStack, InList}
+use Rattle.html_arena.specs.Budget.{budget}
+use Rattle.html_arena.specs.Data.{cloned}
+use Rattle.html_arena.specs.Make.{made_weight}
+use Rattle.html_arena.specs.Siblings.{has}
+use Rattle.html_arena.specs.Tree.{Tree, ancestors, children_of, label_of, marked, parent_of, with_marked}
+use Rattle.html_open.specs.declared.entry.Entry.{Entry}
+use Rattle.html_open.specs.declared.entry.Entry.TheVariants.{Marker}
+use Rattle.html_open.specs.declared.error.OpenError.{OpenError}
+use Rattle.html_open.specs.declared.error.OpenError.TheVariants.{OutOfMemory, NodeBudget, HeldBudget}
+use Rattle.html_open.specs.declared.places.Place.{Place}
+use Rattle.html_open.specs.Marking.{charged}
+use Rattle.html_open.specs.Placing.{parent_at, place_steps}
+use Rattle.html_open.specs.Reopening.{end_steps, with_clone}
+
+-- the steps for the entry at an index, at which the search ends
+abbrev pub end_steps_at : List Entry → Option ℕ → ℕ
+end_steps_at list None = 0
+end_steps_at list (Some i) = end_steps (Some (slice_index_or list i Marker))
+
+-- a clone of x is put at the place for the current node and pushed, and the entry of x is its own
+abbrev pub with_reopened : Tree → List ℕ → Bool → ℕ → Tree
+with_reopened t stack foster x =
+    charged (with_marked (charged (with_marked (with_marked (with_clone (charged t (place_steps t stack None foster)) stack foster x) InList x false)
+    OnStack (length t.labels) true) 1) InList (length t.labels) true) 1
+
+-- a clone of x is the one node more, at a place; nothing else is changed
+pub record IsInserted (old new : Tree) (at : Place) (x : ℕ) : Type 0 where
+  pub labels_are : new.labels ≡ old.labels ++ cloned (label_of old x) ∷ []
+  pub same_marks : (m : Mark) (y : ℕ) → marked new m y ≡ marked old m y
+  pub same_ancestors : (y : ℕ) → y < length old.labels → ancestors new y ≡ ancestors old y
+  pub not_above : (y : ℕ) → y < length old.labels → has (length old.labels) (ancestors new y) ≡ false
+  pub same_children : (y : ℕ) → y < length old.labels → parent_at old at ≢ Some y → children_of new y ≡ children_of old y
+  pub same_parents : (y : ℕ) → y < length old.labels → parent_of new y ≡ parent_of old y
+
+-- the clone of x would pass the budget, where one is told
+abbrev pub IsRefused : Tree → ℕ → OpenError → Type 0
+IsRefused t x OutOfMemory = Unit {0}
+IsRefused t x NodeBudget = budget t 1 (made_weight t (CloneOf x)) ≡ Err arena.NodeBudget
+IsRefused t x HeldBudget = budget t 1 (made_weight t (CloneOf x)) ≡ Err arena.HeldBudget

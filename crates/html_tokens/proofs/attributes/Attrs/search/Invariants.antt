@@ -1,9 +1,0 @@
-use Rattle.std.proofs.Common.{◌≡◌, take, false}
-use Rattle.html_tokens.specs.Tag.{has_name}
-use Rattle.html_tokens.proofs.attributes.Attrs.search.Given as goal
-
-abbrev pub invariant-loop-attr : goal.invariant-loop-attr
-invariant-loop-attr l = record {
-  none : has_name l.name (take l.attr-index l.self) ≡ false;
-  compared : l.compared ≡ l.attr-index;
-}

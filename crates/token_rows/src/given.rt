@@ -1,0 +1,103 @@
+//! What a text gives.
+
+use crate::show::{show, show_faults};
+use anyhow::Result;
+use html_charref::EntityTable;
+use html_tokens::{TextMode, Tokenizer};
+use std::alloc::Global;
+
+/// No text of a row has more tokens.
+pub(crate) const MOST: u32 = 5_000;
+
+/// How a text begins to be read: its mode, and the name of the start tag before it.
+#[derive(Clone, Copy)]
+pub(crate) struct Begin<'a> {
+    pub mode: TextMode,
+    pub name: Option<&'a str>,
+}
+
+/// The tokens of a text, its parse errors, and how many steps were taken.
+#[derive(Drop)]
+pub(crate) struct Given {
+    pub tokens: String,
+    pub faults: String,
+    pub steps: u128,
+}
+
+/// Takes the tokens that are decided, and answers how many they are.
+pub(crate) fn give(t: &mut Tokenizer<'_>, out: &mut String) -> Result<u32> {
+    for count in 0..MOST {
+        match t.next()? {
+            Some(token) => show(out, &token)?,
+            None => return Ok(count),
+        }
+    }
+    Ok(MOST)
+}
+
+pub(crate) fn feed(alloc: Global, t: &mut Tokenizer<'_>, text: &str) -> Result<()> {
+    let piece: Vec<char> = text.chars().collect(alloc)?;
+    t.feed(piece.as_slice())?;
+    Ok(())
+}
+
+/// What is left when the text has ended.
+fn end(alloc: Global, t: &mut Tokenizer<'_>, mut tokens: String) -> Result<Given> {
+    t.finish()?;
+    give(t, &mut tokens)?;
+    let mut faults = String::new(alloc);
+    show_faults(&mut faults, t.errors())?;
+    Ok(Given {
+        tokens,
+        faults,
+        steps: t.steps(),
+    })
+}
+
+/// Feeds a text in its pieces, and adds what they give, with `¶` between them.
+fn read_pieces(alloc: Global, t: &mut Tokenizer<'_>, out: &mut String, text: &str) -> Result<()> {
+    let mut is_first = true;
+    for piece in text.split('¶') {
+        if !is_first {
+            out.push('¶')?;
+        }
+        is_first = false;
+        feed(alloc, t, piece)?;
+        give(t, out)?;
+    }
+    Ok(())
+}
+
+/// Feeds a text code point by code point, and adds what they give.
+fn read_code_points(t: &mut Tokenizer<'_>, out: &mut String, text: &str) -> Result<()> {
+    for c in text.chars() {
+        if c != '¶' {
+            t.feed(&[c])?;
+            give(t, out)?;
+        }
+    }
+    Ok(())
+}
+
+/// Reads a text with this tokenizer, in its pieces or code point by code point.
+fn read(alloc: Global, t: &mut Tokenizer<'_>, text: &str, in_pieces: bool) -> Result<Given> {
+    let mut tokens = String::new(alloc);
+    if in_pieces {
+        read_pieces(alloc, t, &mut tokens, text)?;
+    } else {
+        read_code_points(t, &mut tokens, text)?;
+    }
+    end(alloc, t, tokens)
+}
+
+/// What a text gives that is fed in its pieces, with `¶` between what they give, or code point by code point.
+pub(crate) fn read_text(
+    alloc: Global,
+    table: &EntityTable,
+    begin: Begin<'_>,
+    text: &str,
+    in_pieces: bool,
+) -> Result<Given> {
+    let mut t = Tokenizer::new(alloc, table, begin.mode, begin.name)?;
+    read(alloc, &mut t, text, in_pieces)
+}

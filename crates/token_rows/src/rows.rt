@@ -1,0 +1,161 @@
+//! Rows and their answers.
+
+use crate::given::{Begin, Given, MOST, feed, give, read_text};
+use crate::show::show;
+use anyhow::{Result, bail};
+use html_charref::EntityTable;
+use html_tokens::{TextMode, Tokenizer};
+use std::alloc::{AllocError, Global};
+
+/// The text mode of a word.
+fn mode_of(word: &str) -> Result<TextMode> {
+    Ok(match word {
+        "data" => TextMode::Data,
+        "rcdata" => TextMode::Rcdata,
+        "rawtext" => TextMode::Rawtext,
+        "script" => TextMode::Script,
+        "plaintext" => TextMode::Plaintext,
+        _ => bail!("no text mode"),
+    })
+}
+
+/// The text of a row, with the code points that stand for others.
+fn text_of(alloc: Global, written: &str) -> Result<String, AllocError> {
+    let mut text = String::new(alloc);
+    for c in written.chars() {
+        text.push(match c {
+            '␀' => '\0',
+            '␉' => '\t',
+            other => other,
+        })?;
+    }
+    Ok(text)
+}
+
+/// The first word of a line, and what follows it.
+fn word<'a>(line: &'a str) -> Result<(&'a str, &'a str)> {
+    match line.split_once(' ') {
+        Some(parts) => Ok(parts),
+        None => bail!("a word is missing"),
+    }
+}
+
+/// The answer of a row.
+pub(crate) fn answer(alloc: Global, table: &EntityTable, line: &str) -> Result<String> {
+    let (asked, line) = word(line)?;
+    let (mode, line) = word(line)?;
+    let (name, written) = word(line)?;
+    let begin = Begin {
+        mode: mode_of(mode)?,
+        name: if name == "-" { None } else { Some(name) },
+    };
+    let text = text_of(alloc, written)?;
+    let text = text.as_str();
+    match asked {
+        "runs" | "switch" | "count" => called(alloc, table, begin, asked, text),
+        _ => both_ways(alloc, table, begin, asked, text),
+    }
+}
+
+/// The tokens or the parse errors of a text or both, or its steps, fed in two ways that have to agree.
+fn both_ways(
+    alloc: Global,
+    table: &EntityTable,
+    begin: Begin<'_>,
+    asked: &str,
+    text: &str,
+) -> Result<String> {
+    let whole = read_text(alloc, table, begin, text, true)?;
+    let cut = read_text(alloc, table, begin, text, false)?;
+    shown(alloc, asked, &whole, &cut)
+}
+
+/// What is asked of what a text gave, where it gave the same code point by code point.
+fn shown(alloc: Global, asked: &str, whole: &Given, cut: &Given) -> Result<String> {
+    let tokens = whole.tokens.as_str().replace(alloc, "¶", "")?;
+    if tokens != cut.tokens || whole.faults != cut.faults || whole.steps != cut.steps {
+        let (tokens, faults) = (&cut.tokens, &cut.faults);
+        return Ok(format!(in alloc; "cut otherwise: {tokens}{faults}")?);
+    }
+    let (tokens, faults, steps) = (&whole.tokens, &whole.faults, whole.steps);
+    let mut out = String::new(alloc);
+    match asked {
+        "tokens" => write!(out, "{tokens}")?,
+        "errors" => write!(out, "{faults}")?,
+        "both" => write!(out, "{tokens}{faults}")?,
+        "steps" => write!(out, "{steps}")?,
+        _ => out.push_str("no such question")?,
+    }
+    Ok(out)
+}
+
+/// What other calls answer, in the order in which a caller makes them.
+fn called(
+    alloc: Global,
+    table: &EntityTable,
+    begin: Begin<'_>,
+    asked: &str,
+    text: &str,
+) -> Result<String> {
+    let mut t = Tokenizer::new(alloc, table, begin.mode, begin.name)?;
+    call(alloc, &mut t, asked, text)
+}
+
+fn call(alloc: Global, t: &mut Tokenizer<'_>, asked: &str, text: &str) -> Result<String> {
+    let mut out = String::new(alloc);
+    feed(alloc, t, text)?;
+    match asked {
+        "runs" => runs(alloc, t, &mut out)?,
+        "switch" => switched(t, &mut out)?,
+        _ => counted(alloc, t, &mut out)?,
+    }
+    Ok(out)
+}
+
+/// The runs of plain text, each with its place, and the tokens between them.
+fn runs(alloc: Global, t: &mut Tokenizer<'_>, out: &mut String) -> Result<()> {
+    t.finish()?;
+    let mut run: Vec<char> = Vec::new(alloc);
+    for _ in 0..MOST {
+        if !one_run(t, &mut run, out)? {
+            break;
+        }
+    }
+    Ok(())
+}
+
+/// The run that comes next, and the token after it, where there is one.
+fn one_run(t: &mut Tokenizer<'_>, run: &mut Vec<char>, out: &mut String) -> Result<bool> {
+    run.clear();
+    if let Some(place) = t.next_run(run)? {
+        write!(out, "run {place} ")?;
+        out.extend(run.as_slice().iter().copied())?;
+        out.push('|')?;
+    }
+    match t.next()? {
+        Some(token) => show(out, &token)?,
+        None => return Ok(false),
+    }
+    Ok(true)
+}
+
+/// The tokens of a text, of which what follows the first token is read as RCDATA.
+fn switched(t: &mut Tokenizer<'_>, out: &mut String) -> Result<()> {
+    if let Some(token) = t.next()? {
+        show(out, &token)?;
+        t.switch(TextMode::Rcdata);
+    }
+    t.finish()?;
+    give(t, out)?;
+    Ok(())
+}
+
+/// How many tokens a text gives before its end is known, and how many after.
+fn counted(alloc: Global, t: &mut Tokenizer<'_>, out: &mut String) -> Result<()> {
+    let mut tokens = String::new(alloc);
+    let before = give(t, &mut tokens)?;
+    t.finish()?;
+    let after = give(t, &mut tokens)?;
+    write!(out, "{before} {after}")?;
+    Ok(())
+}
