@@ -1,13 +1,11 @@
 -- What is made for a round.
-use Rattle.std.proofs.Common.{◌≡◌, ℕ, ◌+◌, ◌-◌, ◌<◌, ◌≤◌, Bool, true, false, cond, List, [], ◌∷◌, ◌++◌, length, get_or, map, take, refl, sym, ◌∙◌, ap, subst, append_assoc, length-append, arith, Option, Some, None, zero, suc}
+use Rattle.std.proofs.Common.{◌≡◌, ℕ, ◌+◌, ◌-◌, ◌<◌, ◌≤◌, List, [], ◌∷◌, ◌++◌, length, get_or, map, take, refl, sym, ◌∙◌, ap, subst, append_assoc, length-append, arith, suc}
 use Rattle.std.proofs.lemmas.List.{get_or_append_left, length-map, take_more, append-nil}
 use Rattle.html_names.specs.Sets.{is_formatting}
 use Rattle.html_arena.specs.declared.data.NodeData.{NodeData}
 use Rattle.html_arena.specs.declared.data.NodeData.TheVariants.{Document}
-use Rattle.html_arena.specs.declared.marks.Mark.{Mark}
 use Rattle.html_arena.specs.Data.{cloned, label_in, tag_in}
-use Rattle.html_arena.specs.Siblings.{has}
-use Rattle.html_arena.specs.Tree.{Tree, label_of, tag_at}
+use Rattle.html_arena.specs.Tree.{Tree, label_of}
 use Rattle.html_open.specs.Adopting.{clones_down}
 use Rattle.html_open.specs.Cloning.{AreCloned, AreFormatting}
 

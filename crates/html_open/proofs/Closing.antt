@@ -1,9 +1,9 @@
 -- What is popped, and trees without their marks.
-use Rattle.std.proofs.Common.{◌≡◌, ℕ, List, [], ◌∷◌, ◌++◌, Option, Some, None, refl, sym, ◌∙◌, ap, subst}
+use Rattle.std.proofs.Common.{◌≡◌, ℕ, List, [], ◌∷◌, ◌++◌, Option, Some, None, refl, sym, ◌∙◌, ap}
 use Rattle.html_arena.specs.declared.marks.Mark.{Mark}
 use Rattle.html_arena.specs.declared.marks.Mark.TheVariants.{OnStack}
 use Rattle.html_arena.specs.Siblings.{last_of, or_else}
-use Rattle.html_arena.specs.Tree.{Tree, with_marked}
+use Rattle.html_arena.specs.Tree.{Tree}
 use Rattle.html_open.specs.Adopting.{bare}
 use Rattle.html_open.specs.Lists.{with_last}
 use Rattle.html_open.specs.Marking.{all_unmarked, charged, unmarked}

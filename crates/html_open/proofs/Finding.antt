@@ -1,5 +1,5 @@
 -- What the adoption agency looks for, by indices of the stack.
-use Rattle.std.proofs.Common.{◌≡◌, ℕ, zero, suc, ◌+◌, ◌<◌, ◌≤◌, Bool, true, false, cond, eqb, ◌&&◌, not, take, List, [], ◌∷◌, ◌++◌, length, drop, get_or, Option, Some, None, inl, inr, refl, sym, ◌∙◌, ap, subst, arith}
+use Rattle.std.proofs.Common.{◌≡◌, ℕ, zero, suc, ◌+◌, ◌<◌, Bool, true, false, eqb, not, take, List, [], ◌∷◌, length, drop, get_or, Option, Some, None, inl, inr, refl, sym, ◌∙◌, ap, subst}
 use Rattle.std.specs.List.{list_any}
 use Rattle.html_names.specs.declared.tag.Tag.{Tag}
 use Rattle.html_names.specs.declared.sets.Scope.TheVariants as scope
@@ -13,7 +13,7 @@ use Rattle.html_open.specs.declared.entry.Entry.TheVariants.{Marker, Node}
 use Rattle.html_open.specs.AdoptFinding.{IsBlock, IsFirstFrom, IsFirstIndex, IsFormatting, IsOffStack, IsOutOfScope, IsPlain, element_in_scope, special}
 use Rattle.html_open.specs.Entries.{entry_named, is_marker, last_named, node_in, nodes_of}
 use Rattle.html_open.specs.Lists.{above, last_index, last_where}
-use Rattle.html_open.specs.Opened.{AreNodes, Open, IsOpen}
+use Rattle.html_open.specs.Opened.{AreNodes, Open}
 use Rattle.html_open.specs.Scopes.{ends}
 use Rattle.html_open.proofs.Keeps.{cases_bool, cases_eqb, eqb-true}
 use Rattle.html_open.proofs.Lists.{after-above, any-has, last_index-any, last_where-at, looked-some, not_any}

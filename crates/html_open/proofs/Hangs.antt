@@ -1,19 +1,19 @@
 -- The moves of a round, edit by edit.
-use Rattle.std.proofs.Common.{◌≡◌, ◌≢◌, ℕ, zero, suc, ◌+◌, ◌-◌, ◌<◌, ◌≤◌, Bool, true, false, cond, eqb, nat_lt, nat_le, ◌&&◌, List, [], ◌∷◌, ◌++◌, length, Option, Some, None, inl, inr, refl, sym, ◌∙◌, ap, subst, arith}
+use Rattle.std.proofs.Common.{◌≡◌, ◌≢◌, ℕ, ◌+◌, ◌-◌, ◌<◌, ◌≤◌, true, false, cond, eqb, nat_lt, nat_le, ◌&&◌, List, [], ◌∷◌, ◌++◌, length, Option, Some, None, inl, inr, refl, sym, ◌∙◌, ap, arith}
 use Rattle.std.proofs.lemmas.Bool.Decides.{nat_tests}
 use Rattle.html_arena.specs.declared.data.NodeData.{NodeData}
 use Rattle.html_arena.specs.Data.{is_linkable, label_in}
 use Rattle.html_arena.specs.Laws.{IsLinked, IsMoved, IsUnlinked}
 use Rattle.html_arena.specs.Siblings.{has, without, is_in, put_before}
-use Rattle.html_arena.specs.Tree.{Tree, WellFormed, parent_of, children_of, ancestors, label_of, appended}
+use Rattle.html_arena.specs.Tree.{Tree, WellFormed, parent_of, children_of, ancestors, appended}
 use Rattle.html_arena.proofs.Laws.{ancestors-root, not_child, without-none}
 use Rattle.html_arena.proofs.Siblings.{eqb-apart}
-use Rattle.html_open.specs.Hanging.{wrapped_children, wrapped_parent, chain_children, chain_parent, chain_top, StandAlone, SameNodes, Chained, chained, Hung, IsPut, hung_parent, with_put}
+use Rattle.html_open.specs.Hanging.{wrapped_children, wrapped_parent, chain_children, chain_parent, chain_top, StandAlone, SameNodes, Chained, Hung, IsPut, hung_parent, with_put}
 use Rattle.html_open.specs.declared.places.Place.{Place}
 use Rattle.html_open.specs.declared.places.Place.TheVariants.{Last, Before}
 use Rattle.html_open.specs.Placing.{IsPlace, parent_at, way_up}
 use Rattle.html_open.proofs.Keeps.{cases_bool, cases_eqb, eqb-self}
-use Rattle.html_open.proofs.Upwards.{above-all, has-first, not_own, not-above, way-closed}
+use Rattle.html_open.proofs.Upwards.{has-first, not_own, not-above, way-closed}
 
 -- tests of numbers
 pub lt-true : (n m : ℕ) → n < m → nat_lt n m ≡ true

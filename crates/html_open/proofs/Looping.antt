@@ -1,15 +1,15 @@
 -- Rounds, one after another, and how they end.
-use Rattle.std.proofs.Common.{◌≡◌, ℕ, zero, suc, ◌+◌, ◌*◌, ◌<◌, ◌≤◌, Bool, true, false, List, [], ◌∷◌, ◌++◌, length, length-append, map, get_or, Option, Some, None, refl, sym, ◌∙◌, ap, subst, arith}
+use Rattle.std.proofs.Common.{◌≡◌, ℕ, zero, suc, ◌+◌, ◌<◌, ◌≤◌, Bool, true, false, List, [], ◌∷◌, ◌++◌, length, length-append, map, refl, sym, ◌∙◌, ap, subst, arith}
 use Rattle.std.proofs.lemmas.List.{length-map}
 use Rattle.html_names.specs.declared.tag.Tag.{Tag}
 use Rattle.html_arena.specs.Data.{cloned}
-use Rattle.html_arena.specs.Siblings.{first_of, last_of}
+use Rattle.html_arena.specs.Siblings.{last_of}
 use Rattle.html_arena.specs.Tree.{Tree, label_of}
 use Rattle.html_open.specs.declared.adoption.AdoptEnd.{AdoptEnd}
-use Rattle.html_open.specs.declared.adoption.AdoptEnd.TheVariants.{Done, OtherEndTag}
+use Rattle.html_open.specs.declared.adoption.AdoptEnd.TheVariants.{Done}
 use Rattle.html_open.specs.declared.entry.Entry.{Entry}
 use Rattle.html_open.specs.AdoptFinding.{IsBlock, IsPlain}
-use Rattle.html_open.specs.Adopting.{Adopted, Closed, Ends, Forgotten, IsFirstFree, IsUnchanged, NoEntry, OutOfScope, Round, Rounds, closes, eight, fewer, forgets, no_entry, no_round, one_more, out_of_scope, pops_at_once}
+use Rattle.html_open.specs.Adopting.{Adopted, Closed, Ends, Forgotten, IsFirstFree, NoEntry, OutOfScope, Round, Rounds, closes, eight, fewer, forgets, no_entry, no_round, one_more, out_of_scope, pops_at_once}
 use Rattle.html_open.specs.Entries.{has_node}
 use Rattle.html_open.specs.Opened.{Open, open_at}
 use Rattle.html_open.specs.Placing.{CanPlace}

@@ -1,5 +1,5 @@
 -- Marks that are set or cleared on many nodes.
-use Rattle.std.proofs.Common.{◌≡◌, ℕ, ◌+◌, ◌<◌, ◌≤◌, Bool, true, false, cond, eqb, nat_le, nat_lt, ◌&&◌, List, [], ◌∷◌, ◌++◌, length, get_or, set, take, inl, inr, refl, sym, ◌∙◌, ap, subst, arith}
+use Rattle.std.proofs.Common.{◌≡◌, ℕ, ◌+◌, ◌<◌, ◌≤◌, Bool, true, false, cond, eqb, nat_le, nat_lt, ◌&&◌, List, [], ◌∷◌, ◌++◌, length, get_or, set, take, inl, inr, refl, sym, ◌∙◌, ap, arith}
 use Rattle.std.proofs.lemmas.Bool.Decides.{nat_tests}
 use Rattle.std.proofs.lemmas.List.{get_or-set_same, get_or-set_other, length-set, take_more}
 use Rattle.html_arena.specs.declared.marks.Mark.{Mark}
@@ -9,7 +9,7 @@ use Rattle.html_arena.specs.Marks.{has_mark, with_mark, no_marks}
 use Rattle.html_arena.specs.Siblings.{has}
 use Rattle.html_arena.specs.Tree.{Tree, marked, marks_of, with_marked}
 use Rattle.html_open.specs.Cloning.{HaveEntered, HaveLeft}
-use Rattle.html_open.proofs.Keeps.{cases_bool, cases_eqb, has-append}
+use Rattle.html_open.proofs.Keeps.{cases_eqb, has-append}
 
 both : (b : Bool) (m : Mark) (k : Marks) → has_mark m (with_mark InList b (with_mark OnStack b k)) ≡ b
 both b OnStack k = refl

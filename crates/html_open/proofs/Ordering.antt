@@ -1,5 +1,5 @@
 -- After a round no later stack element is an ancestor of an earlier one.
-use Rattle.std.proofs.Common.{◌≡◌, ◌≢◌, ℕ, zero, suc, ◌+◌, ◌-◌, ◌<◌, ◌≤◌, Bool, true, false, cond, eqb, nat_le, nat_lt, ◌&&◌, List, [], ◌∷◌, ◌++◌, length, Option, Some, None, ◌⊎◌, inl, inr, refl, sym, ◌∙◌, ap, subst, arith}
+use Rattle.std.proofs.Common.{◌≡◌, ◌≢◌, ℕ, zero, suc, ◌+◌, ◌-◌, ◌<◌, ◌≤◌, true, false, nat_le, nat_lt, List, [], ◌∷◌, ◌++◌, length, Some, ◌⊎◌, inl, inr, refl, sym, ◌∙◌, ap, subst, arith}
 use Rattle.html_arena.specs.Siblings.{has, Distinct}
 use Rattle.html_arena.specs.Tree.{Tree, WellFormed, ancestors, children_of, parent_of}
 use Rattle.html_arena.proofs.Siblings.{eqb-apart}
@@ -9,7 +9,7 @@ use Rattle.html_open.specs.Adopting.{clones_down}
 use Rattle.html_open.specs.Hanging.{chain_top, hung_parent}
 use Rattle.html_open.specs.Opened.{AreNodes, IsOrdered}
 use Rattle.html_open.specs.Placing.{parent_at, way_up}
-use Rattle.html_open.proofs.Hangs.{eqb-of, inside, ge-of, le-of, lt-of, past, short}
+use Rattle.html_open.proofs.Hangs.{eqb-of, inside, le-of, lt-of, past, short}
 use Rattle.html_open.proofs.Keeps.{cases_bool, cases_eqb, eqb-self, has-append}
 use Rattle.html_open.proofs.Numbering.{has-down}
 use Rattle.html_open.proofs.Upwards.{above-all, above-closed, has-first, has-more, not-above, way-closed}

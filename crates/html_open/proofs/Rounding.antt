@@ -1,13 +1,10 @@
 -- What is true between calls is true after a round.
-use Rattle.std.proofs.Common.{◌≡◌, ◌≢◌, ℕ, zero, suc, ◌+◌, ◌-◌, ◌<◌, ◌≤◌, Bool, true, false, cond, eqb, nat_le, nat_lt, ◌&&◌, not, List, [], ◌∷◌, ◌++◌, length, length-append, map, get_or, Option, Some, None, ◌⊎◌, inl, inr, refl, sym, ◌∙◌, ap, subst, append_assoc, arith}
+use Rattle.std.proofs.Common.{◌≡◌, ◌≢◌, ℕ, zero, suc, ◌+◌, ◌-◌, ◌<◌, ◌≤◌, Bool, true, false, cond, eqb, nat_le, nat_lt, ◌&&◌, not, List, [], ◌∷◌, ◌++◌, length, length-append, map, get_or, ◌⊎◌, inl, inr, refl, sym, ◌∙◌, ap, subst, arith}
 use Rattle.std.proofs.lemmas.List.{get_or_append_left, length-map}
 use Rattle.std.specs.List.{flat_map}
 use Rattle.html_names.specs.Sets.{is_formatting}
-use Rattle.html_names.specs.declared.tag.Tag.{Tag}
 use Rattle.html_arena.specs.declared.data.NodeData.{NodeData}
 use Rattle.html_arena.specs.declared.data.NodeData.TheVariants.{Document, Contents, Element, Text, Comment, Doctype}
-use Rattle.html_arena.specs.declared.data.Origin.{Origin}
-use Rattle.html_arena.specs.declared.data.Origin.TheVariants.{Token}
 use Rattle.html_arena.specs.declared.marks.Mark.{Mark}
 use Rattle.html_arena.specs.declared.marks.Mark.TheVariants.{OnStack, InList}
 use Rattle.html_arena.specs.Data.{IsElement, cloned, label_in, origin_in, tag_in}
@@ -18,9 +15,9 @@ use Rattle.html_open.specs.declared.entry.Entry.{Entry}
 use Rattle.html_open.specs.declared.entry.Entry.TheVariants.{Marker, Node}
 use Rattle.html_open.specs.Adopting.{after_nearest, alone, clone_number, clones_down, heirs, relisted}
 use Rattle.html_open.specs.Entries.{nodes_of}
-use Rattle.html_open.specs.Opened.{AreNodes, AreOneByOrigin, IsOrdered, IsMarked, origin_at}
-use Rattle.html_open.proofs.Hangs.{eqb-of, ge-of, inside, le-of, lt-false, lt-of, lt-true, past, short}
-use Rattle.html_open.proofs.Keeps.{Core, cases_bool, cases_eqb, eqb-self, nodes-append}
+use Rattle.html_open.specs.Opened.{AreOneByOrigin, IsOrdered, origin_at}
+use Rattle.html_open.proofs.Hangs.{inside, le-of, lt-false, lt-of, lt-true}
+use Rattle.html_open.proofs.Keeps.{Core, cases_bool, cases_eqb, eqb-self}
 use Rattle.html_open.proofs.Numbering.{Distinct-down, at-once, clone-back, clone-high, clone-low, has-down, has-get}
 use Rattle.html_open.proofs.Ordering.{distinct-cross, distinct-left, distinct-right, has-either, has-head, has-left, has-right}
 use Rattle.html_open.proofs.Upwards.{has-first, has-more}

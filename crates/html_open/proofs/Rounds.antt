@@ -1,15 +1,15 @@
 -- A round, and the place to which it moves what it clones.
-use Rattle.std.proofs.Common.{◌≡◌, ◌≢◌, ℕ, zero, suc, ◌+◌, ◌-◌, ◌<◌, ◌≤◌, Bool, true, false, List, [], ◌∷◌, ◌++◌, length, take, drop, get_or, Option, Some, None, refl, sym, ◌∙◌, ap, subst, append_assoc, arith}
+use Rattle.std.proofs.Common.{◌≡◌, ℕ, zero, suc, ◌+◌, ◌-◌, ◌<◌, Bool, true, false, List, [], ◌∷◌, ◌++◌, length, take, drop, get_or, Some, refl, sym, ◌∙◌, ap, subst, append_assoc, arith}
 use Rattle.std.specs.List.{list_any}
 use Rattle.html_names.specs.declared.tag.Tag.{Tag}
 use Rattle.html_names.specs.declared.tag.Tag.TheVariants as tag
 use Rattle.html_names.specs.Tags.{is_same}
 use Rattle.html_arena.specs.Siblings.{first_of, has}
-use Rattle.html_arena.specs.Tree.{Tree, WellFormed, ancestors, children_of, parent_of}
+use Rattle.html_arena.specs.Tree.{Tree, WellFormed}
 use Rattle.html_open.specs.declared.entry.Entry.{Entry}
 use Rattle.html_open.specs.declared.places.Place.{Place}
 use Rattle.html_open.specs.declared.places.Place.TheVariants.{Last, Before}
-use Rattle.html_open.specs.AdoptFinding.{element_in_scope, IsBlock, IsFirstFrom, IsFormatting, special}
+use Rattle.html_open.specs.AdoptFinding.{element_in_scope, IsBlock, special}
 use Rattle.html_open.specs.Adopting.{IsFirstFree, IsKept, IsRegrouped, Round, clones_down}
 use Rattle.html_open.specs.Hanging.{chain_top, chained, with_put}
 use Rattle.html_open.specs.Opened.{IsOpen, IsOrdered, Open, open_at}

@@ -1,5 +1,5 @@
 -- The place for what a round moves is above the elements from the formatting one on.
-use Rattle.std.proofs.Common.{◌≡◌, ◌≢◌, ℕ, ◌<◌, Bool, true, false, cond, eqb, ◌&&◌, not, List, [], ◌∷◌, ◌++◌, length, Option, Some, None, ◌⊎◌, inl, inr, refl, sym, ◌∙◌, ap, subst, arith}
+use Rattle.std.proofs.Common.{◌≡◌, ℕ, ◌<◌, Bool, true, false, eqb, ◌&&◌, not, List, [], ◌∷◌, ◌++◌, length, Option, Some, None, inl, inr, refl, sym, ◌∙◌, ap, subst, arith}
 use Rattle.std.specs.List.{list_any}
 use Rattle.html_names.specs.declared.tag.Tag.{Tag}
 use Rattle.html_names.specs.declared.tag.Tag.TheVariants as tag
@@ -9,9 +9,9 @@ use Rattle.html_names.specs.Tags.{is_same, number}
 use Rattle.html_names.proofs.Numbers.{number_injective}
 use Rattle.html_arena.specs.declared.data.NodeData.{NodeData}
 use Rattle.html_arena.specs.declared.data.NodeData.TheVariants.{Document, Contents, Element, Text, Comment, Doctype}
-use Rattle.html_arena.specs.Data.{IsElement, contents_in, host_in}
+use Rattle.html_arena.specs.Data.{IsElement, host_in}
 use Rattle.html_arena.specs.Siblings.{has, Distinct, first_of, last_of}
-use Rattle.html_arena.specs.Tree.{Tree, WellFormed, ancestors, contents_at, label_of, named, parent_of, tag_at}
+use Rattle.html_arena.specs.Tree.{Tree, WellFormed, ancestors, contents_at, label_of, parent_of, tag_at}
 use Rattle.html_arena.proofs.Laws.{ancestors-root}
 use Rattle.html_arena.proofs.Siblings.{eqb-apart, has-last}
 use Rattle.html_open.specs.declared.places.Place.{Place}
@@ -21,7 +21,7 @@ use Rattle.html_open.specs.Lists.{above, below, last_where}
 use Rattle.html_open.specs.Opened.{AreNodes, IsOrdered}
 use Rattle.html_open.specs.Placing.{by_table, fostered, fosters, get, inside, outside_table, place_at, table, template, way_up}
 use Rattle.html_open.specs.Scopes.{ends}
-use Rattle.html_open.proofs.Keeps.{cases_bool, cases_eqb, eqb-self, eqb-true, has-append}
+use Rattle.html_open.proofs.Keeps.{cases_bool, eqb-self, eqb-true}
 use Rattle.html_open.proofs.Ordering.{distinct-cross, has-either, has-head, has-left, has-right, ordered-cross}
 use Rattle.html_open.proofs.Upwards.{above-all, has-first, has-more}
 

@@ -1,5 +1,5 @@
 -- What stands above a node, by what its nodes have for parents.
-use Rattle.std.proofs.Common.{◌≡◌, ◌≢◌, ℕ, zero, suc, ◌<◌, Bool, true, false, cond, eqb, List, [], ◌∷◌, length, Option, Some, None, inl, inr, refl, sym, ◌∙◌, ap, subst, arith}
+use Rattle.std.proofs.Common.{◌≡◌, ℕ, zero, suc, ◌<◌, true, false, List, [], ◌∷◌, length, Option, Some, None, inl, inr, refl, sym, subst}
 use Rattle.html_arena.specs.Siblings.{has}
 use Rattle.html_arena.specs.Tree.{Tree, WellFormed, Climbs, ancestors, ancestors_within, children_of, parent_of}
 use Rattle.html_arena.proofs.Laws.{ancestors-climb, climbs-closed}

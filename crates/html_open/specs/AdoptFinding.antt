@@ -1,12 +1,11 @@
 -- What the adoption agency looks for (13.2.6.4.7): the formatting element, and the first special element after it.
-use Rattle.std.specs.Prelude.{◌≡◌, ℕ, ◌+◌, ◌<◌, Bool, true, false, eqb, List, ◌∷◌, length, drop, take, slice_index, Option, Some, None}
+use Rattle.std.specs.Prelude.{◌≡◌, ℕ, ◌+◌, ◌<◌, Bool, true, false, eqb, List, length, drop, take, slice_index, Option, Some, None}
 use Rattle.std.specs.List.{list_any}
 use Rattle.html_names.specs.declared.tag.Tag.{Tag}
 use Rattle.html_names.specs.declared.sets.Scope.TheVariants as scope
 use Rattle.html_names.specs.Sets.{is_special}
 use Rattle.html_arena.specs.Siblings.{has}
 use Rattle.html_arena.specs.Tree.{Tree, tag_at}
-use Rattle.html_open.specs.declared.entry.Entry.{Entry}
 use Rattle.html_open.specs.declared.adoption.find.Found.{Found}
 use Rattle.html_open.specs.declared.adoption.find.Found.TheVariants as found
 use Rattle.html_open.specs.Entries.{last_named}

@@ -1,6 +1,6 @@
 -- The moves of a round of the adoption agency (13.2.6.4.7): the children of g go to k, k becomes its one child, and g hangs in a chain of
 -- clones.
-use Rattle.std.specs.Prelude.{◌≡◌, ℕ, ◌+◌, ◌-◌, ◌<◌, ◌≤◌, Bool, true, cond, eqb, nat_lt, nat_le, ◌&&◌, List, [], ◌∷◌, ◌++◌, Option, Some, None}
+use Rattle.std.specs.Prelude.{◌≡◌, ℕ, ◌+◌, ◌-◌, ◌<◌, ◌≤◌, true, cond, eqb, nat_lt, nat_le, ◌&&◌, List, [], ◌∷◌, ◌++◌, Option, Some, None}
 use Rattle.html_arena.specs.Data.{is_linkable}
 use Rattle.html_arena.specs.Siblings.{has, is_in, put_before, without}
 use Rattle.html_arena.specs.Tree.{Tree, label_of, children_of, parent_of}

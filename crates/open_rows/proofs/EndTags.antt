@@ -1,5 +1,5 @@
 -- An adoption keeps what is true of a page under way: the nodes it makes come from the tokens of their originals.
-use Rattle.std.proofs.Common.{◌≡◌, ℕ, ◌<◌, ◌++◌, Bool, true, false, List, [], ◌∷◌, map, get_or, slice_index, Option, Some, None, refl, sym, ◌∙◌, ap, subst}
+use Rattle.std.proofs.Common.{◌≡◌, ℕ, ◌<◌, ◌++◌, Bool, false, List, [], ◌∷◌, map, get_or, slice_index, Option, Some, None, sym, ◌∙◌, ap, subst}
 use Rattle.html_names.specs.declared.tag.Tag.{Tag}
 use Rattle.html_arena.specs.declared.data.NodeData.{NodeData}
 use Rattle.html_arena.specs.declared.data.NodeData.TheVariants as node

@@ -1,5 +1,4 @@
-use Rattle.std.proofs.Common.{◌≡◌, ◌<◌, ◌-◌, List, ℕ, sym, ◌∙◌, ap, subst, length, drop, arith, refl, eqb}
-use Rattle.html_arena.specs.declared.data.NodeData.{NodeData}
+use Rattle.std.proofs.Common.{◌-◌, sym, ◌∙◌, ap, subst, length, drop, arith, eqb}
 use Rattle.html_arena.specs.declared.marks.Mark.TheVariants.{OnStack}
 use Rattle.html_arena.specs.Tree.{Tree}
 use Rattle.html_open.specs.Adopting.{bare}

@@ -1,8 +1,8 @@
-use Rattle.std.proofs.Common.{◌≡◌, ◌≤◌, ◌<◌, ◌+◌, ◌*◌, List, ℕ, Option, Some, None, suc, refl, sym, ◌∙◌, ap, subst, length, arith, false}
+use Rattle.std.proofs.Common.{◌≡◌, ◌+◌, List, ℕ, Option, sym, ◌∙◌, ap, subst, length, arith}
 use Rattle.html_arena.specs.Tree.{Tree}
 use Rattle.html_open.specs.declared.adoption.AdoptEnd.{AdoptEnd}
 use Rattle.html_open.specs.Adopting.{IsFirstFree, IsTurn, Rounds, no_round, popped}
-use Rattle.html_open.specs.Opened.{IsOpen, open_at}
+use Rattle.html_open.specs.Opened.{open_at}
 use Rattle.html_open.specs.Placing.{CanPlace}
 use Rattle.html_open.proofs.Looping.{can-place-stepped, ends-grown, finish-eight, finish-fewer, round-grown, rounds-more}
 use Rattle.html_open.proofs.adoption.follow.Goals as goal

@@ -1,7 +1,5 @@
-use Rattle.std.proofs.Common.{◌≡◌, ◌<◌, ◌++◌, ◌∷◌, [], List, ℕ, Option, Some, None, sym, ◌∙◌, ap, subst, length, arith, refl, true, false}
+use Rattle.std.proofs.Common.{sym, ◌∙◌, ap, subst, length, arith, refl}
 use Rattle.html_names.specs.Tags.{is_same}
-use Rattle.html_arena.specs.declared.data.NodeData.{NodeData}
-use Rattle.html_arena.specs.declared.marks.Mark.TheVariants.{OnStack}
 use Rattle.html_arena.specs.Data.{label_in, tag_in}
 use Rattle.html_arena.specs.Tree.{Tree}
 use Rattle.html_arena.proofs.Siblings.{has-last}

@@ -1,4 +1,4 @@
-use Rattle.std.proofs.Common.{◌≡◌, ◌<◌, List, ℕ, refl, sym, ◌∙◌, ap, subst, length, arith}
+use Rattle.std.proofs.Common.{refl, sym, ◌∙◌, ap, subst, length, arith}
 use Rattle.html_arena.specs.Tree.{Tree}
 use Rattle.html_open.specs.AdoptFinding.{IsBlock, IsPlain}
 use Rattle.html_open.specs.Adopting.{Closed, Round, bare, closes, forgets, no_entry, out_of_scope}
@@ -6,7 +6,7 @@ use Rattle.html_open.specs.Opened.{IsOpen, open_at}
 use Rattle.html_open.specs.Placing.{CanPlace}
 use Rattle.html_open.proofs.Finding.{last_named-in}
 use Rattle.html_open.proofs.Looping.{can-place-stepped, closed-rebase, not-first, plain-stepped, round-rebase}
-use Rattle.html_open.proofs.Rounds.{block-stepped, open-stepped, stepped}
+use Rattle.html_open.proofs.Rounds.{block-stepped, open-stepped}
 use Rattle.html_open.proofs.adoption.turn.Goals as goal
 
 pub remove-requires-clause-nodes_in : goal.remove-requires-clause-nodes_in

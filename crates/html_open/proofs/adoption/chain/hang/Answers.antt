@@ -1,6 +1,6 @@
-use Rattle.std.proofs.Common.{◌≡◌, ◌≤◌, ◌<◌, ◌+◌, ◌∷◌, ℕ, Option, Bool, false, sym, ◌∙◌, ap, subst, length, None}
+use Rattle.std.proofs.Common.{ℕ, sym, ◌∙◌, ap, subst}
 use Rattle.html_arena.specs.Siblings.{has}
-use Rattle.html_arena.specs.Tree.{Tree, parent_of}
+use Rattle.html_arena.specs.Tree.{parent_of}
 use Rattle.html_open.specs.Hanging.{chain_top, Chained, IsPut, StandAlone}
 use Rattle.html_open.specs.Placing.{way_up}
 use Rattle.html_open.proofs.Hangs.{block-alone, fresh-left, hang-place, hang-alone, hang-not_above, hung}

@@ -1,7 +1,4 @@
-use Rattle.std.proofs.Common.{◌≡◌, ◌<◌, ◌∷◌, [], ◌++◌, ℕ, List, sym, ◌∙◌, ap, subst, length, length-append, arith}
-use Rattle.std.proofs.lemmas.List.{length-map}
-use Rattle.html_arena.specs.Data.{cloned}
-use Rattle.html_arena.specs.Tree.{label_of}
+use Rattle.std.proofs.Common.{◌∷◌, [], ◌∙◌}
 use Rattle.html_open.proofs.Clones.{cloned-formatting, cloned-length, cloned-more}
 use Rattle.html_open.proofs.Upwards.{has-first}
 use Rattle.html_open.proofs.adoption.clones.clone_all.Goals as goal

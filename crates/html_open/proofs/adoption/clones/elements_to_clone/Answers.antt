@@ -1,4 +1,4 @@
-use Rattle.std.proofs.Common.{◌<◌, ◌-◌, length, arith}
+use Rattle.std.proofs.Common.{◌-◌, arith}
 use Rattle.html_open.proofs.Fostering.{in-at}
 use Rattle.html_open.proofs.adoption.clones.elements_to_clone.Goals as goal
 

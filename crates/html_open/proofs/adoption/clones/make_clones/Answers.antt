@@ -1,4 +1,4 @@
-use Rattle.std.proofs.Common.{◌≡◌, ◌<◌, ◌∷◌, [], ℕ, List, take, sym, ◌∙◌, ap, subst, length, arith, true}
+use Rattle.std.proofs.Common.{◌≡◌, ℕ, take, sym, subst, true}
 use Rattle.html_arena.specs.Siblings.{has}
 use Rattle.html_open.proofs.Clones.{cloned-formatting, cloned-step}
 use Rattle.html_open.proofs.Lists.{has-at}

@@ -1,5 +1,4 @@
-use Rattle.std.proofs.Common.{◌≡◌, ◌+◌, ◌-◌, ◌<◌, ℕ, List, true, sym, ◌∙◌, ap, subst, length, drop, take, arith}
-use Rattle.std.proofs.lemmas.List.{length-drop, take_all}
+use Rattle.std.proofs.Common.{◌+◌, ◌-◌, length, drop, take}
 use Rattle.html_open.proofs.Fostering.{in-at}
 use Rattle.html_open.proofs.Finding.{nodes-drop}
 use Rattle.html_open.proofs.adoption.find.ends_after.Goals as goal

@@ -1,10 +1,8 @@
-use Rattle.std.proofs.Common.{◌≡◌, ℕ, ◌+◌, ◌<◌, List, length, drop, refl, sym, ◌∙◌, ap, subst, arith, rules, Some, None, Option, false, true, Bool, eqb}
+use Rattle.std.proofs.Common.{ℕ, ◌+◌, List, length, drop, sym, ◌∙◌, ap, subst, arith}
 use Rattle.std.specs.List.{list_any}
 use Rattle.html_names.specs.declared.sets.Scope.TheVariants.{Default}
-use Rattle.html_arena.specs.declared.data.NodeData.{NodeData}
 use Rattle.html_arena.specs.Tree.{Tree}
 use Rattle.html_open.specs.AdoptFinding.{IsFirstIndex, IsFirstFrom, special}
-use Rattle.html_open.specs.Lists.{last_index}
 use Rattle.html_open.specs.Opened.{open_at}
 use Rattle.html_open.specs.Scopes.{ends}
 use Rattle.html_open.proofs.Finding.{last_named-in, same-ends, same-first, off-stack, within, out, plain, block}

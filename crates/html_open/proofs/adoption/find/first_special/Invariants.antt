@@ -1,4 +1,4 @@
-use Rattle.std.proofs.Common.{◌≡◌, ◌≤◌, false, drop, length, take}
+use Rattle.std.proofs.Common.{◌≡◌, false, drop, take}
 use Rattle.std.specs.List.{list_any}
 use Rattle.html_open.specs.AdoptFinding.{special}
 use Rattle.html_open.proofs.adoption.find.first_special.Given as goal

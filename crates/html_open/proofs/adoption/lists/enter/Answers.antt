@@ -1,4 +1,4 @@
-use Rattle.std.proofs.Common.{◌≡◌, ◌<◌, ◌≤◌, ℕ, sym, ◌∙◌, ap, subst, length, arith, refl}
+use Rattle.std.proofs.Common.{◌≡◌, ◌<◌, ap, subst, length, arith, refl}
 use Rattle.html_arena.specs.Tree.{Tree}
 use Rattle.html_open.specs.Cloning.{HaveEntered}
 use Rattle.html_open.proofs.Marked.{entered-none, entered-step, marks-both}

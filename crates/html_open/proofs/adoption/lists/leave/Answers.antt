@@ -1,4 +1,4 @@
-use Rattle.std.proofs.Common.{◌≡◌, ◌<◌, ℕ, sym, ◌∙◌, ap, length, arith}
+use Rattle.std.proofs.Common.{◌<◌, ap, length, arith}
 use Rattle.html_arena.specs.Tree.{Tree}
 use Rattle.html_open.proofs.Fostering.{in-at}
 use Rattle.html_open.proofs.Marked.{left-step, marks-both}

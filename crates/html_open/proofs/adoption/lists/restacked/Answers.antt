@@ -1,4 +1,4 @@
-use Rattle.std.proofs.Common.{◌≡◌, ◌≤◌, ◌<◌, ◌-◌, ◌+◌, ◌++◌, ◌∷◌, [], List, ℕ, take, drop, sym, ◌∙◌, ap, subst, length, arith}
+use Rattle.std.proofs.Common.{◌-◌, ◌+◌, ◌++◌, ◌∷◌, [], List, ℕ, take, drop, sym, ◌∙◌, ap, length, arith}
 use Rattle.std.proofs.lemmas.List.{length-drop, take_all}
 use Rattle.html_open.specs.Adopting.{clones_down}
 use Rattle.html_open.proofs.Clones.{clone-pushed, clones-done, restacked-is}

@@ -1,12 +1,9 @@
-use Rattle.std.proofs.Common.{◌≡◌, ◌≤◌, ◌<◌, ◌+◌, ◌-◌, ◌∷◌, [], ◌++◌, List, ℕ, sym, ◌∙◌, ap, subst, length, arith, true, ◌≢◌}
+use Rattle.std.proofs.Common.{◌+◌, ◌∷◌, [], ◌++◌, List, ℕ, sym, ◌∙◌, ap, subst, length, arith}
 use Rattle.html_arena.specs.declared.marks.Mark.TheVariants.{InList}
-use Rattle.html_arena.specs.declared.data.NodeData.{NodeData}
 use Rattle.html_arena.specs.Data.{is_linkable}
-use Rattle.html_arena.specs.Siblings.{has}
 use Rattle.html_arena.specs.Tree.{label_of, marked}
 use Rattle.html_open.specs.Cloning.{AreCloned, AreFormatting, HaveEntered}
 use Rattle.html_open.specs.Hanging.{Hung, StandAlone}
-use Rattle.html_open.specs.Placing.{way_up}
 use Rattle.html_open.proofs.Regrouping.{at-within, clone-in, cs-formatting, end-in, entries-in, f-formatting, fresh-clones, front-kept, g-below, g-linkable, index-is, inner-in, left-in, length-is, new-list, new-stack, older, open-after, place-there, regrouped, within}
 use Rattle.html_open.proofs.adoption.round.regroup.Goals as goal
 

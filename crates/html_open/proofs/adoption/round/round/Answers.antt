@@ -1,5 +1,4 @@
-use Rattle.std.proofs.Common.{◌≡◌, ◌≤◌, ◌<◌, ◌+◌, ◌-◌, ◌++◌, ◌∷◌, take, List, ℕ, Some, sym, ◌∙◌, ap, subst, length, drop, get_or, arith, true, false}
-use Rattle.html_names.specs.declared.tag.Tag.{Tag}
+use Rattle.std.proofs.Common.{◌≡◌, ◌+◌, ◌-◌, ◌++◌, ◌∷◌, take, List, ℕ, Some, sym, ◌∙◌, ap, subst, length, drop, get_or, arith, true, false}
 use Rattle.html_arena.specs.Siblings.{has}
 use Rattle.html_arena.specs.Tree.{Tree}
 use Rattle.html_open.specs.declared.entry.Entry.{Entry}
