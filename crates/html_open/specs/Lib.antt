@@ -1,5 +1,9 @@
+pub mod AdoptFinding
+pub mod Adopting
 pub mod Attributes
+pub mod Cloning
 pub mod Entries
+pub mod Hanging
 pub mod Lists
 pub mod Marking
 pub mod Opened

@@ -2,6 +2,7 @@
 ghost use Rattle.std.specs.Prelude.{◌≡◌};
 
 use html_arena::ArenaError;
+use std::alloc::AllocError;
 use thiserror::Error;
 
 /// Why a call was refused.
@@ -13,6 +14,17 @@ pub enum OpenError {
     NodeBudget,
     #[error("the next clone would pass the limit on held code points")]
     HeldBudget,
+}
+
+impl From<AllocError> for OpenError {
+    ghost use Rattle.std.specs.Prelude.{◌≡◌};
+    ghost use Rattle.html_open.specs.declared.error.OpenError.TheVariants.{OutOfMemory};
+
+    ghost from_gives = { λ _ e. e ≡ OutOfMemory };
+
+    fn from(_error: AllocError) -> OpenError {
+        OpenError::OutOfMemory
+    }
 }
 
 impl From<ArenaError> for OpenError {

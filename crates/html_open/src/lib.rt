@@ -1,6 +1,7 @@
 //! The open elements of a page: the stack, the list of active formatting elements, and the place for a new node.
 #![tactic(auto)]
 
+mod adoption;
 mod attributes;
 mod entry;
 mod error;
@@ -12,6 +13,7 @@ mod reopening;
 mod search;
 mod stack;
 
+pub use adoption::{AdoptEnd, adopt};
 pub use error::OpenError;
 pub use html_names::Scope;
 pub use list::FormattingList;

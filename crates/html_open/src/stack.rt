@@ -225,3 +225,17 @@ fn last_node(nodes: &[NodeId]) -> Option<NodeId>
     }
     Some(nodes[nodes.len() - 1])
 }
+
+impl OpenStack {
+    /// The allocator of the stack.
+    pub(crate) fn allocator(&self) -> Global {
+        *self.nodes.allocator()
+    }
+
+    /// Puts other elements in place of those that are there; their marks are the caller's.
+    pub(crate) fn replace(&mut self, nodes: Vec<NodeId>)
+        ensures { self.new ≡ nodes.items }
+    {
+        self.nodes = nodes;
+    }
+}

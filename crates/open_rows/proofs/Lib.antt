@@ -1,1 +1,2 @@
+mod EndTags
 mod UnderWay

@@ -133,17 +133,17 @@ page-listed (Ok v) s l l' t u o x k n w e h a c q p = same-labels s s l l' t u n
 page-listed (Err z) s l l' t u o x k n w e h a c q p = subst (λ v. IsPage s v u n w) (sym a) (subst (λ (v : Tree). IsPage s l v n w) (sym c) p)
 
 -- what holds of two lists holds of one after the other
-both : (P : NodeData → Type 0) (d : NodeData) (xs ys : List NodeData) → ((y : ℕ) → P (get_or xs y d)) → ((y : ℕ) → P (get_or ys y d)) → (y : ℕ) → P (get_or (xs ++ ys) y d)
+pub both : (P : NodeData → Type 0) (d : NodeData) (xs ys : List NodeData) → ((y : ℕ) → P (get_or xs y d)) → ((y : ℕ) → P (get_or ys y d)) → (y : ℕ) → P (get_or (xs ++ ys) y d)
 both P d [] ys h k y = k y
 both P d (x ∷ xs) ys h k zero = h 0
 both P d (x ∷ xs) ys h k (suc y) = both P d xs ys (λ z. h (suc z)) k y
 
-of-map : (P : NodeData → Type 0) (d : NodeData) (f : ℕ → NodeData) (xs : List ℕ) → P d → ((x : ℕ) → P (f x)) → (y : ℕ) → P (get_or (map f xs) y d)
+pub of-map : (P : NodeData → Type 0) (d : NodeData) (f : ℕ → NodeData) (xs : List ℕ) → P d → ((x : ℕ) → P (f x)) → (y : ℕ) → P (get_or (map f xs) y d)
 of-map P d f [] h k y = h
 of-map P d f (x ∷ xs) h k zero = k x
 of-map P d f (x ∷ xs) h k (suc y) = of-map P d f xs h k y
 
-cloned-origin : (d : NodeData) → origin_in (cloned d) ≡ origin_in d
+pub cloned-origin : (d : NodeData) → origin_in (cloned d) ≡ origin_in d
 cloned-origin (node.Element e) = refl
 cloned-origin node.Document = refl
 cloned-origin (node.Contents h) = refl

@@ -1,6 +1,8 @@
 // What is done, and what it took.
 use crate::page::Page;
-use crate::work::{list_many, look, make_many, open_many, reopen_many};
+use crate::work::{
+    end, list_many, look, make_many, misnest, nest, open_many, reopen_many, start, start_body,
+};
 use std::time::Instant;
 
 /// How often a scope is looked through.
@@ -37,6 +39,47 @@ pub(crate) fn measure_reopened(rt: &HostRuntime, times: u64, timed: bool) -> any
     say(rt, "steps", page.arena().meter().steps)?;
     if timed {
         say(rt, "reopened, us", took)?;
+    }
+    Ok(())
+}
+
+/// Reads `<b><p></b></p>` so many times.
+pub(crate) fn measure_misnested(rt: &HostRuntime, times: u64, timed: bool) -> anyhow::Result<()> {
+    let mut page = Page::new(rt.alloc());
+    start_body(&mut page, rt.alloc())?;
+    let start = Instant::now(rt)?;
+    let page = misnest(page, rt.alloc(), times)?;
+    let took = start.elapsed(rt)?.as_micros();
+    say(rt, "nodes misnested", page.arena().len() as u128)?;
+    say(rt, "steps", page.arena().meter().steps)?;
+    if timed {
+        say(rt, "misnested, us", took)?;
+    }
+    Ok(())
+}
+
+/// Follows the end tag of a `b` in which so many elements of a name are open, and a `p` in them; says what the end tag alone takes.
+pub(crate) fn measure_deep(
+    rt: &HostRuntime,
+    name: &str,
+    count: u64,
+    timed: bool,
+) -> anyhow::Result<()> {
+    let mut page = Page::new(rt.alloc());
+    start_body(&mut page, rt.alloc())?;
+    nest(&mut page, rt.alloc(), name, count)?;
+    let _block = start(&mut page, rt.alloc(), "p")?;
+    let nodes = page.arena().len();
+    let steps = page.arena().meter().steps;
+    let before = Instant::now(rt)?;
+    let page = end(page)?;
+    let took = before.elapsed(rt)?.as_micros();
+    let clones = page.arena().len().saturating_sub(nodes);
+    let steps = page.arena().meter().steps.saturating_sub(steps);
+    say(rt, "clones", clones as u128)?;
+    say(rt, "steps", steps)?;
+    if timed {
+        say(rt, "adopted, us", took)?;
     }
     Ok(())
 }

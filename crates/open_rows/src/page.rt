@@ -1,7 +1,9 @@
 // A page under way: a tree, a stack and a list that fit together.
-ghost use Rattle.std.specs.Prelude.{◌≡◌, ◌<◌, [], None, true, length};
+ghost use Rattle.std.specs.Prelude.{◌≡◌, ℕ, ◌<◌, [], None, Some, true, false, length};
+ghost use Rattle.html_arena.specs.declared.marks.Mark.TheVariants.{InList};
 ghost use Rattle.html_arena.specs.Data.{IsElement};
-ghost use Rattle.html_arena.specs.Tree.{children_of, label_of};
+ghost use Rattle.html_arena.specs.Siblings.{first_of};
+ghost use Rattle.html_arena.specs.Tree.{children_of, label_of, marked};
 ghost use Rattle.html_open.specs.Opened.{AreNodes};
 ghost use Rattle.html_open.specs.Placing.{CanPlace};
 
@@ -9,7 +11,7 @@ use crate::refusal::Refusal;
 use html_arena::{Arena, Limits, Mark, NewNode, NodeData, NodeId, Origin};
 use html_charref::Str;
 use html_names::Tag;
-use html_open::{FormattingList, OpenStack, Place, Scope, place};
+use html_open::{AdoptEnd, FormattingList, OpenStack, Place, Scope, adopt, place};
 use html_tokens::Attrs;
 use std::alloc::Global;
 use std::marker::Model;
@@ -247,9 +249,32 @@ impl Page {
             newest: None,
         })
     }
+
+    /// Follows an end tag of a formatting name. Two steps more than its own, for looks at the first element. After a refusal there is
+    /// no page.
+    pub(crate) fn adopt(mut self, name: Tag, foster: bool) -> Result<(Page, AdoptEnd), Refusal> {
+        if !can_place(&self.stack, &mut self.arena) {
+            return Err(Refusal::Condition);
+        }
+        if !is_first_free(&self.stack, &mut self.arena) {
+            return Err(Refusal::Condition);
+        }
+        let mut arena = self.arena;
+        let mut stack = self.stack;
+        let mut list = self.list;
+        let end = adopt(&mut stack, &mut list, &mut arena, name, foster)?;
+        let page = Page {
+            arena,
+            stack,
+            list,
+            tokens: self.tokens,
+            newest: None,
+        };
+        Ok((page, end))
+    }
 }
 
-fn is_node(arena: &Arena, node: NodeId) -> bool
+pub(crate) fn is_node(arena: &Arena, node: NodeId) -> bool
     ensures { result ≡ true → node < length arena.now.labels }
 {
     (node.index() as u64) < arena.len()
@@ -291,4 +316,17 @@ fn can_place(stack: &OpenStack, arena: &mut Arena) -> bool
     }
     let first = stack.at(arena, 0);
     !arena.is_named(first, Tag::Table)
+}
+
+/// Whether the first element is not listed, or there is none. One step if it is there.
+fn is_first_free(stack: &OpenStack, arena: &mut Arena) -> bool
+    requires { AreNodes arena.old stack.now }
+    ensures free { result ≡ true → (x : ℕ) → first_of stack.now ≡ Some x → marked arena.new InList x ≡ false }
+    ensures steps { arena.new ≡ record arena.old { steps = arena.new.steps } }
+{
+    if stack.is_empty() {
+        return true;
+    }
+    let first = stack.at(arena, 0);
+    !arena.marked(first, Mark::InList)
 }

@@ -4,7 +4,7 @@ use crate::refusal::Refusal;
 use html_arena::NodeId;
 use html_charref::Str;
 use html_names::Tag;
-use html_open::{Place, Scope};
+use html_open::{AdoptEnd, Place, Scope};
 use html_tokens::{Attr, Attrs};
 use std::alloc::{AllocError, Global};
 
@@ -32,6 +32,7 @@ pub(crate) enum Call {
     Listed(usize),
     Place(Option<usize>, bool),
     Reopen(bool),
+    Adopt(Tag, bool),
 }
 
 /// Makes an element.
@@ -144,6 +145,13 @@ fn find_place(
     push_place(text, alloc, place)
 }
 
+fn push_end(text: &mut String, end: AdoptEnd) -> Result<(), AllocError> {
+    text.push_str(match end {
+        AdoptEnd::Done => "done",
+        AdoptEnd::OtherEndTag => "other",
+    })
+}
+
 /// Makes a call.
 pub(crate) fn apply(
     mut page: Page,
@@ -153,6 +161,11 @@ pub(crate) fn apply(
 ) -> Result<Page, Refusal> {
     match call {
         Call::Reopen(foster) => page.reopen(foster),
+        Call::Adopt(name, foster) => {
+            let (page, end) = page.adopt(name, foster)?;
+            push_end(text, end)?;
+            Ok(page)
+        }
         Call::Place(target, foster) => {
             find_place(&mut page, alloc, target, foster, text)?;
             Ok(page)

@@ -302,7 +302,7 @@ fn budgets_are_told(rt: HostRuntime) -> Result<(), Fail> {
 }
 
 /// Whether a call was refused for want of memory.
-fn is_out_of_memory(error: Refusal) -> bool {
+pub(crate) fn is_out_of_memory(error: Refusal) -> bool {
     error == Refusal::Open(OpenError::OutOfMemory)
         || error == Refusal::Arena(ArenaError::OutOfMemory)
 }

@@ -1,6 +1,7 @@
 // What is measured.
 use crate::page::Page;
 use crate::refusal::Refusal;
+use html_arena::NodeId;
 use html_charref::Str;
 use html_names::Tag;
 use html_open::Scope;
@@ -51,6 +52,59 @@ pub(crate) fn reopen_many(mut page: Page, times: u64) -> Result<Page, Refusal> {
         let depth = page.depth();
         page = page.reopen(false)?;
         for _ in depth..page.depth() {
+            page.pop();
+        }
+    }
+    Ok(page)
+}
+
+/// Makes an element, the last child of the current node.
+pub(crate) fn insert(page: &mut Page, alloc: Global, name: &str) -> Result<NodeId, Refusal> {
+    let node = page.make(Str::of(alloc, name)?, Attrs::new(alloc))?;
+    if let Some(current) = page.current() {
+        page.link(current, node)?;
+    }
+    Ok(node)
+}
+
+/// Inserts an element and opens it.
+pub(crate) fn start(page: &mut Page, alloc: Global, name: &str) -> Result<NodeId, Refusal> {
+    let node = insert(page, alloc, name)?;
+    page.push(node)?;
+    Ok(node)
+}
+
+/// Opens `html` and `body`.
+pub(crate) fn start_body(page: &mut Page, alloc: Global) -> Result<(), Refusal> {
+    start(page, alloc, "html")?;
+    start(page, alloc, "body")?;
+    Ok(())
+}
+
+/// Opens a `b`, listed, and in it so many elements, each in the one before.
+pub(crate) fn nest(page: &mut Page, alloc: Global, name: &str, count: u64) -> Result<(), Refusal> {
+    let node = start(page, alloc, "b")?;
+    page.enter(node)?;
+    for _ in 0..count {
+        start(page, alloc, name)?;
+    }
+    Ok(())
+}
+
+/// Follows the end tag of `b`.
+pub(crate) fn end(page: Page) -> Result<Page, Refusal> {
+    let (page, _) = page.adopt(Tag::B, false)?;
+    Ok(page)
+}
+
+/// Reads `<b><p></b></p>` so many times.
+pub(crate) fn misnest(mut page: Page, alloc: Global, times: u64) -> Result<Page, Refusal> {
+    for _ in 0..times {
+        page = page.reopen(false)?;
+        nest(&mut page, alloc, "p", 1)?;
+        page = end(page)?;
+        if page.has_in_scope(Tag::P, Scope::Button) {
+            page.implied(Some(Tag::P));
             page.pop();
         }
     }

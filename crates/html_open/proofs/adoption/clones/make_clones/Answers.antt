@@ -1,0 +1,20 @@
+use Rattle.std.proofs.Common.{◌≡◌, ℕ, take, sym, subst, true}
+use Rattle.html_arena.specs.Siblings.{has}
+use Rattle.html_open.proofs.Clones.{cloned-formatting, cloned-step}
+use Rattle.html_open.proofs.Lists.{has-at}
+use Rattle.html_open.proofs.adoption.clones.make_clones.Goals as goal
+
+pub make_clone-requires-clause-node_in : goal.make_clone-requires-clause-node_in
+make_clone-requires-clause-node_in c =
+    let f = cloned-formatting c.args.arena.now c.loop-node.arena (take c.loop-node.node-index c.args.originals.now) c.args.originals.now c.loop-node.invariant c.requires in
+    (f c.node-item.result (subst (λ (y : ℕ). has y c.args.originals.now ≡ true) (sym c.node-item.is) (has-at c.args.originals.now c.loop-node.node-index c.node-item.result c.loop-node-test.true))).0
+
+pub make_clone-requires-clause-formatting : goal.make_clone-requires-clause-formatting
+make_clone-requires-clause-formatting c =
+    let f = cloned-formatting c.args.arena.now c.loop-node.arena (take c.loop-node.node-index c.args.originals.now) c.args.originals.now c.loop-node.invariant c.requires in
+    (f c.node-item.result (subst (λ (y : ℕ). has y c.args.originals.now ≡ true) (sym c.node-item.is) (has-at c.args.originals.now c.loop-node.node-index c.node-item.result c.loop-node-test.true))).1
+
+pub loop-node-preserved : goal.loop-node-preserved
+loop-node-preserved c =
+    let b = (c.requires c.node-item.result (subst (λ (y : ℕ). has y c.args.originals.now ≡ true) (sym c.node-item.is) (has-at c.args.originals.now c.loop-node.node-index c.node-item.result c.loop-node-test.true))).0 in
+    cloned-step c.args.arena.now c.loop-node.arena c.make_clone.new.arena c.args.originals.now c.loop-node.node-index c.node-item.result c.loop-node-test.true c.node-item.is b c.loop-node.invariant c.in_ok-make_clone.ensures.cloned

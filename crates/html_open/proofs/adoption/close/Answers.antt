@@ -1,0 +1,43 @@
+use Rattle.std.proofs.Common.{◌-◌, sym, ◌∙◌, ap, subst, length, drop, arith, eqb}
+use Rattle.html_arena.specs.declared.marks.Mark.TheVariants.{OnStack}
+use Rattle.html_arena.specs.Tree.{Tree}
+use Rattle.html_open.specs.Adopting.{bare}
+use Rattle.html_open.specs.Opened.{IsOpen, open_at}
+use Rattle.html_open.proofs.Closing.{all_unmarked-labels, bare-all}
+use Rattle.html_open.proofs.Finding.{last_named-in}
+use Rattle.html_open.proofs.Keeps.{open-charged}
+use Rattle.html_open.proofs.Lists.{below-at}
+use Rattle.html_open.proofs.adoption.close.Goals as goal
+
+pub remove-requires-clause-nodes_in : goal.remove-requires-clause-nodes_in
+remove-requires-clause-nodes_in c = λ x h.
+    let k = c.requires.«open».list_in x h in
+    let e = ap (λ (t : Tree). length t.labels) c.charge.ensures in
+    let f = ap (λ (t : Tree). length t.labels) c.pop_to.ensures.tree in
+    let g = ap length (all_unmarked-labels c.charge.new.self OnStack (drop c.args.at c.args.stack.now)) in
+    omega (arith, k, e, f, g)
+
+pub remove-requires-clause-node_in : goal.remove-requires-clause-node_in
+remove-requires-clause-node_in c =
+    let k = c.requires.«open».list_in c.args.node (last_named-in c.args.arena.now c.requires.plain.0 c.args.list.now c.args.node c.requires.plain.1.formatting.entry) in
+    let e = ap (λ (t : Tree). length t.labels) c.charge.ensures in
+    let f = ap (λ (t : Tree). length t.labels) c.pop_to.ensures.tree in
+    let g = ap length (all_unmarked-labels c.charge.new.self OnStack (drop c.args.at c.args.stack.now)) in
+    omega (arith, k, e, f, g)
+
+pub returns-clause-closed : goal.returns-clause-closed
+returns-clause-closed c = λ s p. record {
+  f = c.args.node;
+  formatting = p.formatting.entry;
+  on_stack = p.formatting.on_stack;
+  in_scope = p.formatting.in_scope;
+  no_special = p.no_special;
+  stack_is = c.pop_to.ensures.stack ∙ sym (below-at (eqb c.args.node) c.args.stack.now c.args.at p.formatting.index_is);
+  list_is = c.remove.ensures.list;
+  tree_is = ap bare c.remove.ensures.tree ∙ ap bare c.pop_to.ensures.tree ∙ bare-all c.charge.new.self OnStack (drop c.args.at c.args.stack.now) ∙ ap bare c.charge.ensures;
+}
+
+pub returns-clause-kept : goal.returns-clause-kept
+returns-clause-kept c =
+    c.remove.ensures.keeps c.pop_to.new.self (c.pop_to.ensures.keeps c.args.list.now
+    (subst (λ (t : Tree). IsOpen (open_at c.args.stack.now c.args.list.now t)) (sym c.charge.ensures) (open-charged c.args.stack.now c.args.list.now c.args.arena.now (c.len.result - c.args.at) c.requires.«open»)))

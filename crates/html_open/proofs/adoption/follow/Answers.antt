@@ -1,0 +1,66 @@
+use Rattle.std.proofs.Common.{◌≡◌, ◌+◌, List, ℕ, Option, sym, ◌∙◌, ap, subst, length, arith}
+use Rattle.html_arena.specs.Tree.{Tree}
+use Rattle.html_open.specs.declared.adoption.AdoptEnd.{AdoptEnd}
+use Rattle.html_open.specs.Adopting.{IsFirstFree, IsTurn, Rounds, no_round, popped}
+use Rattle.html_open.specs.Opened.{open_at}
+use Rattle.html_open.specs.Placing.{CanPlace}
+use Rattle.html_open.proofs.Looping.{can-place-stepped, ends-grown, finish-eight, finish-fewer, round-grown, rounds-more}
+use Rattle.html_open.proofs.adoption.follow.Goals as goal
+
+pub rounding-init : goal.rounding-init
+rounding-init c = record {
+  rounds = no_round (open_at c.pop_unlisted.new.stack c.args.list.now c.pop_unlisted.new.arena);
+  opened = c.pop_unlisted.ensures.kept;
+  can_place = subst (λ (v : List ℕ). CanPlace c.pop_unlisted.new.arena v) (sym (c.pop_unlisted.ensures.same_stack c.if-pop_unlisted.false)) (subst (λ (t : Tree). CanPlace t c.args.stack.now) (sym (c.pop_unlisted.ensures.same_tree c.if-pop_unlisted.false)) (can-place-stepped c.args.arena.now c.pop_unlisted.new.arena.steps c.args.stack.now c.requires.can_place));
+  first_free = subst (λ (v : List ℕ). IsFirstFree v c.args.list.now) (sym (c.pop_unlisted.ensures.same_stack c.if-pop_unlisted.false)) c.requires.first_free;
+  grown = omega arith;
+}
+
+pub rounding-preserved : goal.rounding-preserved
+rounding-preserved c =
+    let r = (subst (λ (e : Option AdoptEnd). IsTurn c.args.name c.args.foster e (open_at c.rounding.stack c.rounding.list c.rounding.arena) (open_at c.turn.new.stack c.turn.new.list c.turn.new.arena)) c.in_default.is c.in_ok-end.ensures.turned) in
+    let g = round-grown c.args.name c.args.foster (open_at c.rounding.stack c.rounding.list c.rounding.arena) (open_at c.turn.new.stack c.turn.new.list c.turn.new.arena) r in
+    let h = c.rounding.invariant.grown in
+    record {
+      rounds = rounds-more c.args.name c.args.foster c.rounding._index (c.rounding._index + 1) (open_at c.pop_unlisted.new.stack c.args.list.now c.pop_unlisted.new.arena) (open_at c.rounding.stack c.rounding.list c.rounding.arena) (open_at c.turn.new.stack c.turn.new.list c.turn.new.arena) (omega arith) c.rounding.invariant.rounds r;
+      opened = c.in_ok-end.ensures.kept;
+      can_place = c.in_ok-end.ensures.can_place c.in_default.is;
+      first_free = c.in_ok-end.ensures.first_free c.in_default.is;
+      grown = omega (arith, g, h);
+    }
+
+pub returns-clause-adopted : goal.returns-clause-adopted
+returns-clause-adopted c =
+    let f = c.rounding-test.false in
+    let h = c.rounding.auto._index-end in
+    let e : c.rounding._index ≡ 8 = omega arith in
+    finish-eight c.args.name c.args.foster c.args.stack.now c.args.list.now c.args.arena.now c.pop_unlisted.new.arena.steps (open_at c.pop_unlisted.new.stack c.args.list.now c.pop_unlisted.new.arena) (open_at c.rounding.stack c.rounding.list c.rounding.arena) (ap (λ (v : List ℕ). open_at v c.args.list.now c.pop_unlisted.new.arena) (c.pop_unlisted.ensures.same_stack c.if-pop_unlisted.false) ∙ ap (λ (t : Tree). open_at c.args.stack.now c.args.list.now t) (c.pop_unlisted.ensures.same_tree c.if-pop_unlisted.false)) (c.pop_unlisted.ensures.no c.if-pop_unlisted.false)
+    (subst (λ (i : ℕ). Rounds c.args.name c.args.foster i (open_at c.pop_unlisted.new.stack c.args.list.now c.pop_unlisted.new.arena) (open_at c.rounding.stack c.rounding.list c.rounding.arena)) e c.rounding.invariant.rounds)
+
+pub returns-clause-clones : goal.returns-clause-clones
+returns-clause-clones c =
+    let g = c.rounding.invariant.grown in
+    let h = c.rounding.auto._index-end in
+    let e = ap (λ (t : Tree). length t.labels) (c.pop_unlisted.ensures.same_tree c.if-pop_unlisted.false) in
+    omega (arith, g, h, e)
+
+pub returns-then-pop_unlisted-clause-adopted : goal.returns-then-pop_unlisted-clause-adopted
+returns-then-pop_unlisted-clause-adopted c = popped _ _ (c.pop_unlisted.ensures.yes c.if-pop_unlisted.true)
+
+pub returns-then-pop_unlisted-clause-clones : goal.returns-then-pop_unlisted-clause-clones
+returns-then-pop_unlisted-clause-clones c =
+    let e = ap (λ (t : Tree). length t.labels) (c.pop_unlisted.ensures.yes c.if-pop_unlisted.true).tree_is in
+    omega (arith, e)
+
+pub returns-in-Some-clause-adopted : goal.returns-in-Some-clause-adopted
+returns-in-Some-clause-adopted c =
+    finish-fewer c.args.name c.args.foster c.args.stack.now c.args.list.now c.args.arena.now c.pop_unlisted.new.arena.steps c.in-Some.end c.rounding._index (open_at c.pop_unlisted.new.stack c.args.list.now c.pop_unlisted.new.arena) (open_at c.rounding.stack c.rounding.list c.rounding.arena) (open_at c.turn.new.stack c.turn.new.list c.turn.new.arena) (ap (λ (v : List ℕ). open_at v c.args.list.now c.pop_unlisted.new.arena) (c.pop_unlisted.ensures.same_stack c.if-pop_unlisted.false) ∙ ap (λ (t : Tree). open_at c.args.stack.now c.args.list.now t) (c.pop_unlisted.ensures.same_tree c.if-pop_unlisted.false)) (c.pop_unlisted.ensures.no c.if-pop_unlisted.false) c.rounding-test.true c.rounding.invariant.rounds
+    (subst (λ (e : Option AdoptEnd). IsTurn c.args.name c.args.foster e (open_at c.rounding.stack c.rounding.list c.rounding.arena) (open_at c.turn.new.stack c.turn.new.list c.turn.new.arena)) c.in-Some.is c.in_ok-end.ensures.turned)
+
+pub returns-in-Some-clause-clones : goal.returns-in-Some-clause-clones
+returns-in-Some-clause-clones c =
+    let g = c.rounding.invariant.grown in
+    let h = c.rounding-test.true in
+    let k = ends-grown c.args.name c.in-Some.end (open_at c.rounding.stack c.rounding.list c.rounding.arena) (open_at c.turn.new.stack c.turn.new.list c.turn.new.arena) (subst (λ (e : Option AdoptEnd). IsTurn c.args.name c.args.foster e (open_at c.rounding.stack c.rounding.list c.rounding.arena) (open_at c.turn.new.stack c.turn.new.list c.turn.new.arena)) c.in-Some.is c.in_ok-end.ensures.turned) in
+    let e = ap (λ (t : Tree). length t.labels) (c.pop_unlisted.ensures.same_tree c.if-pop_unlisted.false) in
+    omega (arith, g, h, k, e)

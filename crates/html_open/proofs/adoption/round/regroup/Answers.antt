@@ -1,0 +1,86 @@
+use Rattle.std.proofs.Common.{◌+◌, ◌∷◌, [], ◌++◌, List, ℕ, sym, ◌∙◌, ap, subst, length, arith}
+use Rattle.html_arena.specs.declared.marks.Mark.TheVariants.{InList}
+use Rattle.html_arena.specs.Data.{is_linkable}
+use Rattle.html_arena.specs.Tree.{label_of, marked}
+use Rattle.html_open.specs.Cloning.{AreCloned, AreFormatting, HaveEntered}
+use Rattle.html_open.specs.Hanging.{Hung, StandAlone}
+use Rattle.html_open.proofs.Regrouping.{at-within, clone-in, cs-formatting, end-in, entries-in, f-formatting, fresh-clones, front-kept, g-below, g-linkable, index-is, inner-in, left-in, length-is, new-list, new-stack, older, open-after, place-there, regrouped, within}
+use Rattle.html_open.proofs.adoption.round.regroup.Goals as goal
+
+pub elements_to_clone-requires : goal.elements_to_clone-requires
+elements_to_clone-requires c = inner-in c.args.nodes.now c.args.entries.now c.args.arena.now c.args.at c.args.block_at c.forest.ensures.well_formed c.requires.«open» c.requires.block.0 c.requires.block.1
+
+pub clone_all-requires-clause-originals : goal.clone_all-requires-clause-originals
+clone_all-requires-clause-originals c = subst (AreFormatting c.args.arena.now) (sym c.as_slice.ensures.value) (cs-formatting c.args.nodes.now c.args.entries.now c.args.arena.now c.args.at c.args.block_at c.forest.ensures.well_formed c.requires.«open» c.requires.block.0 c.requires.block.1 c.in_ok-originals.originals.items c.in_ok-originals.ensures)
+
+pub clone_all-requires-clause-formatting : goal.clone_all-requires-clause-formatting
+clone_all-requires-clause-formatting c = f-formatting c.args.nodes.now c.args.entries.now c.args.arena.now c.args.at c.args.block_at c.forest.ensures.well_formed c.requires.«open» c.requires.block.0 c.requires.block.1 c.index-nodes-at.result (index-is c.args.nodes.now c.args.at c.index-nodes-at.result (at-within c.args.nodes.now c.args.entries.now c.args.arena.now c.args.at c.args.block_at c.forest.ensures.well_formed c.requires.«open» c.requires.block.0 c.requires.block.1) c.index-nodes-at.is)
+
+pub leave-requires : goal.leave-requires
+leave-requires c = left-in c.args.nodes.now c.args.entries.now c.args.arena.now c.args.at c.args.block_at c.forest.ensures.well_formed c.requires.«open» c.requires.block.0 c.requires.block.1 c.in_ok-originals.originals.items c.in_ok-originals.ensures c.clone_all.new.arena (subst (λ (x : ℕ). AreCloned c.args.arena.now c.clone_all.new.arena (c.in_ok-originals.originals.items ++ x ∷ [])) (index-is c.args.nodes.now c.args.at c.index-nodes-at.result (at-within c.args.nodes.now c.args.entries.now c.args.arena.now c.args.at c.args.block_at c.forest.ensures.well_formed c.requires.«open» c.requires.block.0 c.requires.block.1) c.index-nodes-at.is) (subst (λ (v : List ℕ). AreCloned c.args.arena.now c.clone_all.new.arena (v ++ c.index-nodes-at.result ∷ [])) c.as_slice.ensures.value c.in_ok-clone.ensures.cloned))
+
+pub relisted-requires-clause-nodes_in : goal.relisted-requires-clause-nodes_in
+relisted-requires-clause-nodes_in c = entries-in c.args.nodes.now c.args.entries.now c.args.arena.now c.args.at c.args.block_at c.forest.ensures.well_formed c.requires.«open» c.requires.block.0 c.requires.block.1 c.in_ok-originals.originals.items c.in_ok-originals.ensures c.clone_all.new.arena (subst (λ (x : ℕ). AreCloned c.args.arena.now c.clone_all.new.arena (c.in_ok-originals.originals.items ++ x ∷ [])) (index-is c.args.nodes.now c.args.at c.index-nodes-at.result (at-within c.args.nodes.now c.args.entries.now c.args.arena.now c.args.at c.args.block_at c.forest.ensures.well_formed c.requires.«open» c.requires.block.0 c.requires.block.1) c.index-nodes-at.is) (subst (λ (v : List ℕ). AreCloned c.args.arena.now c.clone_all.new.arena (v ++ c.index-nodes-at.result ∷ [])) c.as_slice.ensures.value c.in_ok-clone.ensures.cloned)) c.leave.new.arena c.leave.ensures.same c.leave.ensures.marks
+
+pub enter-requires-clause-ordered : goal.enter-requires-clause-ordered
+enter-requires-clause-ordered c =
+    let a = c.len-first.ensures in
+    let e = (c.len-end.ensures ∙ length-is c.args.nodes.now c.args.entries.now c.args.arena.now c.args.at c.args.block_at c.forest.ensures.well_formed c.requires.«open» c.requires.block.0 c.requires.block.1 c.in_ok-originals.originals.items c.in_ok-originals.ensures c.clone_all.new.arena (subst (λ (x : ℕ). AreCloned c.args.arena.now c.clone_all.new.arena (c.in_ok-originals.originals.items ++ x ∷ [])) (index-is c.args.nodes.now c.args.at c.index-nodes-at.result (at-within c.args.nodes.now c.args.entries.now c.args.arena.now c.args.at c.args.block_at c.forest.ensures.well_formed c.requires.«open» c.requires.block.0 c.requires.block.1) c.index-nodes-at.is) (subst (λ (v : List ℕ). AreCloned c.args.arena.now c.clone_all.new.arena (v ++ c.index-nodes-at.result ∷ [])) c.as_slice.ensures.value c.in_ok-clone.ensures.cloned))) in
+    omega (arith, a, e)
+
+pub enter-requires-clause-end_in : goal.enter-requires-clause-end_in
+enter-requires-clause-end_in c =
+    let a = end-in c.args.nodes.now c.args.entries.now c.args.arena.now c.args.at c.args.block_at c.forest.ensures.well_formed c.requires.«open» c.requires.block.0 c.requires.block.1 c.in_ok-originals.originals.items c.in_ok-originals.ensures c.clone_all.new.arena (subst (λ (x : ℕ). AreCloned c.args.arena.now c.clone_all.new.arena (c.in_ok-originals.originals.items ++ x ∷ [])) (index-is c.args.nodes.now c.args.at c.index-nodes-at.result (at-within c.args.nodes.now c.args.entries.now c.args.arena.now c.args.at c.args.block_at c.forest.ensures.well_formed c.requires.«open» c.requires.block.0 c.requires.block.1) c.index-nodes-at.is) (subst (λ (v : List ℕ). AreCloned c.args.arena.now c.clone_all.new.arena (v ++ c.index-nodes-at.result ∷ [])) c.as_slice.ensures.value c.in_ok-clone.ensures.cloned)) c.leave.new.arena c.leave.ensures.same c.leave.ensures.marks in
+    let e = (c.len-end.ensures ∙ length-is c.args.nodes.now c.args.entries.now c.args.arena.now c.args.at c.args.block_at c.forest.ensures.well_formed c.requires.«open» c.requires.block.0 c.requires.block.1 c.in_ok-originals.originals.items c.in_ok-originals.ensures c.clone_all.new.arena (subst (λ (x : ℕ). AreCloned c.args.arena.now c.clone_all.new.arena (c.in_ok-originals.originals.items ++ x ∷ [])) (index-is c.args.nodes.now c.args.at c.index-nodes-at.result (at-within c.args.nodes.now c.args.entries.now c.args.arena.now c.args.at c.args.block_at c.forest.ensures.well_formed c.requires.«open» c.requires.block.0 c.requires.block.1) c.index-nodes-at.is) (subst (λ (v : List ℕ). AreCloned c.args.arena.now c.clone_all.new.arena (v ++ c.index-nodes-at.result ∷ [])) c.as_slice.ensures.value c.in_ok-clone.ensures.cloned))) in
+    omega (arith, a, e)
+
+pub hang-requires-clause-block_below : goal.hang-requires-clause-block_below
+hang-requires-clause-block_below c =
+    let a = g-below c.args.nodes.now c.args.entries.now c.args.arena.now c.args.at c.args.block_at c.forest.ensures.well_formed c.requires.«open» c.requires.block.0 c.requires.block.1 c.in_ok-originals.originals.items c.in_ok-originals.ensures c.clone_all.new.arena (subst (λ (x : ℕ). AreCloned c.args.arena.now c.clone_all.new.arena (c.in_ok-originals.originals.items ++ x ∷ [])) (index-is c.args.nodes.now c.args.at c.index-nodes-at.result (at-within c.args.nodes.now c.args.entries.now c.args.arena.now c.args.at c.args.block_at c.forest.ensures.well_formed c.requires.«open» c.requires.block.0 c.requires.block.1) c.index-nodes-at.is) (subst (λ (v : List ℕ). AreCloned c.args.arena.now c.clone_all.new.arena (v ++ c.index-nodes-at.result ∷ [])) c.as_slice.ensures.value c.in_ok-clone.ensures.cloned)) c.leave.new.arena c.leave.ensures.same c.leave.ensures.marks c.enter.new.arena c.enter.ensures.same (subst (HaveEntered c.leave.new.arena c.enter.new.arena (length c.args.arena.now.labels)) (c.len-end.ensures ∙ length-is c.args.nodes.now c.args.entries.now c.args.arena.now c.args.at c.args.block_at c.forest.ensures.well_formed c.requires.«open» c.requires.block.0 c.requires.block.1 c.in_ok-originals.originals.items c.in_ok-originals.ensures c.clone_all.new.arena (subst (λ (x : ℕ). AreCloned c.args.arena.now c.clone_all.new.arena (c.in_ok-originals.originals.items ++ x ∷ [])) (index-is c.args.nodes.now c.args.at c.index-nodes-at.result (at-within c.args.nodes.now c.args.entries.now c.args.arena.now c.args.at c.args.block_at c.forest.ensures.well_formed c.requires.«open» c.requires.block.0 c.requires.block.1) c.index-nodes-at.is) (subst (λ (v : List ℕ). AreCloned c.args.arena.now c.clone_all.new.arena (v ++ c.index-nodes-at.result ∷ [])) c.as_slice.ensures.value c.in_ok-clone.ensures.cloned))) (subst (λ (x : ℕ). HaveEntered c.leave.new.arena c.enter.new.arena x c.len-end.result) c.len-first.ensures c.enter.ensures.marks)) c.args.target c.requires.place_in c.requires.way_in c.requires.apart in
+    let e = c.len-first.ensures in
+    let f = (index-is c.args.nodes.now c.args.block_at c.index-nodes-block_at.result (within c.args.nodes.now c.args.entries.now c.args.arena.now c.args.at c.args.block_at c.forest.ensures.well_formed c.requires.«open» c.requires.block.0 c.requires.block.1) c.index-nodes-block_at.is) in
+    omega (arith, a, e, f)
+
+pub hang-requires-clause-ordered : goal.hang-requires-clause-ordered
+hang-requires-clause-ordered c =
+    let a = c.len-first.ensures in
+    let e = (c.in_ok-clone.ensures.number ∙ ap (λ (v : List ℕ). length c.args.arena.now.labels + length v) c.as_slice.ensures.value) in
+    omega (arith, a, e)
+
+pub hang-requires-clause-clone_in : goal.hang-requires-clause-clone_in
+hang-requires-clause-clone_in c =
+    let a = clone-in c.args.nodes.now c.args.entries.now c.args.arena.now c.args.at c.args.block_at c.forest.ensures.well_formed c.requires.«open» c.requires.block.0 c.requires.block.1 c.in_ok-originals.originals.items c.in_ok-originals.ensures c.clone_all.new.arena (subst (λ (x : ℕ). AreCloned c.args.arena.now c.clone_all.new.arena (c.in_ok-originals.originals.items ++ x ∷ [])) (index-is c.args.nodes.now c.args.at c.index-nodes-at.result (at-within c.args.nodes.now c.args.entries.now c.args.arena.now c.args.at c.args.block_at c.forest.ensures.well_formed c.requires.«open» c.requires.block.0 c.requires.block.1) c.index-nodes-at.is) (subst (λ (v : List ℕ). AreCloned c.args.arena.now c.clone_all.new.arena (v ++ c.index-nodes-at.result ∷ [])) c.as_slice.ensures.value c.in_ok-clone.ensures.cloned)) c.leave.new.arena c.leave.ensures.same c.leave.ensures.marks c.enter.new.arena c.enter.ensures.same (subst (HaveEntered c.leave.new.arena c.enter.new.arena (length c.args.arena.now.labels)) (c.len-end.ensures ∙ length-is c.args.nodes.now c.args.entries.now c.args.arena.now c.args.at c.args.block_at c.forest.ensures.well_formed c.requires.«open» c.requires.block.0 c.requires.block.1 c.in_ok-originals.originals.items c.in_ok-originals.ensures c.clone_all.new.arena (subst (λ (x : ℕ). AreCloned c.args.arena.now c.clone_all.new.arena (c.in_ok-originals.originals.items ++ x ∷ [])) (index-is c.args.nodes.now c.args.at c.index-nodes-at.result (at-within c.args.nodes.now c.args.entries.now c.args.arena.now c.args.at c.args.block_at c.forest.ensures.well_formed c.requires.«open» c.requires.block.0 c.requires.block.1) c.index-nodes-at.is) (subst (λ (v : List ℕ). AreCloned c.args.arena.now c.clone_all.new.arena (v ++ c.index-nodes-at.result ∷ [])) c.as_slice.ensures.value c.in_ok-clone.ensures.cloned))) (subst (λ (x : ℕ). HaveEntered c.leave.new.arena c.enter.new.arena x c.len-end.result) c.len-first.ensures c.enter.ensures.marks)) c.args.target c.requires.place_in c.requires.way_in c.requires.apart in
+    let e = (c.in_ok-clone.ensures.number ∙ ap (λ (v : List ℕ). length c.args.arena.now.labels + length v) c.as_slice.ensures.value) in
+    omega (arith, a, e)
+
+pub hang-requires-clause-block_linkable : goal.hang-requires-clause-block_linkable
+hang-requires-clause-block_linkable c = ap (λ (x : ℕ). is_linkable (label_of c.enter.new.arena x)) (index-is c.args.nodes.now c.args.block_at c.index-nodes-block_at.result (within c.args.nodes.now c.args.entries.now c.args.arena.now c.args.at c.args.block_at c.forest.ensures.well_formed c.requires.«open» c.requires.block.0 c.requires.block.1) c.index-nodes-block_at.is) ∙ g-linkable c.args.nodes.now c.args.entries.now c.args.arena.now c.args.at c.args.block_at c.forest.ensures.well_formed c.requires.«open» c.requires.block.0 c.requires.block.1 c.in_ok-originals.originals.items c.in_ok-originals.ensures c.clone_all.new.arena (subst (λ (x : ℕ). AreCloned c.args.arena.now c.clone_all.new.arena (c.in_ok-originals.originals.items ++ x ∷ [])) (index-is c.args.nodes.now c.args.at c.index-nodes-at.result (at-within c.args.nodes.now c.args.entries.now c.args.arena.now c.args.at c.args.block_at c.forest.ensures.well_formed c.requires.«open» c.requires.block.0 c.requires.block.1) c.index-nodes-at.is) (subst (λ (v : List ℕ). AreCloned c.args.arena.now c.clone_all.new.arena (v ++ c.index-nodes-at.result ∷ [])) c.as_slice.ensures.value c.in_ok-clone.ensures.cloned)) c.leave.new.arena c.leave.ensures.same c.leave.ensures.marks c.enter.new.arena c.enter.ensures.same (subst (HaveEntered c.leave.new.arena c.enter.new.arena (length c.args.arena.now.labels)) (c.len-end.ensures ∙ length-is c.args.nodes.now c.args.entries.now c.args.arena.now c.args.at c.args.block_at c.forest.ensures.well_formed c.requires.«open» c.requires.block.0 c.requires.block.1 c.in_ok-originals.originals.items c.in_ok-originals.ensures c.clone_all.new.arena (subst (λ (x : ℕ). AreCloned c.args.arena.now c.clone_all.new.arena (c.in_ok-originals.originals.items ++ x ∷ [])) (index-is c.args.nodes.now c.args.at c.index-nodes-at.result (at-within c.args.nodes.now c.args.entries.now c.args.arena.now c.args.at c.args.block_at c.forest.ensures.well_formed c.requires.«open» c.requires.block.0 c.requires.block.1) c.index-nodes-at.is) (subst (λ (v : List ℕ). AreCloned c.args.arena.now c.clone_all.new.arena (v ++ c.index-nodes-at.result ∷ [])) c.as_slice.ensures.value c.in_ok-clone.ensures.cloned))) (subst (λ (x : ℕ). HaveEntered c.leave.new.arena c.enter.new.arena x c.len-end.result) c.len-first.ensures c.enter.ensures.marks)) c.args.target c.requires.place_in c.requires.way_in c.requires.apart
+
+pub hang-requires-clause-fresh : goal.hang-requires-clause-fresh
+hang-requires-clause-fresh c =
+    subst (λ (x : ℕ). StandAlone c.enter.new.arena x (c.in_ok-clone.clone + 1)) (sym c.len-first.ensures)
+    (subst (λ (x : ℕ). StandAlone c.enter.new.arena (length c.args.arena.now.labels) (x + 1)) (sym (c.in_ok-clone.ensures.number ∙ ap (λ (v : List ℕ). length c.args.arena.now.labels + length v) c.as_slice.ensures.value)) (fresh-clones c.args.nodes.now c.args.entries.now c.args.arena.now c.args.at c.args.block_at c.forest.ensures.well_formed c.requires.«open» c.requires.block.0 c.requires.block.1 c.in_ok-originals.originals.items c.in_ok-originals.ensures c.clone_all.new.arena (subst (λ (x : ℕ). AreCloned c.args.arena.now c.clone_all.new.arena (c.in_ok-originals.originals.items ++ x ∷ [])) (index-is c.args.nodes.now c.args.at c.index-nodes-at.result (at-within c.args.nodes.now c.args.entries.now c.args.arena.now c.args.at c.args.block_at c.forest.ensures.well_formed c.requires.«open» c.requires.block.0 c.requires.block.1) c.index-nodes-at.is) (subst (λ (v : List ℕ). AreCloned c.args.arena.now c.clone_all.new.arena (v ++ c.index-nodes-at.result ∷ [])) c.as_slice.ensures.value c.in_ok-clone.ensures.cloned)) c.leave.new.arena c.leave.ensures.same c.leave.ensures.marks c.enter.new.arena c.enter.ensures.same (subst (HaveEntered c.leave.new.arena c.enter.new.arena (length c.args.arena.now.labels)) (c.len-end.ensures ∙ length-is c.args.nodes.now c.args.entries.now c.args.arena.now c.args.at c.args.block_at c.forest.ensures.well_formed c.requires.«open» c.requires.block.0 c.requires.block.1 c.in_ok-originals.originals.items c.in_ok-originals.ensures c.clone_all.new.arena (subst (λ (x : ℕ). AreCloned c.args.arena.now c.clone_all.new.arena (c.in_ok-originals.originals.items ++ x ∷ [])) (index-is c.args.nodes.now c.args.at c.index-nodes-at.result (at-within c.args.nodes.now c.args.entries.now c.args.arena.now c.args.at c.args.block_at c.forest.ensures.well_formed c.requires.«open» c.requires.block.0 c.requires.block.1) c.index-nodes-at.is) (subst (λ (v : List ℕ). AreCloned c.args.arena.now c.clone_all.new.arena (v ++ c.index-nodes-at.result ∷ [])) c.as_slice.ensures.value c.in_ok-clone.ensures.cloned))) (subst (λ (x : ℕ). HaveEntered c.leave.new.arena c.enter.new.arena x c.len-end.result) c.len-first.ensures c.enter.ensures.marks)) c.args.target c.requires.place_in c.requires.way_in c.requires.apart))
+
+pub hang-requires-clause-place_in : goal.hang-requires-clause-place_in
+hang-requires-clause-place_in c = place-there c.args.nodes.now c.args.entries.now c.args.arena.now c.args.at c.args.block_at c.forest.ensures.well_formed c.requires.«open» c.requires.block.0 c.requires.block.1 c.in_ok-originals.originals.items c.in_ok-originals.ensures c.clone_all.new.arena (subst (λ (x : ℕ). AreCloned c.args.arena.now c.clone_all.new.arena (c.in_ok-originals.originals.items ++ x ∷ [])) (index-is c.args.nodes.now c.args.at c.index-nodes-at.result (at-within c.args.nodes.now c.args.entries.now c.args.arena.now c.args.at c.args.block_at c.forest.ensures.well_formed c.requires.«open» c.requires.block.0 c.requires.block.1) c.index-nodes-at.is) (subst (λ (v : List ℕ). AreCloned c.args.arena.now c.clone_all.new.arena (v ++ c.index-nodes-at.result ∷ [])) c.as_slice.ensures.value c.in_ok-clone.ensures.cloned)) c.leave.new.arena c.leave.ensures.same c.leave.ensures.marks c.enter.new.arena c.enter.ensures.same (subst (HaveEntered c.leave.new.arena c.enter.new.arena (length c.args.arena.now.labels)) (c.len-end.ensures ∙ length-is c.args.nodes.now c.args.entries.now c.args.arena.now c.args.at c.args.block_at c.forest.ensures.well_formed c.requires.«open» c.requires.block.0 c.requires.block.1 c.in_ok-originals.originals.items c.in_ok-originals.ensures c.clone_all.new.arena (subst (λ (x : ℕ). AreCloned c.args.arena.now c.clone_all.new.arena (c.in_ok-originals.originals.items ++ x ∷ [])) (index-is c.args.nodes.now c.args.at c.index-nodes-at.result (at-within c.args.nodes.now c.args.entries.now c.args.arena.now c.args.at c.args.block_at c.forest.ensures.well_formed c.requires.«open» c.requires.block.0 c.requires.block.1) c.index-nodes-at.is) (subst (λ (v : List ℕ). AreCloned c.args.arena.now c.clone_all.new.arena (v ++ c.index-nodes-at.result ∷ [])) c.as_slice.ensures.value c.in_ok-clone.ensures.cloned))) (subst (λ (x : ℕ). HaveEntered c.leave.new.arena c.enter.new.arena x c.len-end.result) c.len-first.ensures c.enter.ensures.marks)) c.args.target c.requires.place_in c.requires.way_in c.requires.apart
+
+pub hang-requires-clause-older : goal.hang-requires-clause-older
+hang-requires-clause-older c = λ y h.
+    let r = older c.args.nodes.now c.args.entries.now c.args.arena.now c.args.at c.args.block_at c.forest.ensures.well_formed c.requires.«open» c.requires.block.0 c.requires.block.1 c.in_ok-originals.originals.items c.in_ok-originals.ensures c.clone_all.new.arena (subst (λ (x : ℕ). AreCloned c.args.arena.now c.clone_all.new.arena (c.in_ok-originals.originals.items ++ x ∷ [])) (index-is c.args.nodes.now c.args.at c.index-nodes-at.result (at-within c.args.nodes.now c.args.entries.now c.args.arena.now c.args.at c.args.block_at c.forest.ensures.well_formed c.requires.«open» c.requires.block.0 c.requires.block.1) c.index-nodes-at.is) (subst (λ (v : List ℕ). AreCloned c.args.arena.now c.clone_all.new.arena (v ++ c.index-nodes-at.result ∷ [])) c.as_slice.ensures.value c.in_ok-clone.ensures.cloned)) c.leave.new.arena c.leave.ensures.same c.leave.ensures.marks c.enter.new.arena c.enter.ensures.same (subst (HaveEntered c.leave.new.arena c.enter.new.arena (length c.args.arena.now.labels)) (c.len-end.ensures ∙ length-is c.args.nodes.now c.args.entries.now c.args.arena.now c.args.at c.args.block_at c.forest.ensures.well_formed c.requires.«open» c.requires.block.0 c.requires.block.1 c.in_ok-originals.originals.items c.in_ok-originals.ensures c.clone_all.new.arena (subst (λ (x : ℕ). AreCloned c.args.arena.now c.clone_all.new.arena (c.in_ok-originals.originals.items ++ x ∷ [])) (index-is c.args.nodes.now c.args.at c.index-nodes-at.result (at-within c.args.nodes.now c.args.entries.now c.args.arena.now c.args.at c.args.block_at c.forest.ensures.well_formed c.requires.«open» c.requires.block.0 c.requires.block.1) c.index-nodes-at.is) (subst (λ (v : List ℕ). AreCloned c.args.arena.now c.clone_all.new.arena (v ++ c.index-nodes-at.result ∷ [])) c.as_slice.ensures.value c.in_ok-clone.ensures.cloned))) (subst (λ (x : ℕ). HaveEntered c.leave.new.arena c.enter.new.arena x c.len-end.result) c.len-first.ensures c.enter.ensures.marks)) c.args.target c.requires.place_in c.requires.way_in c.requires.apart y h in
+    let a = c.len-first.ensures in
+    let r0 = r.0 in
+    (omega (arith, a, r0), λ q. r.1 (q ∙ (index-is c.args.nodes.now c.args.block_at c.index-nodes-block_at.result (within c.args.nodes.now c.args.entries.now c.args.arena.now c.args.at c.args.block_at c.forest.ensures.well_formed c.requires.«open» c.requires.block.0 c.requires.block.1) c.index-nodes-block_at.is)))
+
+pub returns-clause-kept : goal.returns-clause-kept
+returns-clause-kept c = open-after c.args.nodes.now c.args.entries.now c.args.arena.now c.args.at c.args.block_at c.forest.ensures.well_formed c.requires.«open» c.requires.block.0 c.requires.block.1 c.in_ok-originals.originals.items c.in_ok-originals.ensures c.clone_all.new.arena (subst (λ (x : ℕ). AreCloned c.args.arena.now c.clone_all.new.arena (c.in_ok-originals.originals.items ++ x ∷ [])) (index-is c.args.nodes.now c.args.at c.index-nodes-at.result (at-within c.args.nodes.now c.args.entries.now c.args.arena.now c.args.at c.args.block_at c.forest.ensures.well_formed c.requires.«open» c.requires.block.0 c.requires.block.1) c.index-nodes-at.is) (subst (λ (v : List ℕ). AreCloned c.args.arena.now c.clone_all.new.arena (v ++ c.index-nodes-at.result ∷ [])) c.as_slice.ensures.value c.in_ok-clone.ensures.cloned)) c.leave.new.arena c.leave.ensures.same c.leave.ensures.marks c.enter.new.arena c.enter.ensures.same (subst (HaveEntered c.leave.new.arena c.enter.new.arena (length c.args.arena.now.labels)) (c.len-end.ensures ∙ length-is c.args.nodes.now c.args.entries.now c.args.arena.now c.args.at c.args.block_at c.forest.ensures.well_formed c.requires.«open» c.requires.block.0 c.requires.block.1 c.in_ok-originals.originals.items c.in_ok-originals.ensures c.clone_all.new.arena (subst (λ (x : ℕ). AreCloned c.args.arena.now c.clone_all.new.arena (c.in_ok-originals.originals.items ++ x ∷ [])) (index-is c.args.nodes.now c.args.at c.index-nodes-at.result (at-within c.args.nodes.now c.args.entries.now c.args.arena.now c.args.at c.args.block_at c.forest.ensures.well_formed c.requires.«open» c.requires.block.0 c.requires.block.1) c.index-nodes-at.is) (subst (λ (v : List ℕ). AreCloned c.args.arena.now c.clone_all.new.arena (v ++ c.index-nodes-at.result ∷ [])) c.as_slice.ensures.value c.in_ok-clone.ensures.cloned))) (subst (λ (x : ℕ). HaveEntered c.leave.new.arena c.enter.new.arena x c.len-end.result) c.len-first.ensures c.enter.ensures.marks)) c.args.target c.requires.place_in c.requires.way_in c.requires.apart c.hang.new.arena (subst (λ (x : ℕ). Hung c.enter.new.arena c.hang.new.arena x (length c.args.arena.now.labels) (length c.args.arena.now.labels + length c.in_ok-originals.originals.items) c.args.target) (index-is c.args.nodes.now c.args.block_at c.index-nodes-block_at.result (within c.args.nodes.now c.args.entries.now c.args.arena.now c.args.at c.args.block_at c.forest.ensures.well_formed c.requires.«open» c.requires.block.0 c.requires.block.1) c.index-nodes-block_at.is) (subst (λ (x : ℕ). Hung c.enter.new.arena c.hang.new.arena c.index-nodes-block_at.result (length c.args.arena.now.labels) x c.args.target) (c.in_ok-clone.ensures.number ∙ ap (λ (v : List ℕ). length c.args.arena.now.labels + length v) c.as_slice.ensures.value) (subst (λ (x : ℕ). Hung c.enter.new.arena c.hang.new.arena c.index-nodes-block_at.result x c.in_ok-clone.clone c.args.target) c.len-first.ensures c.hang.ensures))) c.in_ok-new_nodes.new_nodes.items c.in_ok-new_entries.new_entries.items
+    (new-stack c.args.nodes.now c.in_ok-new_nodes.new_nodes.items c.args.at c.args.block_at c.len-first.result c.in_ok-clone.clone (length c.args.arena.now.labels) (length c.in_ok-originals.originals.items) c.len-first.ensures (c.in_ok-clone.ensures.number ∙ ap (λ (v : List ℕ). length c.args.arena.now.labels + length v) c.as_slice.ensures.value) c.in_ok-new_nodes.ensures)
+    (c.in_ok-new_entries.ensures ∙ new-list c.index-nodes-at-2.result (marked c.leave.new.arena InList) c.as_slice-2.result.now c.in_ok-originals.originals.items c.len-first.result c.in_ok-clone.clone (length c.args.arena.now.labels) (length c.args.arena.now.labels + length c.in_ok-originals.originals.items) _ c.args.entries.now (index-is c.args.nodes.now c.args.at c.index-nodes-at-2.result (at-within c.args.nodes.now c.args.entries.now c.args.arena.now c.args.at c.args.block_at c.forest.ensures.well_formed c.requires.«open» c.requires.block.0 c.requires.block.1) c.index-nodes-at-2.is) c.as_slice-2.ensures.value c.len-first.ensures (c.in_ok-clone.ensures.number ∙ ap (λ (v : List ℕ). length c.args.arena.now.labels + length v) c.as_slice.ensures.value))
+
+pub returns-clause-front : goal.returns-clause-front
+returns-clause-front c = front-kept c.args.nodes.now c.args.entries.now c.args.arena.now c.args.at c.args.block_at c.forest.ensures.well_formed c.requires.«open» c.requires.block.0 c.requires.block.1 c.in_ok-originals.originals.items c.in_ok-originals.ensures c.clone_all.new.arena (subst (λ (x : ℕ). AreCloned c.args.arena.now c.clone_all.new.arena (c.in_ok-originals.originals.items ++ x ∷ [])) (index-is c.args.nodes.now c.args.at c.index-nodes-at.result (at-within c.args.nodes.now c.args.entries.now c.args.arena.now c.args.at c.args.block_at c.forest.ensures.well_formed c.requires.«open» c.requires.block.0 c.requires.block.1) c.index-nodes-at.is) (subst (λ (v : List ℕ). AreCloned c.args.arena.now c.clone_all.new.arena (v ++ c.index-nodes-at.result ∷ [])) c.as_slice.ensures.value c.in_ok-clone.ensures.cloned)) c.leave.new.arena c.leave.ensures.same c.leave.ensures.marks c.enter.new.arena c.enter.ensures.same (subst (HaveEntered c.leave.new.arena c.enter.new.arena (length c.args.arena.now.labels)) (c.len-end.ensures ∙ length-is c.args.nodes.now c.args.entries.now c.args.arena.now c.args.at c.args.block_at c.forest.ensures.well_formed c.requires.«open» c.requires.block.0 c.requires.block.1 c.in_ok-originals.originals.items c.in_ok-originals.ensures c.clone_all.new.arena (subst (λ (x : ℕ). AreCloned c.args.arena.now c.clone_all.new.arena (c.in_ok-originals.originals.items ++ x ∷ [])) (index-is c.args.nodes.now c.args.at c.index-nodes-at.result (at-within c.args.nodes.now c.args.entries.now c.args.arena.now c.args.at c.args.block_at c.forest.ensures.well_formed c.requires.«open» c.requires.block.0 c.requires.block.1) c.index-nodes-at.is) (subst (λ (v : List ℕ). AreCloned c.args.arena.now c.clone_all.new.arena (v ++ c.index-nodes-at.result ∷ [])) c.as_slice.ensures.value c.in_ok-clone.ensures.cloned))) (subst (λ (x : ℕ). HaveEntered c.leave.new.arena c.enter.new.arena x c.len-end.result) c.len-first.ensures c.enter.ensures.marks)) c.args.target c.requires.place_in c.requires.way_in c.requires.apart c.hang.new.arena (subst (λ (x : ℕ). Hung c.enter.new.arena c.hang.new.arena x (length c.args.arena.now.labels) (length c.args.arena.now.labels + length c.in_ok-originals.originals.items) c.args.target) (index-is c.args.nodes.now c.args.block_at c.index-nodes-block_at.result (within c.args.nodes.now c.args.entries.now c.args.arena.now c.args.at c.args.block_at c.forest.ensures.well_formed c.requires.«open» c.requires.block.0 c.requires.block.1) c.index-nodes-block_at.is) (subst (λ (x : ℕ). Hung c.enter.new.arena c.hang.new.arena c.index-nodes-block_at.result (length c.args.arena.now.labels) x c.args.target) (c.in_ok-clone.ensures.number ∙ ap (λ (v : List ℕ). length c.args.arena.now.labels + length v) c.as_slice.ensures.value) (subst (λ (x : ℕ). Hung c.enter.new.arena c.hang.new.arena c.index-nodes-block_at.result x c.in_ok-clone.clone c.args.target) c.len-first.ensures c.hang.ensures))) c.in_ok-new_entries.new_entries.items
+    (c.in_ok-new_entries.ensures ∙ new-list c.index-nodes-at-2.result (marked c.leave.new.arena InList) c.as_slice-2.result.now c.in_ok-originals.originals.items c.len-first.result c.in_ok-clone.clone (length c.args.arena.now.labels) (length c.args.arena.now.labels + length c.in_ok-originals.originals.items) _ c.args.entries.now (index-is c.args.nodes.now c.args.at c.index-nodes-at-2.result (at-within c.args.nodes.now c.args.entries.now c.args.arena.now c.args.at c.args.block_at c.forest.ensures.well_formed c.requires.«open» c.requires.block.0 c.requires.block.1) c.index-nodes-at-2.is) c.as_slice-2.ensures.value c.len-first.ensures (c.in_ok-clone.ensures.number ∙ ap (λ (v : List ℕ). length c.args.arena.now.labels + length v) c.as_slice.ensures.value))
+
+pub returns-clause-regrouped : goal.returns-clause-regrouped
+returns-clause-regrouped c = regrouped c.args.nodes.now c.args.entries.now c.args.arena.now c.args.at c.args.block_at c.forest.ensures.well_formed c.requires.«open» c.requires.block.0 c.requires.block.1 c.in_ok-originals.originals.items c.in_ok-originals.ensures c.clone_all.new.arena (subst (λ (x : ℕ). AreCloned c.args.arena.now c.clone_all.new.arena (c.in_ok-originals.originals.items ++ x ∷ [])) (index-is c.args.nodes.now c.args.at c.index-nodes-at.result (at-within c.args.nodes.now c.args.entries.now c.args.arena.now c.args.at c.args.block_at c.forest.ensures.well_formed c.requires.«open» c.requires.block.0 c.requires.block.1) c.index-nodes-at.is) (subst (λ (v : List ℕ). AreCloned c.args.arena.now c.clone_all.new.arena (v ++ c.index-nodes-at.result ∷ [])) c.as_slice.ensures.value c.in_ok-clone.ensures.cloned)) c.leave.new.arena c.leave.ensures.same c.leave.ensures.marks c.enter.new.arena c.enter.ensures.same (subst (HaveEntered c.leave.new.arena c.enter.new.arena (length c.args.arena.now.labels)) (c.len-end.ensures ∙ length-is c.args.nodes.now c.args.entries.now c.args.arena.now c.args.at c.args.block_at c.forest.ensures.well_formed c.requires.«open» c.requires.block.0 c.requires.block.1 c.in_ok-originals.originals.items c.in_ok-originals.ensures c.clone_all.new.arena (subst (λ (x : ℕ). AreCloned c.args.arena.now c.clone_all.new.arena (c.in_ok-originals.originals.items ++ x ∷ [])) (index-is c.args.nodes.now c.args.at c.index-nodes-at.result (at-within c.args.nodes.now c.args.entries.now c.args.arena.now c.args.at c.args.block_at c.forest.ensures.well_formed c.requires.«open» c.requires.block.0 c.requires.block.1) c.index-nodes-at.is) (subst (λ (v : List ℕ). AreCloned c.args.arena.now c.clone_all.new.arena (v ++ c.index-nodes-at.result ∷ [])) c.as_slice.ensures.value c.in_ok-clone.ensures.cloned))) (subst (λ (x : ℕ). HaveEntered c.leave.new.arena c.enter.new.arena x c.len-end.result) c.len-first.ensures c.enter.ensures.marks)) c.args.target c.requires.place_in c.requires.way_in c.requires.apart c.hang.new.arena (subst (λ (x : ℕ). Hung c.enter.new.arena c.hang.new.arena x (length c.args.arena.now.labels) (length c.args.arena.now.labels + length c.in_ok-originals.originals.items) c.args.target) (index-is c.args.nodes.now c.args.block_at c.index-nodes-block_at.result (within c.args.nodes.now c.args.entries.now c.args.arena.now c.args.at c.args.block_at c.forest.ensures.well_formed c.requires.«open» c.requires.block.0 c.requires.block.1) c.index-nodes-block_at.is) (subst (λ (x : ℕ). Hung c.enter.new.arena c.hang.new.arena c.index-nodes-block_at.result (length c.args.arena.now.labels) x c.args.target) (c.in_ok-clone.ensures.number ∙ ap (λ (v : List ℕ). length c.args.arena.now.labels + length v) c.as_slice.ensures.value) (subst (λ (x : ℕ). Hung c.enter.new.arena c.hang.new.arena c.index-nodes-block_at.result x c.in_ok-clone.clone c.args.target) c.len-first.ensures c.hang.ensures))) c.in_ok-new_nodes.new_nodes.items c.in_ok-new_entries.new_entries.items
+    (new-stack c.args.nodes.now c.in_ok-new_nodes.new_nodes.items c.args.at c.args.block_at c.len-first.result c.in_ok-clone.clone (length c.args.arena.now.labels) (length c.in_ok-originals.originals.items) c.len-first.ensures (c.in_ok-clone.ensures.number ∙ ap (λ (v : List ℕ). length c.args.arena.now.labels + length v) c.as_slice.ensures.value) c.in_ok-new_nodes.ensures)
+    (c.in_ok-new_entries.ensures ∙ new-list c.index-nodes-at-2.result (marked c.leave.new.arena InList) c.as_slice-2.result.now c.in_ok-originals.originals.items c.len-first.result c.in_ok-clone.clone (length c.args.arena.now.labels) (length c.args.arena.now.labels + length c.in_ok-originals.originals.items) _ c.args.entries.now (index-is c.args.nodes.now c.args.at c.index-nodes-at-2.result (at-within c.args.nodes.now c.args.entries.now c.args.arena.now c.args.at c.args.block_at c.forest.ensures.well_formed c.requires.«open» c.requires.block.0 c.requires.block.1) c.index-nodes-at-2.is) c.as_slice-2.ensures.value c.len-first.ensures (c.in_ok-clone.ensures.number ∙ ap (λ (v : List ℕ). length c.args.arena.now.labels + length v) c.as_slice.ensures.value))

@@ -1,0 +1,86 @@
+use Rattle.std.proofs.Common.{refl, sym, ◌∙◌, ap, subst, length, arith}
+use Rattle.html_arena.specs.Tree.{Tree}
+use Rattle.html_open.specs.AdoptFinding.{IsBlock, IsPlain}
+use Rattle.html_open.specs.Adopting.{Closed, Round, bare, closes, forgets, no_entry, out_of_scope}
+use Rattle.html_open.specs.Opened.{IsOpen, open_at}
+use Rattle.html_open.specs.Placing.{CanPlace}
+use Rattle.html_open.proofs.Finding.{last_named-in}
+use Rattle.html_open.proofs.Looping.{can-place-stepped, closed-rebase, not-first, plain-stepped, round-rebase}
+use Rattle.html_open.proofs.Rounds.{block-stepped, open-stepped}
+use Rattle.html_open.proofs.adoption.turn.Goals as goal
+
+pub remove-requires-clause-nodes_in : goal.remove-requires-clause-nodes_in
+remove-requires-clause-nodes_in c = λ x h.
+    let k = c.requires.«open».list_in x h in
+    let e = ap (λ (t : Tree). length t.labels) c.find.ensures.tree in
+    omega (arith, k, e)
+
+pub remove-requires-clause-node_in : goal.remove-requires-clause-node_in
+remove-requires-clause-node_in c =
+    let k = c.requires.«open».list_in c.in-OffStack.node (last_named-in c.args.arena.now c.args.name c.args.list.now c.in-OffStack.node c.in-OffStack.ensures.found.entry) in
+    let e = ap (λ (t : Tree). length t.labels) c.find.ensures.tree in
+    omega (arith, k, e)
+
+pub close-requires-clause-open : goal.close-requires-clause-open
+close-requires-clause-open c = (subst (λ (t : Tree). IsOpen (open_at c.args.stack.now c.args.list.now t)) (sym c.find.ensures.tree) (open-stepped c.args.stack.now c.args.list.now c.args.arena.now c.find.new.arena.steps c.requires.«open»))
+
+pub close-requires-clause-plain : goal.close-requires-clause-plain
+close-requires-clause-plain c = (c.args.name, (subst (λ (t : Tree). IsPlain c.args.name (open_at c.args.stack.now c.args.list.now t) c.in-Plain.node c.in-Plain.at) (sym c.find.ensures.tree) (plain-stepped c.args.name c.args.stack.now c.args.list.now c.args.arena.now c.find.new.arena.steps c.in-Plain.node c.in-Plain.at c.in-Plain.ensures.found)))
+
+pub round-requires-clause-open : goal.round-requires-clause-open
+round-requires-clause-open c = (subst (λ (t : Tree). IsOpen (open_at c.args.stack.now c.args.list.now t)) (sym c.find.ensures.tree) (open-stepped c.args.stack.now c.args.list.now c.args.arena.now c.find.new.arena.steps c.requires.«open»))
+
+pub round-requires-clause-can_place : goal.round-requires-clause-can_place
+round-requires-clause-can_place c = subst (λ (t : Tree). CanPlace t c.args.stack.now) (sym c.find.ensures.tree) (can-place-stepped c.args.arena.now c.find.new.arena.steps c.args.stack.now c.requires.can_place)
+
+pub round-requires-clause-inside : goal.round-requires-clause-inside
+round-requires-clause-inside c = not-first c.args.name c.args.stack.now c.args.list.now c.args.arena.now c.in-Block.at c.in-Block.block_at c.in-Block.ensures.found c.requires.first_free
+
+pub round-requires-clause-block : goal.round-requires-clause-block
+round-requires-clause-block c = (c.args.name, (subst (λ (t : Tree). IsBlock c.args.name (open_at c.args.stack.now c.args.list.now t) c.in-Block.at c.in-Block.block_at) (sym c.find.ensures.tree) (block-stepped c.args.name c.args.stack.now c.args.list.now c.args.arena.now c.find.new.arena.steps c.in-Block.at c.in-Block.block_at c.in-Block.ensures.found)))
+
+pub returns-in-NoEntry-clause-turned : goal.returns-in-NoEntry-clause-turned
+returns-in-NoEntry-clause-turned c = no_entry _ _ (record { none = c.in-NoEntry.ensures.found; unchanged = record { stack_is = refl; list_is = refl; tree_is = ap bare c.find.ensures.tree } })
+
+pub returns-in-NoEntry-clause-kept : goal.returns-in-NoEntry-clause-kept
+returns-in-NoEntry-clause-kept c = (subst (λ (t : Tree). IsOpen (open_at c.args.stack.now c.args.list.now t)) (sym c.find.ensures.tree) (open-stepped c.args.stack.now c.args.list.now c.args.arena.now c.find.new.arena.steps c.requires.«open»))
+
+pub returns-in-OffStack-clause-turned : goal.returns-in-OffStack-clause-turned
+returns-in-OffStack-clause-turned c = forgets _ _ (record {
+  f = c.in-OffStack.node;
+  formatting = c.in-OffStack.ensures.found.entry;
+  off_stack = c.in-OffStack.ensures.found.off_stack;
+  stack_is = refl;
+  list_is = c.remove.ensures.list;
+  tree_is = ap bare c.remove.ensures.tree ∙ ap bare c.find.ensures.tree;
+})
+
+pub returns-in-OffStack-clause-kept : goal.returns-in-OffStack-clause-kept
+returns-in-OffStack-clause-kept c = c.remove.ensures.keeps c.args.stack.now (subst (λ (t : Tree). IsOpen (open_at c.args.stack.now c.args.list.now t)) (sym c.find.ensures.tree) (open-stepped c.args.stack.now c.args.list.now c.args.arena.now c.find.new.arena.steps c.requires.«open»))
+
+pub returns-in-OutOfScope-clause-turned : goal.returns-in-OutOfScope-clause-turned
+returns-in-OutOfScope-clause-turned c =
+    let k = c.in-OutOfScope.ensures.found in
+    out_of_scope _ _ (record {
+      f = k.0;
+      formatting = k.1.entry;
+      on_stack = k.1.on_stack;
+      not_in_scope = k.1.not_in_scope;
+      unchanged = record { stack_is = refl; list_is = refl; tree_is = ap bare c.find.ensures.tree };
+    })
+
+pub returns-in-OutOfScope-clause-kept : goal.returns-in-OutOfScope-clause-kept
+returns-in-OutOfScope-clause-kept c = (subst (λ (t : Tree). IsOpen (open_at c.args.stack.now c.args.list.now t)) (sym c.find.ensures.tree) (open-stepped c.args.stack.now c.args.list.now c.args.arena.now c.find.new.arena.steps c.requires.«open»))
+
+pub returns-in-Plain-clause-turned : goal.returns-in-Plain-clause-turned
+returns-in-Plain-clause-turned c =
+    let q = open_at c.close.new.stack c.close.new.list c.close.new.arena in
+    closes _ _ (closed-rebase c.args.name c.args.foster c.args.stack.now c.args.list.now c.args.arena.now c.find.new.arena.steps (open_at c.close.new.stack c.close.new.list c.close.new.arena)
+    (subst (λ (t : Tree). Closed c.args.name (open_at c.args.stack.now c.args.list.now t) (open_at c.close.new.stack c.close.new.list c.close.new.arena)) c.find.ensures.tree
+    (c.close.ensures.closed c.args.name (subst (λ (t : Tree). IsPlain c.args.name (open_at c.args.stack.now c.args.list.now t) c.in-Plain.node c.in-Plain.at) (sym c.find.ensures.tree) (plain-stepped c.args.name c.args.stack.now c.args.list.now c.args.arena.now c.find.new.arena.steps c.in-Plain.node c.in-Plain.at c.in-Plain.ensures.found)))))
+
+pub returns-in_ok-round-in-Block-clause-turned : goal.returns-in_ok-round-in-Block-clause-turned
+returns-in_ok-round-in-Block-clause-turned c =
+    round-rebase c.args.name c.args.foster c.args.stack.now c.args.list.now c.args.arena.now c.find.new.arena.steps (open_at c.round.new.stack c.round.new.list c.round.new.arena)
+    (subst (λ (t : Tree). Round c.args.name c.args.foster (open_at c.args.stack.now c.args.list.now t) (open_at c.round.new.stack c.round.new.list c.round.new.arena)) c.find.ensures.tree
+    (c.in_ok-round-in-Block.ensures.round c.args.name (subst (λ (t : Tree). IsBlock c.args.name (open_at c.args.stack.now c.args.list.now t) c.in-Block.at c.in-Block.block_at) (sym c.find.ensures.tree) (block-stepped c.args.name c.args.stack.now c.args.list.now c.args.arena.now c.find.new.arena.steps c.in-Block.at c.in-Block.block_at c.in-Block.ensures.found))))

@@ -1,0 +1,157 @@
+// The adoption agency: what an end tag of a formatting name does to the open elements (13.2.6.4.7).
+ghost use Rattle.std.specs.Prelude.{◌≡◌, ℕ, ◌+◌, ◌≤◌, IfOk, None, OnOk, false, length, true};
+ghost use Rattle.html_names.specs.declared.tag.Tag.{Tag};
+ghost use Rattle.html_arena.specs.Siblings.{last_of};
+ghost use Rattle.html_arena.specs.Tree.{WellFormed};
+ghost use Rattle.html_open.specs.AdoptFinding.{IsPlain};
+ghost use Rattle.html_open.specs.Adopting.{Adopted, Closed, IsFirstFree, IsTurn, Popped, pops_at_once};
+ghost use Rattle.html_open.specs.Opened.{IsOpen, open_at};
+ghost use Rattle.html_open.specs.Placing.{CanPlace};
+
+use crate::adoption::find::{Found, find};
+use crate::adoption::round::round;
+use crate::error::OpenError;
+use crate::list::FormattingList;
+use crate::stack::OpenStack;
+use html_arena::{Arena, NodeId};
+use html_names::Tag;
+
+/// How many rounds there are at most.
+const ROUNDS: usize = 8;
+
+/// How an adoption ended.
+#[derive(Clone, Copy, Debug, PartialEq, Eq)]
+pub enum AdoptEnd {
+    /// Nothing is left to do.
+    Done,
+    /// No entry of the name was there: the rules for any other end tag are to be followed.
+    OtherEndTag,
+}
+
+/// Follows an end tag of a formatting name: the elements that are open inside the formatting element are closed, or, where a special
+/// element stands among them, cloned into it. A current node of the name that is not in the list is popped, and no more.
+pub fn adopt(
+    stack: &mut OpenStack,
+    list: &mut FormattingList,
+    arena: &mut Arena,
+    name: Tag,
+    foster: bool,
+) -> Result<AdoptEnd, OpenError>
+    requires open { IsOpen (open_at stack.old list.old arena.old) }
+    requires can_place { CanPlace arena.old stack.old }
+    requires first_free { IsFirstFree stack.old list.old }
+    ensures adopted { IfOk result (λ end. Adopted name foster end (open_at stack.old list.old arena.old) (open_at stack.new list.new arena.new)) }
+    ensures kept { OnOk result (IsOpen (open_at stack.new list.new arena.new)) }
+    ensures clones { OnOk result (length arena.new.labels ≤ length arena.old.labels + 32) }
+    ensures well_formed { WellFormed arena.new }
+{
+    let end = follow(stack, list, arena, name, foster);
+    arena.forest();
+    end
+}
+
+/// Follows an end tag of a formatting name.
+fn follow(
+    stack: &mut OpenStack,
+    list: &mut FormattingList,
+    arena: &mut Arena,
+    name: Tag,
+    foster: bool,
+) -> Result<AdoptEnd, OpenError>
+    requires open { IsOpen (open_at stack.old list.old arena.old) }
+    requires can_place { CanPlace arena.old stack.old }
+    requires first_free { IsFirstFree stack.old list.old }
+    ensures adopted { IfOk result (λ end. Adopted name foster end (open_at stack.old list.old arena.old) (open_at stack.new list.new arena.new)) }
+    ensures kept { OnOk result (IsOpen (open_at stack.new list.new arena.new)) }
+    ensures clones { OnOk result (length arena.new.labels ≤ length arena.old.labels + 32) }
+{
+    if pop_unlisted(stack, list, arena, name) {
+        return Ok(AdoptEnd::Done);
+    }
+    'rounding: for _index in 0..ROUNDS {
+        if let Some(end) = turn(stack, list, arena, name, foster)? {
+            return Ok(end);
+        }
+    }
+    Ok(AdoptEnd::Done)
+}
+
+/// Goes one round, or ends, and says how.
+fn turn(
+    stack: &mut OpenStack,
+    list: &mut FormattingList,
+    arena: &mut Arena,
+    name: Tag,
+    foster: bool,
+) -> Result<Option<AdoptEnd>, OpenError>
+    requires open { IsOpen (open_at stack.old list.old arena.old) }
+    requires can_place { CanPlace arena.old stack.old }
+    requires first_free { IsFirstFree stack.old list.old }
+    ensures turned { IfOk result (λ end. IsTurn name foster end (open_at stack.old list.old arena.old) (open_at stack.new list.new arena.new)) }
+    ensures kept { OnOk result (IsOpen (open_at stack.new list.new arena.new)) }
+    ensures can_place { IfOk result (λ end. end ≡ None → CanPlace arena.new stack.new) }
+    ensures first_free { IfOk result (λ end. end ≡ None → IsFirstFree stack.new list.new) }
+{
+    match find(stack, list, arena, name) {
+        Found::NoEntry => Ok(Some(AdoptEnd::OtherEndTag)),
+        Found::OffStack(node) => {
+            list.remove(arena, node);
+            Ok(Some(AdoptEnd::Done))
+        }
+        Found::OutOfScope => Ok(Some(AdoptEnd::Done)),
+        Found::Plain { node, at } => {
+            close(stack, list, arena, node, at);
+            Ok(Some(AdoptEnd::Done))
+        }
+        Found::Block { at, block_at } => {
+            round(stack, list, arena, at, block_at, foster)?;
+            Ok(None)
+        }
+    }
+}
+
+/// Pops the current node where it has the name and is not in the list.
+fn pop_unlisted(stack: &mut OpenStack, list: &FormattingList, arena: &mut Arena, name: Tag) -> bool
+    requires open { IsOpen (open_at stack.old list.now arena.old) }
+    ensures yes { result ≡ true → Popped name (open_at stack.old list.now arena.old) (open_at stack.new list.now arena.new) }
+    ensures no { result ≡ false → pops_at_once name (open_at stack.old list.now arena.old) (last_of stack.old) ≡ false }
+    ensures same_stack { result ≡ false → stack.new ≡ stack.old }
+    ensures same_tree { result ≡ false → arena.new ≡ record arena.old { steps = arena.new.steps } }
+    ensures kept { IsOpen (open_at stack.new list.now arena.new) }
+{
+    let Some(current) = stack.current(arena) else {
+        return false;
+    };
+    if !arena.is_named(current, name) {
+        return false;
+    }
+    if list.contains(arena, current) {
+        return false;
+    }
+    let _ = stack.pop(arena);
+    true
+}
+
+/// Takes a formatting element off the list, and off the stack with all that stands above it.
+fn close(
+    stack: &mut OpenStack,
+    list: &mut FormattingList,
+    arena: &mut Arena,
+    node: NodeId,
+    at: usize,
+)
+    requires open { IsOpen (open_at stack.old list.old arena.old) }
+    requires plain { (s : Tag) × IsPlain s (open_at stack.old list.old arena.old) node at }
+    ensures closed { (s : Tag) → IsPlain s (open_at stack.old list.old arena.old) node at → Closed s (open_at stack.old list.old arena.old) (open_at stack.new list.new arena.new) }
+    ensures kept { IsOpen (open_at stack.new list.new arena.new) }
+{
+    arena.charge((stack.len() - at) as u128);
+    stack.pop_to(arena, at);
+    list.remove(arena, node);
+}
+
+mod chain;
+mod clones;
+mod find;
+mod lists;
+mod round;
