@@ -11,6 +11,7 @@ mod Searching
 mod Reopened
 mod Pushes
 mod PushKeeps
+mod Descending
 mod Finding
 mod Marked
 mod Upwards

@@ -124,6 +124,13 @@ pub record IsKept (old new : Tree) (before after : List Entry) (x : ℕ) : Type 
 abbrev pub IsFirstFree : List ℕ → List Entry → Type 0
 IsFirstFree stack list = (x : ℕ) → first_of stack ≡ Some x → has_node x list ≡ false
 
+-- all nodes that there were keep their labels, and those that were made are clones of elements in the list: the name, the attributes and
+-- the token of each are those of its original
+pub record MadeClones (old : Open) (new : Tree) : Type 0 where
+  pub elements : List ℕ
+  pub listed : (x : ℕ) → has x elements ≡ true → has_node x old.list ≡ true
+  pub labels_are : new.labels ≡ old.tree.labels ++ map (λ x. cloned (label_of old.tree x)) elements
+
 -- nothing changes
 pub record IsUnchanged (old new : Open) : Type 0 where
   pub stack_is : new.stack ≡ old.stack

@@ -4,9 +4,10 @@ ghost use Rattle.html_names.specs.declared.tag.Tag.{Tag};
 ghost use Rattle.html_arena.specs.Siblings.{last_of};
 ghost use Rattle.html_arena.specs.Tree.{WellFormed};
 ghost use Rattle.html_open.specs.AdoptFinding.{IsPlain};
-ghost use Rattle.html_open.specs.Adopting.{Adopted, Closed, IsFirstFree, IsTurn, Popped, pops_at_once};
+ghost use Rattle.html_open.specs.Adopting.{Adopted, Closed, IsFirstFree, IsTurn, MadeClones, Popped, pops_at_once};
 ghost use Rattle.html_open.specs.Opened.{IsOpen, open_at};
 ghost use Rattle.html_open.specs.Placing.{CanPlace};
+ghost use Rattle.html_open.specs.Reopening.{KeepsClosed};
 
 use crate::adoption::find::{Found, find};
 use crate::adoption::round::round;
@@ -42,6 +43,8 @@ pub fn adopt(
     requires first_free { IsFirstFree stack.old list.old }
     ensures adopted { IfOk result (λ end. Adopted name foster end (open_at stack.old list.old arena.old) (open_at stack.new list.new arena.new)) }
     ensures kept { OnOk result (IsOpen (open_at stack.new list.new arena.new)) }
+    ensures made { OnOk result (MadeClones (open_at stack.old list.old arena.old) arena.new) }
+    ensures closed { OnOk result (KeepsClosed (open_at stack.old list.old arena.old) arena.new) }
     ensures clones { OnOk result (length arena.new.labels ≤ length arena.old.labels + 32) }
     ensures well_formed { WellFormed arena.new }
 {
@@ -63,12 +66,16 @@ fn follow(
     requires first_free { IsFirstFree stack.old list.old }
     ensures adopted { IfOk result (λ end. Adopted name foster end (open_at stack.old list.old arena.old) (open_at stack.new list.new arena.new)) }
     ensures kept { OnOk result (IsOpen (open_at stack.new list.new arena.new)) }
+    ensures made { OnOk result (MadeClones (open_at stack.old list.old arena.old) arena.new) }
+    ensures closed { OnOk result (KeepsClosed (open_at stack.old list.old arena.old) arena.new) }
     ensures clones { OnOk result (length arena.new.labels ≤ length arena.old.labels + 32) }
 {
     if pop_unlisted(stack, list, arena, name) {
         return Ok(AdoptEnd::Done);
     }
+    arena.forest();
     'rounding: for _index in 0..ROUNDS {
+        arena.forest();
         if let Some(end) = turn(stack, list, arena, name, foster)? {
             return Ok(end);
         }

@@ -4,12 +4,14 @@ use Rattle.html_open.specs.declared.adoption.AdoptEnd.{AdoptEnd}
 use Rattle.html_open.specs.Adopting.{IsFirstFree, IsTurn, Rounds, no_round, popped}
 use Rattle.html_open.specs.Opened.{IsOpen, open_at}
 use Rattle.html_open.specs.Placing.{CanPlace}
+use Rattle.html_open.proofs.Descending.{closed-none, closed-rebased, descends-round, descends-start, ends-closed, ends-made, made-none, made-rebase}
 use Rattle.html_open.proofs.Looping.{can-place-stepped, ends-grown, finish-eight, finish-fewer, round-grown, rounds-more}
 use Rattle.html_open.proofs.adoption.follow.Goals as goal
 
 pub rounding-init : goal.rounding-init
 rounding-init c = record {
   rounds = no_round (open_at c.pop_unlisted.new.stack c.args.list.now c.pop_unlisted.new.arena);
+  descends = descends-start (open_at c.pop_unlisted.new.stack c.args.list.now c.pop_unlisted.new.arena);
   opened = c.pop_unlisted.ensures.kept;
   can_place = subst (λ (v : List ℕ). CanPlace c.pop_unlisted.new.arena v) (sym (c.pop_unlisted.ensures.same_stack c.if-pop_unlisted.false)) (subst (λ (t : Tree). CanPlace t c.args.stack.now) (sym (c.pop_unlisted.ensures.same_tree c.if-pop_unlisted.false)) (can-place-stepped c.args.arena.now c.pop_unlisted.new.arena.steps c.args.stack.now c.requires.can_place));
   first_free = subst (λ (v : List ℕ). IsFirstFree v c.args.list.now) (sym (c.pop_unlisted.ensures.same_stack c.if-pop_unlisted.false)) c.requires.first_free;
@@ -23,6 +25,7 @@ rounding-preserved c =
     let h = c.rounding.invariant.grown in
     record {
       rounds = rounds-more c.args.name c.args.foster c.rounding._index (c.rounding._index + 1) (open_at c.pop_unlisted.new.stack c.args.list.now c.pop_unlisted.new.arena) (open_at c.rounding.stack c.rounding.list c.rounding.arena) (open_at c.turn.new.stack c.turn.new.list c.turn.new.arena) (omega arith) c.rounding.invariant.rounds r;
+      descends = descends-round c.args.name c.args.foster (open_at c.pop_unlisted.new.stack c.args.list.now c.pop_unlisted.new.arena) (open_at c.rounding.stack c.rounding.list c.rounding.arena) (open_at c.turn.new.stack c.turn.new.list c.turn.new.arena) c.forest.ensures.well_formed c.forest-in-rounding.ensures.well_formed c.rounding.invariant.opened c.rounding.invariant.can_place c.rounding.invariant.descends r;
       opened = c.in_ok-end.ensures.kept;
       can_place = c.in_ok-end.ensures.can_place c.in_default.is;
       first_free = c.in_ok-end.ensures.first_free c.in_default.is;
@@ -64,3 +67,23 @@ returns-in-Some-clause-clones c =
     let k = ends-grown c.args.name c.in-Some.end (open_at c.rounding.stack c.rounding.list c.rounding.arena) (open_at c.turn.new.stack c.turn.new.list c.turn.new.arena) (subst (λ (e : Option AdoptEnd). IsTurn c.args.name c.args.foster e (open_at c.rounding.stack c.rounding.list c.rounding.arena) (open_at c.turn.new.stack c.turn.new.list c.turn.new.arena)) c.in-Some.is c.in_ok-end.ensures.turned) in
     let e = ap (λ (t : Tree). length t.labels) (c.pop_unlisted.ensures.same_tree c.if-pop_unlisted.false) in
     omega (arith, g, h, k, e)
+
+pub returns-clause-made : goal.returns-clause-made
+returns-clause-made c = made-rebase c.args.stack.now c.args.list.now c.args.arena.now c.pop_unlisted.new.arena.steps (open_at c.pop_unlisted.new.stack c.args.list.now c.pop_unlisted.new.arena) c.rounding.arena (ap (λ (v : List ℕ). open_at v c.args.list.now c.pop_unlisted.new.arena) (c.pop_unlisted.ensures.same_stack c.if-pop_unlisted.false) ∙ ap (λ (t : Tree). open_at c.args.stack.now c.args.list.now t) (c.pop_unlisted.ensures.same_tree c.if-pop_unlisted.false)) c.rounding.invariant.descends.made
+
+pub returns-clause-closed : goal.returns-clause-closed
+returns-clause-closed c = closed-rebased c.args.stack.now c.args.list.now c.args.arena.now c.pop_unlisted.new.arena.steps (open_at c.pop_unlisted.new.stack c.args.list.now c.pop_unlisted.new.arena) c.rounding.arena (ap (λ (v : List ℕ). open_at v c.args.list.now c.pop_unlisted.new.arena) (c.pop_unlisted.ensures.same_stack c.if-pop_unlisted.false) ∙ ap (λ (t : Tree). open_at c.args.stack.now c.args.list.now t) (c.pop_unlisted.ensures.same_tree c.if-pop_unlisted.false)) c.rounding.invariant.descends.closed
+
+pub returns-then-pop_unlisted-clause-made : goal.returns-then-pop_unlisted-clause-made
+returns-then-pop_unlisted-clause-made c =
+    made-none (open_at c.args.stack.now c.args.list.now c.args.arena.now) c.pop_unlisted.new.arena (ap (λ (t : Tree). t.labels) (c.pop_unlisted.ensures.yes c.if-pop_unlisted.true).tree_is)
+
+pub returns-then-pop_unlisted-clause-closed : goal.returns-then-pop_unlisted-clause-closed
+returns-then-pop_unlisted-clause-closed c =
+    closed-none (open_at c.args.stack.now c.args.list.now c.args.arena.now) c.pop_unlisted.new.arena (ap (λ (t : Tree). t.children) (c.pop_unlisted.ensures.yes c.if-pop_unlisted.true).tree_is)
+
+pub returns-in-Some-clause-made : goal.returns-in-Some-clause-made
+returns-in-Some-clause-made c = made-rebase c.args.stack.now c.args.list.now c.args.arena.now c.pop_unlisted.new.arena.steps (open_at c.pop_unlisted.new.stack c.args.list.now c.pop_unlisted.new.arena) c.turn.new.arena (ap (λ (v : List ℕ). open_at v c.args.list.now c.pop_unlisted.new.arena) (c.pop_unlisted.ensures.same_stack c.if-pop_unlisted.false) ∙ ap (λ (t : Tree). open_at c.args.stack.now c.args.list.now t) (c.pop_unlisted.ensures.same_tree c.if-pop_unlisted.false)) (ends-made c.args.name c.in-Some.end (open_at c.pop_unlisted.new.stack c.args.list.now c.pop_unlisted.new.arena) (open_at c.rounding.stack c.rounding.list c.rounding.arena) (open_at c.turn.new.stack c.turn.new.list c.turn.new.arena) c.rounding.invariant.descends (subst (λ (e : Option AdoptEnd). IsTurn c.args.name c.args.foster e (open_at c.rounding.stack c.rounding.list c.rounding.arena) (open_at c.turn.new.stack c.turn.new.list c.turn.new.arena)) c.in-Some.is c.in_ok-end.ensures.turned))
+
+pub returns-in-Some-clause-closed : goal.returns-in-Some-clause-closed
+returns-in-Some-clause-closed c = closed-rebased c.args.stack.now c.args.list.now c.args.arena.now c.pop_unlisted.new.arena.steps (open_at c.pop_unlisted.new.stack c.args.list.now c.pop_unlisted.new.arena) c.turn.new.arena (ap (λ (v : List ℕ). open_at v c.args.list.now c.pop_unlisted.new.arena) (c.pop_unlisted.ensures.same_stack c.if-pop_unlisted.false) ∙ ap (λ (t : Tree). open_at c.args.stack.now c.args.list.now t) (c.pop_unlisted.ensures.same_tree c.if-pop_unlisted.false)) (ends-closed c.args.name c.in-Some.end (open_at c.pop_unlisted.new.stack c.args.list.now c.pop_unlisted.new.arena) (open_at c.rounding.stack c.rounding.list c.rounding.arena) (open_at c.turn.new.stack c.turn.new.list c.turn.new.arena) c.rounding.invariant.descends (subst (λ (e : Option AdoptEnd). IsTurn c.args.name c.args.foster e (open_at c.rounding.stack c.rounding.list c.rounding.arena) (open_at c.turn.new.stack c.turn.new.list c.turn.new.arena)) c.in-Some.is c.in_ok-end.ensures.turned))
