@@ -12,10 +12,11 @@ use Rattle.html_arena.specs.Data.{IsElement, cloned, is_linkable, label_in, tag_
 use Rattle.html_arena.specs.Siblings.{has, Distinct}
 use Rattle.html_arena.specs.Tree.{Tree, WellFormed, children_of, label_of, marked, parent_of, tag_at}
 use Rattle.html_open.specs.declared.entry.Entry.{Entry}
+use Rattle.html_open.specs.declared.error.OpenError.{OpenError}
 use Rattle.html_open.specs.declared.places.Place.{Place}
 use Rattle.html_open.specs.AdoptFinding.{IsBlock, special}
-use Rattle.html_open.specs.Adopting.{IsKept, IsRegrouped, clones_down, heirs, originals, relisted}
-use Rattle.html_open.specs.Cloning.{AreCloned, AreFormatting, HaveEntered, HaveLeft}
+use Rattle.html_open.specs.Adopting.{IsKept, IsRegrouped, clones_down, heirs, originals, relisted, round_originals}
+use Rattle.html_open.specs.Cloning.{AreCloned, AreFormatting, HaveEntered, HaveLeft, IsCut}
 use Rattle.html_open.specs.Entries.{has_node, nodes_of}
 use Rattle.html_open.specs.Hanging.{Hung, StandAlone, hung_parent}
 use Rattle.html_open.specs.Opened.{AreNodes, IsOpen, IsOrdered, open_at}
@@ -113,6 +114,11 @@ module _ (nodes : List ℕ) (entries : List Entry) (t : Tree) (at b : ℕ) (w : 
 
     pub cs-listed : cs ≡ originals (λ x. has_node x entries) inner
     cs-listed = cs-is ∙ originals-same (marked t InList) (λ x. has_node x entries) inner opened.in_list
+
+    -- what was cloned of these was cloned of the elements of the round
+    pub cut-after : (ys : List ℕ) (x : ℕ) (v : Tree) (e : OpenError) → ys ≡ cs → x ≡ f → IsCut t v (ys ++ x ∷ []) e → IsCut t v (round_originals (open_at nodes entries t) at b) e
+    cut-after ys x v e a q k =
+        subst (λ (zs : List ℕ). IsCut t v zs e) (ap (λ (zs : List ℕ). zs ++ x ∷ []) a ∙ ap (λ (y : ℕ). cs ++ y ∷ []) q ∙ ap (λ (zs : List ℕ). zs ++ f ∷ []) cs-listed) k
 
     pub cs-formatting : AreFormatting t cs
     cs-formatting = λ x h. (opened.list_in x (cs-in x h).1, opened.formatting x (cs-in x h).1)
