@@ -11,6 +11,9 @@ mod Searching
 mod Reopened
 mod Pushes
 mod PushKeeps
+mod Cutting
+mod Descending
+mod Stopping
 mod Finding
 mod Marked
 mod Upwards

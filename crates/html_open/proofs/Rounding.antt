@@ -30,7 +30,7 @@ has-flat r (z ∷ zs) x y h e = elim (has-head y z zs h) [
   | inr q ↦ has-right x (r z) (flat_map r zs) (has-flat r zs x y q e)
 ]
 
-flat-has : (r : ℕ → List ℕ) (ys : List ℕ) (x : ℕ) → has x (flat_map r ys) ≡ true → (y : ℕ) × (has y ys ≡ true) × (has x (r y) ≡ true)
+pub flat-has : (r : ℕ → List ℕ) (ys : List ℕ) (x : ℕ) → has x (flat_map r ys) ≡ true → (y : ℕ) × (has y ys ≡ true) × (has x (r y) ≡ true)
 flat-has r [] x h = absurd (let k = h in cc)
 flat-has r (z ∷ zs) x h = elim (has-either x (r z) (flat_map r zs) h) [
   | inl q ↦ (z, has-first z zs, q)

@@ -9,7 +9,7 @@ use Rattle.html_arena.specs.Tree.{Tree, WellFormed, contents_at, host_at, label_
 use Rattle.html_open.specs.declared.places.Place.{Place}
 use Rattle.html_open.specs.declared.places.Place.TheVariants.{Last, Before}
 use Rattle.html_open.specs.Lists.{above, below, last_where}
-use Rattle.html_open.specs.Placing.{CanPlace, by_table, fostered, fosters, get, inside, outside_table, parent_at, place_of, table, target_of, template}
+use Rattle.html_open.specs.Placing.{CanPlace, by_table, fostered, fosters, get, inside, outside_table, parent_at, place_at, place_of, table, target_of, template}
 use Rattle.html_open.specs.Reopening.{HoldsNoElement}
 use Rattle.html_open.proofs.Fostering.{above-has}
 use Rattle.html_open.proofs.Keeps.{cases_bool, cases_eqb, eqb-self}
@@ -126,6 +126,13 @@ module _ (t : Tree) (s : List ℕ) (w : WellFormed t) where
   place-by f c = elim (cases_bool (fosters t (target_of s None) f)) [
     | inl a ↦ rw a (fostered-by c)
     | inr a ↦ rw a (inside-by (get (last_of s) 0) (current-by c))
+  ]
+
+  -- the same for any target on the stack
+  pub place-at-by : (a : ℕ) → has a s ≡ true → (f : Bool) → CanPlace t s → IsByStack t s (place_at t s a f)
+  place-at-by a h f c = elim (cases_bool (fosters t a f)) [
+    | inl e ↦ rw e (fostered-by c)
+    | inr e ↦ rw e (inside-by a h)
   ]
 
   no-host : (d : NodeData) (h : ℕ) → IsElement d → host_in d ≡ Some h → ⊥

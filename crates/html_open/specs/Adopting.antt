@@ -9,8 +9,10 @@ use Rattle.html_open.specs.declared.adoption.AdoptEnd.{AdoptEnd}
 use Rattle.html_open.specs.declared.adoption.AdoptEnd.TheVariants.{Done, OtherEndTag}
 use Rattle.html_open.specs.declared.entry.Entry.{Entry}
 use Rattle.html_open.specs.declared.entry.Entry.TheVariants.{Marker, Node}
+use Rattle.html_open.specs.declared.error.OpenError.{OpenError}
 use Rattle.html_open.specs.declared.places.Place.{Place}
-use Rattle.html_open.specs.AdoptFinding.{element_in_scope, special}
+use Rattle.html_open.specs.AdoptFinding.{IsBlock, element_in_scope, special}
+use Rattle.html_open.specs.Cloning.{IsCut}
 use Rattle.html_open.specs.Entries.{has_node, last_named, without_node}
 use Rattle.html_open.specs.Hanging.{chain_top, chained, hung_parent, with_put}
 use Rattle.html_open.specs.Lists.{above, below}
@@ -124,6 +126,13 @@ pub record IsKept (old new : Tree) (before after : List Entry) (x : ℕ) : Type 
 abbrev pub IsFirstFree : List ℕ → List Entry → Type 0
 IsFirstFree stack list = (x : ℕ) → first_of stack ≡ Some x → has_node x list ≡ false
 
+-- all nodes that there were keep their labels, and those that were made are clones of elements in the list: the name, the attributes and
+-- the token of each are those of its original
+pub record MadeClones (old : Open) (new : Tree) : Type 0 where
+  pub elements : List ℕ
+  pub listed : (x : ℕ) → has x elements ≡ true → has_node x old.list ≡ true
+  pub labels_are : new.labels ≡ old.tree.labels ++ map (λ x. cloned (label_of old.tree x)) elements
+
 -- nothing changes
 pub record IsUnchanged (old new : Open) : Type 0 where
   pub stack_is : new.stack ≡ old.stack
@@ -188,3 +197,23 @@ pub data Adopted (s : Tag) (foster : Bool) : AdoptEnd → Open → Open → Type
   eight : (o p : Open) → pops_at_once s o (last_of o.stack) ≡ false → Rounds s foster 8 o p → Adopted s foster Done o p
   fewer : (end : AdoptEnd) (n : ℕ) (o p q : Open) → pops_at_once s o (last_of o.stack) ≡ false → n < 8 → Rounds s foster n o p → Ends s end p q
       → Adopted s foster end o q
+
+-- the elements that a round clones, in order, where the formatting element and the first special element stand at two indices
+abbrev pub round_originals : Open → ℕ → ℕ → List ℕ
+round_originals o at b = originals (λ x. has_node x o.list) (take (b - (at + 1)) (drop (at + 1) o.stack)) ++ slice_index o.stack at ∷ []
+
+-- a round was begun and could not be ended
+pub record IsStopped (s : Tag) (o : Open) (new : Tree) (e : OpenError) : Type 0 where
+  pub at : ℕ
+  pub b : ℕ
+  pub block : IsBlock s o at b
+  pub cut : IsCut o.tree new (round_originals o at b) e
+
+-- why an adoption was refused: less than eight rounds were done, and the next could not be ended
+pub record IsRefusal (s : Tag) (foster : Bool) (o : Open) (new : Tree) (e : OpenError) : Type 0 where
+  pub not_popped : pops_at_once s o (last_of o.stack) ≡ false
+  pub n : ℕ
+  pub few : n < 8
+  pub p : Open
+  pub rounds : Rounds s foster n o p
+  pub stopped : IsStopped s p new e

@@ -1,12 +1,13 @@
 // The adoption agency: what an end tag of a formatting name does to the open elements (13.2.6.4.7).
-ghost use Rattle.std.specs.Prelude.{◌≡◌, ℕ, ◌+◌, ◌≤◌, IfOk, None, OnOk, false, length, true};
+ghost use Rattle.std.specs.Prelude.{◌≡◌, ℕ, ◌+◌, ◌≤◌, IfErr, IfOk, None, OnOk, false, length, true};
 ghost use Rattle.html_names.specs.declared.tag.Tag.{Tag};
 ghost use Rattle.html_arena.specs.Siblings.{last_of};
 ghost use Rattle.html_arena.specs.Tree.{WellFormed};
 ghost use Rattle.html_open.specs.AdoptFinding.{IsPlain};
-ghost use Rattle.html_open.specs.Adopting.{Adopted, Closed, IsFirstFree, IsTurn, Popped, pops_at_once};
+ghost use Rattle.html_open.specs.Adopting.{Adopted, Closed, IsFirstFree, IsRefusal, IsStopped, IsTurn, MadeClones, Popped, pops_at_once};
 ghost use Rattle.html_open.specs.Opened.{IsOpen, open_at};
 ghost use Rattle.html_open.specs.Placing.{CanPlace};
+ghost use Rattle.html_open.specs.Reopening.{KeepsClosed};
 
 use crate::adoption::find::{Found, find};
 use crate::adoption::round::round;
@@ -30,6 +31,10 @@ pub enum AdoptEnd {
 
 /// Follows an end tag of a formatting name: the elements that are open inside the formatting element are closed, or, where a special
 /// element stands among them, cloned into it. A current node of the name that is not in the list is popped, and no more.
+///
+/// At most 32 nodes are made, each a clone of an element in the list. A refusal stops the round under way after some of its clones, which
+/// then stand alone: `NodeBudget` and `HeldBudget` where the next clone would pass that limit, `OutOfMemory` where memory was refused.
+/// After a refusal nothing is said of the stack and the list.
 pub fn adopt(
     stack: &mut OpenStack,
     list: &mut FormattingList,
@@ -42,7 +47,10 @@ pub fn adopt(
     requires first_free { IsFirstFree stack.old list.old }
     ensures adopted { IfOk result (λ end. Adopted name foster end (open_at stack.old list.old arena.old) (open_at stack.new list.new arena.new)) }
     ensures kept { OnOk result (IsOpen (open_at stack.new list.new arena.new)) }
-    ensures clones { OnOk result (length arena.new.labels ≤ length arena.old.labels + 32) }
+    ensures made { MadeClones (open_at stack.old list.old arena.old) arena.new }
+    ensures closed { KeepsClosed (open_at stack.old list.old arena.old) arena.new }
+    ensures clones { length arena.new.labels ≤ length arena.old.labels + 32 }
+    ensures cause { IfErr result (λ e. IsRefusal name foster (open_at stack.old list.old arena.old) arena.new e) }
     ensures well_formed { WellFormed arena.new }
 {
     let end = follow(stack, list, arena, name, foster);
@@ -63,12 +71,17 @@ fn follow(
     requires first_free { IsFirstFree stack.old list.old }
     ensures adopted { IfOk result (λ end. Adopted name foster end (open_at stack.old list.old arena.old) (open_at stack.new list.new arena.new)) }
     ensures kept { OnOk result (IsOpen (open_at stack.new list.new arena.new)) }
-    ensures clones { OnOk result (length arena.new.labels ≤ length arena.old.labels + 32) }
+    ensures made { MadeClones (open_at stack.old list.old arena.old) arena.new }
+    ensures closed { KeepsClosed (open_at stack.old list.old arena.old) arena.new }
+    ensures clones { length arena.new.labels ≤ length arena.old.labels + 32 }
+    ensures cause { IfErr result (λ e. IsRefusal name foster (open_at stack.old list.old arena.old) arena.new e) }
 {
     if pop_unlisted(stack, list, arena, name) {
         return Ok(AdoptEnd::Done);
     }
+    arena.forest();
     'rounding: for _index in 0..ROUNDS {
+        arena.forest();
         if let Some(end) = turn(stack, list, arena, name, foster)? {
             return Ok(end);
         }
@@ -91,6 +104,7 @@ fn turn(
     ensures kept { OnOk result (IsOpen (open_at stack.new list.new arena.new)) }
     ensures can_place { IfOk result (λ end. end ≡ None → CanPlace arena.new stack.new) }
     ensures first_free { IfOk result (λ end. end ≡ None → IsFirstFree stack.new list.new) }
+    ensures stopped { IfErr result (λ e. IsStopped name (open_at stack.old list.old arena.old) arena.new e) }
 {
     match find(stack, list, arena, name) {
         Found::NoEntry => Ok(Some(AdoptEnd::OtherEndTag)),

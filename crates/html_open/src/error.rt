@@ -8,10 +8,13 @@ use thiserror::Error;
 /// Why a call was refused.
 #[derive(Clone, Copy, Debug, PartialEq, Eq, Error)]
 pub enum OpenError {
+    /// Memory was refused.
     #[error("out of memory")]
     OutOfMemory,
+    /// The next clone, in `reopen` or `adopt`, would pass the limit on nodes.
     #[error("the next clone would pass the limit on nodes")]
     NodeBudget,
+    /// The next clone, in `reopen` or `adopt`, would pass the limit on held code points.
     #[error("the next clone would pass the limit on held code points")]
     HeldBudget,
 }

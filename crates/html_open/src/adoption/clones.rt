@@ -1,11 +1,12 @@
 // The clones of a round: of which elements they are made, and how.
-ghost use Rattle.std.specs.Prelude.{◌≡◌, ◌+◌, ◌<◌, [], ◌∷◌, ◌++◌, IfOk, OnOk, length, true};
+ghost use Rattle.std.specs.Prelude.{◌≡◌, ◌+◌, ◌<◌, [], ◌∷◌, ◌++◌, IfErr, IfOk, OnErr, OnOk, length, true};
 ghost use Rattle.html_names.specs.Sets.{is_formatting};
 ghost use Rattle.html_arena.specs.declared.marks.Mark.TheVariants.{InList};
 ghost use Rattle.html_arena.specs.Tree.{marked, tag_at};
 ghost use Rattle.html_open.specs.Adopting.{originals};
-ghost use Rattle.html_open.specs.Cloning.{AreCloned, AreFormatting};
+ghost use Rattle.html_open.specs.Cloning.{AreCloned, AreFormatting, IsCut};
 ghost use Rattle.html_open.specs.Opened.{AreNodes};
+ghost use Rattle.html_open.specs.Reopenings.{IsRefused};
 
 use crate::error::OpenError;
 use html_arena::{Arena, ArenaError, Mark, NewNode, NodeId};
@@ -46,8 +47,10 @@ pub(crate) fn clone_all(
     requires formatting { AreFormatting arena.old (formatting ∷ []) }
     ensures number { IfOk result (λ id. id ≡ length arena.old.labels + length originals.now) }
     ensures cloned { OnOk result (AreCloned arena.old arena.new (originals.now ++ formatting ∷ [])) }
+    ensures cut { IfErr result (λ e. IsCut arena.old arena.new (originals.now ++ formatting ∷ []) e) }
 {
     make_clones(arena, originals)?;
+    arena.forest();
     let clone = make_clone(arena, formatting)?;
     Ok(clone)
 }
@@ -55,9 +58,11 @@ pub(crate) fn clone_all(
 /// Makes a clone of each element, in order.
 fn make_clones(arena: &mut Arena, originals: &[NodeId]) -> Result<(), OpenError>
     requires { AreFormatting arena.old originals.now }
-    ensures { OnOk result (AreCloned arena.old arena.new originals.now) }
+    ensures cloned { OnOk result (AreCloned arena.old arena.new originals.now) }
+    ensures cut { IfErr result (λ e. IsCut arena.old arena.new originals.now e) }
 {
     for node in originals {
+        arena.forest();
         make_clone(arena, *node)?;
     }
     Ok(())
@@ -69,6 +74,8 @@ fn make_clone(arena: &mut Arena, node: NodeId) -> Result<NodeId, OpenError>
     requires formatting { is_formatting (tag_at arena.old node) ≡ true }
     ensures number { IfOk result (λ id. id ≡ length arena.old.labels) }
     ensures cloned { OnOk result (AreCloned arena.old arena.new (node ∷ [])) }
+    ensures same { OnErr result (arena.new ≡ arena.old) }
+    ensures cause { IfErr result (λ e. IsRefused arena.old node e) }
 {
     match arena.make(NewNode::CloneOf(node)) {
         Ok(clone) => Ok(clone),

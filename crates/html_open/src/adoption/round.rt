@@ -1,9 +1,10 @@
 // A round of the adoption agency.
-ghost use Rattle.std.specs.Prelude.{◌≡◌, ℕ, ◌<◌, IfOk, OnOk, drop, take, false, length, true};
+ghost use Rattle.std.specs.Prelude.{◌≡◌, ℕ, ◌<◌, IfErr, IfOk, OnOk, drop, take, false, length, true};
 ghost use Rattle.html_names.specs.declared.tag.Tag.{Tag};
 ghost use Rattle.html_arena.specs.Siblings.{has};
 ghost use Rattle.html_open.specs.AdoptFinding.{IsBlock};
-ghost use Rattle.html_open.specs.Adopting.{IsFirstFree, IsKept, IsRegrouped, Round};
+ghost use Rattle.html_open.specs.Adopting.{IsFirstFree, IsKept, IsRegrouped, Round, round_originals};
+ghost use Rattle.html_open.specs.Cloning.{IsCut};
 ghost use Rattle.html_open.specs.Opened.{IsOpen, open_at};
 ghost use Rattle.html_open.specs.Placing.{CanPlace, IsPlace, way_up};
 
@@ -43,6 +44,7 @@ pub(crate) fn round(
     ensures kept { OnOk result (IsOpen (open_at stack.new list.new arena.new)) }
     ensures can_place { OnOk result (CanPlace arena.new stack.new) }
     ensures first_free { OnOk result (IsFirstFree stack.old list.old → IsFirstFree stack.new list.new) }
+    ensures cut { IfErr result (λ e. IsCut arena.old arena.new (round_originals (open_at stack.old list.old arena.old) at block_at) e) }
 {
     arena.forest();
     let alloc = stack.allocator();
@@ -75,6 +77,7 @@ fn regroup(
     ensures regrouped { IfOk result (λ r. IsRegrouped at block_at target (open_at nodes.now entries.now arena.old) (open_at r.nodes.items r.entries.items arena.new)) }
     ensures front { IfOk result (λ r. (x : ℕ) → has x (take at nodes.now) ≡ true → IsKept arena.old arena.new entries.now r.entries.items x) }
     ensures kept { IfOk result (λ r. IsOpen (open_at r.nodes.items r.entries.items arena.new)) }
+    ensures cut { IfErr result (λ e. IsCut arena.old arena.new (round_originals (open_at nodes.now entries.now arena.old) at block_at) e) }
 {
     arena.forest();
     let originals = elements_to_clone(alloc, &nodes[at + 1..block_at], arena)?;

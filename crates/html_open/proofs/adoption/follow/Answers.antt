@@ -4,12 +4,18 @@ use Rattle.html_open.specs.declared.adoption.AdoptEnd.{AdoptEnd}
 use Rattle.html_open.specs.Adopting.{IsFirstFree, IsTurn, Rounds, no_round, popped}
 use Rattle.html_open.specs.Opened.{open_at}
 use Rattle.html_open.specs.Placing.{CanPlace}
+use Rattle.html_open.proofs.Descending.{closed-more, closed-none, closed-rebased, descends-round, descends-start, ends-closed, ends-made, made-more, made-none, made-rebase}
+use Rattle.std.proofs.lemmas.Result.{err_from_is_err_and}
+use Rattle.html_open.specs.declared.error.OpenError.{OpenError}
+use Rattle.html_open.specs.Adopting.{IsRefusal}
+use Rattle.html_open.proofs.Stopping.{refusal-is, stopped-closed, stopped-length, stopped-made}
 use Rattle.html_open.proofs.Looping.{can-place-stepped, ends-grown, finish-eight, finish-fewer, round-grown, rounds-more}
 use Rattle.html_open.proofs.adoption.follow.Goals as goal
 
 pub rounding-init : goal.rounding-init
 rounding-init c = record {
   rounds = no_round (open_at c.pop_unlisted.new.stack c.args.list.now c.pop_unlisted.new.arena);
+  descends = descends-start (open_at c.pop_unlisted.new.stack c.args.list.now c.pop_unlisted.new.arena);
   opened = c.pop_unlisted.ensures.kept;
   can_place = subst (λ (v : List ℕ). CanPlace c.pop_unlisted.new.arena v) (sym (c.pop_unlisted.ensures.same_stack c.if-pop_unlisted.false)) (subst (λ (t : Tree). CanPlace t c.args.stack.now) (sym (c.pop_unlisted.ensures.same_tree c.if-pop_unlisted.false)) (can-place-stepped c.args.arena.now c.pop_unlisted.new.arena.steps c.args.stack.now c.requires.can_place));
   first_free = subst (λ (v : List ℕ). IsFirstFree v c.args.list.now) (sym (c.pop_unlisted.ensures.same_stack c.if-pop_unlisted.false)) c.requires.first_free;
@@ -23,6 +29,7 @@ rounding-preserved c =
     let h = c.rounding.invariant.grown in
     record {
       rounds = rounds-more c.args.name c.args.foster c.rounding._index (c.rounding._index + 1) (open_at c.pop_unlisted.new.stack c.args.list.now c.pop_unlisted.new.arena) (open_at c.rounding.stack c.rounding.list c.rounding.arena) (open_at c.turn.new.stack c.turn.new.list c.turn.new.arena) (omega arith) c.rounding.invariant.rounds r;
+      descends = descends-round c.args.name c.args.foster (open_at c.pop_unlisted.new.stack c.args.list.now c.pop_unlisted.new.arena) (open_at c.rounding.stack c.rounding.list c.rounding.arena) (open_at c.turn.new.stack c.turn.new.list c.turn.new.arena) c.forest.ensures.well_formed c.forest-in-rounding.ensures.well_formed c.rounding.invariant.opened c.rounding.invariant.can_place c.rounding.invariant.descends r;
       opened = c.in_ok-end.ensures.kept;
       can_place = c.in_ok-end.ensures.can_place c.in_default.is;
       first_free = c.in_ok-end.ensures.first_free c.in_default.is;
@@ -64,3 +71,43 @@ returns-in-Some-clause-clones c =
     let k = ends-grown c.args.name c.in-Some.end (open_at c.rounding.stack c.rounding.list c.rounding.arena) (open_at c.turn.new.stack c.turn.new.list c.turn.new.arena) (subst (λ (e : Option AdoptEnd). IsTurn c.args.name c.args.foster e (open_at c.rounding.stack c.rounding.list c.rounding.arena) (open_at c.turn.new.stack c.turn.new.list c.turn.new.arena)) c.in-Some.is c.in_ok-end.ensures.turned) in
     let e = ap (λ (t : Tree). length t.labels) (c.pop_unlisted.ensures.same_tree c.if-pop_unlisted.false) in
     omega (arith, g, h, k, e)
+
+pub returns-clause-made : goal.returns-clause-made
+returns-clause-made c = made-rebase c.args.stack.now c.args.list.now c.args.arena.now c.pop_unlisted.new.arena.steps (open_at c.pop_unlisted.new.stack c.args.list.now c.pop_unlisted.new.arena) c.rounding.arena (ap (λ (v : List ℕ). open_at v c.args.list.now c.pop_unlisted.new.arena) (c.pop_unlisted.ensures.same_stack c.if-pop_unlisted.false) ∙ ap (λ (t : Tree). open_at c.args.stack.now c.args.list.now t) (c.pop_unlisted.ensures.same_tree c.if-pop_unlisted.false)) c.rounding.invariant.descends.made
+
+pub returns-clause-closed : goal.returns-clause-closed
+returns-clause-closed c = closed-rebased c.args.stack.now c.args.list.now c.args.arena.now c.pop_unlisted.new.arena.steps (open_at c.pop_unlisted.new.stack c.args.list.now c.pop_unlisted.new.arena) c.rounding.arena (ap (λ (v : List ℕ). open_at v c.args.list.now c.pop_unlisted.new.arena) (c.pop_unlisted.ensures.same_stack c.if-pop_unlisted.false) ∙ ap (λ (t : Tree). open_at c.args.stack.now c.args.list.now t) (c.pop_unlisted.ensures.same_tree c.if-pop_unlisted.false)) c.rounding.invariant.descends.closed
+
+pub returns-then-pop_unlisted-clause-made : goal.returns-then-pop_unlisted-clause-made
+returns-then-pop_unlisted-clause-made c =
+    made-none (open_at c.args.stack.now c.args.list.now c.args.arena.now) c.pop_unlisted.new.arena (ap (λ (t : Tree). t.labels) (c.pop_unlisted.ensures.yes c.if-pop_unlisted.true).tree_is)
+
+pub returns-then-pop_unlisted-clause-closed : goal.returns-then-pop_unlisted-clause-closed
+returns-then-pop_unlisted-clause-closed c =
+    closed-none (open_at c.args.stack.now c.args.list.now c.args.arena.now) c.pop_unlisted.new.arena (ap (λ (t : Tree). t.children) (c.pop_unlisted.ensures.yes c.if-pop_unlisted.true).tree_is)
+
+pub returns-in-Some-clause-made : goal.returns-in-Some-clause-made
+returns-in-Some-clause-made c = made-rebase c.args.stack.now c.args.list.now c.args.arena.now c.pop_unlisted.new.arena.steps (open_at c.pop_unlisted.new.stack c.args.list.now c.pop_unlisted.new.arena) c.turn.new.arena (ap (λ (v : List ℕ). open_at v c.args.list.now c.pop_unlisted.new.arena) (c.pop_unlisted.ensures.same_stack c.if-pop_unlisted.false) ∙ ap (λ (t : Tree). open_at c.args.stack.now c.args.list.now t) (c.pop_unlisted.ensures.same_tree c.if-pop_unlisted.false)) (ends-made c.args.name c.in-Some.end (open_at c.pop_unlisted.new.stack c.args.list.now c.pop_unlisted.new.arena) (open_at c.rounding.stack c.rounding.list c.rounding.arena) (open_at c.turn.new.stack c.turn.new.list c.turn.new.arena) c.rounding.invariant.descends (subst (λ (e : Option AdoptEnd). IsTurn c.args.name c.args.foster e (open_at c.rounding.stack c.rounding.list c.rounding.arena) (open_at c.turn.new.stack c.turn.new.list c.turn.new.arena)) c.in-Some.is c.in_ok-end.ensures.turned))
+
+pub returns-in-Some-clause-closed : goal.returns-in-Some-clause-closed
+returns-in-Some-clause-closed c = closed-rebased c.args.stack.now c.args.list.now c.args.arena.now c.pop_unlisted.new.arena.steps (open_at c.pop_unlisted.new.stack c.args.list.now c.pop_unlisted.new.arena) c.turn.new.arena (ap (λ (v : List ℕ). open_at v c.args.list.now c.pop_unlisted.new.arena) (c.pop_unlisted.ensures.same_stack c.if-pop_unlisted.false) ∙ ap (λ (t : Tree). open_at c.args.stack.now c.args.list.now t) (c.pop_unlisted.ensures.same_tree c.if-pop_unlisted.false)) (ends-closed c.args.name c.in-Some.end (open_at c.pop_unlisted.new.stack c.args.list.now c.pop_unlisted.new.arena) (open_at c.rounding.stack c.rounding.list c.rounding.arena) (open_at c.turn.new.stack c.turn.new.list c.turn.new.arena) c.rounding.invariant.descends (subst (λ (e : Option AdoptEnd). IsTurn c.args.name c.args.foster e (open_at c.rounding.stack c.rounding.list c.rounding.arena) (open_at c.turn.new.stack c.turn.new.list c.turn.new.arena)) c.in-Some.is c.in_ok-end.ensures.turned))
+
+pub returns-in_err-end-clause-made : goal.returns-in_err-end-clause-made
+returns-in_err-end-clause-made c = made-rebase c.args.stack.now c.args.list.now c.args.arena.now c.pop_unlisted.new.arena.steps (open_at c.pop_unlisted.new.stack c.args.list.now c.pop_unlisted.new.arena) c.turn.new.arena (ap (λ (v : List ℕ). open_at v c.args.list.now c.pop_unlisted.new.arena) (c.pop_unlisted.ensures.same_stack c.if-pop_unlisted.false) ∙ ap (λ (t : Tree). open_at c.args.stack.now c.args.list.now t) (c.pop_unlisted.ensures.same_tree c.if-pop_unlisted.false)) (made-more (open_at c.pop_unlisted.new.stack c.args.list.now c.pop_unlisted.new.arena) (open_at c.rounding.stack c.rounding.list c.rounding.arena) c.turn.new.arena c.rounding.invariant.descends (stopped-made c.args.name (open_at c.rounding.stack c.rounding.list c.rounding.arena) c.turn.new.arena c.in_err-end.field-0.0 c.in_err-end.ensures.stopped))
+
+pub returns-in_err-end-clause-closed : goal.returns-in_err-end-clause-closed
+returns-in_err-end-clause-closed c = closed-rebased c.args.stack.now c.args.list.now c.args.arena.now c.pop_unlisted.new.arena.steps (open_at c.pop_unlisted.new.stack c.args.list.now c.pop_unlisted.new.arena) c.turn.new.arena (ap (λ (v : List ℕ). open_at v c.args.list.now c.pop_unlisted.new.arena) (c.pop_unlisted.ensures.same_stack c.if-pop_unlisted.false) ∙ ap (λ (t : Tree). open_at c.args.stack.now c.args.list.now t) (c.pop_unlisted.ensures.same_tree c.if-pop_unlisted.false)) (closed-more (open_at c.pop_unlisted.new.stack c.args.list.now c.pop_unlisted.new.arena) (open_at c.rounding.stack c.rounding.list c.rounding.arena) c.turn.new.arena c.forest.ensures.well_formed c.rounding.invariant.descends (stopped-closed c.args.name (open_at c.rounding.stack c.rounding.list c.rounding.arena) c.turn.new.arena c.in_err-end.field-0.0 c.in_err-end.ensures.stopped))
+
+pub returns-in_err-end-clause-clones : goal.returns-in_err-end-clause-clones
+returns-in_err-end-clause-clones c =
+    let g = c.rounding.invariant.grown in
+    let h = c.rounding-test.true in
+    let k = stopped-length c.args.name (open_at c.rounding.stack c.rounding.list c.rounding.arena) c.turn.new.arena c.in_err-end.field-0.0 c.in_err-end.ensures.stopped in
+    let e = ap (λ (t : Tree). length t.labels) (c.pop_unlisted.ensures.same_tree c.if-pop_unlisted.false) in
+    omega (arith, g, h, k, e)
+
+pub returns-in_err-end-clause-cause : goal.returns-in_err-end-clause-cause
+returns-in_err-end-clause-cause c =
+    let p = err_from_is_err_and c.from_residual.result c.from_residual.ensures.1 in
+    rw p.1 (subst (λ (e : OpenError). IsRefusal c.args.name c.args.foster (open_at c.args.stack.now c.args.list.now c.args.arena.now) c.turn.new.arena e) (sym p.2)
+    (refusal-is c.args.name c.args.foster c.args.stack.now c.args.list.now c.args.arena.now c.pop_unlisted.new.arena.steps c.rounding._index (open_at c.pop_unlisted.new.stack c.args.list.now c.pop_unlisted.new.arena) (open_at c.rounding.stack c.rounding.list c.rounding.arena) c.turn.new.arena c.in_err-end.field-0.0 (ap (λ (v : List ℕ). open_at v c.args.list.now c.pop_unlisted.new.arena) (c.pop_unlisted.ensures.same_stack c.if-pop_unlisted.false) ∙ ap (λ (t : Tree). open_at c.args.stack.now c.args.list.now t) (c.pop_unlisted.ensures.same_tree c.if-pop_unlisted.false)) (c.pop_unlisted.ensures.no c.if-pop_unlisted.false) c.rounding-test.true c.rounding.invariant.rounds c.in_err-end.ensures.stopped))

@@ -4,6 +4,11 @@ use Rattle.html_open.specs.AdoptFinding.{IsBlock, IsPlain}
 use Rattle.html_open.specs.Adopting.{Closed, Round, bare, closes, forgets, no_entry, out_of_scope}
 use Rattle.html_open.specs.Opened.{IsOpen, open_at}
 use Rattle.html_open.specs.Placing.{CanPlace}
+use Rattle.std.proofs.lemmas.Result.{err_from_is_err_and}
+use Rattle.html_open.specs.declared.error.OpenError.{OpenError}
+use Rattle.html_open.specs.Adopting.{IsStopped, round_originals}
+use Rattle.html_open.specs.Cloning.{IsCut}
+use Rattle.html_open.proofs.Cutting.{cut-rebase}
 use Rattle.html_open.proofs.Finding.{last_named-in}
 use Rattle.html_open.proofs.Looping.{can-place-stepped, closed-rebase, not-first, plain-stepped, round-rebase}
 use Rattle.html_open.proofs.Rounds.{block-stepped, open-stepped}
@@ -84,3 +89,14 @@ returns-in_ok-round-in-Block-clause-turned c =
     round-rebase c.args.name c.args.foster c.args.stack.now c.args.list.now c.args.arena.now c.find.new.arena.steps (open_at c.round.new.stack c.round.new.list c.round.new.arena)
     (subst (λ (t : Tree). Round c.args.name c.args.foster (open_at c.args.stack.now c.args.list.now t) (open_at c.round.new.stack c.round.new.list c.round.new.arena)) c.find.ensures.tree
     (c.in_ok-round-in-Block.ensures.round c.args.name (subst (λ (t : Tree). IsBlock c.args.name (open_at c.args.stack.now c.args.list.now t) c.in-Block.at c.in-Block.block_at) (sym c.find.ensures.tree) (block-stepped c.args.name c.args.stack.now c.args.list.now c.args.arena.now c.find.new.arena.steps c.in-Block.at c.in-Block.block_at c.in-Block.ensures.found))))
+
+pub returns-in_err-round-in-Block-clause-stopped : goal.returns-in_err-round-in-Block-clause-stopped
+returns-in_err-round-in-Block-clause-stopped c =
+    let p = err_from_is_err_and c.from_residual.result c.from_residual.ensures.1 in
+    let d = subst (λ (t : Tree). IsCut t c.round.new.arena (round_originals (open_at c.args.stack.now c.args.list.now t) c.in-Block.at c.in-Block.block_at) c.in_err-round-in-Block.field-0.0) c.find.ensures.tree c.in_err-round-in-Block.ensures.cut in
+    rw p.1 (subst (λ (e : OpenError). IsStopped c.args.name (open_at c.args.stack.now c.args.list.now c.args.arena.now) c.round.new.arena e) (sym p.2) (record {
+      at = c.in-Block.at;
+      b = c.in-Block.block_at;
+      block = c.in-Block.ensures.found;
+      cut = cut-rebase c.args.arena.now c.find.new.arena.steps c.round.new.arena (round_originals (open_at c.args.stack.now c.args.list.now c.args.arena.now) c.in-Block.at c.in-Block.block_at) c.in_err-round-in-Block.field-0.0 d;
+    }))

@@ -7,6 +7,11 @@ use Rattle.html_open.specs.AdoptFinding.{IsBlock}
 use Rattle.html_open.specs.Adopting.{IsKept, IsRegrouped, Round, clones_down}
 use Rattle.html_open.specs.Opened.{IsOpen, open_at}
 use Rattle.html_open.specs.Placing.{IsPlace, place_at, place_of, way_up}
+use Rattle.std.proofs.lemmas.Result.{err_from_is_err_and}
+use Rattle.html_open.specs.declared.error.OpenError.{OpenError}
+use Rattle.html_open.specs.Adopting.{round_originals}
+use Rattle.html_open.specs.Cloning.{IsCut}
+use Rattle.html_open.proofs.Cutting.{cut-rebase}
 use Rattle.html_open.proofs.Rounds.{at-below, can-place-kept, first-free-kept, apart, at-less, before-is, block-stepped, open-stepped, place-stepped, round-is, stepped, steps-then, way-in, way-stepped, a-within}
 use Rattle.html_open.proofs.adoption.round.round.Goals as goal
 
@@ -69,3 +74,13 @@ pub returns-clause-first_free : goal.returns-clause-first_free
 returns-clause-first_free c = first-free-kept (stepped c.args.arena.now c.place-target.new.arena.steps) c.regroup.new.arena c.args.list.now c.in_ok-regrouped.regrouped.entries.items c.args.stack.now c.replace.new.self (clones_down (length c.place-target.new.arena.labels) (length c.in_ok-regrouped.ensures.regrouped.cs) ++ (get_or c.as_slice-nodes.result.now c.args.block_at 0 ∷ (length c.place-target.new.arena.labels + length c.in_ok-regrouped.ensures.regrouped.cs) ∷ drop (c.args.block_at + 1) c.as_slice-nodes.result.now)) c.args.at c.requires.inside (at-below c.args.stack.now c.args.list.now c.args.arena.now c.args.at c.args.block_at c.forest.ensures.well_formed c.requires.«open» c.requires.block.0 c.requires.block.1 c.requires.inside c.args.foster)
     (c.replace.ensures ∙ c.in_ok-regrouped.ensures.regrouped.stack_is ∙ ap (λ (v : List ℕ). take c.args.at v ++ (clones_down (length c.place-target.new.arena.labels) (length c.in_ok-regrouped.ensures.regrouped.cs) ++ (get_or c.as_slice-nodes.result.now c.args.block_at 0 ∷ (length c.place-target.new.arena.labels + length c.in_ok-regrouped.ensures.regrouped.cs) ∷ drop (c.args.block_at + 1) c.as_slice-nodes.result.now))) c.as_slice-nodes.ensures)
     (λ x h. subst (λ (t : Tree). IsKept t c.regroup.new.arena c.args.list.now c.in_ok-regrouped.regrouped.entries.items x) (steps-then c.args.arena.now c.charge.new.self c.place-target.new.arena (c.charge.ensures ∙ sym (ap (λ (v : Tree). stepped c.args.arena.now v.steps) c.charge.ensures)) (c.place-target.ensures.steps ∙ sym (ap (λ (v : Tree). stepped c.charge.new.self v.steps) c.place-target.ensures.steps))) (subst (λ (v : List Entry). IsKept c.place-target.new.arena c.regroup.new.arena v c.in_ok-regrouped.regrouped.entries.items x) (c.as_slice-entries.ensures.value ∙ c.list.view_is) (c.in_ok-regrouped.ensures.front x (subst (λ (v : List ℕ). has x (take c.args.at v) ≡ true) (sym c.as_slice-nodes.ensures) h))))
+
+pub returns-in_err-regrouped-clause-cut : goal.returns-in_err-regrouped-clause-cut
+returns-in_err-regrouped-clause-cut c =
+    let p = err_from_is_err_and c.from_residual.result c.from_residual.ensures.1 in
+    let k = c.in_err-regrouped.ensures.cut in
+    let a = subst (λ (v : List ℕ). IsCut c.place-target.new.arena c.regroup.new.arena (round_originals (open_at v c.as_slice-entries.result.now c.place-target.new.arena) c.args.at c.args.block_at) c.in_err-regrouped.field-0.0) c.as_slice-nodes.ensures k in
+    let b = subst (λ (v : List Entry). IsCut c.place-target.new.arena c.regroup.new.arena (round_originals (open_at c.args.stack.now v c.place-target.new.arena) c.args.at c.args.block_at) c.in_err-regrouped.field-0.0) (c.as_slice-entries.ensures.value ∙ c.list.view_is) a in
+    let d = subst (λ (t : Tree). IsCut t c.regroup.new.arena (round_originals (open_at c.args.stack.now c.args.list.now t) c.args.at c.args.block_at) c.in_err-regrouped.field-0.0) (steps-then c.args.arena.now c.charge.new.self c.place-target.new.arena (c.charge.ensures ∙ sym (ap (λ (v : Tree). stepped c.args.arena.now v.steps) c.charge.ensures)) (c.place-target.ensures.steps ∙ sym (ap (λ (v : Tree). stepped c.charge.new.self v.steps) c.place-target.ensures.steps))) b in
+    rw p.1 (subst (λ (e : OpenError). IsCut c.args.arena.now c.regroup.new.arena (round_originals (open_at c.args.stack.now c.args.list.now c.args.arena.now) c.args.at c.args.block_at) e) (sym p.2)
+    (cut-rebase c.args.arena.now c.place-target.new.arena.steps c.regroup.new.arena (round_originals (open_at c.args.stack.now c.args.list.now c.args.arena.now) c.args.at c.args.block_at) c.in_err-regrouped.field-0.0 d))
