@@ -1,20 +1,18 @@
 -- A round, by the indices of the formatting element and of the special element after it.
-use Rattle.std.proofs.Common.{◌≡◌, ◌≢◌, ℕ, zero, suc, ◌+◌, ◌-◌, ◌<◌, ◌≤◌, Bool, true, false, cond, eqb, nat_le, nat_lt, ◌&&◌, not, List, [], ◌∷◌, ◌++◌, length, length-append, map, take, drop, get_or, Option, Some, None, inl, inr, refl, sym, ◌∙◌, ap, subst, arith}
-use Rattle.std.specs.List.{flat_map, list_any}
+use Rattle.std.proofs.Common.{◌≡◌, ◌≢◌, ℕ, zero, suc, ◌+◌, ◌-◌, ◌<◌, ◌≤◌, Bool, true, false, cond, nat_le, nat_lt, ◌&&◌, not, List, [], ◌∷◌, ◌++◌, length, length-append, take, drop, get_or, inl, inr, refl, sym, ◌∙◌, ap, subst, arith}
+use Rattle.std.specs.List.{flat_map}
 use Rattle.html_names.specs.declared.tag.Tag.{Tag}
-use Rattle.html_names.specs.Sets.{is_formatting}
 use Rattle.html_arena.specs.declared.data.NodeData.{NodeData}
-use Rattle.html_arena.specs.declared.marks.Mark.{Mark}
-use Rattle.html_arena.specs.declared.marks.Mark.TheVariants.{OnStack, InList}
+use Rattle.html_arena.specs.declared.marks.Mark.TheVariants.{InList}
 use Rattle.html_arena.specs.declared.marks.Marks.{Marks}
 use Rattle.html_arena.specs.Marks.{has_mark, no_marks}
-use Rattle.html_arena.specs.Data.{IsElement, cloned, is_linkable, label_in, tag_in}
+use Rattle.html_arena.specs.Data.{IsElement, is_linkable, label_in, tag_in}
 use Rattle.html_arena.specs.Siblings.{has, Distinct}
-use Rattle.html_arena.specs.Tree.{Tree, WellFormed, children_of, label_of, marked, parent_of, tag_at}
+use Rattle.html_arena.specs.Tree.{Tree, WellFormed, children_of, label_of, marked, parent_of}
 use Rattle.html_open.specs.declared.entry.Entry.{Entry}
 use Rattle.html_open.specs.declared.error.OpenError.{OpenError}
 use Rattle.html_open.specs.declared.places.Place.{Place}
-use Rattle.html_open.specs.AdoptFinding.{IsBlock, special}
+use Rattle.html_open.specs.AdoptFinding.{IsBlock}
 use Rattle.html_open.specs.Adopting.{IsKept, IsRegrouped, clones_down, heirs, originals, relisted, round_originals}
 use Rattle.html_open.specs.Cloning.{AreCloned, AreFormatting, HaveEntered, HaveLeft, IsCut}
 use Rattle.html_open.specs.Entries.{has_node, nodes_of}
@@ -22,11 +20,11 @@ use Rattle.html_open.specs.Hanging.{Hung, StandAlone, hung_parent}
 use Rattle.html_open.specs.Opened.{AreNodes, IsOpen, IsOrdered, open_at}
 use Rattle.html_open.specs.Placing.{IsPlace, way_up}
 use Rattle.html_open.proofs.Clones.{cloned-length}
-use Rattle.html_open.proofs.Finding.{has-drop, last_named-in, nodes-drop}
+use Rattle.html_open.proofs.Finding.{last_named-in, nodes-drop}
 use Rattle.html_open.proofs.Keeps.{Core, cases_bool, cases_eqb, core, whole_by}
 use Rattle.html_open.proofs.Numbering.{originals-distinct, originals-in, originals-same}
 use Rattle.html_open.proofs.Ordering.{front-parent, distinct-left, distinct-right, has-either, has-head, has-left, has-right, ordered-after}
-use Rattle.html_open.proofs.Readied.{Readied, label-same, children-after, fresh, linkable-old, longer, parents-after, place-same, ready, way-same}
+use Rattle.html_open.proofs.Readied.{Readied, label-same, children-after, fresh, linkable-old, longer, parents-after, place-same, way-same}
 use Rattle.html_open.proofs.Rounding.{core-after, still-unlisted, relisted-nodes, relisted-same}
 use Rattle.html_open.proofs.Splitting.{left-is, rest-of, split}
 use Rattle.html_open.proofs.Upwards.{has-first, has-more}

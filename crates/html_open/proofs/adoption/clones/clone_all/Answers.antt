@@ -1,7 +1,4 @@
-use Rattle.std.proofs.Common.{◌≡◌, ◌<◌, ◌∷◌, [], ◌++◌, ℕ, List, refl, sym, ◌∙◌, ap, subst, length, length-append, arith}
-use Rattle.std.proofs.lemmas.List.{length-map}
-use Rattle.html_arena.specs.Data.{cloned}
-use Rattle.html_arena.specs.Tree.{label_of}
+use Rattle.std.proofs.Common.{◌∷◌, [], ◌++◌, refl, sym, ◌∙◌, subst}
 use Rattle.std.proofs.lemmas.Result.{err_from_is_err_and}
 use Rattle.html_open.specs.declared.error.OpenError.{OpenError}
 use Rattle.html_open.specs.Cloning.{IsCut}

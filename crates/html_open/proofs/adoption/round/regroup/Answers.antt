@@ -1,18 +1,12 @@
-use Rattle.std.proofs.Common.{◌≡◌, ◌≤◌, ◌<◌, ◌+◌, ◌-◌, ◌∷◌, [], ◌++◌, List, ℕ, sym, ◌∙◌, ap, subst, length, arith, true, ◌≢◌}
+use Rattle.std.proofs.Common.{◌+◌, ◌∷◌, [], ◌++◌, List, ℕ, sym, ◌∙◌, ap, subst, length, arith}
 use Rattle.html_arena.specs.declared.marks.Mark.TheVariants.{InList}
-use Rattle.html_arena.specs.declared.data.NodeData.{NodeData}
 use Rattle.html_arena.specs.Data.{is_linkable}
-use Rattle.html_arena.specs.Siblings.{has}
 use Rattle.html_arena.specs.Tree.{label_of, marked}
 use Rattle.std.proofs.Common.{get_or, refl}
 use Rattle.std.proofs.lemmas.Result.{err_from_is_err_and}
-use Rattle.html_open.specs.declared.error.OpenError.{OpenError}
-use Rattle.html_open.specs.Adopting.{round_originals}
-use Rattle.html_open.specs.Opened.{open_at}
-use Rattle.html_open.specs.Cloning.{AreCloned, AreFormatting, HaveEntered, IsCut}
-use Rattle.html_open.proofs.Cutting.{cut-all, cut-none}
+use Rattle.html_open.specs.Cloning.{AreCloned, AreFormatting, HaveEntered}
+use Rattle.html_open.proofs.Cutting.{cut-all}
 use Rattle.html_open.specs.Hanging.{Hung, StandAlone}
-use Rattle.html_open.specs.Placing.{way_up}
 use Rattle.html_open.proofs.Regrouping.{at-within, clone-in, cs-formatting, cut-after, end-in, entries-in, f-formatting, fresh-clones, front-kept, g-below, g-linkable, index-is, inner-in, left-in, length-is, new-list, new-stack, older, open-after, place-there, regrouped, within}
 use Rattle.html_open.proofs.adoption.round.regroup.Goals as goal
 
