@@ -11,6 +11,7 @@ mod Searching
 mod Reopened
 mod Pushes
 mod PushKeeps
+mod Counting
 mod Cutting
 mod Descending
 mod Stopping
