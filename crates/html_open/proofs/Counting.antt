@@ -5,7 +5,10 @@ use Rattle.html_arena.specs.Laws.{IsUnlinked}
 use Rattle.html_arena.specs.Siblings.{Distinct, has, without}
 use Rattle.html_arena.specs.Tree.{Tree, WellFormed, appended, children_of, detached, each_more, more, moved, parent_of}
 use Rattle.html_open.specs.Lists.{above, looked}
-use Rattle.html_open.specs.Marking.{IsCounted}
+use Rattle.html_open.specs.Entries.{removal_steps}
+use Rattle.html_arena.specs.declared.marks.Mark.{Mark}
+use Rattle.html_open.specs.Marking.{IsCounted, all_unmarked}
+use Rattle.html_open.specs.Placing.{fosters, steps_at, table}
 use Rattle.html_open.proofs.Keeps.{cases_bool, cases_eqb}
 use Rattle.html_open.proofs.Upwards.{not_own}
 
@@ -134,3 +137,89 @@ grown-then t u v i j h k = record {
   least = (let a = h.least in let b = k.least in omega (arith, a, b, i, j));
   most = (let a = h.most in let b = k.most in omega (arith, a, b, i, j));
 }
+
+-- what a round counts for its clones and its moves
+abbrev pub IsCountedRound : Tree → Tree → Type 0
+IsCountedRound t v = IsCounted t.steps v.steps (length v.labels - length t.labels) (length v.labels + 10)
+
+pub grown-regrouped : (t v : Tree) → IsCountedGrown t v → IsCountedRound t v
+grown-regrouped t v h = record { least = h.least; most = (let k = h.most in omega (arith, k)) }
+
+pub regroup-same : (t v : Tree) → v ≡ t → IsCountedRound t v
+regroup-same t v e = grown-regrouped t v (grown-same t v e)
+
+pub regroup-left : (t u v : Tree) → IsCountedGrown t u → v ≡ record u { marks = v.marks } → IsCountedRound t v
+regroup-left t u v h e =
+    let a = ap (λ (x : Tree). x.steps) e in
+    let b = ap (λ (x : Tree). length x.labels) e in
+    record { least = (let k = h.least in omega (arith, k, a, b)); most = (let k = h.most in omega (arith, k, a, b)) }
+
+pub regroup-counted : (t u u2 u3 v : Tree) (first clone c : ℕ) → length u.labels ≡ length t.labels + c + 1 → c ≤ 3 → first ≡ length t.labels → clone ≡ length t.labels + c → IsCountedGrown t u
+    → u2 ≡ record u { marks = u2.marks } → u3 ≡ record u2 { marks = u3.marks } → IsCounted u3.steps v.steps 0 (length u3.labels + (clone - first) + 3) → v.labels ≡ u3.labels → IsCountedRound t v
+regroup-counted t u u2 u3 v first clone c l few a b h e2 e3 k e =
+    let s2 = ap (λ (x : Tree). x.steps) e2 in
+    let s3 = ap (λ (x : Tree). x.steps) e3 in
+    let l2 = ap (λ (x : Tree). length x.labels) e2 in
+    let l3 = ap (λ (x : Tree). length x.labels) e3 in
+    let l4 = ap length e in
+    let h1 = h.least in
+    let h2 = h.most in
+    let k1 = k.least in
+    let k2 = k.most in
+    record { least = omega (arith, l, s2, s3, l2, l3, l4, h1, k1); most = omega (arith, l, few, a, b, s2, s3, l2, l3, l4, h2, k2) }
+
+pub place-few : (t : Tree) (s : List ℕ) (target : ℕ) (f : Bool) → steps_at t s target f ≤ length s + 1
+place-few t s target f = (let h = looked-few (table t) s in elim (cases_bool (fosters t target f)) [ inl a ↦ rw a (omega (arith, h)) | inr a ↦ rw a (omega arith) ])
+
+pub removal-few : {X : Type 0} (p : X → Bool) (xs : List X) → removal_steps p xs ≤ 2 * length xs
+removal-few p xs = (let h = looked-few p xs in elim (cases_bool (list_any p xs)) [
+  | inl a ↦ (let k : length (above p xs) + 1 ≤ length xs = rw a at h in rw a (omega (arith, k)))
+  | inr a ↦ (let k : length (above p xs) + 0 ≤ length xs = rw a at h in rw a (omega (arith, k)))
+])
+
+-- what the search of a round counts
+module _ (s t a l h : ℕ) (e : t ≡ more s a) (few : a ≤ l) where
+  pub found-first : IsCounted s t 0 (l + 2 * h + 1)
+  found-first = record { least = omega (arith, e); most = omega (arith, e, few) }
+
+  module _ (u : ℕ) (f : u ≡ more t 1) where
+    pub found-second : IsCounted s u 0 (l + 2 * h + 1)
+    found-second = record { least = omega (arith, e, f); most = omega (arith, e, f, few) }
+
+    module _ (v b : ℕ) (g : v ≡ more u b) (low : b ≤ h) where
+      pub found-third : IsCounted s v 0 (l + 2 * h + 1)
+      found-third = record { least = omega (arith, e, f, g); most = omega (arith, e, f, g, few, low) }
+
+      pub found-fourth : (w d : ℕ) → w ≡ more v d → d ≤ h → IsCounted s w 0 (l + 2 * h + 1)
+      found-fourth w d k lower = record { least = omega (arith, e, f, g, k); most = omega (arith, e, f, g, k, few, low, lower) }
+
+pub round-counted : (a b c d : Tree) (k p h l : ℕ) → b.steps ≡ more a.steps k → k ≤ h + l → c.steps ≡ more b.steps p → p ≤ h + 1 → length c.labels ≡ length a.labels → IsCountedRound c d
+    → IsCounted a.steps d.steps (length d.labels - length a.labels) (length d.labels + 2 * h + l + 11)
+round-counted a b c d k p h l e few f low n r =
+    let r1 = r.least in
+    let r2 = r.most in
+    record { least = omega (arith, e, f, n, r1); most = omega (arith, e, f, few, low, r2) }
+
+pub all_unmarked-steps : (t : Tree) (m : Mark) (xs : List ℕ) → (all_unmarked t m xs).steps ≡ t.steps
+all_unmarked-steps t m [] = refl
+all_unmarked-steps t m (x ∷ xs) = all_unmarked-steps t m xs
+
+pub close-counted : (s t u v k r h l : ℕ) → t ≡ more s k → k ≤ h → u ≡ t → v ≡ more u r → r ≤ 2 * l → IsCounted s v 0 (h + 2 * l)
+close-counted s t u v k r h l e few f g low = record { least = omega (arith, e, f, g); most = omega (arith, e, f, g, few, low) }
+
+-- an end after the search
+pub turn-counted : (s t u n m h l r : ℕ) → IsCounted s t 0 (l + 2 * h + 1) → IsCounted t u 0 r → r ≤ h + 2 * l → m ≡ n → IsCounted s u (m - n) (m + 4 * h + 3 * l + 12)
+turn-counted s t u n m h l r a b few e =
+    let a1 = a.least in
+    let a2 = a.most in
+    let b1 = b.least in
+    let b2 = b.most in
+    record { least = omega (arith, a1, b1, e); most = omega (arith, a2, b2, few) }
+
+pub turn-round : (s t u n o m h l : ℕ) → IsCounted s t 0 (l + 2 * h + 1) → n ≡ o → IsCounted t u (m - n) (m + 2 * h + l + 11) → IsCounted s u (m - o) (m + 4 * h + 3 * l + 12)
+turn-round s t u n o m h l a e b =
+    let a1 = a.least in
+    let a2 = a.most in
+    let b1 = b.least in
+    let b2 = b.most in
+    record { least = omega (arith, a1, b1, e); most = omega (arith, a2, b2) }
