@@ -15,6 +15,7 @@ mod Counting
 mod Cutting
 mod Descending
 mod Stopping
+mod Shrinking
 mod Finding
 mod Marked
 mod Upwards

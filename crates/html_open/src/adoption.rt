@@ -36,6 +36,9 @@ pub enum AdoptEnd {
 /// At most 32 nodes are made, each a clone of an element in the list. A refusal stops the round under way after some of its clones, which
 /// then stand alone: `NodeBudget` and `HeldBudget` where the next clone would pass that limit, `OutOfMemory` where memory was refused.
 /// After a refusal nothing is said of the stack and the list.
+///
+/// Steps, after a refusal too: at least one for each node made; with `h` elements on the stack, `l` entries in the list and, in the end,
+/// `c` nodes at most `32 (h + l + 4)² + 8 c`.
 pub fn adopt(
     stack: &mut OpenStack,
     list: &mut FormattingList,
