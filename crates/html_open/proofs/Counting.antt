@@ -1,5 +1,5 @@
 -- Steps that are counted.
-use Rattle.std.proofs.Common.{◌≡◌, ◌≢◌, ℕ, zero, suc, ◌+◌, ◌-◌, ◌*◌, ◌^◌, ◌<◌, ◌≤◌, Bool, true, false, List, [], ◌∷◌, ◌++◌, length, get_or, Option, Some, None, inl, inr, refl, sym, ◌∙◌, ap, subst, arith}
+use Rattle.std.proofs.Common.{◌≡◌, ◌≢◌, ℕ, zero, suc, ◌+◌, ◌-◌, ◌*◌, ◌<◌, ◌≤◌, Bool, true, false, List, [], ◌∷◌, length, Option, Some, None, inl, inr, refl, sym, ◌∙◌, ap, subst, arith}
 use Rattle.std.specs.List.{list_any}
 use Rattle.html_arena.specs.Laws.{IsUnlinked}
 use Rattle.html_arena.specs.Siblings.{Distinct, has, without}
@@ -10,7 +10,6 @@ use Rattle.html_arena.specs.declared.marks.Mark.{Mark}
 use Rattle.html_open.specs.Marking.{IsCounted, all_unmarked}
 use Rattle.html_open.specs.Placing.{fosters, steps_at, table}
 use Rattle.html_open.proofs.Keeps.{cases_bool, cases_eqb}
-use Rattle.html_open.proofs.Upwards.{not_own}
 
 pub counted-then : (s t u a b c d : ℕ) → IsCounted s t a b → IsCounted t u c d → IsCounted s u (a + c) (b + d)
 counted-then s t u a b c d h k = record {

@@ -1,9 +1,7 @@
 -- Clones that were begun and could not be ended.
-use Rattle.std.proofs.Common.{◌≡◌, ℕ, zero, suc, ◌+◌, ◌<◌, ◌≤◌, true, List, [], ◌∷◌, ◌++◌, length, length-append, map, take, drop, get_or, Option, Result, Err, inl, inr, refl, sym, ◌∙◌, ap, subst, append_assoc, arith}
+use Rattle.std.proofs.Common.{◌≡◌, ℕ, zero, suc, ◌+◌, ◌<◌, ◌≤◌, List, [], ◌∷◌, ◌++◌, length, length-append, map, take, drop, get_or, Option, refl, sym, ◌∙◌, ap, subst, append_assoc, arith}
 use Rattle.std.proofs.lemmas.List.{append-nil, length-map}
 use Rattle.std.specs.List.{sum_by}
-use Rattle.html_arena.specs.declared.arena.ArenaError.{ArenaError}
-use Rattle.html_arena.specs.declared.arena.ArenaError.TheVariants as arena
 use Rattle.html_arena.specs.declared.arena.Limits.{Limits}
 use Rattle.html_arena.specs.declared.data.NewNode.TheVariants.{CloneOf}
 use Rattle.html_arena.specs.declared.data.NodeData.{NodeData}
@@ -14,7 +12,7 @@ use Rattle.html_arena.specs.Tree.{Tree, children_of, label_of, more}
 use Rattle.html_arena.specs.Weight.{capped, weight}
 use Rattle.html_open.specs.declared.error.OpenError.{OpenError}
 use Rattle.html_open.specs.declared.error.OpenError.TheVariants.{OutOfMemory, NodeBudget, HeldBudget}
-use Rattle.html_open.specs.Cloning.{AreCloned, IsCut, IsFull, IsLacking, clone_budget, with_cloned}
+use Rattle.html_open.specs.Cloning.{AreCloned, IsCut, IsLacking, clone_budget}
 use Rattle.html_open.specs.Reopenings.{IsRefused}
 use Rattle.html_open.proofs.Clones.{cloned-label}
 use Rattle.html_open.proofs.Rounds.{stepped}

@@ -1,7 +1,6 @@
 -- What rounds leave to every reader: the labels, the entries of the list, the elements that are closed.
-use Rattle.std.proofs.Common.{◌≡◌, ◌≢◌, ℕ, zero, suc, ◌+◌, ◌-◌, ◌<◌, ◌≤◌, Bool, true, false, cond, eqb, nat_le, nat_lt, ◌&&◌, not, List, [], ◌∷◌, ◌++◌, length, length-append, map, get_or, Option, Some, None, inl, inr, refl, sym, ◌∙◌, ap, subst, append_assoc, arith}
-use Rattle.std.proofs.lemmas.List.{append-nil, get_or_append_left, length-map}
-use Rattle.std.specs.List.{flat_map}
+use Rattle.std.proofs.Common.{◌≡◌, ◌≢◌, ℕ, ◌+◌, ◌-◌, ◌<◌, ◌≤◌, Bool, true, false, cond, eqb, nat_le, nat_lt, ◌&&◌, not, List, [], ◌∷◌, ◌++◌, length, length-append, map, get_or, Option, Some, None, inl, inr, refl, sym, ◌∙◌, ap, subst, append_assoc, arith}
+use Rattle.std.proofs.lemmas.List.{append-nil, get_or_append_left}
 use Rattle.html_names.specs.declared.tag.Tag.{Tag}
 use Rattle.html_arena.specs.declared.data.NodeData.{NodeData}
 use Rattle.html_arena.specs.declared.data.NodeData.TheVariants.{Document, Contents, Element, Text, Comment, Doctype}
@@ -14,16 +13,16 @@ use Rattle.html_open.specs.declared.adoption.AdoptEnd.{AdoptEnd}
 use Rattle.html_open.specs.declared.places.Place.{Place}
 use Rattle.html_open.specs.declared.places.Place.TheVariants.{Last, Before}
 use Rattle.html_open.specs.declared.entry.Entry.{Entry}
-use Rattle.html_open.specs.Adopting.{Ends, MadeClones, Round, after_nearest, alone, clone_number, clones_down, closes, forgets, heirs, no_entry, originals, out_of_scope}
+use Rattle.html_open.specs.Adopting.{Ends, MadeClones, Round, after_nearest, alone, clone_number, clones_down, closes, forgets, heirs, no_entry, out_of_scope}
 use Rattle.html_open.specs.Entries.{has_node, nodes_of}
 use Rattle.html_open.specs.Hanging.{chain_top, chained, with_put}
 use Rattle.html_open.specs.Opened.{IsOpen, Open, open_at}
 use Rattle.html_open.specs.Placing.{CanPlace, parent_at, place_at}
-use Rattle.html_open.specs.Reopening.{HoldsNoElement, KeepsClosed}
+use Rattle.html_open.specs.Reopening.{KeepsClosed}
 use Rattle.html_open.proofs.Clones.{map-append}
 use Rattle.html_open.proofs.Finding.{last_named-in}
-use Rattle.html_open.proofs.Hangs.{le-of, short}
-use Rattle.html_open.proofs.Keeps.{cases_bool, cases_eqb, eqb-self}
+use Rattle.html_open.proofs.Hangs.{short}
+use Rattle.html_open.proofs.Keeps.{cases_bool, cases_eqb}
 use Rattle.html_open.proofs.Numbering.{clone-back, clone-high, clone-low, has-down, originals-in}
 use Rattle.html_open.proofs.Ordering.{has-either, has-head, has-left, has-right}
 use Rattle.html_open.proofs.Rounding.{flat-has, get-map, get-right, relisted-nodes}
