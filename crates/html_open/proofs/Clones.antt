@@ -21,6 +21,9 @@ pub cloned-length : (t u : Tree) (xs : List ℕ) → AreCloned t u xs → length
 cloned-length t u xs h =
     (let a = ap length h.labels_are in let b = length-append t.labels (map (λ x. cloned (label_of t x)) xs) in let c = length-map xs (λ x. cloned (label_of t x)) in omega (arith, a, b, c))
 
+pub cloned-longer : (t u : Tree) (xs : List ℕ) → AreCloned t u xs → length t.labels ≤ length u.labels
+cloned-longer t u xs h = (let a = cloned-length t u xs h in omega (arith, a))
+
 pub cloned-formatting : (t u : Tree) (xs ys : List ℕ) → AreCloned t u xs → AreFormatting t ys → AreFormatting u ys
 cloned-formatting t u xs ys h f = λ x e. (
   (let k = (f x e).0 in let l = ap length h.labels_are in let m = length-append t.labels (map (λ y. cloned (label_of t y)) xs) in omega arith),

@@ -11,9 +11,11 @@ mod Searching
 mod Reopened
 mod Pushes
 mod PushKeeps
+mod Counting
 mod Cutting
 mod Descending
 mod Stopping
+mod Shrinking
 mod Finding
 mod Marked
 mod Upwards

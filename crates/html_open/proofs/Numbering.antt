@@ -82,6 +82,13 @@ module _ (p : ℕ → Bool) (inner : List ℕ) where
       let c = length-drop (length inner - 3) inner in
       omega (arith, a, b, c)
 
+pub originals-less : (p : ℕ → Bool) (inner : List ℕ) → length (originals p inner) ≤ length inner
+originals-less p inner =
+    let a = length-reverse (filter p (last_three inner)) in
+    let b = length-filter p (last_three inner) in
+    let c = length-drop (length inner - 3) inner in
+    omega (arith, a, b, c)
+
 filter-same : (p q : ℕ → Bool) (xs : List ℕ) → ((x : ℕ) → p x ≡ q x) → filter p xs ≡ filter q xs
 filter-same p q [] h = refl
 filter-same p q (x ∷ xs) h = elim (cases_bool (q x)) [

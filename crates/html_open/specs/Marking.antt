@@ -1,5 +1,5 @@
 -- Trees in which only marks or the count of steps differ.
-use Rattle.std.specs.Prelude.{ℕ, false, List, [], ◌∷◌, Option, Some, None}
+use Rattle.std.specs.Prelude.{ℕ, ◌+◌, ◌≤◌, false, List, [], ◌∷◌, Option, Some, None}
 use Rattle.html_arena.specs.declared.marks.Mark.{Mark}
 use Rattle.html_arena.specs.Tree.{Tree, more, with_marked}
 
@@ -16,3 +16,8 @@ unmarked t m (Some x) = with_marked t m x false
 abbrev pub all_unmarked : Tree → Mark → List ℕ → Tree
 all_unmarked t m [] = t
 all_unmarked t m (x ∷ xs) = with_marked (all_unmarked t m xs) m x false
+
+-- at least so many steps have been counted and at most so many; a count stays at its greatest value
+pub record IsCounted (old new low high : ℕ) : Type 0 where
+  pub least : more old low ≤ new
+  pub most : new ≤ old + high

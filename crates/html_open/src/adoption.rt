@@ -1,10 +1,11 @@
 // The adoption agency: what an end tag of a formatting name does to the open elements (13.2.6.4.7).
-ghost use Rattle.std.specs.Prelude.{◌≡◌, ℕ, ◌+◌, ◌≤◌, IfErr, IfOk, None, OnOk, false, length, true};
+ghost use Rattle.std.specs.Prelude.{◌≡◌, ℕ, ◌+◌, ◌-◌, ◌*◌, ◌≤◌, IfErr, IfOk, None, OnOk, false, length, true};
 ghost use Rattle.html_names.specs.declared.tag.Tag.{Tag};
 ghost use Rattle.html_arena.specs.Siblings.{last_of};
 ghost use Rattle.html_arena.specs.Tree.{WellFormed};
 ghost use Rattle.html_open.specs.AdoptFinding.{IsPlain};
 ghost use Rattle.html_open.specs.Adopting.{Adopted, Closed, IsFirstFree, IsRefusal, IsStopped, IsTurn, MadeClones, Popped, pops_at_once};
+ghost use Rattle.html_open.specs.Marking.{IsCounted};
 ghost use Rattle.html_open.specs.Opened.{IsOpen, open_at};
 ghost use Rattle.html_open.specs.Placing.{CanPlace};
 ghost use Rattle.html_open.specs.Reopening.{KeepsClosed};
@@ -35,6 +36,9 @@ pub enum AdoptEnd {
 /// At most 32 nodes are made, each a clone of an element in the list. A refusal stops the round under way after some of its clones, which
 /// then stand alone: `NodeBudget` and `HeldBudget` where the next clone would pass that limit, `OutOfMemory` where memory was refused.
 /// After a refusal nothing is said of the stack and the list.
+///
+/// Steps, after a refusal too: at least one for each node made; with `h` elements on the stack, `l` entries in the list and, in the end,
+/// `c` nodes at most `32 (h + l + 4)² + 8 c`.
 pub fn adopt(
     stack: &mut OpenStack,
     list: &mut FormattingList,
@@ -51,6 +55,7 @@ pub fn adopt(
     ensures closed { KeepsClosed (open_at stack.old list.old arena.old) arena.new }
     ensures clones { length arena.new.labels ≤ length arena.old.labels + 32 }
     ensures cause { IfErr result (λ e. IsRefusal name foster (open_at stack.old list.old arena.old) arena.new e) }
+    ensures steps { IsCounted arena.old.steps arena.new.steps (length arena.new.labels - length arena.old.labels) (32 * ((length stack.old + length list.old + 4) * (length stack.old + length list.old + 4)) + 8 * length arena.new.labels) }
     ensures well_formed { WellFormed arena.new }
 {
     let end = follow(stack, list, arena, name, foster);
@@ -75,6 +80,7 @@ fn follow(
     ensures closed { KeepsClosed (open_at stack.old list.old arena.old) arena.new }
     ensures clones { length arena.new.labels ≤ length arena.old.labels + 32 }
     ensures cause { IfErr result (λ e. IsRefusal name foster (open_at stack.old list.old arena.old) arena.new e) }
+    ensures steps { IsCounted arena.old.steps arena.new.steps (length arena.new.labels - length arena.old.labels) (32 * ((length stack.old + length list.old + 4) * (length stack.old + length list.old + 4)) + 8 * length arena.new.labels) }
 {
     if pop_unlisted(stack, list, arena, name) {
         return Ok(AdoptEnd::Done);
@@ -105,6 +111,7 @@ fn turn(
     ensures can_place { IfOk result (λ end. end ≡ None → CanPlace arena.new stack.new) }
     ensures first_free { IfOk result (λ end. end ≡ None → IsFirstFree stack.new list.new) }
     ensures stopped { IfErr result (λ e. IsStopped name (open_at stack.old list.old arena.old) arena.new e) }
+    ensures steps { IsCounted arena.old.steps arena.new.steps (length arena.new.labels - length arena.old.labels) (length arena.new.labels + 4 * length stack.old + 3 * length list.old + 12) }
 {
     match find(stack, list, arena, name) {
         Found::NoEntry => Ok(Some(AdoptEnd::OtherEndTag)),
@@ -132,6 +139,7 @@ fn pop_unlisted(stack: &mut OpenStack, list: &FormattingList, arena: &mut Arena,
     ensures same_stack { result ≡ false → stack.new ≡ stack.old }
     ensures same_tree { result ≡ false → arena.new ≡ record arena.old { steps = arena.new.steps } }
     ensures kept { IsOpen (open_at stack.new list.now arena.new) }
+    ensures steps { IsCounted arena.old.steps arena.new.steps 0 3 }
 {
     let Some(current) = stack.current(arena) else {
         return false;
@@ -158,6 +166,7 @@ fn close(
     requires plain { (s : Tag) × IsPlain s (open_at stack.old list.old arena.old) node at }
     ensures closed { (s : Tag) → IsPlain s (open_at stack.old list.old arena.old) node at → Closed s (open_at stack.old list.old arena.old) (open_at stack.new list.new arena.new) }
     ensures kept { IsOpen (open_at stack.new list.new arena.new) }
+    ensures steps { IsCounted arena.old.steps arena.new.steps 0 (length stack.old + 2 * length list.old) }
 {
     arena.charge((stack.len() - at) as u128);
     stack.pop_to(arena, at);

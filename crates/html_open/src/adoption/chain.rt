@@ -1,9 +1,10 @@
 // The moves of a round, on nodes that are there: none of them can fail.
-ghost use Rattle.std.specs.Prelude.{◌≡◌, ◌≢◌, ℕ, ◌+◌, ◌<◌, ◌≤◌, None, [], false, length, true};
+ghost use Rattle.std.specs.Prelude.{◌≡◌, ◌≢◌, ℕ, ◌+◌, ◌-◌, ◌<◌, ◌≤◌, None, [], false, length, true};
 ghost use Rattle.html_arena.specs.Data.{is_linkable};
 ghost use Rattle.html_arena.specs.Siblings.{has};
 ghost use Rattle.html_arena.specs.Tree.{children_of, label_of, parent_of};
 ghost use Rattle.html_open.specs.Hanging.{Chained, Hung, IsPut, SameNodes, StandAlone, chain_top, wrapped_children, wrapped_parent};
+ghost use Rattle.html_open.specs.Marking.{IsCounted};
 ghost use Rattle.html_open.specs.Placing.{IsPlace, way_up};
 
 use crate::places::Place;
@@ -19,7 +20,8 @@ pub(crate) fn hang(arena: &mut Arena, block: NodeId, first: usize, clone: NodeId
     requires fresh { StandAlone arena.old first (clone + 1) }
     requires place_in { IsPlace arena.old place }
     requires older { (y : ℕ) → has y (way_up arena.old place) ≡ true → (y < first) × (y ≢ block) }
-    ensures { Hung arena.old arena.new block first clone place }
+    ensures hung { Hung arena.old arena.new block first clone place }
+    ensures steps { IsCounted arena.old.steps arena.new.steps 0 (length arena.old.labels + (clone - first) + 3) }
 {
     arena.forest();
     wrap_children(arena, block, clone);
@@ -38,6 +40,7 @@ fn wrap_children(arena: &mut Arena, block: NodeId, clone: NodeId)
     ensures nodes { SameNodes arena.old arena.new }
     ensures children { (x : ℕ) → children_of arena.new x ≡ wrapped_children arena.old block clone x }
     ensures parents { (x : ℕ) → parent_of arena.new x ≡ wrapped_parent arena.old block clone x }
+    ensures steps { IsCounted arena.old.steps arena.new.steps 0 (length arena.old.labels + 2) }
 {
     arena.forest();
     arena.detach(block);
@@ -55,6 +58,7 @@ fn chain(arena: &mut Arena, block: NodeId, first: usize, end: usize) -> NodeId
     requires fresh { StandAlone arena.old first end }
     ensures top { result ≡ chain_top block first end }
     ensures chained { Chained arena.old arena.new block first end }
+    ensures steps { IsCounted arena.old.steps arena.new.steps 0 (end - first) }
 {
     let mut top = block;
     for number in first..end {
@@ -73,7 +77,8 @@ fn put(arena: &mut Arena, place: Place, node: NodeId)
     requires linkable { is_linkable (label_of arena.old node) ≡ true }
     requires alone { parent_of arena.old node ≡ None }
     requires not_above { has node (way_up arena.old place) ≡ false }
-    ensures { IsPut arena.old arena.new place node }
+    ensures put { IsPut arena.old arena.new place node }
+    ensures steps { IsCounted arena.old.steps arena.new.steps 0 1 }
 {
     match place {
         Place::Last(parent) => arena.append(parent, node),

@@ -1,10 +1,11 @@
 // The clones of a round: of which elements they are made, and how.
-ghost use Rattle.std.specs.Prelude.{◌≡◌, ◌+◌, ◌<◌, [], ◌∷◌, ◌++◌, IfErr, IfOk, OnErr, OnOk, length, true};
+ghost use Rattle.std.specs.Prelude.{◌≡◌, ◌+◌, ◌-◌, ◌<◌, [], ◌∷◌, ◌++◌, IfErr, IfOk, OnErr, OnOk, length, true};
 ghost use Rattle.html_names.specs.Sets.{is_formatting};
 ghost use Rattle.html_arena.specs.declared.marks.Mark.TheVariants.{InList};
 ghost use Rattle.html_arena.specs.Tree.{marked, tag_at};
 ghost use Rattle.html_open.specs.Adopting.{originals};
 ghost use Rattle.html_open.specs.Cloning.{AreCloned, AreFormatting, IsCut};
+ghost use Rattle.html_open.specs.Marking.{IsCounted};
 ghost use Rattle.html_open.specs.Opened.{AreNodes};
 ghost use Rattle.html_open.specs.Reopenings.{IsRefused};
 
@@ -48,6 +49,7 @@ pub(crate) fn clone_all(
     ensures number { IfOk result (λ id. id ≡ length arena.old.labels + length originals.now) }
     ensures cloned { OnOk result (AreCloned arena.old arena.new (originals.now ++ formatting ∷ [])) }
     ensures cut { IfErr result (λ e. IsCut arena.old arena.new (originals.now ++ formatting ∷ []) e) }
+    ensures steps { IsCounted arena.old.steps arena.new.steps (length arena.new.labels - length arena.old.labels) (length arena.new.labels - length arena.old.labels) }
 {
     make_clones(arena, originals)?;
     arena.forest();
@@ -60,6 +62,7 @@ fn make_clones(arena: &mut Arena, originals: &[NodeId]) -> Result<(), OpenError>
     requires { AreFormatting arena.old originals.now }
     ensures cloned { OnOk result (AreCloned arena.old arena.new originals.now) }
     ensures cut { IfErr result (λ e. IsCut arena.old arena.new originals.now e) }
+    ensures steps { IsCounted arena.old.steps arena.new.steps (length arena.new.labels - length arena.old.labels) (length arena.new.labels - length arena.old.labels) }
 {
     for node in originals {
         arena.forest();
@@ -76,6 +79,7 @@ fn make_clone(arena: &mut Arena, node: NodeId) -> Result<NodeId, OpenError>
     ensures cloned { OnOk result (AreCloned arena.old arena.new (node ∷ [])) }
     ensures same { OnErr result (arena.new ≡ arena.old) }
     ensures cause { IfErr result (λ e. IsRefused arena.old node e) }
+    ensures steps { IsCounted arena.old.steps arena.new.steps (length arena.new.labels - length arena.old.labels) (length arena.new.labels - length arena.old.labels) }
 {
     match arena.make(NewNode::CloneOf(node)) {
         Ok(clone) => Ok(clone),

@@ -1,8 +1,9 @@
 // What a round of the adoption agency finds: the formatting element, and the special element after it.
-ghost use Rattle.std.specs.Prelude.{◌≡◌, ℕ, ◌+◌, ◌<◌, ◌≤◌, drop, eqb, length};
+ghost use Rattle.std.specs.Prelude.{◌≡◌, ℕ, ◌+◌, ◌*◌, ◌<◌, ◌≤◌, drop, eqb, length};
 ghost use Rattle.std.specs.List.{list_any};
 ghost use Rattle.html_names.specs.declared.sets.Scope.TheVariants.{Default};
 ghost use Rattle.html_open.specs.AdoptFinding.{IsFirstIndex, IsFound, special};
+ghost use Rattle.html_open.specs.Marking.{IsCounted};
 ghost use Rattle.html_open.specs.Opened.{AreNodes, IsOpen, open_at};
 ghost use Rattle.html_open.specs.Scopes.{ends};
 
@@ -33,6 +34,7 @@ pub(crate) fn find(stack: &OpenStack, list: &FormattingList, arena: &mut Arena, 
     requires open { IsOpen (open_at stack.now list.now arena.old) }
     ensures found { IsFound name (open_at stack.now list.now arena.old) result }
     ensures tree { arena.new ≡ record arena.old { steps = arena.new.steps } }
+    ensures steps { IsCounted arena.old.steps arena.new.steps 0 (length list.now + 2 * length stack.now + 1) }
 {
     let Some(node) = list.last_named(arena, name) else {
         return Found::NoEntry;

@@ -1,10 +1,11 @@
 // A round of the adoption agency.
-ghost use Rattle.std.specs.Prelude.{◌≡◌, ℕ, ◌<◌, IfErr, IfOk, OnOk, drop, take, false, length, true};
+ghost use Rattle.std.specs.Prelude.{◌≡◌, ℕ, ◌+◌, ◌-◌, ◌*◌, ◌<◌, IfErr, IfOk, OnOk, drop, take, false, length, true};
 ghost use Rattle.html_names.specs.declared.tag.Tag.{Tag};
 ghost use Rattle.html_arena.specs.Siblings.{has};
 ghost use Rattle.html_open.specs.AdoptFinding.{IsBlock};
 ghost use Rattle.html_open.specs.Adopting.{IsFirstFree, IsKept, IsRegrouped, Round, round_originals};
 ghost use Rattle.html_open.specs.Cloning.{IsCut};
+ghost use Rattle.html_open.specs.Marking.{IsCounted};
 ghost use Rattle.html_open.specs.Opened.{IsOpen, open_at};
 ghost use Rattle.html_open.specs.Placing.{CanPlace, IsPlace, way_up};
 
@@ -45,6 +46,7 @@ pub(crate) fn round(
     ensures can_place { OnOk result (CanPlace arena.new stack.new) }
     ensures first_free { OnOk result (IsFirstFree stack.old list.old → IsFirstFree stack.new list.new) }
     ensures cut { IfErr result (λ e. IsCut arena.old arena.new (round_originals (open_at stack.old list.old arena.old) at block_at) e) }
+    ensures steps { IsCounted arena.old.steps arena.new.steps (length arena.new.labels - length arena.old.labels) (length arena.new.labels + 2 * length stack.old + length list.old + 11) }
 {
     arena.forest();
     let alloc = stack.allocator();
@@ -78,6 +80,7 @@ fn regroup(
     ensures front { IfOk result (λ r. (x : ℕ) → has x (take at nodes.now) ≡ true → IsKept arena.old arena.new entries.now r.entries.items x) }
     ensures kept { IfOk result (λ r. IsOpen (open_at r.nodes.items r.entries.items arena.new)) }
     ensures cut { IfErr result (λ e. IsCut arena.old arena.new (round_originals (open_at nodes.now entries.now arena.old) at block_at) e) }
+    ensures steps { IsCounted arena.old.steps arena.new.steps (length arena.new.labels - length arena.old.labels) (length arena.new.labels + 10) }
 {
     arena.forest();
     let originals = elements_to_clone(alloc, &nodes[at + 1..block_at], arena)?;

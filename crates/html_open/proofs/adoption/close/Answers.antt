@@ -4,6 +4,8 @@ use Rattle.html_arena.specs.Tree.{Tree}
 use Rattle.html_open.specs.Adopting.{bare}
 use Rattle.html_open.specs.Opened.{IsOpen, open_at}
 use Rattle.html_open.proofs.Closing.{all_unmarked-labels, bare-all}
+use Rattle.html_open.specs.Entries.{is_node, removal_steps}
+use Rattle.html_open.proofs.Counting.{all_unmarked-steps, close-counted, removal-few}
 use Rattle.html_open.proofs.Finding.{last_named-in}
 use Rattle.html_open.proofs.Keeps.{open-charged}
 use Rattle.html_open.proofs.Lists.{below-at}
@@ -41,3 +43,9 @@ pub returns-clause-kept : goal.returns-clause-kept
 returns-clause-kept c =
     c.remove.ensures.keeps c.pop_to.new.self (c.pop_to.ensures.keeps c.args.list.now
     (subst (λ (t : Tree). IsOpen (open_at c.args.stack.now c.args.list.now t)) (sym c.charge.ensures) (open-charged c.args.stack.now c.args.list.now c.args.arena.now (c.len.result - c.args.at) c.requires.«open»)))
+
+pub returns-clause-steps : goal.returns-clause-steps
+returns-clause-steps c =
+    let e = c.len.ensures in
+    close-counted c.args.arena.now.steps c.charge.new.self.steps c.pop_to.new.arena.steps c.remove.new.arena.steps (c.len.result - c.args.at) (removal_steps (is_node c.args.node) c.args.list.now) (length c.args.stack.now) (length c.args.list.now)
+    (ap (λ (t : Tree). t.steps) c.charge.ensures) (omega (arith, e)) (ap (λ (t : Tree). t.steps) c.pop_to.ensures.tree ∙ all_unmarked-steps c.charge.new.self OnStack (drop c.args.at c.args.stack.now)) (ap (λ (t : Tree). t.steps) c.remove.ensures.tree) (removal-few (is_node c.args.node) c.args.list.now)

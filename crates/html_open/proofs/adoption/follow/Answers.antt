@@ -1,14 +1,20 @@
-use Rattle.std.proofs.Common.{◌≡◌, ◌+◌, List, ℕ, Option, sym, ◌∙◌, ap, subst, length, arith}
-use Rattle.html_arena.specs.Tree.{Tree}
+use Rattle.std.proofs.Common.{◌≡◌, ◌≤◌, ◌<◌, ◌+◌, ◌*◌, List, ℕ, Option, Some, None, suc, refl, sym, ◌∙◌, ap, subst, length, length-append, map, ◌-◌, ◌++◌, ◌∷◌, [], arith, false}
+use Rattle.html_arena.specs.Data.{cloned}
+use Rattle.html_open.specs.Marking.{IsCounted}
+use Rattle.html_open.proofs.Shrinking.{times}
+use Rattle.html_arena.specs.Tree.{Tree, label_of}
 use Rattle.html_open.specs.declared.adoption.AdoptEnd.{AdoptEnd}
 use Rattle.html_open.specs.Adopting.{IsFirstFree, IsTurn, Rounds, no_round, popped}
-use Rattle.html_open.specs.Opened.{open_at}
+use Rattle.html_open.specs.Opened.{IsOpen, open_at}
 use Rattle.html_open.specs.Placing.{CanPlace}
 use Rattle.html_open.proofs.Descending.{closed-more, closed-none, closed-rebased, descends-round, descends-start, ends-closed, ends-made, made-more, made-none, made-rebase}
 use Rattle.std.proofs.lemmas.Result.{err_from_is_err_and}
 use Rattle.html_open.specs.declared.error.OpenError.{OpenError}
 use Rattle.html_open.specs.Adopting.{IsRefusal}
 use Rattle.html_open.proofs.Stopping.{refusal-is, stopped-closed, stopped-length, stopped-made}
+use Rattle.html_open.proofs.Counting.{counted-same, counted-within}
+use Rattle.html_open.proofs.Shrinking.{counted-end, counted-popped, counted-round, round-listed, round-shorter}
+use Rattle.html_open.proofs.Descending.{labels-longer}
 use Rattle.html_open.proofs.Looping.{can-place-stepped, ends-grown, finish-eight, finish-fewer, round-grown, rounds-more}
 use Rattle.html_open.proofs.adoption.follow.Goals as goal
 
@@ -20,6 +26,9 @@ rounding-init c = record {
   can_place = subst (λ (v : List ℕ). CanPlace c.pop_unlisted.new.arena v) (sym (c.pop_unlisted.ensures.same_stack c.if-pop_unlisted.false)) (subst (λ (t : Tree). CanPlace t c.args.stack.now) (sym (c.pop_unlisted.ensures.same_tree c.if-pop_unlisted.false)) (can-place-stepped c.args.arena.now c.pop_unlisted.new.arena.steps c.args.stack.now c.requires.can_place));
   first_free = subst (λ (v : List ℕ). IsFirstFree v c.args.list.now) (sym (c.pop_unlisted.ensures.same_stack c.if-pop_unlisted.false)) c.requires.first_free;
   grown = omega arith;
+  shorter = omega arith;
+  listed = omega arith;
+  counted = record { least = omega arith; most = omega arith };
 }
 
 pub rounding-preserved : goal.rounding-preserved
@@ -34,6 +43,9 @@ rounding-preserved c =
       can_place = c.in_ok-end.ensures.can_place c.in_default.is;
       first_free = c.in_ok-end.ensures.first_free c.in_default.is;
       grown = omega (arith, g, h);
+      shorter = (let a = round-shorter c.args.name c.args.foster (open_at c.rounding.stack c.rounding.list c.rounding.arena) (open_at c.turn.new.stack c.turn.new.list c.turn.new.arena) r in let b = c.rounding.invariant.shorter in omega (arith, a, b));
+      listed = (let a = round-listed c.args.name c.args.foster (open_at c.rounding.stack c.rounding.list c.rounding.arena) (open_at c.turn.new.stack c.turn.new.list c.turn.new.arena) c.rounding.invariant.opened r in let b = c.rounding.invariant.listed in omega (arith, a, b));
+      counted = (let up = ap length r.labels_are in let ap2 = length-append c.rounding.arena.labels (map (λ x. cloned (label_of c.rounding.arena x)) (r.cs ++ r.f ∷ [])) in counted-round c.rounding._index (c.rounding._index + 1) c.pop_unlisted.new.arena.steps c.rounding.arena.steps c.turn.new.arena.steps (length c.pop_unlisted.new.arena.labels) (length c.rounding.arena.labels) (length c.turn.new.arena.labels) (length c.rounding.stack) (length c.rounding.list) (length c.pop_unlisted.new.stack) (length c.args.list.now) (omega arith) c.rounding-test.true (labels-longer (open_at c.pop_unlisted.new.stack c.args.list.now c.pop_unlisted.new.arena) c.rounding.arena c.rounding.invariant.descends.made) (omega (arith, up, ap2)) c.rounding.invariant.shorter c.rounding.invariant.listed c.rounding.invariant.counted c.turn.ensures.steps);
     }
 
 pub returns-clause-adopted : goal.returns-clause-adopted
@@ -111,3 +123,33 @@ returns-in_err-end-clause-cause c =
     let p = err_from_is_err_and c.from_residual.result c.from_residual.ensures.1 in
     rw p.1 (subst (λ (e : OpenError). IsRefusal c.args.name c.args.foster (open_at c.args.stack.now c.args.list.now c.args.arena.now) c.turn.new.arena e) (sym p.2)
     (refusal-is c.args.name c.args.foster c.args.stack.now c.args.list.now c.args.arena.now c.pop_unlisted.new.arena.steps c.rounding._index (open_at c.pop_unlisted.new.stack c.args.list.now c.pop_unlisted.new.arena) (open_at c.rounding.stack c.rounding.list c.rounding.arena) c.turn.new.arena c.in_err-end.field-0.0 (ap (λ (v : List ℕ). open_at v c.args.list.now c.pop_unlisted.new.arena) (c.pop_unlisted.ensures.same_stack c.if-pop_unlisted.false) ∙ ap (λ (t : Tree). open_at c.args.stack.now c.args.list.now t) (c.pop_unlisted.ensures.same_tree c.if-pop_unlisted.false)) (c.pop_unlisted.ensures.no c.if-pop_unlisted.false) c.rounding-test.true c.rounding.invariant.rounds c.in_err-end.ensures.stopped))
+
+pub returns-clause-steps : goal.returns-clause-steps
+returns-clause-steps c =
+    let h = c.rounding.auto._index-end in
+    subst (λ (n : ℕ). IsCounted c.args.arena.now.steps c.rounding.arena.steps (length c.rounding.arena.labels - n) (32 * ((length c.args.stack.now + length c.args.list.now + 4) * (length c.args.stack.now + length c.args.list.now + 4)) + 8 * length c.rounding.arena.labels)) (ap (λ (t : Tree). length t.labels) (c.pop_unlisted.ensures.same_tree c.if-pop_unlisted.false))
+    (counted-end c.rounding._index c.args.arena.now.steps c.pop_unlisted.new.arena.steps c.rounding.arena.steps (length c.pop_unlisted.new.arena.labels) (length c.rounding.arena.labels) (length c.args.stack.now) (length c.args.list.now) (omega (arith, h)) c.pop_unlisted.ensures.steps
+    (subst (λ (v : List ℕ). IsCounted c.pop_unlisted.new.arena.steps c.rounding.arena.steps (length c.rounding.arena.labels - length c.pop_unlisted.new.arena.labels) (times c.rounding._index (length c.rounding.arena.labels + 4 * length v + 3 * length c.args.list.now + 36))) (c.pop_unlisted.ensures.same_stack c.if-pop_unlisted.false)
+    (c.rounding.invariant.counted)))
+
+pub returns-then-pop_unlisted-clause-steps : goal.returns-then-pop_unlisted-clause-steps
+returns-then-pop_unlisted-clause-steps c =
+    counted-popped c.args.arena.now.steps c.pop_unlisted.new.arena.steps (length c.args.arena.now.labels) (length c.pop_unlisted.new.arena.labels) (length c.args.stack.now) (length c.args.list.now) (ap (λ (t : Tree). length t.labels) (c.pop_unlisted.ensures.yes c.if-pop_unlisted.true).tree_is) c.pop_unlisted.ensures.steps
+
+pub returns-in-Some-clause-steps : goal.returns-in-Some-clause-steps
+returns-in-Some-clause-steps c =
+    let h = c.rounding-test.true in
+    let k = ends-grown c.args.name c.in-Some.end (open_at c.rounding.stack c.rounding.list c.rounding.arena) (open_at c.turn.new.stack c.turn.new.list c.turn.new.arena) (subst (λ (e : Option AdoptEnd). IsTurn c.args.name c.args.foster e (open_at c.rounding.stack c.rounding.list c.rounding.arena) (open_at c.turn.new.stack c.turn.new.list c.turn.new.arena)) c.in-Some.is c.in_ok-end.ensures.turned) in
+    subst (λ (n : ℕ). IsCounted c.args.arena.now.steps c.turn.new.arena.steps (length c.turn.new.arena.labels - n) (32 * ((length c.args.stack.now + length c.args.list.now + 4) * (length c.args.stack.now + length c.args.list.now + 4)) + 8 * length c.turn.new.arena.labels)) (ap (λ (t : Tree). length t.labels) (c.pop_unlisted.ensures.same_tree c.if-pop_unlisted.false))
+    (counted-end (suc c.rounding._index) c.args.arena.now.steps c.pop_unlisted.new.arena.steps c.turn.new.arena.steps (length c.pop_unlisted.new.arena.labels) (length c.turn.new.arena.labels) (length c.args.stack.now) (length c.args.list.now) (omega (arith, h)) c.pop_unlisted.ensures.steps
+    (subst (λ (v : List ℕ). IsCounted c.pop_unlisted.new.arena.steps c.turn.new.arena.steps (length c.turn.new.arena.labels - length c.pop_unlisted.new.arena.labels) (times (suc c.rounding._index) (length c.turn.new.arena.labels + 4 * length v + 3 * length c.args.list.now + 36))) (c.pop_unlisted.ensures.same_stack c.if-pop_unlisted.false)
+    (counted-round c.rounding._index (suc c.rounding._index) c.pop_unlisted.new.arena.steps c.rounding.arena.steps c.turn.new.arena.steps (length c.pop_unlisted.new.arena.labels) (length c.rounding.arena.labels) (length c.turn.new.arena.labels) (length c.rounding.stack) (length c.rounding.list) (length c.pop_unlisted.new.stack) (length c.args.list.now) refl c.rounding-test.true (labels-longer (open_at c.pop_unlisted.new.stack c.args.list.now c.pop_unlisted.new.arena) c.rounding.arena c.rounding.invariant.descends.made) (omega (arith, k)) c.rounding.invariant.shorter c.rounding.invariant.listed c.rounding.invariant.counted c.turn.ensures.steps)))
+
+pub returns-in_err-end-clause-steps : goal.returns-in_err-end-clause-steps
+returns-in_err-end-clause-steps c =
+    let h = c.rounding-test.true in
+    let k = labels-longer (open_at c.rounding.stack c.rounding.list c.rounding.arena) c.turn.new.arena (stopped-made c.args.name (open_at c.rounding.stack c.rounding.list c.rounding.arena) c.turn.new.arena c.in_err-end.field-0.0 c.in_err-end.ensures.stopped) in
+    subst (λ (n : ℕ). IsCounted c.args.arena.now.steps c.turn.new.arena.steps (length c.turn.new.arena.labels - n) (32 * ((length c.args.stack.now + length c.args.list.now + 4) * (length c.args.stack.now + length c.args.list.now + 4)) + 8 * length c.turn.new.arena.labels)) (ap (λ (t : Tree). length t.labels) (c.pop_unlisted.ensures.same_tree c.if-pop_unlisted.false))
+    (counted-end (suc c.rounding._index) c.args.arena.now.steps c.pop_unlisted.new.arena.steps c.turn.new.arena.steps (length c.pop_unlisted.new.arena.labels) (length c.turn.new.arena.labels) (length c.args.stack.now) (length c.args.list.now) (omega (arith, h)) c.pop_unlisted.ensures.steps
+    (subst (λ (v : List ℕ). IsCounted c.pop_unlisted.new.arena.steps c.turn.new.arena.steps (length c.turn.new.arena.labels - length c.pop_unlisted.new.arena.labels) (times (suc c.rounding._index) (length c.turn.new.arena.labels + 4 * length v + 3 * length c.args.list.now + 36))) (c.pop_unlisted.ensures.same_stack c.if-pop_unlisted.false)
+    (counted-round c.rounding._index (suc c.rounding._index) c.pop_unlisted.new.arena.steps c.rounding.arena.steps c.turn.new.arena.steps (length c.pop_unlisted.new.arena.labels) (length c.rounding.arena.labels) (length c.turn.new.arena.labels) (length c.rounding.stack) (length c.rounding.list) (length c.pop_unlisted.new.stack) (length c.args.list.now) refl c.rounding-test.true (labels-longer (open_at c.pop_unlisted.new.stack c.args.list.now c.pop_unlisted.new.arena) c.rounding.arena c.rounding.invariant.descends.made) (omega (arith, k)) c.rounding.invariant.shorter c.rounding.invariant.listed c.rounding.invariant.counted c.turn.ensures.steps)))

@@ -1,4 +1,6 @@
-use Rattle.std.proofs.Common.{◌≤◌, ◌+◌, ◌*◌, length}
+use Rattle.std.proofs.Common.{◌≡◌, ◌≤◌, ◌+◌, ◌-◌, ◌*◌, length}
+use Rattle.html_open.specs.Marking.{IsCounted}
+use Rattle.html_open.proofs.Shrinking.{times}
 use Rattle.html_open.specs.Adopting.{IsFirstFree, Rounds}
 use Rattle.html_open.specs.Opened.{IsOpen, open_at}
 use Rattle.html_open.specs.Placing.{CanPlace}
@@ -13,4 +15,7 @@ invariant-rounding l = record {
   can_place : CanPlace l.arena l.stack;
   first_free : IsFirstFree l.stack l.list;
   grown : length l.arena.labels ≤ length l.initial.arena.labels + 4 * l._index;
+  shorter : length l.stack ≤ length l.initial.stack;
+  listed : length l.list ≤ length l.initial.list + l._index;
+  counted : IsCounted l.initial.arena.steps l.arena.steps (length l.arena.labels - length l.initial.arena.labels) (times l._index (length l.arena.labels + 4 * length l.initial.stack + 3 * length l.initial.list + 36));
 }

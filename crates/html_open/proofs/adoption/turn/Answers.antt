@@ -1,4 +1,4 @@
-use Rattle.std.proofs.Common.{refl, sym, ◌∙◌, ap, subst, length, arith}
+use Rattle.std.proofs.Common.{◌≡◌, ◌+◌, ◌<◌, List, ℕ, refl, sym, ◌∙◌, ap, subst, length, arith}
 use Rattle.html_arena.specs.Tree.{Tree}
 use Rattle.html_open.specs.AdoptFinding.{IsBlock, IsPlain}
 use Rattle.html_open.specs.Adopting.{Closed, Round, bare, closes, forgets, no_entry, out_of_scope}
@@ -9,9 +9,12 @@ use Rattle.html_open.specs.declared.error.OpenError.{OpenError}
 use Rattle.html_open.specs.Adopting.{IsStopped, round_originals}
 use Rattle.html_open.specs.Cloning.{IsCut}
 use Rattle.html_open.proofs.Cutting.{cut-rebase}
+use Rattle.std.proofs.Common.{◌*◌, ◌≤◌}
+use Rattle.html_open.specs.Entries.{is_node, removal_steps}
+use Rattle.html_open.proofs.Counting.{counted-charge, counted-within, removal-few, turn-counted, turn-round}
 use Rattle.html_open.proofs.Finding.{last_named-in}
 use Rattle.html_open.proofs.Looping.{can-place-stepped, closed-rebase, not-first, plain-stepped, round-rebase}
-use Rattle.html_open.proofs.Rounds.{block-stepped, open-stepped}
+use Rattle.html_open.proofs.Rounds.{block-stepped, open-stepped, stepped}
 use Rattle.html_open.proofs.adoption.turn.Goals as goal
 
 pub remove-requires-clause-nodes_in : goal.remove-requires-clause-nodes_in
@@ -100,3 +103,24 @@ returns-in_err-round-in-Block-clause-stopped c =
       block = c.in-Block.ensures.found;
       cut = cut-rebase c.args.arena.now c.find.new.arena.steps c.round.new.arena (round_originals (open_at c.args.stack.now c.args.list.now c.args.arena.now) c.in-Block.at c.in-Block.block_at) c.in_err-round-in-Block.field-0.0 d;
     }))
+
+pub returns-in-OffStack-clause-steps : goal.returns-in-OffStack-clause-steps
+returns-in-OffStack-clause-steps c =
+    let r = removal-few (is_node c.in-OffStack.node) c.args.list.now in
+    turn-counted c.args.arena.now.steps c.find.new.arena.steps c.remove.new.arena.steps (length c.args.arena.now.labels) (length c.remove.new.arena.labels) (length c.args.stack.now) (length c.args.list.now) (removal_steps (is_node c.in-OffStack.node) c.args.list.now) c.find.ensures.steps
+    (counted-within c.find.new.arena.steps c.remove.new.arena.steps (removal_steps (is_node c.in-OffStack.node) c.args.list.now) (removal_steps (is_node c.in-OffStack.node) c.args.list.now) 0 (removal_steps (is_node c.in-OffStack.node) c.args.list.now) (omega arith) (omega arith)
+    (counted-charge c.find.new.arena.steps c.remove.new.arena.steps (removal_steps (is_node c.in-OffStack.node) c.args.list.now) (ap (λ (t : Tree). t.steps) c.remove.ensures.tree)))
+    (omega (arith, r)) (ap (λ (t : Tree). length t.labels) c.remove.ensures.tree ∙ ap (λ (t : Tree). length t.labels) c.find.ensures.tree)
+
+pub returns-in-Plain-clause-steps : goal.returns-in-Plain-clause-steps
+returns-in-Plain-clause-steps c =
+    turn-counted c.args.arena.now.steps c.find.new.arena.steps c.close.new.arena.steps (length c.args.arena.now.labels) (length c.close.new.arena.labels) (length c.args.stack.now) (length c.args.list.now) (length c.args.stack.now + 2 * length c.args.list.now) c.find.ensures.steps c.close.ensures.steps
+    (omega arith) (ap (λ (t : Tree). length t.labels) (c.close.ensures.closed c.args.name (subst (λ (t : Tree). IsPlain c.args.name (open_at c.args.stack.now c.args.list.now t) c.in-Plain.node c.in-Plain.at) (sym c.find.ensures.tree) (plain-stepped c.args.name c.args.stack.now c.args.list.now c.args.arena.now c.find.new.arena.steps c.in-Plain.node c.in-Plain.at c.in-Plain.ensures.found))).tree_is ∙ ap (λ (t : Tree). length t.labels) c.find.ensures.tree)
+
+pub returns-in_ok-round-in-Block-clause-steps : goal.returns-in_ok-round-in-Block-clause-steps
+returns-in_ok-round-in-Block-clause-steps c =
+    turn-round c.args.arena.now.steps c.find.new.arena.steps c.round.new.arena.steps (length c.find.new.arena.labels) (length c.args.arena.now.labels) (length c.round.new.arena.labels) (length c.args.stack.now) (length c.args.list.now) c.find.ensures.steps (ap (λ (t : Tree). length t.labels) c.find.ensures.tree) c.round.ensures.steps
+
+pub returns-in_err-round-in-Block-clause-steps : goal.returns-in_err-round-in-Block-clause-steps
+returns-in_err-round-in-Block-clause-steps c =
+    turn-round c.args.arena.now.steps c.find.new.arena.steps c.round.new.arena.steps (length c.find.new.arena.labels) (length c.args.arena.now.labels) (length c.round.new.arena.labels) (length c.args.stack.now) (length c.args.list.now) c.find.ensures.steps (ap (λ (t : Tree). length t.labels) c.find.ensures.tree) c.round.ensures.steps

@@ -1,3 +1,6 @@
+use Rattle.std.proofs.Common.{sym, ap, ◌∙◌}
+use Rattle.html_arena.specs.Tree.{Tree, parent_of}
+use Rattle.html_open.proofs.Counting.{counted-wrapped}
 use Rattle.html_open.proofs.Hangs.{wrapped-not_above, wrapped-alone, wrapped-children, wrapped-parents}
 use Rattle.html_open.proofs.adoption.chain.wrap_children.Goals as goal
 
@@ -12,3 +15,6 @@ returns-clause-children c = wrapped-children _ _ _ c.args.block c.args.clone c.f
 
 pub returns-clause-parents : goal.returns-clause-parents
 returns-clause-parents c = wrapped-parents _ _ _ c.args.block c.args.clone c.forest.ensures.well_formed c.detach.ensures.unlinked c.move_children.ensures.laws c.requires.block_in c.requires.apart c.requires.alone c.requires.childless _ c.append.ensures.linked
+
+pub returns-clause-steps : goal.returns-clause-steps
+returns-clause-steps c = counted-wrapped c.args.arena.now c.detach.new.self c.move_children.new.self c.append.new.self c.args.block c.args.clone c.forest.ensures.well_formed c.detach.ensures.detached c.detach.ensures.unlinked c.move_children.ensures.moved c.append.ensures.appended

@@ -1,9 +1,13 @@
-use Rattle.std.proofs.Common.{◌∷◌, [], ◌++◌, refl, sym, ◌∙◌, subst}
+use Rattle.std.proofs.Common.{◌≡◌, ◌<◌, ◌∷◌, [], ◌++◌, ℕ, List, refl, sym, ◌∙◌, ap, subst, length, length-append, arith}
+use Rattle.std.proofs.lemmas.List.{length-map}
+use Rattle.html_arena.specs.Data.{cloned}
+use Rattle.html_arena.specs.Tree.{Tree, label_of}
 use Rattle.std.proofs.lemmas.Result.{err_from_is_err_and}
 use Rattle.html_open.specs.declared.error.OpenError.{OpenError}
 use Rattle.html_open.specs.Cloning.{IsCut}
 use Rattle.html_open.proofs.Cutting.{cut-at, cut-before}
-use Rattle.html_open.proofs.Clones.{cloned-formatting, cloned-length, cloned-more}
+use Rattle.html_open.proofs.Clones.{cloned-formatting, cloned-length, cloned-longer, cloned-more}
+use Rattle.html_open.proofs.Counting.{grown-then}
 use Rattle.html_open.proofs.Upwards.{has-first}
 use Rattle.html_open.proofs.adoption.clones.clone_all.Goals as goal
 
@@ -32,3 +36,12 @@ returns-in_err-clone-clause-cut c =
     rw p.1 (subst (λ (e : OpenError). IsCut c.args.arena.now c.make_clone.new.arena (c.args.originals.now ++ c.args.formatting ∷ []) e) (sym p.2)
     (cut-at c.args.arena.now c.make_clones.new.arena c.make_clone.new.arena (c.args.originals.now ++ c.args.formatting ∷ []) c.args.originals.now [] c.args.formatting c.in_err-clone.field-0.0 refl b c.in_ok-make_clones.ensures.cloned c.forest.ensures.held
     c.in_err-clone.ensures.cause c.in_err-clone.ensures.same))
+
+pub returns-clause-steps : goal.returns-clause-steps
+returns-clause-steps c =
+    grown-then c.args.arena.now c.make_clones.new.arena c.make_clone.new.arena (cloned-longer c.args.arena.now c.make_clones.new.arena c.args.originals.now c.in_ok-make_clones.ensures.cloned) (cloned-longer c.make_clones.new.arena c.make_clone.new.arena (c.args.formatting ∷ []) c.in_ok-clone.ensures.cloned) c.make_clones.ensures.steps c.make_clone.ensures.steps
+
+pub returns-in_err-clone-clause-steps : goal.returns-in_err-clone-clause-steps
+returns-in_err-clone-clause-steps c =
+    let e = ap (λ (t : Tree). length t.labels) c.in_err-clone.ensures.same in
+    grown-then c.args.arena.now c.make_clones.new.arena c.make_clone.new.arena (cloned-longer c.args.arena.now c.make_clones.new.arena c.args.originals.now c.in_ok-make_clones.ensures.cloned) (omega (arith, e)) c.make_clones.ensures.steps c.make_clone.ensures.steps

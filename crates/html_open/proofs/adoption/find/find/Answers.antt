@@ -1,10 +1,16 @@
-use Rattle.std.proofs.Common.{ℕ, ◌+◌, List, length, drop, sym, ◌∙◌, ap, subst, arith}
+use Rattle.std.proofs.Common.{◌≡◌, ℕ, ◌+◌, ◌-◌, ◌<◌, List, length, drop, refl, sym, ◌∙◌, ap, subst, arith, rules, Some, None, Option, false, true, Bool, eqb}
 use Rattle.std.specs.List.{list_any}
 use Rattle.html_names.specs.declared.sets.Scope.TheVariants.{Default}
+use Rattle.html_arena.specs.declared.data.NodeData.{NodeData}
 use Rattle.html_arena.specs.Tree.{Tree}
 use Rattle.html_open.specs.AdoptFinding.{IsFirstIndex, IsFirstFrom, special}
+use Rattle.html_open.specs.Lists.{last_index}
 use Rattle.html_open.specs.Opened.{open_at}
 use Rattle.html_open.specs.Scopes.{ends}
+use Rattle.html_open.specs.Searches.{is_sought}
+use Rattle.html_open.specs.Entries.{named_or_marker}
+use Rattle.html_open.specs.Lists.{looked}
+use Rattle.html_open.proofs.Counting.{found-first, found-fourth, found-second, found-third, looked-few}
 use Rattle.html_open.proofs.Finding.{last_named-in, same-ends, same-first, off-stack, within, out, plain, block}
 use Rattle.html_open.proofs.adoption.find.find.Goals as goal
 
@@ -68,3 +74,21 @@ returns-in-None-clause-found c =
     (ap (λ (v : List ℕ). list_any (ends c.args.arena.now Default) (drop (c.in-Some-index_of.at + 1) v)) (sym c.as_slice-nodes.ensures) ∙ sym (same-ends c.args.arena.now c.charge-2.new.self (drop (c.in-Some-index_of.at + 1) c.as_slice-nodes.result.now) e) ∙ sym c.ends_after.ensures ∙ c.if-ends_after.false)
     (ap (λ (v : List ℕ). list_any (special c.args.arena.now) (drop (c.in-Some-index_of.at + 1) v)) (sym c.as_slice-nodes.ensures)
     ∙ subst (IsFirstIndex (special c.args.arena.now) c.as_slice-nodes.result.now (c.in-Some-index_of.at + 1)) c.in-None.is n)
+
+pub returns-in_default-clause-steps : goal.returns-in_default-clause-steps
+returns-in_default-clause-steps c = found-first c.args.arena.now.steps c.last_named.new.arena.steps (looked (named_or_marker c.args.arena.now c.args.name) c.args.list.now) (length c.args.list.now) (length c.args.stack.now) (ap (λ (t : Tree). t.steps) c.last_named.ensures.steps) (looked-few (named_or_marker c.args.arena.now c.args.name) c.args.list.now)
+
+pub returns-then-not-marked-clause-steps : goal.returns-then-not-marked-clause-steps
+returns-then-not-marked-clause-steps c = found-second c.args.arena.now.steps c.last_named.new.arena.steps (looked (named_or_marker c.args.arena.now c.args.name) c.args.list.now) (length c.args.list.now) (length c.args.stack.now) (ap (λ (t : Tree). t.steps) c.last_named.ensures.steps) (looked-few (named_or_marker c.args.arena.now c.args.name) c.args.list.now) c.charge.new.self.steps (ap (λ (t : Tree). t.steps) c.charge.ensures)
+
+pub returns-in_default-index_of-clause-steps : goal.returns-in_default-index_of-clause-steps
+returns-in_default-index_of-clause-steps c = found-third c.args.arena.now.steps c.last_named.new.arena.steps (looked (named_or_marker c.args.arena.now c.args.name) c.args.list.now) (length c.args.list.now) (length c.args.stack.now) (ap (λ (t : Tree). t.steps) c.last_named.ensures.steps) (looked-few (named_or_marker c.args.arena.now c.args.name) c.args.list.now) c.charge.new.self.steps (ap (λ (t : Tree). t.steps) c.charge.ensures) c.index_of.new.arena.steps (looked (eqb c.in-Some.node) c.args.stack.now) (ap (λ (t : Tree). t.steps) c.index_of.ensures.steps) (looked-few (eqb c.in-Some.node) c.args.stack.now)
+
+pub returns-then-ends_after-clause-steps : goal.returns-then-ends_after-clause-steps
+returns-then-ends_after-clause-steps c = (let e = ap length c.as_slice-nodes.ensures in found-fourth c.args.arena.now.steps c.last_named.new.arena.steps (looked (named_or_marker c.args.arena.now c.args.name) c.args.list.now) (length c.args.list.now) (length c.args.stack.now) (ap (λ (t : Tree). t.steps) c.last_named.ensures.steps) (looked-few (named_or_marker c.args.arena.now c.args.name) c.args.list.now) c.charge.new.self.steps (ap (λ (t : Tree). t.steps) c.charge.ensures) c.index_of.new.arena.steps (looked (eqb c.in-Some.node) c.args.stack.now) (ap (λ (t : Tree). t.steps) c.index_of.ensures.steps) (looked-few (eqb c.in-Some.node) c.args.stack.now) c.charge-2.new.self.steps (length c.as_slice-nodes.result.now - c.in-Some-index_of.at) (ap (λ (t : Tree). t.steps) c.charge-2.ensures) (omega (arith, e)))
+
+pub returns-in-Some-first_special-clause-steps : goal.returns-in-Some-first_special-clause-steps
+returns-in-Some-first_special-clause-steps c = (let e = ap length c.as_slice-nodes.ensures in found-fourth c.args.arena.now.steps c.last_named.new.arena.steps (looked (named_or_marker c.args.arena.now c.args.name) c.args.list.now) (length c.args.list.now) (length c.args.stack.now) (ap (λ (t : Tree). t.steps) c.last_named.ensures.steps) (looked-few (named_or_marker c.args.arena.now c.args.name) c.args.list.now) c.charge.new.self.steps (ap (λ (t : Tree). t.steps) c.charge.ensures) c.index_of.new.arena.steps (looked (eqb c.in-Some.node) c.args.stack.now) (ap (λ (t : Tree). t.steps) c.index_of.ensures.steps) (looked-few (eqb c.in-Some.node) c.args.stack.now) c.charge-2.new.self.steps (length c.as_slice-nodes.result.now - c.in-Some-index_of.at) (ap (λ (t : Tree). t.steps) c.charge-2.ensures) (omega (arith, e)))
+
+pub returns-in-None-clause-steps : goal.returns-in-None-clause-steps
+returns-in-None-clause-steps c = (let e = ap length c.as_slice-nodes.ensures in found-fourth c.args.arena.now.steps c.last_named.new.arena.steps (looked (named_or_marker c.args.arena.now c.args.name) c.args.list.now) (length c.args.list.now) (length c.args.stack.now) (ap (λ (t : Tree). t.steps) c.last_named.ensures.steps) (looked-few (named_or_marker c.args.arena.now c.args.name) c.args.list.now) c.charge.new.self.steps (ap (λ (t : Tree). t.steps) c.charge.ensures) c.index_of.new.arena.steps (looked (eqb c.in-Some.node) c.args.stack.now) (ap (λ (t : Tree). t.steps) c.index_of.ensures.steps) (looked-few (eqb c.in-Some.node) c.args.stack.now) c.charge-2.new.self.steps (length c.as_slice-nodes.result.now - c.in-Some-index_of.at) (ap (λ (t : Tree). t.steps) c.charge-2.ensures) (omega (arith, e)))

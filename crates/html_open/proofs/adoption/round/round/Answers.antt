@@ -12,6 +12,8 @@ use Rattle.html_open.specs.declared.error.OpenError.{OpenError}
 use Rattle.html_open.specs.Adopting.{round_originals}
 use Rattle.html_open.specs.Cloning.{IsCut}
 use Rattle.html_open.proofs.Cutting.{cut-rebase}
+use Rattle.html_open.specs.Placing.{place_steps}
+use Rattle.html_open.proofs.Counting.{place-few, round-counted}
 use Rattle.html_open.proofs.Rounds.{at-below, can-place-kept, first-free-kept, apart, at-less, before-is, block-stepped, open-stepped, place-stepped, round-is, stepped, steps-then, way-in, way-stepped, a-within}
 use Rattle.html_open.proofs.adoption.round.round.Goals as goal
 
@@ -84,3 +86,21 @@ returns-in_err-regrouped-clause-cut c =
     let d = subst (λ (t : Tree). IsCut t c.regroup.new.arena (round_originals (open_at c.args.stack.now c.args.list.now t) c.args.at c.args.block_at) c.in_err-regrouped.field-0.0) (steps-then c.args.arena.now c.charge.new.self c.place-target.new.arena (c.charge.ensures ∙ sym (ap (λ (v : Tree). stepped c.args.arena.now v.steps) c.charge.ensures)) (c.place-target.ensures.steps ∙ sym (ap (λ (v : Tree). stepped c.charge.new.self v.steps) c.place-target.ensures.steps))) b in
     rw p.1 (subst (λ (e : OpenError). IsCut c.args.arena.now c.regroup.new.arena (round_originals (open_at c.args.stack.now c.args.list.now c.args.arena.now) c.args.at c.args.block_at) e) (sym p.2)
     (cut-rebase c.args.arena.now c.place-target.new.arena.steps c.regroup.new.arena (round_originals (open_at c.args.stack.now c.args.list.now c.args.arena.now) c.args.at c.args.block_at) c.in_err-regrouped.field-0.0 d))
+
+pub returns-clause-steps : goal.returns-clause-steps
+returns-clause-steps c =
+    let e1 = ap length c.as_slice-nodes.ensures in
+    let e2 = ap length (c.as_slice-entries.ensures.value ∙ c.list.view_is) in
+    let n1 = ap (λ (t : Tree). length t.labels) c.charge.ensures in
+    let n2 = ap (λ (t : Tree). length t.labels) c.place-target.ensures.steps in
+    round-counted c.args.arena.now c.charge.new.self c.place-target.new.arena c.regroup.new.arena ((length c.as_slice-nodes.result.now - c.args.at) + length c.as_slice-entries.result.now) (place_steps c.charge.new.self c.args.stack.now (Some c.index-nodes-at.result) c.args.foster) (length c.args.stack.now) (length c.args.list.now)
+    (ap (λ (t : Tree). t.steps) c.charge.ensures) (omega (arith, e1, e2)) (ap (λ (t : Tree). t.steps) c.place-target.ensures.steps) (place-few c.charge.new.self c.args.stack.now c.index-nodes-at.result c.args.foster) (omega (arith, n1, n2)) c.regroup.ensures.steps
+
+pub returns-in_err-regrouped-clause-steps : goal.returns-in_err-regrouped-clause-steps
+returns-in_err-regrouped-clause-steps c =
+    let e1 = ap length c.as_slice-nodes.ensures in
+    let e2 = ap length (c.as_slice-entries.ensures.value ∙ c.list.view_is) in
+    let n1 = ap (λ (t : Tree). length t.labels) c.charge.ensures in
+    let n2 = ap (λ (t : Tree). length t.labels) c.place-target.ensures.steps in
+    round-counted c.args.arena.now c.charge.new.self c.place-target.new.arena c.regroup.new.arena ((length c.as_slice-nodes.result.now - c.args.at) + length c.as_slice-entries.result.now) (place_steps c.charge.new.self c.args.stack.now (Some c.index-nodes-at.result) c.args.foster) (length c.args.stack.now) (length c.args.list.now)
+    (ap (λ (t : Tree). t.steps) c.charge.ensures) (omega (arith, e1, e2)) (ap (λ (t : Tree). t.steps) c.place-target.ensures.steps) (place-few c.charge.new.self c.args.stack.now c.index-nodes-at.result c.args.foster) (omega (arith, n1, n2)) c.regroup.ensures.steps
