@@ -1,18 +1,17 @@
-use Rattle.std.proofs.Common.{◌≡◌, ◌≤◌, ◌<◌, ◌+◌, ◌*◌, List, ℕ, Option, Some, None, suc, refl, sym, ◌∙◌, ap, subst, length, length-append, map, ◌-◌, ◌++◌, ◌∷◌, [], arith, false}
+use Rattle.std.proofs.Common.{◌≡◌, ◌+◌, ◌*◌, List, ℕ, Option, suc, refl, sym, ◌∙◌, ap, subst, length, length-append, map, ◌-◌, ◌++◌, ◌∷◌, [], arith}
 use Rattle.html_arena.specs.Data.{cloned}
 use Rattle.html_open.specs.Marking.{IsCounted}
 use Rattle.html_open.proofs.Shrinking.{times}
 use Rattle.html_arena.specs.Tree.{Tree, label_of}
 use Rattle.html_open.specs.declared.adoption.AdoptEnd.{AdoptEnd}
 use Rattle.html_open.specs.Adopting.{IsFirstFree, IsTurn, Rounds, no_round, popped}
-use Rattle.html_open.specs.Opened.{IsOpen, open_at}
+use Rattle.html_open.specs.Opened.{open_at}
 use Rattle.html_open.specs.Placing.{CanPlace}
 use Rattle.html_open.proofs.Descending.{closed-more, closed-none, closed-rebased, descends-round, descends-start, ends-closed, ends-made, made-more, made-none, made-rebase}
 use Rattle.std.proofs.lemmas.Result.{err_from_is_err_and}
 use Rattle.html_open.specs.declared.error.OpenError.{OpenError}
 use Rattle.html_open.specs.Adopting.{IsRefusal}
 use Rattle.html_open.proofs.Stopping.{refusal-is, stopped-closed, stopped-length, stopped-made}
-use Rattle.html_open.proofs.Counting.{counted-same, counted-within}
 use Rattle.html_open.proofs.Shrinking.{counted-end, counted-popped, counted-round, round-listed, round-shorter}
 use Rattle.html_open.proofs.Descending.{labels-longer}
 use Rattle.html_open.proofs.Looping.{can-place-stepped, ends-grown, finish-eight, finish-fewer, round-grown, rounds-more}

@@ -1,4 +1,4 @@
-use Rattle.std.proofs.Common.{◌≡◌, ◌≤◌, ◌+◌, ◌-◌, ◌*◌, length}
+use Rattle.std.proofs.Common.{◌≤◌, ◌+◌, ◌-◌, ◌*◌, length}
 use Rattle.html_open.specs.Marking.{IsCounted}
 use Rattle.html_open.proofs.Shrinking.{times}
 use Rattle.html_open.specs.Adopting.{IsFirstFree, Rounds}

@@ -1,4 +1,4 @@
-use Rattle.std.proofs.Common.{◌≡◌, ◌+◌, ◌<◌, List, ℕ, refl, sym, ◌∙◌, ap, subst, length, arith}
+use Rattle.std.proofs.Common.{◌+◌, refl, sym, ◌∙◌, ap, subst, length, arith}
 use Rattle.html_arena.specs.Tree.{Tree}
 use Rattle.html_open.specs.AdoptFinding.{IsBlock, IsPlain}
 use Rattle.html_open.specs.Adopting.{Closed, Round, bare, closes, forgets, no_entry, out_of_scope}
@@ -9,12 +9,12 @@ use Rattle.html_open.specs.declared.error.OpenError.{OpenError}
 use Rattle.html_open.specs.Adopting.{IsStopped, round_originals}
 use Rattle.html_open.specs.Cloning.{IsCut}
 use Rattle.html_open.proofs.Cutting.{cut-rebase}
-use Rattle.std.proofs.Common.{◌*◌, ◌≤◌}
+use Rattle.std.proofs.Common.{◌*◌}
 use Rattle.html_open.specs.Entries.{is_node, removal_steps}
 use Rattle.html_open.proofs.Counting.{counted-charge, counted-within, removal-few, turn-counted, turn-round}
 use Rattle.html_open.proofs.Finding.{last_named-in}
 use Rattle.html_open.proofs.Looping.{can-place-stepped, closed-rebase, not-first, plain-stepped, round-rebase}
-use Rattle.html_open.proofs.Rounds.{block-stepped, open-stepped, stepped}
+use Rattle.html_open.proofs.Rounds.{block-stepped, open-stepped}
 use Rattle.html_open.proofs.adoption.turn.Goals as goal
 
 pub remove-requires-clause-nodes_in : goal.remove-requires-clause-nodes_in

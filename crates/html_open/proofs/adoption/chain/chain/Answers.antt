@@ -1,7 +1,7 @@
-use Rattle.std.proofs.Common.{◌≡◌, ◌≤◌, ◌<◌, ◌+◌, ◌-◌, ◌∷◌, [], ◌++◌, ℕ, sym, ◌∙◌, ap, subst, length, arith}
+use Rattle.std.proofs.Common.{◌≡◌, ◌-◌, ◌∷◌, [], ◌++◌, ℕ, ◌∙◌, ap, subst, arith}
 use Rattle.html_arena.specs.Tree.{Tree, children_of}
 use Rattle.html_arena.specs.Laws.{IsLinked}
-use Rattle.html_open.specs.Hanging.{chain_top, Chained}
+use Rattle.html_open.specs.Hanging.{Chained}
 use Rattle.html_open.proofs.Hangs.{chain-step, same-appended, top-next}
 use Rattle.html_open.specs.Marking.{IsCounted}
 use Rattle.html_open.proofs.Counting.{counted-next}

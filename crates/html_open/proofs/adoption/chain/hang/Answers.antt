@@ -1,4 +1,4 @@
-use Rattle.std.proofs.Common.{ℕ, sym, ◌∙◌, ap, subst}
+use Rattle.std.proofs.Common.{ℕ, sym, ◌∙◌, ap, subst, length}
 use Rattle.html_arena.specs.Siblings.{has}
 use Rattle.html_arena.specs.Tree.{parent_of}
 use Rattle.html_open.specs.Hanging.{chain_top, Chained, IsPut, StandAlone}

@@ -1,5 +1,3 @@
-use Rattle.std.proofs.Common.{sym, ap, ◌∙◌}
-use Rattle.html_arena.specs.Tree.{Tree, parent_of}
 use Rattle.html_open.proofs.Counting.{counted-wrapped}
 use Rattle.html_open.proofs.Hangs.{wrapped-not_above, wrapped-alone, wrapped-children, wrapped-parents}
 use Rattle.html_open.proofs.adoption.chain.wrap_children.Goals as goal

@@ -1,7 +1,5 @@
-use Rattle.std.proofs.Common.{◌≡◌, ◌<◌, ◌∷◌, [], ◌++◌, ℕ, List, refl, sym, ◌∙◌, ap, subst, length, length-append, arith}
-use Rattle.std.proofs.lemmas.List.{length-map}
-use Rattle.html_arena.specs.Data.{cloned}
-use Rattle.html_arena.specs.Tree.{Tree, label_of}
+use Rattle.std.proofs.Common.{◌∷◌, [], ◌++◌, refl, sym, ◌∙◌, ap, subst, length, arith}
+use Rattle.html_arena.specs.Tree.{Tree}
 use Rattle.std.proofs.lemmas.Result.{err_from_is_err_and}
 use Rattle.html_open.specs.declared.error.OpenError.{OpenError}
 use Rattle.html_open.specs.Cloning.{IsCut}

@@ -1,11 +1,11 @@
-use Rattle.std.proofs.Common.{◌≡◌, ℕ, take, sym, subst, true}
+use Rattle.std.proofs.Common.{◌≡◌, ◌∷◌, [], ℕ, take, sym, ap, subst, length, arith, true}
 use Rattle.html_arena.specs.Siblings.{has}
 use Rattle.html_arena.specs.Tree.{Tree}
 use Rattle.std.proofs.lemmas.Result.{err_from_is_err_and}
 use Rattle.html_open.specs.declared.error.OpenError.{OpenError}
 use Rattle.html_open.specs.Cloning.{IsCut}
 use Rattle.html_open.proofs.Cutting.{cut-next}
-use Rattle.html_open.proofs.Counting.{grown-same, grown-then}
+use Rattle.html_open.proofs.Counting.{grown-then}
 use Rattle.html_open.proofs.Clones.{cloned-formatting, cloned-longer, cloned-step}
 use Rattle.html_open.proofs.Lists.{has-at}
 use Rattle.html_open.proofs.adoption.clones.make_clones.Goals as goal

@@ -1,13 +1,10 @@
-use Rattle.std.proofs.Common.{◌≡◌, ℕ, ◌+◌, ◌-◌, ◌<◌, List, length, drop, refl, sym, ◌∙◌, ap, subst, arith, rules, Some, None, Option, false, true, Bool, eqb}
+use Rattle.std.proofs.Common.{ℕ, ◌+◌, ◌-◌, List, length, drop, sym, ◌∙◌, ap, subst, arith, eqb}
 use Rattle.std.specs.List.{list_any}
 use Rattle.html_names.specs.declared.sets.Scope.TheVariants.{Default}
-use Rattle.html_arena.specs.declared.data.NodeData.{NodeData}
 use Rattle.html_arena.specs.Tree.{Tree}
 use Rattle.html_open.specs.AdoptFinding.{IsFirstIndex, IsFirstFrom, special}
-use Rattle.html_open.specs.Lists.{last_index}
 use Rattle.html_open.specs.Opened.{open_at}
 use Rattle.html_open.specs.Scopes.{ends}
-use Rattle.html_open.specs.Searches.{is_sought}
 use Rattle.html_open.specs.Entries.{named_or_marker}
 use Rattle.html_open.specs.Lists.{looked}
 use Rattle.html_open.proofs.Counting.{found-first, found-fourth, found-second, found-third, looked-few}

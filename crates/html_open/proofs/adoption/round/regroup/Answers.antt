@@ -1,18 +1,12 @@
-use Rattle.std.proofs.Common.{◌≡◌, ◌≤◌, ◌<◌, ◌+◌, ◌-◌, ◌∷◌, [], ◌++◌, List, ℕ, sym, ◌∙◌, ap, subst, length, arith, true, ◌≢◌}
+use Rattle.std.proofs.Common.{◌≤◌, ◌+◌, ◌-◌, ◌∷◌, [], ◌++◌, List, ℕ, sym, ◌∙◌, ap, subst, length, arith}
 use Rattle.html_arena.specs.declared.marks.Mark.TheVariants.{InList}
-use Rattle.html_arena.specs.declared.data.NodeData.{NodeData}
 use Rattle.html_arena.specs.Data.{is_linkable}
-use Rattle.html_arena.specs.Siblings.{has}
 use Rattle.html_arena.specs.Tree.{label_of, marked}
 use Rattle.std.proofs.Common.{get_or, refl}
 use Rattle.std.proofs.lemmas.Result.{err_from_is_err_and}
-use Rattle.html_open.specs.declared.error.OpenError.{OpenError}
-use Rattle.html_open.specs.Adopting.{round_originals}
-use Rattle.html_open.specs.Opened.{open_at}
-use Rattle.html_open.specs.Cloning.{AreCloned, AreFormatting, HaveEntered, IsCut}
-use Rattle.html_open.proofs.Cutting.{cut-all, cut-none}
+use Rattle.html_open.specs.Cloning.{AreCloned, AreFormatting, HaveEntered}
+use Rattle.html_open.proofs.Cutting.{cut-all}
 use Rattle.html_open.specs.Hanging.{Hung, StandAlone}
-use Rattle.html_open.specs.Placing.{way_up}
 use Rattle.html_open.proofs.Counting.{grown-regrouped, regroup-counted, regroup-left, regroup-same}
 use Rattle.html_open.proofs.Numbering.{originals-few}
 use Rattle.std.proofs.Common.{take, drop}
