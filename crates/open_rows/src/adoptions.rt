@@ -57,8 +57,7 @@ fn follow(alloc: Global, tags: &str, call: Call) -> Result<Left, Refusal> {
     })
 }
 
-/// Whether the steps are as many as the clones and the elements that are no longer open, and within 32(h+4)², h elements being open
-/// before.
+/// Whether the steps are at least as many as the clones, and within 32(h+4)², h elements being open before.
 fn are_bounded(left: &Left) -> bool {
     let size = (left.depth as u128).saturating_add(4);
     let most = size.saturating_mul(size).saturating_mul(32);
