@@ -17,6 +17,7 @@ mod Descending
 mod Stopping
 mod Shrinking
 mod Finding
+mod Leaving
 mod Marked
 mod Upwards
 mod Hangs

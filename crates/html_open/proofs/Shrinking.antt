@@ -138,7 +138,7 @@ counted-round i j s t u n m k h l h0 l0 e b p q x y a c =
     record { least = omega (arith, a1, c1, p, q); most = omega (arith, a2, c2, d, b, x, y) })
 
 -- and in the end
-pub counted-end : (i s t u n m h l : ℕ) → i ≤ 8 → IsCounted s t 0 3 → IsCounted t u (m - n) (times i (m + 4 * h + 3 * l + 36))
+pub counted-end : (i s t u n m h l : ℕ) → i ≤ 8 → IsCounted s t 1 3 → IsCounted t u (m - n) (times i (m + 4 * h + 3 * l + 36))
     → IsCounted s u (m - n) (32 * ((h + l + 4) * (h + l + 4)) + 8 * m)
 counted-end i s t u n m h l b p r =
     let p1 = p.least in
@@ -150,7 +150,7 @@ counted-end i s t u n m h l b p r =
     record { least = omega (arith, p1, r1); most = omega (arith, p2, r2, d, q) }
 
 -- the current node alone was popped
-pub counted-popped : (s t n m h l : ℕ) → m ≡ n → IsCounted s t 0 3 → IsCounted s t (m - n) (32 * ((h + l + 4) * (h + l + 4)) + 8 * m)
+pub counted-popped : (s t n m h l : ℕ) → m ≡ n → IsCounted s t 1 3 → IsCounted s t (m - n) (32 * ((h + l + 4) * (h + l + 4)) + 8 * m)
 counted-popped s t n m h l e p =
     let p1 = p.least in
     let p2 = p.most in

@@ -5,10 +5,17 @@ ghost use Rattle.html_arena.specs.Siblings.{last_of};
 ghost use Rattle.html_arena.specs.Tree.{WellFormed};
 ghost use Rattle.html_open.specs.AdoptFinding.{IsPlain};
 ghost use Rattle.html_open.specs.Adopting.{Adopted, Closed, IsFirstFree, IsRefusal, IsStopped, IsTurn, MadeClones, Popped, pops_at_once};
+ghost use Rattle.html_open.specs.Leaving.{IsPaid};
 ghost use Rattle.html_open.specs.Marking.{IsCounted};
 ghost use Rattle.html_open.specs.Opened.{IsOpen, open_at};
 ghost use Rattle.html_open.specs.Placing.{CanPlace};
 ghost use Rattle.html_open.specs.Reopening.{KeepsClosed};
+
+mod chain;
+mod clones;
+mod find;
+mod lists;
+mod round;
 
 use crate::adoption::find::{Found, find};
 use crate::adoption::round::round;
@@ -37,8 +44,9 @@ pub enum AdoptEnd {
 /// then stand alone: `NodeBudget` and `HeldBudget` where the next clone would pass that limit, `OutOfMemory` where memory was refused.
 /// After a refusal nothing is said of the stack and the list.
 ///
-/// Steps, after a refusal too: at least one for each node made; with `h` elements on the stack, `l` entries in the list and, in the end,
-/// `c` nodes at most `32 (h + l + 4)² + 8 c`.
+/// Steps: at least one for each node made, for each element that left the stack, and for each that left the list; with `h` elements on
+/// the stack, `l` entries in the list and, in the end, `c` nodes at most `32 (h + l + 4)² + 8 c`. After a refusal too, at least one for
+/// each node made, and at most so many.
 pub fn adopt(
     stack: &mut OpenStack,
     list: &mut FormattingList,
@@ -56,6 +64,7 @@ pub fn adopt(
     ensures clones { length arena.new.labels ≤ length arena.old.labels + 32 }
     ensures cause { IfErr result (λ e. IsRefusal name foster (open_at stack.old list.old arena.old) arena.new e) }
     ensures steps { IsCounted arena.old.steps arena.new.steps (length arena.new.labels - length arena.old.labels) (32 * ((length stack.old + length list.old + 4) * (length stack.old + length list.old + 4)) + 8 * length arena.new.labels) }
+    ensures paid { OnOk result (IsPaid (open_at stack.old list.old arena.old) (open_at stack.new list.new arena.new)) }
     ensures well_formed { WellFormed arena.new }
 {
     let end = follow(stack, list, arena, name, foster);
@@ -81,6 +90,7 @@ fn follow(
     ensures clones { length arena.new.labels ≤ length arena.old.labels + 32 }
     ensures cause { IfErr result (λ e. IsRefusal name foster (open_at stack.old list.old arena.old) arena.new e) }
     ensures steps { IsCounted arena.old.steps arena.new.steps (length arena.new.labels - length arena.old.labels) (32 * ((length stack.old + length list.old + 4) * (length stack.old + length list.old + 4)) + 8 * length arena.new.labels) }
+    ensures paid { OnOk result (IsPaid (open_at stack.old list.old arena.old) (open_at stack.new list.new arena.new)) }
 {
     if pop_unlisted(stack, list, arena, name) {
         return Ok(AdoptEnd::Done);
@@ -112,6 +122,7 @@ fn turn(
     ensures first_free { IfOk result (λ end. end ≡ None → IsFirstFree stack.new list.new) }
     ensures stopped { IfErr result (λ e. IsStopped name (open_at stack.old list.old arena.old) arena.new e) }
     ensures steps { IsCounted arena.old.steps arena.new.steps (length arena.new.labels - length arena.old.labels) (length arena.new.labels + 4 * length stack.old + 3 * length list.old + 12) }
+    ensures paid { OnOk result (IsPaid (open_at stack.old list.old arena.old) (open_at stack.new list.new arena.new)) }
 {
     match find(stack, list, arena, name) {
         Found::NoEntry => Ok(Some(AdoptEnd::OtherEndTag)),
@@ -139,7 +150,7 @@ fn pop_unlisted(stack: &mut OpenStack, list: &FormattingList, arena: &mut Arena,
     ensures same_stack { result ≡ false → stack.new ≡ stack.old }
     ensures same_tree { result ≡ false → arena.new ≡ record arena.old { steps = arena.new.steps } }
     ensures kept { IsOpen (open_at stack.new list.now arena.new) }
-    ensures steps { IsCounted arena.old.steps arena.new.steps 0 3 }
+    ensures steps { IsCounted arena.old.steps arena.new.steps 1 3 }
 {
     let Some(current) = stack.current(arena) else {
         return false;
@@ -167,14 +178,9 @@ fn close(
     ensures closed { (s : Tag) → IsPlain s (open_at stack.old list.old arena.old) node at → Closed s (open_at stack.old list.old arena.old) (open_at stack.new list.new arena.new) }
     ensures kept { IsOpen (open_at stack.new list.new arena.new) }
     ensures steps { IsCounted arena.old.steps arena.new.steps 0 (length stack.old + 2 * length list.old) }
+    ensures paid { IsPaid (open_at stack.old list.old arena.old) (open_at stack.new list.new arena.new) }
 {
     arena.charge((stack.len() - at) as u128);
     stack.pop_to(arena, at);
     list.remove(arena, node);
 }
-
-mod chain;
-mod clones;
-mod find;
-mod lists;
-mod round;

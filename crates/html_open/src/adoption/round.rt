@@ -5,6 +5,7 @@ ghost use Rattle.html_arena.specs.Siblings.{has};
 ghost use Rattle.html_open.specs.AdoptFinding.{IsBlock};
 ghost use Rattle.html_open.specs.Adopting.{IsFirstFree, IsKept, IsRegrouped, Round, round_originals};
 ghost use Rattle.html_open.specs.Cloning.{IsCut};
+ghost use Rattle.html_open.specs.Leaving.{IsPaid};
 ghost use Rattle.html_open.specs.Marking.{IsCounted};
 ghost use Rattle.html_open.specs.Opened.{IsOpen, open_at};
 ghost use Rattle.html_open.specs.Placing.{CanPlace, IsPlace, way_up};
@@ -47,6 +48,7 @@ pub(crate) fn round(
     ensures first_free { OnOk result (IsFirstFree stack.old list.old → IsFirstFree stack.new list.new) }
     ensures cut { IfErr result (λ e. IsCut arena.old arena.new (round_originals (open_at stack.old list.old arena.old) at block_at) e) }
     ensures steps { IsCounted arena.old.steps arena.new.steps (length arena.new.labels - length arena.old.labels) (length arena.new.labels + 2 * length stack.old + length list.old + 11) }
+    ensures paid { OnOk result (IsPaid (open_at stack.old list.old arena.old) (open_at stack.new list.new arena.new)) }
 {
     arena.forest();
     let alloc = stack.allocator();

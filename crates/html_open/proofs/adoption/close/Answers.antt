@@ -1,6 +1,6 @@
-use Rattle.std.proofs.Common.{◌-◌, sym, ◌∙◌, ap, subst, length, drop, arith, eqb}
+use Rattle.std.proofs.Common.{ℕ, ◌-◌, sym, ◌∙◌, ap, subst, length, drop, arith, eqb}
 use Rattle.html_arena.specs.declared.marks.Mark.TheVariants.{OnStack}
-use Rattle.html_arena.specs.Tree.{Tree}
+use Rattle.html_arena.specs.Tree.{Tree, more}
 use Rattle.html_open.specs.Adopting.{bare}
 use Rattle.html_open.specs.Opened.{IsOpen, open_at}
 use Rattle.html_open.proofs.Closing.{all_unmarked-labels, bare-all}
@@ -8,6 +8,7 @@ use Rattle.html_open.specs.Entries.{is_node, removal_steps}
 use Rattle.html_open.proofs.Counting.{all_unmarked-steps, close-counted, removal-few}
 use Rattle.html_open.proofs.Finding.{last_named-in}
 use Rattle.html_open.proofs.Keeps.{open-charged}
+use Rattle.html_open.proofs.Leaving.{paid-closed}
 use Rattle.html_open.proofs.Lists.{below-at}
 use Rattle.html_open.proofs.adoption.close.Goals as goal
 
@@ -49,3 +50,10 @@ returns-clause-steps c =
     let e = c.len.ensures in
     close-counted c.args.arena.now.steps c.charge.new.self.steps c.pop_to.new.arena.steps c.remove.new.arena.steps (c.len.result - c.args.at) (removal_steps (is_node c.args.node) c.args.list.now) (length c.args.stack.now) (length c.args.list.now)
     (ap (λ (t : Tree). t.steps) c.charge.ensures) (omega (arith, e)) (ap (λ (t : Tree). t.steps) c.pop_to.ensures.tree ∙ all_unmarked-steps c.charge.new.self OnStack (drop c.args.at c.args.stack.now)) (ap (λ (t : Tree). t.steps) c.remove.ensures.tree) (removal-few (is_node c.args.node) c.args.list.now)
+
+pub returns-clause-paid : goal.returns-clause-paid
+returns-clause-paid c =
+    let e = c.len.ensures in
+    let l = ap (λ (t : Tree). length t.labels) c.remove.ensures.tree ∙ ap (λ (t : Tree). length t.labels) c.pop_to.ensures.tree ∙ ap length (all_unmarked-labels c.charge.new.self OnStack (drop c.args.at c.args.stack.now)) ∙ ap (λ (t : Tree). length t.labels) c.charge.ensures in
+    paid-closed c.args.stack.now c.pop_to.new.self c.args.list.now c.remove.new.self c.args.arena.now c.remove.new.arena c.args.at c.args.node c.charge.new.self.steps c.pop_to.new.arena.steps c.requires.«open» c.pop_to.ensures.stack c.remove.ensures.list l
+    (ap (λ (t : Tree). t.steps) c.charge.ensures ∙ ap (λ (n : ℕ). more c.args.arena.now.steps (n - c.args.at)) e) (ap (λ (t : Tree). t.steps) c.pop_to.ensures.tree ∙ all_unmarked-steps c.charge.new.self OnStack (drop c.args.at c.args.stack.now)) (ap (λ (t : Tree). t.steps) c.remove.ensures.tree)

@@ -12,6 +12,7 @@ use Rattle.std.proofs.lemmas.Result.{err_from_is_err_and}
 use Rattle.html_open.specs.declared.error.OpenError.{OpenError}
 use Rattle.html_open.specs.Adopting.{IsRefusal}
 use Rattle.html_open.proofs.Stopping.{refusal-is, stopped-closed, stopped-length, stopped-made}
+use Rattle.html_open.proofs.Leaving.{paid-again, paid-popped, paid-same, paid-then}
 use Rattle.html_open.proofs.Shrinking.{counted-end, counted-popped, counted-round, round-listed, round-shorter}
 use Rattle.html_open.proofs.Descending.{labels-longer}
 use Rattle.html_open.proofs.Looping.{can-place-stepped, ends-grown, finish-eight, finish-fewer, round-grown, rounds-more}
@@ -28,6 +29,7 @@ rounding-init c = record {
   shorter = omega arith;
   listed = omega arith;
   counted = record { least = omega arith; most = omega arith };
+  paid = paid-same c.pop_unlisted.new.stack c.args.list.now c.pop_unlisted.new.arena c.pop_unlisted.new.arena c.pop_unlisted.ensures.kept refl (omega arith);
 }
 
 pub rounding-preserved : goal.rounding-preserved
@@ -45,6 +47,7 @@ rounding-preserved c =
       shorter = (let a = round-shorter c.args.name c.args.foster (open_at c.rounding.stack c.rounding.list c.rounding.arena) (open_at c.turn.new.stack c.turn.new.list c.turn.new.arena) r in let b = c.rounding.invariant.shorter in omega (arith, a, b));
       listed = (let a = round-listed c.args.name c.args.foster (open_at c.rounding.stack c.rounding.list c.rounding.arena) (open_at c.turn.new.stack c.turn.new.list c.turn.new.arena) c.rounding.invariant.opened r in let b = c.rounding.invariant.listed in omega (arith, a, b));
       counted = (let up = ap length r.labels_are in let ap2 = length-append c.rounding.arena.labels (map (λ x. cloned (label_of c.rounding.arena x)) (r.cs ++ r.f ∷ [])) in counted-round c.rounding._index (c.rounding._index + 1) c.pop_unlisted.new.arena.steps c.rounding.arena.steps c.turn.new.arena.steps (length c.pop_unlisted.new.arena.labels) (length c.rounding.arena.labels) (length c.turn.new.arena.labels) (length c.rounding.stack) (length c.rounding.list) (length c.pop_unlisted.new.stack) (length c.args.list.now) (omega arith) c.rounding-test.true (labels-longer (open_at c.pop_unlisted.new.stack c.args.list.now c.pop_unlisted.new.arena) c.rounding.arena c.rounding.invariant.descends.made) (omega (arith, up, ap2)) c.rounding.invariant.shorter c.rounding.invariant.listed c.rounding.invariant.counted c.turn.ensures.steps);
+      paid = (let up = ap length r.labels_are in let ap2 = length-append c.rounding.arena.labels (map (λ x. cloned (label_of c.rounding.arena x)) (r.cs ++ r.f ∷ [])) in paid-then (open_at c.pop_unlisted.new.stack c.args.list.now c.pop_unlisted.new.arena) (open_at c.rounding.stack c.rounding.list c.rounding.arena) (open_at c.turn.new.stack c.turn.new.list c.turn.new.arena) c.pop_unlisted.ensures.kept (labels-longer (open_at c.pop_unlisted.new.stack c.args.list.now c.pop_unlisted.new.arena) c.rounding.arena c.rounding.invariant.descends.made) (omega (arith, up, ap2)) c.rounding.invariant.paid c.in_ok-end.ensures.paid);
     }
 
 pub returns-clause-adopted : goal.returns-clause-adopted
@@ -152,3 +155,18 @@ returns-in_err-end-clause-steps c =
     (counted-end (suc c.rounding._index) c.args.arena.now.steps c.pop_unlisted.new.arena.steps c.turn.new.arena.steps (length c.pop_unlisted.new.arena.labels) (length c.turn.new.arena.labels) (length c.args.stack.now) (length c.args.list.now) (omega (arith, h)) c.pop_unlisted.ensures.steps
     (subst (λ (v : List ℕ). IsCounted c.pop_unlisted.new.arena.steps c.turn.new.arena.steps (length c.turn.new.arena.labels - length c.pop_unlisted.new.arena.labels) (times (suc c.rounding._index) (length c.turn.new.arena.labels + 4 * length v + 3 * length c.args.list.now + 36))) (c.pop_unlisted.ensures.same_stack c.if-pop_unlisted.false)
     (counted-round c.rounding._index (suc c.rounding._index) c.pop_unlisted.new.arena.steps c.rounding.arena.steps c.turn.new.arena.steps (length c.pop_unlisted.new.arena.labels) (length c.rounding.arena.labels) (length c.turn.new.arena.labels) (length c.rounding.stack) (length c.rounding.list) (length c.pop_unlisted.new.stack) (length c.args.list.now) refl c.rounding-test.true (labels-longer (open_at c.pop_unlisted.new.stack c.args.list.now c.pop_unlisted.new.arena) c.rounding.arena c.rounding.invariant.descends.made) (omega (arith, k)) c.rounding.invariant.shorter c.rounding.invariant.listed c.rounding.invariant.counted c.turn.ensures.steps)))
+
+pub returns-then-pop_unlisted-clause-paid : goal.returns-then-pop_unlisted-clause-paid
+returns-then-pop_unlisted-clause-paid c =
+    let p = c.pop_unlisted.ensures.yes c.if-pop_unlisted.true in
+    paid-popped c.args.stack.now c.pop_unlisted.new.stack c.args.list.now c.args.arena.now c.pop_unlisted.new.arena p.current c.requires.«open» p.stack_was (ap (λ (t : Tree). length t.labels) p.tree_is) c.pop_unlisted.ensures.steps.least
+
+pub returns-clause-paid : goal.returns-clause-paid
+returns-clause-paid c =
+    paid-again c.args.stack.now c.pop_unlisted.new.stack c.args.list.now c.args.arena.now c.pop_unlisted.new.arena (open_at c.rounding.stack c.rounding.list c.rounding.arena) (c.pop_unlisted.ensures.same_stack c.if-pop_unlisted.false) (c.pop_unlisted.ensures.same_tree c.if-pop_unlisted.false) c.pop_unlisted.ensures.steps.least c.rounding.invariant.paid
+
+pub returns-in-Some-clause-paid : goal.returns-in-Some-clause-paid
+returns-in-Some-clause-paid c =
+    let k = ends-grown c.args.name c.in-Some.end (open_at c.rounding.stack c.rounding.list c.rounding.arena) (open_at c.turn.new.stack c.turn.new.list c.turn.new.arena) (subst (λ (e : Option AdoptEnd). IsTurn c.args.name c.args.foster e (open_at c.rounding.stack c.rounding.list c.rounding.arena) (open_at c.turn.new.stack c.turn.new.list c.turn.new.arena)) c.in-Some.is c.in_ok-end.ensures.turned) in
+    paid-again c.args.stack.now c.pop_unlisted.new.stack c.args.list.now c.args.arena.now c.pop_unlisted.new.arena (open_at c.turn.new.stack c.turn.new.list c.turn.new.arena) (c.pop_unlisted.ensures.same_stack c.if-pop_unlisted.false) (c.pop_unlisted.ensures.same_tree c.if-pop_unlisted.false) c.pop_unlisted.ensures.steps.least
+    (paid-then (open_at c.pop_unlisted.new.stack c.args.list.now c.pop_unlisted.new.arena) (open_at c.rounding.stack c.rounding.list c.rounding.arena) (open_at c.turn.new.stack c.turn.new.list c.turn.new.arena) c.pop_unlisted.ensures.kept (labels-longer (open_at c.pop_unlisted.new.stack c.args.list.now c.pop_unlisted.new.arena) c.rounding.arena c.rounding.invariant.descends.made) (omega (arith, k)) c.rounding.invariant.paid c.in_ok-end.ensures.paid)

@@ -1,4 +1,5 @@
 use Rattle.std.proofs.Common.{◌≤◌, ◌+◌, ◌-◌, ◌*◌, length}
+use Rattle.html_open.specs.Leaving.{IsPaid}
 use Rattle.html_open.specs.Marking.{IsCounted}
 use Rattle.html_open.proofs.Shrinking.{times}
 use Rattle.html_open.specs.Adopting.{IsFirstFree, Rounds}
@@ -18,4 +19,5 @@ invariant-rounding l = record {
   shorter : length l.stack ≤ length l.initial.stack;
   listed : length l.list ≤ length l.initial.list + l._index;
   counted : IsCounted l.initial.arena.steps l.arena.steps (length l.arena.labels - length l.initial.arena.labels) (times l._index (length l.arena.labels + 4 * length l.initial.stack + 3 * length l.initial.list + 36));
+  paid : IsPaid (open_at l.initial.stack l.initial.list l.initial.arena) (open_at l.stack l.list l.arena);
 }

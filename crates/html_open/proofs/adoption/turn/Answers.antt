@@ -13,6 +13,7 @@ use Rattle.std.proofs.Common.{◌*◌}
 use Rattle.html_open.specs.Entries.{is_node, removal_steps}
 use Rattle.html_open.proofs.Counting.{counted-charge, counted-within, removal-few, turn-counted, turn-round}
 use Rattle.html_open.proofs.Finding.{last_named-in}
+use Rattle.html_open.proofs.Leaving.{paid-later, paid-removed, paid-same}
 use Rattle.html_open.proofs.Looping.{can-place-stepped, closed-rebase, not-first, plain-stepped, round-rebase}
 use Rattle.html_open.proofs.Rounds.{block-stepped, open-stepped}
 use Rattle.html_open.proofs.adoption.turn.Goals as goal
@@ -124,3 +125,22 @@ returns-in_ok-round-in-Block-clause-steps c =
 pub returns-in_err-round-in-Block-clause-steps : goal.returns-in_err-round-in-Block-clause-steps
 returns-in_err-round-in-Block-clause-steps c =
     turn-round c.args.arena.now.steps c.find.new.arena.steps c.round.new.arena.steps (length c.find.new.arena.labels) (length c.args.arena.now.labels) (length c.round.new.arena.labels) (length c.args.stack.now) (length c.args.list.now) c.find.ensures.steps (ap (λ (t : Tree). length t.labels) c.find.ensures.tree) c.round.ensures.steps
+
+pub returns-in-NoEntry-clause-paid : goal.returns-in-NoEntry-clause-paid
+returns-in-NoEntry-clause-paid c = paid-same c.args.stack.now c.args.list.now c.args.arena.now c.find.new.arena c.requires.«open» c.find.ensures.tree c.find.ensures.steps.least
+
+pub returns-in-OutOfScope-clause-paid : goal.returns-in-OutOfScope-clause-paid
+returns-in-OutOfScope-clause-paid c = paid-same c.args.stack.now c.args.list.now c.args.arena.now c.find.new.arena c.requires.«open» c.find.ensures.tree c.find.ensures.steps.least
+
+pub returns-in-OffStack-clause-paid : goal.returns-in-OffStack-clause-paid
+returns-in-OffStack-clause-paid c =
+    paid-later c.args.stack.now c.args.list.now c.args.arena.now c.find.new.arena (open_at c.args.stack.now c.remove.new.self c.remove.new.arena) c.find.ensures.tree c.find.ensures.steps.least
+    (paid-removed c.args.stack.now c.args.list.now c.remove.new.self c.find.new.arena c.remove.new.arena c.in-OffStack.node (subst (λ (t : Tree). IsOpen (open_at c.args.stack.now c.args.list.now t)) (sym c.find.ensures.tree) (open-stepped c.args.stack.now c.args.list.now c.args.arena.now c.find.new.arena.steps c.requires.«open»)) c.remove.ensures.list (ap (λ (t : Tree). length t.labels) c.remove.ensures.tree) (ap (λ (t : Tree). t.steps) c.remove.ensures.tree))
+
+pub returns-in-Plain-clause-paid : goal.returns-in-Plain-clause-paid
+returns-in-Plain-clause-paid c =
+    paid-later c.args.stack.now c.args.list.now c.args.arena.now c.find.new.arena (open_at c.close.new.stack c.close.new.list c.close.new.arena) c.find.ensures.tree c.find.ensures.steps.least c.close.ensures.paid
+
+pub returns-in_ok-round-in-Block-clause-paid : goal.returns-in_ok-round-in-Block-clause-paid
+returns-in_ok-round-in-Block-clause-paid c =
+    paid-later c.args.stack.now c.args.list.now c.args.arena.now c.find.new.arena (open_at c.round.new.stack c.round.new.list c.round.new.arena) c.find.ensures.tree c.find.ensures.steps.least c.in_ok-round-in-Block.ensures.paid

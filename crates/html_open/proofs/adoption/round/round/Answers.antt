@@ -14,6 +14,7 @@ use Rattle.html_open.specs.Cloning.{IsCut}
 use Rattle.html_open.proofs.Cutting.{cut-rebase}
 use Rattle.html_open.specs.Placing.{place_steps}
 use Rattle.html_open.proofs.Counting.{place-few, round-counted}
+use Rattle.html_open.proofs.Leaving.{paid-round}
 use Rattle.html_open.proofs.Rounds.{at-below, can-place-kept, first-free-kept, apart, at-less, before-is, block-stepped, open-stepped, place-stepped, round-is, stepped, steps-then, way-in, way-stepped, a-within}
 use Rattle.html_open.proofs.adoption.round.round.Goals as goal
 
@@ -104,3 +105,14 @@ returns-in_err-regrouped-clause-steps c =
     let n2 = ap (λ (t : Tree). length t.labels) c.place-target.ensures.steps in
     round-counted c.args.arena.now c.charge.new.self c.place-target.new.arena c.regroup.new.arena ((length c.as_slice-nodes.result.now - c.args.at) + length c.as_slice-entries.result.now) (place_steps c.charge.new.self c.args.stack.now (Some c.index-nodes-at.result) c.args.foster) (length c.args.stack.now) (length c.args.list.now)
     (ap (λ (t : Tree). t.steps) c.charge.ensures) (omega (arith, e1, e2)) (ap (λ (t : Tree). t.steps) c.place-target.ensures.steps) (place-few c.charge.new.self c.args.stack.now c.index-nodes-at.result c.args.foster) (omega (arith, n1, n2)) c.regroup.ensures.steps
+
+pub returns-clause-paid : goal.returns-clause-paid
+returns-clause-paid c =
+    let e1 = ap length c.as_slice-nodes.ensures in
+    let e2 = ap length (c.as_slice-entries.ensures.value ∙ c.list.view_is) in
+    let n1 = ap (λ (t : Tree). length t.labels) c.charge.ensures in
+    let n2 = ap (λ (t : Tree). length t.labels) c.place-target.ensures.steps in
+    let k1 = ap (λ (t : Tree). t.steps) c.charge.ensures in
+    paid-round c.args.stack.now c.replace.new.self (clones_down (length c.place-target.new.arena.labels) (length c.in_ok-regrouped.ensures.regrouped.cs) ++ (get_or c.as_slice-nodes.result.now c.args.block_at 0 ∷ (length c.place-target.new.arena.labels + length c.in_ok-regrouped.ensures.regrouped.cs) ∷ drop (c.args.block_at + 1) c.as_slice-nodes.result.now)) c.args.list.now c.in_ok-regrouped.regrouped.entries.items c.args.arena.now c.regroup.new.arena c.args.at (length c.place-target.new.arena.labels) c.charge.new.self.steps c.place-target.new.arena.steps (place_steps c.charge.new.self c.args.stack.now (Some c.index-nodes-at.result) c.args.foster) c.requires.«open»
+    (c.replace.ensures ∙ c.in_ok-regrouped.ensures.regrouped.stack_is ∙ ap (λ (v : List ℕ). take c.args.at v ++ (clones_down (length c.place-target.new.arena.labels) (length c.in_ok-regrouped.ensures.regrouped.cs) ++ (get_or c.as_slice-nodes.result.now c.args.block_at 0 ∷ (length c.place-target.new.arena.labels + length c.in_ok-regrouped.ensures.regrouped.cs) ∷ drop (c.args.block_at + 1) c.as_slice-nodes.result.now))) c.as_slice-nodes.ensures)
+    (omega (arith, e1, e2, k1)) (ap (λ (t : Tree). t.steps) c.place-target.ensures.steps) (omega (arith, n1, n2)) c.regroup.ensures.steps.least
