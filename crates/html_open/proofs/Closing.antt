@@ -4,9 +4,8 @@ use Rattle.html_arena.specs.declared.marks.Mark.{Mark}
 use Rattle.html_arena.specs.declared.marks.Mark.TheVariants.{OnStack}
 use Rattle.html_arena.specs.Siblings.{last_of, or_else}
 use Rattle.html_arena.specs.Tree.{Tree}
-use Rattle.html_open.specs.Adopting.{bare}
 use Rattle.html_open.specs.Lists.{with_last}
-use Rattle.html_open.specs.Marking.{all_unmarked, charged, unmarked}
+use Rattle.html_open.specs.Marking.{all_unmarked, bare, charged, unmarked}
 
 pub last-pushed : (xs : List ℕ) (x : ℕ) → last_of (xs ++ x ∷ []) ≡ Some x
 last-pushed [] x = refl

@@ -274,6 +274,16 @@ pub any-has : (x : ℕ) (xs : List ℕ) → list_any (eqb x) xs ≡ has x xs
 any-has x [] = refl
 any-has x (y ∷ ys) = (let e = any-has x ys in elim (cases (eqb x y)) [ inl a ↦ rw a refl | inr a ↦ rw a e ])
 
+-- the same with the test turned round
+pub any-had : (x : ℕ) (xs : List ℕ) → list_any (λ y. eqb y x) xs ≡ has x xs
+any-had x [] = refl
+any-had x (y ∷ ys) =
+    let r = any-had x ys in
+    elim (cases (eqb x y)) [
+      | inl a ↦ (let b : eqb y x ≡ true = grind (arith, nat_tests) in rw (a, b) refl)
+      | inr a ↦ (let b : eqb y x ≡ false = grind (arith, nat_tests) in rw (a, b) r)
+    ]
+
 abbrev pub passes : (ℕ → Bool) → Option ℕ → Bool
 passes p None = false
 passes p (Some x) = p x

@@ -21,20 +21,16 @@ use Rattle.html_open.specs.declared.places.Place.{Place}
 use Rattle.html_open.specs.declared.places.Place.TheVariants.{Last, Before}
 use Rattle.html_open.specs.Entries.{nodes_of}
 use Rattle.html_open.specs.Lists.{above, after_index, below, last_index, last_where, up_to}
-use Rattle.html_open.specs.Marking.{charged}
+use Rattle.html_open.specs.Marking.{bare, charged}
 use Rattle.html_open.specs.Opened.{IsMarked, IsOpen, Open, open_at}
 use Rattle.html_open.specs.Placing.{CanPlace, by_table, fosters, outside_table, place_of, place_steps, put, table, target_of, template}
-use Rattle.html_open.specs.Reopening.{IsCause, IsPassed, IsSameTree, KeepsClosed, Reopened, clone_steps, clones_of, closed, fresh, reopen_steps, search_steps, stands, with_clone, with_clones}
+use Rattle.html_open.specs.Reopening.{IsCause, IsPassed, KeepsClosed, Reopened, clone_steps, clones_of, closed, fresh, reopen_steps, search_steps, stands, with_clone, with_clones}
 use Rattle.html_open.specs.Reopenings.{IsRefused, with_reopened}
 use Rattle.html_open.specs.Searches.{open_or_marker}
 use Rattle.html_open.proofs.Inserted.{get-before, get-default}
 use Rattle.html_open.proofs.Keeps.{cases_bool, cases_eqb, eqb-self, has-append, nodes-append, open-charged}
 use Rattle.html_open.proofs.Lists.{after-length, after-up_to, get_or-default}
 use Rattle.html_open.proofs.Standing.{element-in}
-
--- the tree without its marks and its count of steps
-abbrev pub bare : Tree → Tree
-bare t = record t { marks = []; steps = 0 }
 
 -- what is the same for the same tree
 bare-put : (t : Tree) (p : Place) (c : ℕ) → bare (put t p c) ≡ bare (put (bare t) p c)
@@ -78,15 +74,6 @@ same-passed t u s f xs e q p = record {
 -- the tree in which an entry was opened anew is that with its clone
 bare-reopened : (t : Tree) (s : List ℕ) (f : Bool) (x : ℕ) → bare (with_reopened t s f x) ≡ bare (with_clone t s f x)
 bare-reopened t s f x = same-clone (charged t (place_steps t s None f)) t s f x refl
-
-same-tree : (t u : Tree) → bare t ≡ bare u → IsSameTree t u
-same-tree t u e = record {
-  labels_are = ap (λ (v : Tree). v.labels) (sym e);
-  parents_are = ap (λ (v : Tree). v.parents) (sym e);
-  children_are = ap (λ (v : Tree). v.children) (sym e);
-  held_is = ap (λ (v : Tree). v.held) (sym e);
-  limits_are = ap (λ (v : Tree). v.limits) (sym e);
-}
 
 -- counts add up
 more-more : (s a b : ℕ) → more (more s a) b ≡ more s (a + b)
@@ -417,7 +404,7 @@ module _ (f : Bool) (o : Open) (i : ℕ) (s : List ℕ) (l : List Entry) (t : Tr
       record {
         list_is = u.list_is ∙ ap (λ v. u.front ++ map Node v) r ∙ ap (λ v. u.front ++ map Node (fresh t (length v))) (sym r) ∙ u.list_end;
         stack_is = sym (append-nil s) ∙ ap (λ v. s ++ fresh t (length v)) (sym r) ∙ u.stack_end;
-        tree_is = same-tree (with_clones o.tree o.stack f (closed o)) t (sym u.tree_end ∙ ap (λ v. bare (with_clones t s f v)) r);
+        tree_is = sym (ap (λ v. bare (with_clones t s f v)) r) ∙ u.tree_end;
       }
 
   pub steps-are : length l ≤ i → t.steps ≡ more o.tree.steps (reopen_steps o f)

@@ -16,16 +16,9 @@ use Rattle.html_open.specs.Cloning.{IsCut}
 use Rattle.html_open.specs.Entries.{has_node, last_named, without_node}
 use Rattle.html_open.specs.Hanging.{chain_top, chained, hung_parent, with_put}
 use Rattle.html_open.specs.Lists.{above, below}
+use Rattle.html_open.specs.Marking.{IsSameTree}
 use Rattle.html_open.specs.Opened.{Open}
 use Rattle.html_open.specs.Placing.{place_at}
-
--- a tree without its marks and its count of steps
-abbrev pub bare : Tree → Tree
-bare t = record t { marks = []; steps = 0 }
-
--- the tree is as it was: marks and steps are not of the tree
-abbrev pub IsSameTree : Tree → Tree → Type 0
-IsSameTree old new = bare new ≡ bare old
 
 -- no special element stands after the formatting element f: the stack ends before it, and it is out of the list
 pub record Closed (s : Tag) (old new : Open) : Type 0 where

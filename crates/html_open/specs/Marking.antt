@@ -1,7 +1,15 @@
 -- Trees in which only marks or the count of steps differ.
-use Rattle.std.specs.Prelude.{ℕ, ◌+◌, ◌≤◌, false, List, [], ◌∷◌, Option, Some, None}
+use Rattle.std.specs.Prelude.{◌≡◌, ℕ, ◌+◌, ◌≤◌, false, List, [], ◌∷◌, Option, Some, None}
 use Rattle.html_arena.specs.declared.marks.Mark.{Mark}
 use Rattle.html_arena.specs.Tree.{Tree, more, with_marked}
+
+-- a tree without its marks and its count of steps
+abbrev pub bare : Tree → Tree
+bare t = record t { marks = []; steps = 0 }
+
+-- the tree is as it was: marks and steps are not of the tree
+abbrev pub IsSameTree : Tree → Tree → Type 0
+IsSameTree old new = bare new ≡ bare old
 
 -- k steps are counted
 abbrev pub charged : Tree → ℕ → Tree

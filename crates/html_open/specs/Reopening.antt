@@ -16,6 +16,7 @@ use Rattle.html_open.specs.declared.error.OpenError.{OpenError}
 use Rattle.html_open.specs.declared.error.OpenError.TheVariants.{OutOfMemory, NodeBudget, HeldBudget}
 use Rattle.html_open.specs.Entries.{nodes_of}
 use Rattle.html_open.specs.Lists.{above, last_where, up_to}
+use Rattle.html_open.specs.Marking.{IsSameTree}
 use Rattle.html_open.specs.Opened.{Open}
 use Rattle.html_open.specs.Placing.{place_of, place_steps, put}
 
@@ -40,14 +41,6 @@ with_clone t stack foster x = put (made t (CloneOf x)) (place_of t stack None fo
 abbrev pub with_clones : Tree → List ℕ → Bool → List ℕ → Tree
 with_clones t stack foster [] = t
 with_clones t stack foster (x ∷ xs) = with_clones (with_clone t stack foster x) (stack ++ length t.labels ∷ []) foster xs
-
--- the same tree, but for marks and the count of steps
-pub record IsSameTree (t u : Tree) : Type 0 where
-  pub labels_are : u.labels ≡ t.labels
-  pub parents_are : u.parents ≡ t.parents
-  pub children_are : u.children ≡ t.children
-  pub held_is : u.held ≡ t.held
-  pub limits_are : u.limits ≡ t.limits
 
 -- Each of those entries is that of a clone of its element, in its place, and all others are the same; the stack is followed by the
 -- clones in order; each clone stands at the place for the current node that it met.

@@ -3,6 +3,8 @@ ghost use Rattle.std.specs.Prelude.{◌≡◌, ◌≢◌, ℕ, ◌<◌, ◌∷�
 ghost use Rattle.html_arena.specs.Data.{is_linkable};
 ghost use Rattle.html_arena.specs.Siblings.{has};
 ghost use Rattle.html_arena.specs.Tree.{ancestors, children_of, label_of, parent_of};
+ghost use Rattle.html_open.specs.Hanging.{IsPut};
+ghost use Rattle.html_open.specs.Marking.{IsCounted};
 ghost use Rattle.html_open.specs.Placing.{IsPlace, parent_at, put, way_up};
 
 use html_arena::{Arena, NodeId};
@@ -22,6 +24,8 @@ pub(crate) fn put(arena: &mut Arena, place: Place, node: NodeId)
     requires alone { parent_of arena.old node ≡ None }
     requires not_above { has node (way_up arena.old place) ≡ false }
     ensures tree { arena.new ≡ put arena.old place node }
+    ensures put { IsPut arena.old arena.new place node }
+    ensures steps { IsCounted arena.old.steps arena.new.steps 0 1 }
     ensures others { (x : ℕ) → x < length arena.old.labels → has node (x ∷ ancestors arena.old x) ≡ false → ancestors arena.new x ≡ ancestors arena.old x }
     ensures children { (x : ℕ) → parent_at arena.old place ≢ Some x → children_of arena.new x ≡ children_of arena.old x }
     ensures parents { (x : ℕ) → x ≢ node → parent_of arena.new x ≡ parent_of arena.old x }

@@ -10,7 +10,8 @@ use Rattle.html_arena.specs.Siblings.{first_of}
 use Rattle.html_arena.specs.Tree.{Tree, label_of, marked}
 use Rattle.html_open.specs.declared.adoption.AdoptEnd.{AdoptEnd}
 use Rattle.html_open.specs.declared.entry.Entry.{Entry}
-use Rattle.html_open.specs.Adopting.{Adopted, Ends, IsFirstFree, IsSameTree, Rounds, closes, eight, fewer, forgets, no_entry, no_round, one_more, out_of_scope, popped}
+use Rattle.html_open.specs.Adopting.{Adopted, Ends, IsFirstFree, Rounds, closes, eight, fewer, forgets, no_entry, no_round, one_more, out_of_scope, popped}
+use Rattle.html_open.specs.Marking.{IsSameTree}
 use Rattle.html_open.specs.Opened.{IsOpen, Open, open_at}
 use Rattle.html_open.specs.Placing.{CanPlace}
 use Rattle.open_rows.specs.Pages.{IsPage}

@@ -3,11 +3,11 @@ ghost use Rattle.std.specs.Prelude.{◌≡◌, ◌≢◌, ℕ, ◌+◌, ◌-◌,
 ghost use Rattle.html_arena.specs.Data.{is_linkable};
 ghost use Rattle.html_arena.specs.Siblings.{has};
 ghost use Rattle.html_arena.specs.Tree.{children_of, label_of, parent_of};
-ghost use Rattle.html_open.specs.Hanging.{Chained, Hung, IsPut, SameNodes, StandAlone, chain_top, wrapped_children, wrapped_parent};
+ghost use Rattle.html_open.specs.Hanging.{Chained, Hung, SameNodes, StandAlone, chain_top, wrapped_children, wrapped_parent};
 ghost use Rattle.html_open.specs.Marking.{IsCounted};
 ghost use Rattle.html_open.specs.Placing.{IsPlace, way_up};
 
-use crate::places::Place;
+use crate::places::{Place, put};
 use html_arena::{Arena, NodeId};
 
 /// Hangs the special element `block` into a chain of the clones from `first` to before `clone`, each the parent of the one before it;
@@ -68,20 +68,4 @@ fn chain(arena: &mut Arena, block: NodeId, first: usize, end: usize) -> NodeId
         top = clone;
     }
     top
-}
-
-/// Puts a node that stands alone at a place.
-fn put(arena: &mut Arena, place: Place, node: NodeId)
-    requires place_in { IsPlace arena.old place }
-    requires node_in { node < length arena.old.labels }
-    requires linkable { is_linkable (label_of arena.old node) ≡ true }
-    requires alone { parent_of arena.old node ≡ None }
-    requires not_above { has node (way_up arena.old place) ≡ false }
-    ensures put { IsPut arena.old arena.new place node }
-    ensures steps { IsCounted arena.old.steps arena.new.steps 0 1 }
-{
-    match place {
-        Place::Last(parent) => arena.append(parent, node),
-        Place::Before(next) => arena.insert_before(node, next),
-    }
 }

@@ -10,7 +10,7 @@ ghost use Rattle.html_open.specs.Opened.{AreNodes};
 ghost use Rattle.html_open.specs.Reopenings.{IsRefused};
 
 use crate::error::OpenError;
-use html_arena::{Arena, ArenaError, Mark, NewNode, NodeId};
+use html_arena::{Arena, Mark, NewNode, NodeId};
 use std::alloc::{AllocError, Global};
 
 /// How many of the elements between the formatting element and the special one may be cloned.
@@ -81,10 +81,6 @@ fn make_clone(arena: &mut Arena, node: NodeId) -> Result<NodeId, OpenError>
     ensures cause { IfErr result (λ e. IsRefused arena.old node e) }
     ensures steps { IsCounted arena.old.steps arena.new.steps (length arena.new.labels - length arena.old.labels) (length arena.new.labels - length arena.old.labels) }
 {
-    match arena.make(NewNode::CloneOf(node)) {
-        Ok(clone) => Ok(clone),
-        Err(ArenaError::OutOfMemory) => Err(OpenError::OutOfMemory),
-        Err(ArenaError::NodeBudget) => Err(OpenError::NodeBudget),
-        Err(ArenaError::HeldBudget) => Err(OpenError::HeldBudget),
-    }
+    let clone = arena.make(NewNode::CloneOf(node))?;
+    Ok(clone)
 }

@@ -139,12 +139,7 @@ fn push_relisted(
 fn contains(nodes: &[NodeId], node: NodeId) -> bool
     ensures { result ≡ has node nodes.now }
 {
-    for other in nodes {
-        if node == *other {
-            return true;
-        }
-    }
-    false
+    nodes.contains(&node)
 }
 
 /// Whether an element is the first of these.

@@ -1,7 +1,7 @@
 use Rattle.std.proofs.Common.{ℕ, ◌-◌, sym, ◌∙◌, ap, subst, length, drop, arith, eqb}
 use Rattle.html_arena.specs.declared.marks.Mark.TheVariants.{OnStack}
 use Rattle.html_arena.specs.Tree.{Tree, more}
-use Rattle.html_open.specs.Adopting.{bare}
+use Rattle.html_open.specs.Marking.{bare}
 use Rattle.html_open.specs.Opened.{IsOpen, open_at}
 use Rattle.html_open.proofs.Closing.{all_unmarked-labels, bare-all}
 use Rattle.html_open.specs.Entries.{is_node, removal_steps}

@@ -3,7 +3,7 @@ use Rattle.html_names.specs.Tags.{is_same}
 use Rattle.html_arena.specs.Data.{label_in, tag_in}
 use Rattle.html_arena.specs.Tree.{Tree}
 use Rattle.html_arena.proofs.Siblings.{has-last}
-use Rattle.html_open.specs.Adopting.{bare}
+use Rattle.html_open.specs.Marking.{bare}
 use Rattle.html_open.specs.Opened.{IsOpen, open_at}
 use Rattle.html_open.proofs.Closing.{bare-popped, popped-last}
 use Rattle.html_open.proofs.Keeps.{open-charged}

@@ -1,7 +1,8 @@
 use Rattle.std.proofs.Common.{◌+◌, refl, sym, ◌∙◌, ap, subst, length, arith}
 use Rattle.html_arena.specs.Tree.{Tree}
 use Rattle.html_open.specs.AdoptFinding.{IsBlock, IsPlain}
-use Rattle.html_open.specs.Adopting.{Closed, Round, bare, closes, forgets, no_entry, out_of_scope}
+use Rattle.html_open.specs.Adopting.{Closed, Round, closes, forgets, no_entry, out_of_scope}
+use Rattle.html_open.specs.Marking.{bare}
 use Rattle.html_open.specs.Opened.{IsOpen, open_at}
 use Rattle.html_open.specs.Placing.{CanPlace}
 use Rattle.std.proofs.lemmas.Result.{err_from_is_err_and}
