@@ -19,7 +19,7 @@ use Rattle.html_open.proofs.Keeps.{cases_bool, cases_eqb, eqb-true}
 use Rattle.html_open.proofs.Lists.{after-above, any-has, last_index-any, last_where-at, looked-some, not_any}
 
 -- the last entry of a name is in the list
-above-node : (p : Entry → Bool) (es : List Entry) (x : ℕ) → has x (nodes_of (above p es)) ≡ true → has x (nodes_of es) ≡ true
+pub above-node : (p : Entry → Bool) (es : List Entry) (x : ℕ) → has x (nodes_of (above p es)) ≡ true → has x (nodes_of es) ≡ true
 above-node p [] x h = h
 above-node p (e ∷ es) x h = elim (cases_bool (list_any p es)) [
   | inl a ↦ more e (above-node p es x (rw a at h))

@@ -14,8 +14,9 @@ use Rattle.html_open.specs.declared.places.Place.{Place}
 use Rattle.html_open.specs.declared.places.Place.TheVariants.{Last, Before}
 use Rattle.html_open.specs.Marking.{charged}
 use Rattle.html_open.specs.Opened.{origin_at}
-use Rattle.html_open.specs.Placing.{parent_at, put}
+use Rattle.html_open.specs.Placing.{IsPlace, parent_at, put}
 use Rattle.html_open.specs.Reopenings.{IsInserted}
+use Rattle.html_open.specs.Rooting.{KeepsParents}
 use Rattle.html_open.proofs.Keeps.{has-tail}
 
 -- what a list with one element more has at an index
@@ -55,6 +56,15 @@ parent-same : (t m : Tree) (p : Place) → ((x : ℕ) → parent_of m x ≡ pare
 parent-same t m (Last p) h = refl
 parent-same t m (Before b) h = h b
 
+-- there is a parent for what is put there
+pub parent-there : (t : Tree) (p : Place) → IsPlace t p → parent_at t p ≢ None
+parent-there t (Last p) h = λ e. absurd (let k = e in cc)
+parent-there t (Before b) h = h.1
+
+pub place-as : (t u : Tree) (p : Place) → u.labels ≡ t.labels → u.parents ≡ t.parents → IsPlace t p → IsPlace u p
+place-as t u (Last q) e f h = (let l = ap length e in omega (arith, l, h))
+place-as t u (Before b) e f h = (let l = ap length e in let i = h.0 in omega (arith, l, i), λ q. h.1 (sym (ap (λ ps. get_or ps b None) f) ∙ q))
+
 parent-charged : (t : Tree) (k : ℕ) (p : Place) → parent_at (charged t k) p ≡ parent_at t p
 parent-charged t k (Last p) = refl
 parent-charged t k (Before b) = refl
@@ -64,8 +74,9 @@ module _ (t m new : Tree) (at : Place) (c x : ℕ) where
       → ((y : ℕ) → y < length m.labels → has c (y ∷ ancestors m y) ≡ false → ancestors new y ≡ ancestors m y)
       → ((y : ℕ) → parent_at m at ≢ Some y → children_of new y ≡ children_of m y)
       → ((y : ℕ) → y ≢ c → parent_of new y ≡ parent_of m y)
+      → parent_of new c ≡ parent_at m at → IsPlace t at
       → IsInserted t new at x
-  grown-inserted e g i f others children parents =
+  grown-inserted e g i f others children parents own there =
       let more = g.longer in
       let up : (y : ℕ) → y < length t.labels → ancestors new y ≡ ancestors m y =
       λ y l. others y (omega arith) (g.not_above y c l (omega arith)) in
@@ -78,6 +89,7 @@ module _ (t m new : Tree) (at : Place) (c x : ℕ) where
         not_above = λ y l. rw (up y l) (without-self y c (ancestors m y) (subst (λ v. has v (y ∷ ancestors m y) ≡ false) (sym i) (g.not_above y (length t.labels) l (omega arith))) i);
         same_children = λ y l n. children y (λ q. n (sym (parent-same t m at g.same_parent) ∙ q)) ∙ g.same_children y;
         same_parents = λ y l. parents y (λ q. (let r : y ≡ length t.labels = q ∙ i in omega arith)) ∙ g.same_parent y;
+        linked = λ q. parent-there t at there (sym (parent-same t m at g.same_parent) ∙ sym own ∙ ap (parent_of new) i ∙ q);
       }
     where
       without-self : (y d : ℕ) (ys : List ℕ) → has d (y ∷ ys) ≡ false → d ≡ length t.labels → has (length t.labels) ys ≡ false
@@ -91,6 +103,7 @@ inserted-charged t new k at x r = record {
   not_above = r.not_above;
   same_children = λ y l n. r.same_children y l (λ q. n (sym (parent-charged t k at) ∙ q));
   same_parents = r.same_parents;
+  linked = r.linked;
 }
 
 -- the clone has the tag and the origin of its original, which is an element
@@ -136,3 +149,15 @@ module _ (t new : Tree) (at : Place) (x : ℕ) (r : IsInserted t new at x) where
 
   pub element-new : is_formatting (tag_at t x) ≡ true → IsElement (label_of new (length t.labels))
   element-new h = subst IsElement (sym label-new) (cloned-element (label_of t x) h)
+
+-- the parents of all others stay, and the clone has one
+pub parents-inserted : (t new v : Tree) (at : Place) (x : ℕ) → IsInserted t new at x → v.labels ≡ new.labels → v.parents ≡ new.parents → KeepsParents t v
+parents-inserted t new v at x r e f =
+    let l = longer t new at x r in
+    let m = ap length e in
+    record {
+      same = λ y b. ap (λ ps. get_or ps y None) f ∙ r.same_parents y b;
+      linked = λ y a b q.
+          let i : y ≡ length t.labels = omega (arith, l, m, a, b) in
+          r.linked (sym (ap (parent_of new) i) ∙ sym (ap (λ ps. get_or ps y None) f) ∙ q);
+    }

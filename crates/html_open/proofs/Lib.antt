@@ -32,3 +32,4 @@ mod Readied
 mod Regrouping
 mod Rounds
 mod Looping
+mod Rooted

@@ -1,6 +1,6 @@
 -- Entries are opened anew, one after another.
 use mathlib.Core.Path.{fun_ext}
-use Rattle.std.proofs.Common.{◌≡◌, ◌≢◌, ℕ, suc, ◌+◌, ◌^◌, ◌<◌, ◌≤◌, Bool, true, false, cond, List, [], ◌∷◌, ◌++◌, length, map, get_or, set, Option, Some, None, inl, inr, refl, sym, ◌∙◌, ap, subst, append_assoc, length-append, arith}
+use Rattle.std.proofs.Common.{◌≡◌, ◌≢◌, ℕ, suc, ◌+◌, ◌^◌, ◌<◌, ◌≤◌, Bool, true, false, cond, List, [], ◌∷◌, ◌++◌, length, map, get_or, nat_lt, set, Option, Some, None, inl, inr, refl, sym, ◌∙◌, ap, subst, append_assoc, length-append, arith}
 use Rattle.std.proofs.lemmas.List.{append-nil, length-set, length-take-le}
 use Rattle.std.specs.List.{list_any, range_with_len}
 use Rattle.html_arena.specs.declared.arena.ArenaError.{ArenaError}
@@ -26,7 +26,9 @@ use Rattle.html_open.specs.Opened.{IsMarked, IsOpen, Open, open_at}
 use Rattle.html_open.specs.Placing.{CanPlace, by_table, fosters, outside_table, place_of, place_steps, put, table, target_of, template}
 use Rattle.html_open.specs.Reopening.{IsCause, IsPassed, KeepsClosed, Reopened, clone_steps, clones_of, closed, fresh, reopen_steps, search_steps, stands, with_clone, with_clones}
 use Rattle.html_open.specs.Reopenings.{IsRefused, with_reopened}
+use Rattle.html_open.specs.Rooting.{KeepsParents}
 use Rattle.html_open.specs.Searches.{open_or_marker}
+use Rattle.html_open.proofs.Hangs.{ge-of, lt-of}
 use Rattle.html_open.proofs.Inserted.{get-before, get-default}
 use Rattle.html_open.proofs.Keeps.{cases_bool, cases_eqb, eqb-self, has-append, nodes-append, open-charged}
 use Rattle.html_open.proofs.Lists.{after-length, after-up_to, get_or-default}
@@ -187,6 +189,16 @@ by-mark t s m = fun_ext (λ e. same e)
     same Marker = refl
     same (Node x) = m x
 
+-- parents that are kept twice
+parents-then : (t u v : Tree) → length t.labels ≤ length u.labels → KeepsParents t u → KeepsParents u v → KeepsParents t v
+parents-then t u v l h k = record {
+  same = λ x b. k.same x (omega arith) ∙ h.same x b;
+  linked = λ x a b q. elim (cases_bool (nat_lt x (length u.labels))) [
+    | inl e ↦ (let i = lt-of x (length u.labels) e in h.linked x a i (sym (k.same x i) ∙ q))
+    | inr e ↦ k.linked x (ge-of x (length u.labels) e) b q
+  ];
+}
+
 -- so far, the entries before an index are done
 pub record UnderWay (f : Bool) (o : Open) (i : ℕ) (s : List ℕ) (l : List Entry) (t : Tree) : Type 0 where
   pub front : List Entry
@@ -206,6 +218,7 @@ pub record UnderWay (f : Bool) (o : Open) (i : ℕ) (s : List ℕ) (l : List Ent
   pub same_labels : (y : ℕ) → y < length o.tree.labels → label_of t y ≡ label_of o.tree y
   pub same_off : (y : ℕ) → y < length o.tree.labels → has y o.stack ≡ false → has y s ≡ false
   pub keeps_closed : KeepsClosed o t
+  pub parents : KeepsParents o.tree t
   pub causes : (e : ArenaError) → IsPassed t s f rest e → IsPassed o.tree o.stack f (closed o) e
 
 pub reopening-begin : (f : Bool) (s : List ℕ) (l : List Entry) (t : Tree) (i k : ℕ) → IsOpen (open_at s l t) → CanPlace t s
@@ -232,6 +245,7 @@ reopening-begin f s l t i k h c e g =
       same_labels = λ y j. refl;
       same_off = λ y j q. q;
       keeps_closed = λ y el off none. refl;
+      parents = record { same = λ y j. refl; linked = λ y a b q. absurd (omega arith) };
       causes = λ a p. same-passed (charged t k) t s f (closed o) a refl p;
     }
   where
@@ -319,6 +333,7 @@ pub record IsStep (f : Bool) (s s' : List ℕ) (l l' : List Entry) (t t' : Tree)
   pub keeps : IsOpen (open_at s' l' t')
   pub can_place : CanPlace t' s'
   pub closed_kept : KeepsClosed (open_at s l t) t'
+  pub parents_kept : KeepsParents t t'
 
 module _ (f : Bool) (o : Open) (i : ℕ) (s s' : List ℕ) (l l' : List Entry) (t t' : Tree) where
   one-more : (x : ℕ) (xs : List ℕ) (w : WellFormed o.tree) (u : UnderWay f o i s l t) → u.rest ≡ x ∷ xs → IsStep f s s' l l' t t' i x → UnderWay f o (i + 1) s' l' t'
@@ -372,6 +387,7 @@ module _ (f : Bool) (o : Open) (i : ℕ) (s s' : List ℕ) (l l' : List Entry) (
             let m : has a (children_of o.tree y) ≡ true = subst (λ v. has a v ≡ true) k h in
             none a m (subst IsElement (u.same_labels a (w.child_in y a m)) g))
             ∙ k;
+        parents = parents-then o.tree t t' u.longer u.parents st.parents_kept;
         causes = λ e p. u.causes e (subst (λ v. IsPassed t s f v e) (sym r)
             (passed-more (same-passed t' clone (s ++ c ∷ []) f xs e same (subst (λ v. IsPassed t' v f xs e) st.stack p))));
       }

@@ -12,5 +12,6 @@ pub mod Placing
 pub mod Refusals
 pub mod Reopening
 pub mod Reopenings
+pub mod Rooting
 pub mod Scopes
 pub mod Searches

@@ -1,8 +1,8 @@
 // The adoption agency: what an end tag of a formatting name does to the open elements (13.2.6.4.7).
-ghost use Rattle.std.specs.Prelude.{◌≡◌, ℕ, ◌+◌, ◌-◌, ◌*◌, ◌≤◌, IfErr, IfOk, None, OnOk, false, length, true};
+ghost use Rattle.std.specs.Prelude.{◌≡◌, ℕ, ◌+◌, ◌-◌, ◌*◌, ◌<◌, ◌≤◌, IfErr, IfOk, None, OnOk, Some, false, length, true};
 ghost use Rattle.html_names.specs.declared.tag.Tag.{Tag};
-ghost use Rattle.html_arena.specs.Siblings.{last_of};
-ghost use Rattle.html_arena.specs.Tree.{WellFormed};
+ghost use Rattle.html_arena.specs.Siblings.{first_of, last_of};
+ghost use Rattle.html_arena.specs.Tree.{WellFormed, named};
 ghost use Rattle.html_open.specs.AdoptFinding.{IsPlain};
 ghost use Rattle.html_open.specs.Adopting.{Adopted, Closed, IsFirstFree, IsRefusal, IsStopped, IsTurn, MadeClones, Popped, pops_at_once};
 ghost use Rattle.html_open.specs.Leaving.{IsPaid};
@@ -10,6 +10,7 @@ ghost use Rattle.html_open.specs.Marking.{IsCounted};
 ghost use Rattle.html_open.specs.Opened.{IsOpen, open_at};
 ghost use Rattle.html_open.specs.Placing.{CanPlace};
 ghost use Rattle.html_open.specs.Reopening.{KeepsClosed};
+ghost use Rattle.html_open.specs.Rooting.{KeepsRoots};
 
 mod chain;
 mod clones;
@@ -59,6 +60,10 @@ pub fn adopt(
     requires first_free { IsFirstFree stack.old list.old }
     ensures adopted { IfOk result (λ end. Adopted name foster end (open_at stack.old list.old arena.old) (open_at stack.new list.new arena.new)) }
     ensures kept { OnOk result (IsOpen (open_at stack.new list.new arena.new)) }
+    ensures first { OnOk result ((x : ℕ) → first_of stack.old ≡ Some x → named arena.old name x ≡ false → first_of stack.new ≡ Some x) }
+    ensures can_place { OnOk result (0 < length stack.new → CanPlace arena.new stack.new) }
+    ensures first_free { OnOk result (IsFirstFree stack.new list.new) }
+    ensures roots { OnOk result (KeepsRoots (open_at stack.old list.old arena.old) arena.new) }
     ensures made { MadeClones (open_at stack.old list.old arena.old) arena.new }
     ensures closed { KeepsClosed (open_at stack.old list.old arena.old) arena.new }
     ensures clones { length arena.new.labels ≤ length arena.old.labels + 32 }
@@ -85,6 +90,10 @@ fn follow(
     requires first_free { IsFirstFree stack.old list.old }
     ensures adopted { IfOk result (λ end. Adopted name foster end (open_at stack.old list.old arena.old) (open_at stack.new list.new arena.new)) }
     ensures kept { OnOk result (IsOpen (open_at stack.new list.new arena.new)) }
+    ensures first { OnOk result ((x : ℕ) → first_of stack.old ≡ Some x → named arena.old name x ≡ false → first_of stack.new ≡ Some x) }
+    ensures can_place { OnOk result (0 < length stack.new → CanPlace arena.new stack.new) }
+    ensures first_free { OnOk result (IsFirstFree stack.new list.new) }
+    ensures roots { OnOk result (KeepsRoots (open_at stack.old list.old arena.old) arena.new) }
     ensures made { MadeClones (open_at stack.old list.old arena.old) arena.new }
     ensures closed { KeepsClosed (open_at stack.old list.old arena.old) arena.new }
     ensures clones { length arena.new.labels ≤ length arena.old.labels + 32 }
@@ -120,6 +129,7 @@ fn turn(
     ensures kept { OnOk result (IsOpen (open_at stack.new list.new arena.new)) }
     ensures can_place { IfOk result (λ end. end ≡ None → CanPlace arena.new stack.new) }
     ensures first_free { IfOk result (λ end. end ≡ None → IsFirstFree stack.new list.new) }
+    ensures roots { OnOk result (KeepsRoots (open_at stack.old list.old arena.old) arena.new) }
     ensures stopped { IfErr result (λ e. IsStopped name (open_at stack.old list.old arena.old) arena.new e) }
     ensures steps { IsCounted arena.old.steps arena.new.steps (length arena.new.labels - length arena.old.labels) (length arena.new.labels + 4 * length stack.old + 3 * length list.old + 12) }
     ensures paid { OnOk result (IsPaid (open_at stack.old list.old arena.old) (open_at stack.new list.new arena.new)) }

@@ -25,6 +25,7 @@ impl FormattingList {
     ghost use Rattle.html_open.specs.Entries.{nodes_of};
     ghost use Rattle.html_open.specs.Opened.{IsOpen, open_at};
     ghost use Rattle.html_open.specs.Reopening.{IsCause, KeepsClosed, Reopened, clones_of, reopen_steps};
+    ghost use Rattle.html_open.specs.Rooting.{KeepsParents};
 
     /// Opens anew the elements of the entries after the last one that is a marker or on the stack: for each, in order, a clone is put at
     /// the place for the current node and pushed onto the stack, and takes its entry's place.
@@ -45,6 +46,7 @@ impl FormattingList {
         ensures can_place { OnOk result (CanPlace arena.new stack.new) }
         ensures clones { OnOk result (arena.new.labels ≡ arena.old.labels ++ clones_of (open_at stack.old self.old arena.old)) }
         ensures closed { OnOk result (KeepsClosed (open_at stack.old self.old arena.old) arena.new) }
+        ensures parents { OnOk result (KeepsParents arena.old arena.new) }
         ensures well_formed { WellFormed arena.new }
         ensures cause { IfErr result (λ e. IsCause (open_at stack.old self.old arena.old) foster e) }
     {
@@ -96,6 +98,7 @@ impl FormattingList {
         ensures keeps { OnOk result (IsOpen (open_at stack.new self.new arena.new)) }
         ensures can_place { OnOk result (CanPlace arena.new stack.new) }
         ensures closed { OnOk result (KeepsClosed (open_at stack.old self.old arena.old) arena.new) }
+        ensures parents { OnOk result (KeepsParents arena.old arena.new) }
         ensures cause { IfErr result (λ e. IsRefused arena.old node e) }
     {
         arena.forest();

@@ -9,6 +9,7 @@ ghost use Rattle.html_open.specs.Leaving.{IsPaid};
 ghost use Rattle.html_open.specs.Marking.{IsCounted};
 ghost use Rattle.html_open.specs.Opened.{IsOpen, open_at};
 ghost use Rattle.html_open.specs.Placing.{CanPlace, IsPlace, way_up};
+ghost use Rattle.html_open.specs.Rooting.{KeepsRoots};
 
 use crate::adoption::chain::hang;
 use crate::adoption::clones::{clone_all, elements_to_clone};
@@ -46,6 +47,7 @@ pub(crate) fn round(
     ensures kept { OnOk result (IsOpen (open_at stack.new list.new arena.new)) }
     ensures can_place { OnOk result (CanPlace arena.new stack.new) }
     ensures first_free { OnOk result (IsFirstFree stack.old list.old → IsFirstFree stack.new list.new) }
+    ensures roots { OnOk result (KeepsRoots (open_at stack.old list.old arena.old) arena.new) }
     ensures cut { IfErr result (λ e. IsCut arena.old arena.new (round_originals (open_at stack.old list.old arena.old) at block_at) e) }
     ensures steps { IsCounted arena.old.steps arena.new.steps (length arena.new.labels - length arena.old.labels) (length arena.new.labels + 2 * length stack.old + length list.old + 11) }
     ensures paid { OnOk result (IsPaid (open_at stack.old list.old arena.old) (open_at stack.new list.new arena.new)) }

@@ -2,6 +2,7 @@ use Rattle.std.proofs.Common.{◌≡◌, ◌+◌, ◌*◌, List, ℕ, Option, su
 use Rattle.html_arena.specs.Data.{cloned}
 use Rattle.html_open.specs.Marking.{IsCounted}
 use Rattle.html_open.proofs.Shrinking.{times}
+use Rattle.html_arena.specs.Siblings.{first_of}
 use Rattle.html_arena.specs.Tree.{Tree, label_of}
 use Rattle.html_open.specs.declared.adoption.AdoptEnd.{AdoptEnd}
 use Rattle.html_open.specs.Adopting.{IsFirstFree, IsTurn, Rounds, no_round, popped}
@@ -13,6 +14,7 @@ use Rattle.html_open.specs.declared.error.OpenError.{OpenError}
 use Rattle.html_open.specs.Adopting.{IsRefusal}
 use Rattle.html_open.proofs.Stopping.{refusal-is, stopped-closed, stopped-length, stopped-made}
 use Rattle.html_open.proofs.Leaving.{paid-again, paid-popped, paid-same, paid-then}
+use Rattle.html_open.proofs.Rooted.{ends-can-place, ends-first, ends-free, popped-can-place, popped-first, popped-free, popped-roots, roots-rebase, roots-same, roots-then, round-first}
 use Rattle.html_open.proofs.Shrinking.{counted-end, counted-popped, counted-round, round-listed, round-shorter}
 use Rattle.html_open.proofs.Descending.{labels-longer}
 use Rattle.html_open.proofs.Looping.{can-place-stepped, ends-grown, finish-eight, finish-fewer, round-grown, rounds-more}
@@ -29,6 +31,8 @@ rounding-init c = record {
   shorter = omega arith;
   listed = omega arith;
   counted = record { least = omega arith; most = omega arith };
+  first = refl;
+  roots = roots-same c.pop_unlisted.new.stack c.args.list.now c.pop_unlisted.new.arena c.pop_unlisted.new.arena refl refl;
   paid = paid-same c.pop_unlisted.new.stack c.args.list.now c.pop_unlisted.new.arena c.pop_unlisted.new.arena c.pop_unlisted.ensures.kept refl (omega arith);
 }
 
@@ -47,6 +51,8 @@ rounding-preserved c =
       shorter = (let a = round-shorter c.args.name c.args.foster (open_at c.rounding.stack c.rounding.list c.rounding.arena) (open_at c.turn.new.stack c.turn.new.list c.turn.new.arena) r in let b = c.rounding.invariant.shorter in omega (arith, a, b));
       listed = (let a = round-listed c.args.name c.args.foster (open_at c.rounding.stack c.rounding.list c.rounding.arena) (open_at c.turn.new.stack c.turn.new.list c.turn.new.arena) c.rounding.invariant.opened r in let b = c.rounding.invariant.listed in omega (arith, a, b));
       counted = (let up = ap length r.labels_are in let ap2 = length-append c.rounding.arena.labels (map (λ x. cloned (label_of c.rounding.arena x)) (r.cs ++ r.f ∷ [])) in counted-round c.rounding._index (c.rounding._index + 1) c.pop_unlisted.new.arena.steps c.rounding.arena.steps c.turn.new.arena.steps (length c.pop_unlisted.new.arena.labels) (length c.rounding.arena.labels) (length c.turn.new.arena.labels) (length c.rounding.stack) (length c.rounding.list) (length c.pop_unlisted.new.stack) (length c.args.list.now) (omega arith) c.rounding-test.true (labels-longer (open_at c.pop_unlisted.new.stack c.args.list.now c.pop_unlisted.new.arena) c.rounding.arena c.rounding.invariant.descends.made) (omega (arith, up, ap2)) c.rounding.invariant.shorter c.rounding.invariant.listed c.rounding.invariant.counted c.turn.ensures.steps);
+      first = round-first c.args.name c.args.foster (open_at c.rounding.stack c.rounding.list c.rounding.arena) (open_at c.turn.new.stack c.turn.new.list c.turn.new.arena) r ∙ c.rounding.invariant.first;
+      roots = roots-then (open_at c.pop_unlisted.new.stack c.args.list.now c.pop_unlisted.new.arena) (open_at c.rounding.stack c.rounding.list c.rounding.arena) c.turn.new.arena c.rounding.invariant.descends c.rounding.invariant.first c.rounding.invariant.opened.stack_once (labels-longer (open_at c.pop_unlisted.new.stack c.args.list.now c.pop_unlisted.new.arena) c.rounding.arena c.rounding.invariant.descends.made) c.rounding.invariant.roots c.in_ok-end.ensures.roots;
       paid = (let up = ap length r.labels_are in let ap2 = length-append c.rounding.arena.labels (map (λ x. cloned (label_of c.rounding.arena x)) (r.cs ++ r.f ∷ [])) in paid-then (open_at c.pop_unlisted.new.stack c.args.list.now c.pop_unlisted.new.arena) (open_at c.rounding.stack c.rounding.list c.rounding.arena) (open_at c.turn.new.stack c.turn.new.list c.turn.new.arena) c.pop_unlisted.ensures.kept (labels-longer (open_at c.pop_unlisted.new.stack c.args.list.now c.pop_unlisted.new.arena) c.rounding.arena c.rounding.invariant.descends.made) (omega (arith, up, ap2)) c.rounding.invariant.paid c.in_ok-end.ensures.paid);
     }
 
@@ -170,3 +176,41 @@ returns-in-Some-clause-paid c =
     let k = ends-grown c.args.name c.in-Some.end (open_at c.rounding.stack c.rounding.list c.rounding.arena) (open_at c.turn.new.stack c.turn.new.list c.turn.new.arena) (subst (λ (e : Option AdoptEnd). IsTurn c.args.name c.args.foster e (open_at c.rounding.stack c.rounding.list c.rounding.arena) (open_at c.turn.new.stack c.turn.new.list c.turn.new.arena)) c.in-Some.is c.in_ok-end.ensures.turned) in
     paid-again c.args.stack.now c.pop_unlisted.new.stack c.args.list.now c.args.arena.now c.pop_unlisted.new.arena (open_at c.turn.new.stack c.turn.new.list c.turn.new.arena) (c.pop_unlisted.ensures.same_stack c.if-pop_unlisted.false) (c.pop_unlisted.ensures.same_tree c.if-pop_unlisted.false) c.pop_unlisted.ensures.steps.least
     (paid-then (open_at c.pop_unlisted.new.stack c.args.list.now c.pop_unlisted.new.arena) (open_at c.rounding.stack c.rounding.list c.rounding.arena) (open_at c.turn.new.stack c.turn.new.list c.turn.new.arena) c.pop_unlisted.ensures.kept (labels-longer (open_at c.pop_unlisted.new.stack c.args.list.now c.pop_unlisted.new.arena) c.rounding.arena c.rounding.invariant.descends.made) (omega (arith, k)) c.rounding.invariant.paid c.in_ok-end.ensures.paid)
+
+pub returns-then-pop_unlisted-clause-first : goal.returns-then-pop_unlisted-clause-first
+returns-then-pop_unlisted-clause-first c = popped-first c.args.name (open_at c.args.stack.now c.args.list.now c.args.arena.now) (open_at c.pop_unlisted.new.stack c.args.list.now c.pop_unlisted.new.arena) (c.pop_unlisted.ensures.yes c.if-pop_unlisted.true)
+
+pub returns-then-pop_unlisted-clause-can_place : goal.returns-then-pop_unlisted-clause-can_place
+returns-then-pop_unlisted-clause-can_place c = popped-can-place c.args.name (open_at c.args.stack.now c.args.list.now c.args.arena.now) (open_at c.pop_unlisted.new.stack c.args.list.now c.pop_unlisted.new.arena) (c.pop_unlisted.ensures.yes c.if-pop_unlisted.true) c.requires.can_place
+
+pub returns-then-pop_unlisted-clause-first_free : goal.returns-then-pop_unlisted-clause-first_free
+returns-then-pop_unlisted-clause-first_free c = popped-free c.args.name (open_at c.args.stack.now c.args.list.now c.args.arena.now) (open_at c.pop_unlisted.new.stack c.args.list.now c.pop_unlisted.new.arena) (c.pop_unlisted.ensures.yes c.if-pop_unlisted.true) c.requires.first_free
+
+pub returns-then-pop_unlisted-clause-roots : goal.returns-then-pop_unlisted-clause-roots
+returns-then-pop_unlisted-clause-roots c = popped-roots c.args.name (open_at c.args.stack.now c.args.list.now c.args.arena.now) (open_at c.pop_unlisted.new.stack c.args.list.now c.pop_unlisted.new.arena) (c.pop_unlisted.ensures.yes c.if-pop_unlisted.true)
+
+pub returns-clause-first : goal.returns-clause-first
+returns-clause-first c = λ x e n. c.rounding.invariant.first ∙ ap first_of (c.pop_unlisted.ensures.same_stack c.if-pop_unlisted.false) ∙ e
+
+pub returns-clause-can_place : goal.returns-clause-can_place
+returns-clause-can_place c = λ l. c.rounding.invariant.can_place
+
+pub returns-clause-roots : goal.returns-clause-roots
+returns-clause-roots c = roots-rebase c.args.stack.now c.pop_unlisted.new.stack c.args.list.now c.args.arena.now c.pop_unlisted.new.arena c.rounding.arena (c.pop_unlisted.ensures.same_stack c.if-pop_unlisted.false) (c.pop_unlisted.ensures.same_tree c.if-pop_unlisted.false) c.rounding.invariant.roots
+
+pub returns-in-Some-clause-first : goal.returns-in-Some-clause-first
+returns-in-Some-clause-first c = λ x e n.
+    ends-first c.args.name c.in-Some.end (open_at c.rounding.stack c.rounding.list c.rounding.arena) (open_at c.turn.new.stack c.turn.new.list c.turn.new.arena) (subst (λ (e : Option AdoptEnd). IsTurn c.args.name c.args.foster e (open_at c.rounding.stack c.rounding.list c.rounding.arena) (open_at c.turn.new.stack c.turn.new.list c.turn.new.arena)) c.in-Some.is c.in_ok-end.ensures.turned) c.rounding.invariant.first_free ∙ c.rounding.invariant.first ∙ ap first_of (c.pop_unlisted.ensures.same_stack c.if-pop_unlisted.false) ∙ e
+
+pub returns-in-Some-clause-can_place : goal.returns-in-Some-clause-can_place
+returns-in-Some-clause-can_place c = λ l.
+    ends-can-place c.args.name c.in-Some.end (open_at c.rounding.stack c.rounding.list c.rounding.arena) (open_at c.turn.new.stack c.turn.new.list c.turn.new.arena) (subst (λ (e : Option AdoptEnd). IsTurn c.args.name c.args.foster e (open_at c.rounding.stack c.rounding.list c.rounding.arena) (open_at c.turn.new.stack c.turn.new.list c.turn.new.arena)) c.in-Some.is c.in_ok-end.ensures.turned) c.rounding.invariant.first_free c.rounding.invariant.can_place
+
+pub returns-in-Some-clause-first_free : goal.returns-in-Some-clause-first_free
+returns-in-Some-clause-first_free c =
+    ends-free c.args.name c.in-Some.end (open_at c.rounding.stack c.rounding.list c.rounding.arena) (open_at c.turn.new.stack c.turn.new.list c.turn.new.arena) (subst (λ (e : Option AdoptEnd). IsTurn c.args.name c.args.foster e (open_at c.rounding.stack c.rounding.list c.rounding.arena) (open_at c.turn.new.stack c.turn.new.list c.turn.new.arena)) c.in-Some.is c.in_ok-end.ensures.turned) c.rounding.invariant.first_free
+
+pub returns-in-Some-clause-roots : goal.returns-in-Some-clause-roots
+returns-in-Some-clause-roots c =
+    roots-rebase c.args.stack.now c.pop_unlisted.new.stack c.args.list.now c.args.arena.now c.pop_unlisted.new.arena c.turn.new.arena (c.pop_unlisted.ensures.same_stack c.if-pop_unlisted.false) (c.pop_unlisted.ensures.same_tree c.if-pop_unlisted.false)
+    (roots-then (open_at c.pop_unlisted.new.stack c.args.list.now c.pop_unlisted.new.arena) (open_at c.rounding.stack c.rounding.list c.rounding.arena) c.turn.new.arena c.rounding.invariant.descends c.rounding.invariant.first c.rounding.invariant.opened.stack_once (labels-longer (open_at c.pop_unlisted.new.stack c.args.list.now c.pop_unlisted.new.arena) c.rounding.arena c.rounding.invariant.descends.made) c.rounding.invariant.roots c.in_ok-end.ensures.roots)

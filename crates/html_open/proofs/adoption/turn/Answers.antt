@@ -6,6 +6,7 @@ use Rattle.html_open.specs.Marking.{bare}
 use Rattle.html_open.specs.Opened.{IsOpen, open_at}
 use Rattle.html_open.specs.Placing.{CanPlace}
 use Rattle.std.proofs.lemmas.Result.{err_from_is_err_and}
+use Rattle.html_open.specs.declared.adoption.AdoptEnd.TheVariants.{Done, OtherEndTag}
 use Rattle.html_open.specs.declared.error.OpenError.{OpenError}
 use Rattle.html_open.specs.Adopting.{IsStopped, round_originals}
 use Rattle.html_open.specs.Cloning.{IsCut}
@@ -15,6 +16,7 @@ use Rattle.html_open.specs.Entries.{is_node, removal_steps}
 use Rattle.html_open.proofs.Counting.{counted-charge, counted-within, removal-few, turn-counted, turn-round}
 use Rattle.html_open.proofs.Finding.{last_named-in}
 use Rattle.html_open.proofs.Leaving.{paid-later, paid-removed, paid-same}
+use Rattle.html_open.proofs.Rooted.{ends-roots, roots-rebase}
 use Rattle.html_open.proofs.Looping.{can-place-stepped, closed-rebase, not-first, plain-stepped, round-rebase}
 use Rattle.html_open.proofs.Rounds.{block-stepped, open-stepped}
 use Rattle.html_open.proofs.adoption.turn.Goals as goal
@@ -145,3 +147,19 @@ returns-in-Plain-clause-paid c =
 pub returns-in_ok-round-in-Block-clause-paid : goal.returns-in_ok-round-in-Block-clause-paid
 returns-in_ok-round-in-Block-clause-paid c =
     paid-later c.args.stack.now c.args.list.now c.args.arena.now c.find.new.arena (open_at c.round.new.stack c.round.new.list c.round.new.arena) c.find.ensures.tree c.find.ensures.steps.least c.in_ok-round-in-Block.ensures.paid
+
+pub returns-in-NoEntry-clause-roots : goal.returns-in-NoEntry-clause-roots
+returns-in-NoEntry-clause-roots c = ends-roots c.args.name OtherEndTag (open_at c.args.stack.now c.args.list.now c.args.arena.now) (open_at c.args.stack.now c.args.list.now c.find.new.arena) (returns-in-NoEntry-clause-turned c)
+
+pub returns-in-OutOfScope-clause-roots : goal.returns-in-OutOfScope-clause-roots
+returns-in-OutOfScope-clause-roots c = ends-roots c.args.name Done (open_at c.args.stack.now c.args.list.now c.args.arena.now) (open_at c.args.stack.now c.args.list.now c.find.new.arena) (returns-in-OutOfScope-clause-turned c)
+
+pub returns-in-OffStack-clause-roots : goal.returns-in-OffStack-clause-roots
+returns-in-OffStack-clause-roots c = ends-roots c.args.name Done (open_at c.args.stack.now c.args.list.now c.args.arena.now) (open_at c.args.stack.now c.remove.new.self c.remove.new.arena) (returns-in-OffStack-clause-turned c)
+
+pub returns-in-Plain-clause-roots : goal.returns-in-Plain-clause-roots
+returns-in-Plain-clause-roots c = ends-roots c.args.name Done (open_at c.args.stack.now c.args.list.now c.args.arena.now) (open_at c.close.new.stack c.close.new.list c.close.new.arena) (returns-in-Plain-clause-turned c)
+
+pub returns-in_ok-round-in-Block-clause-roots : goal.returns-in_ok-round-in-Block-clause-roots
+returns-in_ok-round-in-Block-clause-roots c =
+    roots-rebase c.args.stack.now c.args.stack.now c.args.list.now c.args.arena.now c.find.new.arena c.round.new.arena refl c.find.ensures.tree c.in_ok-round-in-Block.ensures.roots

@@ -14,7 +14,9 @@ use Rattle.html_open.specs.Cloning.{IsCut}
 use Rattle.html_open.proofs.Cutting.{cut-rebase}
 use Rattle.html_open.specs.Placing.{place_steps}
 use Rattle.html_open.proofs.Counting.{place-few, round-counted}
+use Rattle.html_open.proofs.Inserted.{parent-there, place-as}
 use Rattle.html_open.proofs.Leaving.{paid-round}
+use Rattle.html_open.proofs.Rooted.{regrouped-roots, roots-stepped}
 use Rattle.html_open.proofs.Rounds.{at-below, can-place-kept, first-free-kept, apart, at-less, before-is, block-stepped, open-stepped, place-stepped, round-is, stepped, steps-then, way-in, way-stepped, a-within}
 use Rattle.html_open.proofs.adoption.round.round.Goals as goal
 
@@ -116,3 +118,15 @@ returns-clause-paid c =
     paid-round c.args.stack.now c.replace.new.self (clones_down (length c.place-target.new.arena.labels) (length c.in_ok-regrouped.ensures.regrouped.cs) ++ (get_or c.as_slice-nodes.result.now c.args.block_at 0 ∷ (length c.place-target.new.arena.labels + length c.in_ok-regrouped.ensures.regrouped.cs) ∷ drop (c.args.block_at + 1) c.as_slice-nodes.result.now)) c.args.list.now c.in_ok-regrouped.regrouped.entries.items c.args.arena.now c.regroup.new.arena c.args.at (length c.place-target.new.arena.labels) c.charge.new.self.steps c.place-target.new.arena.steps (place_steps c.charge.new.self c.args.stack.now (Some c.index-nodes-at.result) c.args.foster) c.requires.«open»
     (c.replace.ensures ∙ c.in_ok-regrouped.ensures.regrouped.stack_is ∙ ap (λ (v : List ℕ). take c.args.at v ++ (clones_down (length c.place-target.new.arena.labels) (length c.in_ok-regrouped.ensures.regrouped.cs) ++ (get_or c.as_slice-nodes.result.now c.args.block_at 0 ∷ (length c.place-target.new.arena.labels + length c.in_ok-regrouped.ensures.regrouped.cs) ∷ drop (c.args.block_at + 1) c.as_slice-nodes.result.now))) c.as_slice-nodes.ensures)
     (omega (arith, e1, e2, k1)) (ap (λ (t : Tree). t.steps) c.place-target.ensures.steps) (omega (arith, n1, n2)) c.regroup.ensures.steps.least
+
+pub returns-clause-roots : goal.returns-clause-roots
+returns-clause-roots c =
+    let k = c.requires.block.1.block.after in
+    roots-stepped c.args.stack.now c.args.list.now c.args.arena.now c.regroup.new.arena c.place-target.new.arena.steps
+    (regrouped-roots c.args.at c.args.block_at c.place-target.result (open_at c.args.stack.now c.args.list.now (stepped c.args.arena.now c.place-target.new.arena.steps)) (open_at c.in_ok-regrouped.regrouped.nodes.items c.in_ok-regrouped.regrouped.entries.items c.regroup.new.arena)
+    (subst (λ (t : Tree). IsRegrouped c.args.at c.args.block_at c.place-target.result (open_at c.args.stack.now c.args.list.now t) (open_at c.in_ok-regrouped.regrouped.nodes.items c.in_ok-regrouped.regrouped.entries.items c.regroup.new.arena)) (steps-then c.args.arena.now c.charge.new.self c.place-target.new.arena (c.charge.ensures ∙ sym (ap (λ (v : Tree). stepped c.args.arena.now v.steps) c.charge.ensures)) (c.place-target.ensures.steps ∙ sym (ap (λ (v : Tree). stepped c.charge.new.self v.steps) c.place-target.ensures.steps)))
+    (subst (λ (v : List Entry). IsRegrouped c.args.at c.args.block_at c.place-target.result (open_at c.args.stack.now v c.place-target.new.arena) (open_at c.in_ok-regrouped.regrouped.nodes.items c.in_ok-regrouped.regrouped.entries.items c.regroup.new.arena)) (c.as_slice-entries.ensures.value ∙ c.list.view_is)
+    (subst (λ (v : List ℕ). IsRegrouped c.args.at c.args.block_at c.place-target.result (open_at v c.as_slice-entries.result.now c.place-target.new.arena) (open_at c.in_ok-regrouped.regrouped.nodes.items c.in_ok-regrouped.regrouped.entries.items c.regroup.new.arena)) c.as_slice-nodes.ensures c.in_ok-regrouped.ensures.regrouped)))
+    (omega (arith, k)) c.requires.block.1.block.within c.forest.ensures.well_formed.child_has_parent
+    (parent-there (stepped c.args.arena.now c.place-target.new.arena.steps) c.place-target.result
+    (place-as c.charge.new.self (stepped c.args.arena.now c.place-target.new.arena.steps) c.place-target.result (sym (ap (λ (t : Tree). t.labels) c.charge.ensures)) (sym (ap (λ (t : Tree). t.parents) c.charge.ensures)) c.place-target.ensures.there)))

@@ -55,6 +55,7 @@ reopening-preserved c =
                   keeps = w.in_ok-reopened.ensures.keeps;
                   can_place = w.in_ok-reopened.ensures.can_place;
                   closed_kept = w.in_ok-reopened.ensures.closed;
+                  parents_kept = w.in_ok-reopened.ensures.parents;
                 }));
             len_is = ap length w.self-is ∙ same-length c.reopening.self l c.reopening.index c.len-len.result (Node (length c.reopening.arena.labels)) c.reopening.invariant.len_is w.in_ok-reopened.ensures.list;
           }

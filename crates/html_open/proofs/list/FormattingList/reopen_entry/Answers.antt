@@ -7,7 +7,7 @@ use Rattle.html_open.specs.Marking.{charged}
 use Rattle.html_open.specs.Opened.{IsOpen, open_at}
 use Rattle.html_open.specs.Placing.{CanPlace, place_of}
 use Rattle.html_open.proofs.Anew.{can-place, can-same, reopened-keeps, set-at, split-at}
-use Rattle.html_open.proofs.Inserted.{longer}
+use Rattle.html_open.proofs.Inserted.{longer, parents-inserted}
 use Rattle.html_open.proofs.Lists.{node-at}
 use Rattle.html_open.proofs.Standing.{element-in, not-parent, place-by}
 use Rattle.html_open.proofs.list.FormattingList.reopen_entry.Goals as goal
@@ -71,3 +71,11 @@ returns-clause-closed c = λ y el off none.
     ∙ c.in_ok-clone.ensures.laws.same_children y (element-in t y el)
     (not-parent t c.args.stack.now c.forest.ensures.well_formed p y (place-by t c.args.stack.now c.forest.ensures.well_formed c.args.foster c.requires.can_place)
     c.requires.is_open.elements el off none)
+
+pub returns-clause-parents : goal.returns-clause-parents
+returns-clause-parents c =
+    let t = c.args.arena.now in
+    let e = tree_is t c.insert_clone.new.arena c.set_mark.new.self c.push.new.arena c.set_mark-2.new.self c.charge.new.self c.args.node c.in_ok-clone.clone (length t.labels)
+    c.in_ok-clone.ensures.id c.set_mark.ensures c.in_ok-push.ensures.tree c.set_mark-2.ensures c.charge.ensures in
+    let p = place_of t c.args.stack.now None c.args.foster in
+    parents-inserted t c.insert_clone.new.arena c.charge.new.self p c.args.node c.in_ok-clone.ensures.laws (ap (λ (v : Tree). v.labels) e) (ap (λ (v : Tree). v.parents) e)
