@@ -1,4 +1,4 @@
-use Rattle.std.proofs.Common.{◌≡◌, None, cond, ◌∙◌, ap, subst}
+use Rattle.std.proofs.Common.{None, cond, ◌∙◌, ap, subst}
 use Rattle.html_arena.specs.Tree.{Tree, parent_of}
 use Rattle.html_open.specs.declared.places.Place.{Place}
 use Rattle.html_open.specs.Placing.{parent_at, place_steps}
