@@ -44,6 +44,7 @@ pub fn run<R: Source, W: Sink, F: Write>(
     ensures normalised { job.now.command ≡ Command.Normalise → result ≡ DONE
         → (rows : List Row) × MatchOption entities.entry (rows ≡ core_rows) (λ bytes. entities_of bytes.now ≡ Ok rows)
         × IsNormalised rows (profile_of job.now.profile) (Appends (W.taken writer.old) (W.taken writer.new)) (R.remaining reader.old) (R.remaining reader.new) }
+    ensures refused { job.now.command ≡ Command.Normalise → result ≡ REFUSED → W.taken writer.new ≡ W.taken writer.old }
     ensures status { result < 4 }
 {
     let input = job.input.unwrap_or("-");
