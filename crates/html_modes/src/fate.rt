@@ -51,12 +51,12 @@ impl Cause {
 
 impl Fate {
     /// Whether a node was made of the token.
-    pub(crate) fn is_made(self) -> bool {
+    pub(crate) fn is_made(&self) -> bool {
         matches!(self, Fate::Made(_))
     }
 
     /// Whether the fate tells of an error of the page.
-    pub(crate) fn is_error(self) -> bool {
+    pub(crate) fn is_error(&self) -> bool {
         match self {
             Fate::Dropped(cause) => cause.is_error(),
             Fate::Merged => true,

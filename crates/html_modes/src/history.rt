@@ -92,7 +92,7 @@ fn seen(before: bool, made: bool, named: bool) -> bool {
 }
 
 /// What is settled after one more token with its fate.
-pub(crate) fn after(history: History, symbol: Symbol, fate: Fate) -> History {
+pub(crate) fn after(history: History, symbol: Symbol, fate: &Fate) -> History {
     let made = fate.is_made();
     let select = both(made, starts(symbol, Tag::Select));
     let template = both(made, starts(symbol, Tag::Template));

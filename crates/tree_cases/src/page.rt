@@ -25,6 +25,8 @@ pub enum PageFault {
     Input,
     Tokens,
     Build(BuildError),
+    /// A token was taken after a refusal.
+    NotStopped,
 }
 
 /// The page of an input, in a context or as a document.
@@ -34,24 +36,10 @@ pub fn page_of(
     context: Option<&str>,
     bytes: &[u8],
 ) -> Result<Page, PageFault> {
-    let mut decoder = Decoder::new();
-    let mut text = Vec::new(alloc);
-    decoder
-        .feed(bytes, &mut text)
-        .map_err(|_| PageFault::Input)?;
-    decoder.finish(&mut text).map_err(|_| PageFault::Input)?;
-    let count = decoder.count();
     match context {
         None => {
             let builder = Builder::document(alloc).map_err(PageFault::Build)?;
-            build(
-                alloc,
-                table,
-                builder,
-                TextMode::Data,
-                text.as_slice(),
-                count,
-            )
+            page_with(alloc, table, builder, TextMode::Data, bytes)
         }
         Some(name) => {
             let context = Context {
@@ -60,36 +48,29 @@ pub fn page_of(
                 quirks: false,
             };
             let builder = Builder::fragment(alloc, &context).map_err(PageFault::Build)?;
-            build(
-                alloc,
-                table,
-                builder,
-                context.text_mode(),
-                text.as_slice(),
-                count,
-            )
+            page_with(alloc, table, builder, context.text_mode(), bytes)
         }
     }
 }
 
-fn build(
+/// The page that a builder makes of an input.
+pub fn page_with(
     alloc: Global,
     table: &EntityTable,
     mut builder: Builder,
     mode: TextMode,
-    text: &[char],
-    count: u64,
+    bytes: &[u8],
 ) -> Result<Page, PageFault> {
-    let mut tokenizer = Tokenizer::new(alloc, table, mode, None).map_err(|_| PageFault::Tokens)?;
-    tokenizer.feed(text).map_err(|_| PageFault::Tokens)?;
-    tokenizer.finish().map_err(|_| PageFault::Tokens)?;
+    let (text, count) = text_of(alloc, bytes)?;
     let mut tokens = Vec::new(alloc);
-    'tokens: while let Some(token) = tokenizer.next().map_err(|_| PageFault::Tokens)? {
-        if let Some(mode) = builder.process(&token).map_err(PageFault::Build)? {
-            tokenizer.switch(mode);
-        }
-        tokens.push(token).map_err(AllocError::from)?;
-    }
+    build(
+        alloc,
+        table,
+        &mut builder,
+        mode,
+        text.as_slice(),
+        &mut tokens,
+    )?;
     let (arena, fates, errors) = builder.finish();
     Ok(Page {
         arena,
@@ -98,6 +79,48 @@ fn build(
         errors,
         count,
     })
+}
+
+/// The text of an input, and how many code points were read.
+fn text_of(alloc: Global, bytes: &[u8]) -> Result<(Vec<char>, u64), PageFault> {
+    let mut decoder = Decoder::new();
+    let mut text = Vec::new(alloc);
+    decoder
+        .feed(bytes, &mut text)
+        .map_err(|_| PageFault::Input)?;
+    decoder.finish(&mut text).map_err(|_| PageFault::Input)?;
+    Ok((text, decoder.count()))
+}
+
+/// Hands the tokens of a text to a builder. After a refusal the builder has to be stopped.
+fn build(
+    alloc: Global,
+    table: &EntityTable,
+    builder: &mut Builder,
+    mode: TextMode,
+    text: &[char],
+    tokens: &mut Vec<Token>,
+) -> Result<(), PageFault> {
+    let mut tokenizer = Tokenizer::new(alloc, table, mode, None).map_err(|_| PageFault::Tokens)?;
+    tokenizer.feed(text).map_err(|_| PageFault::Tokens)?;
+    tokenizer.finish().map_err(|_| PageFault::Tokens)?;
+    'tokens: while let Some(token) = tokenizer.next().map_err(|_| PageFault::Tokens)? {
+        match builder.process(&token) {
+            Ok(Some(mode)) => tokenizer.switch(mode),
+            Ok(None) => {}
+            Err(error) => return Err(refusal(builder, &token, error)),
+        }
+        tokens.push(token).map_err(AllocError::from)?;
+    }
+    Ok(())
+}
+
+/// A refusal, where the builder is stopped after it.
+fn refusal(builder: &mut Builder, token: &Token, error: BuildError) -> PageFault {
+    match builder.process(token) {
+        Err(BuildError::Stopped) => PageFault::Build(error),
+        _ => PageFault::NotStopped,
+    }
 }
 
 impl From<AllocError> for PageFault {

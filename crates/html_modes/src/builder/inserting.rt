@@ -101,9 +101,9 @@ impl Builder {
     /// Adds a code point to the text at the place for the current node.
     pub(crate) fn insert_char(&mut self, c: char) -> Result<(), Refusal> {
         let place = self.place();
-        let node = match self.text_before(place) {
+        let node = match self.text_before(&place) {
             Some(node) => node,
-            None => self.insert_text(place)?,
+            None => self.insert_text(&place)?,
         };
         self.arena.append_text(node, c)?;
         self.give(Symbol::Char(c), Fate::Text(node))
@@ -180,21 +180,21 @@ impl Builder {
     /// Puts a node that stands alone at the place for the current node.
     fn put(&mut self, node: NodeId) {
         let place = self.place();
-        self.put_at(place, node);
+        self.put_at(&place, node);
     }
 
-    fn put_at(&mut self, place: Place, node: NodeId) {
+    fn put_at(&mut self, place: &Place, node: NodeId) {
         match place {
-            Place::Last(parent) => self.arena.append(parent, node),
-            Place::Before(next) => self.arena.insert_before(node, next),
+            Place::Last(parent) => self.arena.append(*parent, node),
+            Place::Before(next) => self.arena.insert_before(node, *next),
         }
     }
 
     /// The text that stands just before a place.
-    fn text_before(&self, place: Place) -> Option<NodeId> {
+    fn text_before(&self, place: &Place) -> Option<NodeId> {
         let before = match place {
-            Place::Last(parent) => self.arena.last_child(parent),
-            Place::Before(next) => self.arena.previous(next),
+            Place::Last(parent) => self.arena.last_child(*parent),
+            Place::Before(next) => self.arena.previous(*next),
         };
         let node = before?;
         match self.arena.kind(node) {
@@ -204,7 +204,7 @@ impl Builder {
     }
 
     /// Makes an empty text at a place.
-    fn insert_text(&mut self, place: Place) -> Result<NodeId, Refusal> {
+    fn insert_text(&mut self, place: &Place) -> Result<NodeId, Refusal> {
         let node = self.arena.make(NewNode::Text)?;
         self.put_at(place, node);
         Ok(node)

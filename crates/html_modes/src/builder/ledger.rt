@@ -42,8 +42,8 @@ impl Builder {
         if fate.is_error() {
             self.report()?;
         }
+        self.history = after(self.history, symbol, &fate);
         self.fates.push(fate).map_err(AllocError::from)?;
-        self.history = after(self.history, symbol, fate);
         Ok(())
     }
 
