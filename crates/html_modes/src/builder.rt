@@ -6,11 +6,9 @@ use crate::fate::{Cause, Fate};
 use crate::history::History;
 use crate::mode::Mode;
 use crate::symbol::Symbol;
-use html_arena::{Arena, Limits, NewNode, NodeId, Origin};
-use html_charref::Str;
+use html_arena::{Arena, Limits, NodeId};
 use html_names::Tag;
 use html_open::{FormattingList, OpenStack};
-use html_tokens::Attrs;
 use std::alloc::{AllocError, Global};
 
 mod closing;
@@ -124,26 +122,22 @@ impl Builder {
     }
 
     /// Begins a document over an arena without nodes.
-    fn begin(alloc: Global, mut arena: Arena) -> Result<Builder, Refusal> {
-        let _ = arena.make(NewNode::Document)?;
-        Ok(Builder::over(alloc, arena, History::document()))
+    fn begin(alloc: Global, arena: Arena) -> Result<Builder, Refusal> {
+        let mut builder = Builder::over(alloc, arena, History::document());
+        builder.make_document()?;
+        Ok(builder)
     }
 
-    /// Begins a fragment over an arena without nodes: its root is open.
-    fn begin_in(alloc: Global, mut arena: Arena, context: &Context) -> Result<Builder, Refusal> {
-        let root = arena.make(NewNode::Element {
-            name: Str::of(alloc, Tag::Html.name())?,
-            attrs: Attrs::new(alloc),
-            origin: Origin::Implied,
-        })?;
+    /// Begins a fragment over an arena without nodes.
+    fn begin_in(alloc: Global, arena: Arena, context: &Context) -> Result<Builder, Refusal> {
         let mut builder = Builder::over(alloc, arena, History::fragment(context));
-        builder.stack.push(&mut builder.arena, root)?;
         builder.enter_context(context)?;
         Ok(builder)
     }
 
-    /// Takes over what a context settles.
+    /// Opens the root of a fragment, and takes over what its context settles.
     fn enter_context(&mut self, context: &Context) -> Result<(), Refusal> {
+        self.open_root()?;
         let tag = context.tag();
         self.context = Some(tag);
         self.quirks = context.quirks;

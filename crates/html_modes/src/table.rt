@@ -51,18 +51,22 @@ impl Builder {
     /// The rules of the mode in table that the modes in table body and in row share.
     pub(crate) fn table_rules(&mut self, input: Input<'_>) -> Result<Outcome, Refusal> {
         match input.symbol {
-            Symbol::Char(_) if self.collects_text() => {
-                self.enter_table_text();
-                return Ok(Outcome::Again);
-            }
+            Symbol::Char(_) => return self.table_rules_char(input),
             Symbol::Comment => self.insert_comment(input)?,
             Symbol::Doctype => self.doctype(input)?,
             Symbol::Start(tag) => return self.table_rules_start(input, tag),
             Symbol::End(tag) => return self.table_rules_end(input, tag),
             Symbol::Eof => return self.body_rules(input),
-            Symbol::Char(_) => return self.foster_rules(input),
         }
         Ok(Outcome::Done)
+    }
+
+    fn table_rules_char(&mut self, input: Input<'_>) -> Result<Outcome, Refusal> {
+        if self.collects_text() {
+            self.enter_table_text();
+            return Ok(Outcome::Again);
+        }
+        self.foster_rules(input)
     }
 
     /// Whether text in the current node is collected before it is put anywhere.

@@ -60,12 +60,14 @@ impl Builder {
                 self.end(input.symbol)?;
             }
             Symbol::Eof => return self.body_rules(input),
-            Symbol::Char(_) | Symbol::Start(_) | Symbol::End(_) => {
+            Symbol::End(_) => {
                 if self.close_column_group() {
                     return Ok(Outcome::Again);
                 }
-                return self.outside_column_group(input);
+                self.end(input.symbol)?;
             }
+            Symbol::Start(_) => return self.leave_column_group(input),
+            Symbol::Char(_) => return self.leave_column_group(input),
         }
         Ok(Outcome::Done)
     }
@@ -79,24 +81,30 @@ impl Builder {
         true
     }
 
-    /// What the mode in column group drops where no column group is open. (In a real run a col was made then, or the context is a
+    /// A token that closes the column group, and is dropped where none is open. (In a real run a col was made then, or the context is a
     /// column group, and the token came in this mode; else the rules of the body go on.)
-    fn outside_column_group(&mut self, input: Input<'_>) -> Result<Outcome, Refusal> {
-        match input.symbol {
-            Symbol::End(_) => self.end(input.symbol)?,
-            Symbol::Start(_) | Symbol::Char(_) if self.may_drop_column() => {
-                self.drop_token(input.symbol, Cause::InColumnGroup)?;
-            }
-            _ => {
-                self.set_mode(Mode::InBody);
-                return Ok(Outcome::Again);
-            }
+    fn leave_column_group(&mut self, input: Input<'_>) -> Result<Outcome, Refusal> {
+        if self.close_column_group() {
+            return Ok(Outcome::Again);
         }
+        if !self.is_outside_column_group(input.symbol) {
+            self.set_mode(Mode::InBody);
+            return Ok(Outcome::Again);
+        }
+        self.drop_token(input.symbol, Cause::InColumnGroup)?;
         Ok(Outcome::Done)
     }
 
-    fn may_drop_column(&self) -> bool {
-        self.history().col && self.began().is_column_group()
+    /// Whether a token may be dropped as outside a column group.
+    fn is_outside_column_group(&self, symbol: Symbol) -> bool {
+        if !self.history().col || !self.began().is_column_group() {
+            return false;
+        }
+        match symbol {
+            Symbol::Start(tag) => !tag.is_in_column_group(),
+            Symbol::Char(c) => !is_space(c),
+            Symbol::End(_) | Symbol::Comment | Symbol::Doctype | Symbol::Eof => false,
+        }
     }
 
     pub(crate) fn in_table_body(&mut self, input: Input<'_>) -> Result<Outcome, Refusal> {

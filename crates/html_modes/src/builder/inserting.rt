@@ -59,6 +59,18 @@ impl Builder {
         self.open_element(node)
     }
 
+    /// Makes the node of a document, the first.
+    pub(super) fn make_document(&mut self) -> Result<(), Refusal> {
+        let _ = self.arena.make(NewNode::Document)?;
+        Ok(())
+    }
+
+    /// Makes the root of a fragment, the first node, and opens it.
+    pub(super) fn open_root(&mut self) -> Result<(), Refusal> {
+        let root = self.make_implied(Tag::Html)?;
+        self.open_element(root)
+    }
+
     /// Makes a comment at the place for the current node.
     pub(crate) fn insert_comment(&mut self, input: Input<'_>) -> Result<(), Refusal> {
         let node = self.make_comment(input)?;
@@ -222,7 +234,8 @@ fn name_of<'a>(input: Input<'a>) -> &'a str {
 /// The name of a tag; another token has none.
 fn written_name_of(kind: &TokenKind) -> &str {
     match kind {
-        TokenKind::Start { name, .. } | TokenKind::End { name } => name.as_str(),
+        TokenKind::Start { name, .. } => name.as_str(),
+        TokenKind::End { name } => name.as_str(),
         TokenKind::Char(_) | TokenKind::Comment(_) | TokenKind::Doctype { .. } | TokenKind::Eof => {
             ""
         }
