@@ -37,7 +37,12 @@ impl Builder {
                 self.end(input.symbol)?;
             }
             Symbol::End(tag) if tag.is_ignored_in_table() => self.end(input.symbol)?,
-            _ => return self.body_rules(input),
+            Symbol::Start(_)
+            | Symbol::End(_)
+            | Symbol::Char(_)
+            | Symbol::Comment
+            | Symbol::Doctype
+            | Symbol::Eof => return self.body_rules(input),
         }
         Ok(Outcome::Done)
     }

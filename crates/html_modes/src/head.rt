@@ -28,7 +28,7 @@ impl Builder {
             }
             Symbol::End(Tag::Template) => self.template_end(input)?,
             Symbol::End(tag) if !tag.is_page_part() => self.end(input.symbol)?,
-            _ => {
+            Symbol::Start(_) | Symbol::End(_) | Symbol::Char(_) | Symbol::Eof => {
                 self.pop();
                 self.set_mode(Mode::AfterHead);
                 return Ok(Outcome::Again);
@@ -66,7 +66,7 @@ impl Builder {
                 self.end(input.symbol)?;
             }
             Symbol::End(tag) if !tag.is(Tag::Br) => self.end(input.symbol)?,
-            _ => {
+            Symbol::Start(_) | Symbol::End(_) | Symbol::Char(_) | Symbol::Eof => {
                 self.pop();
                 self.set_mode(Mode::InHead);
                 return Ok(Outcome::Again);
@@ -96,7 +96,7 @@ impl Builder {
             Symbol::End(tag) if tag.is(Tag::Head) || !tag.is_page_part() => {
                 self.end(input.symbol)?;
             }
-            _ => {
+            Symbol::Start(_) | Symbol::End(_) | Symbol::Char(_) | Symbol::Eof => {
                 self.insert_implied(Tag::Body)?;
                 self.set_mode(Mode::InBody);
                 return Ok(Outcome::Again);

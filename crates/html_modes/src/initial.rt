@@ -36,7 +36,7 @@ impl Builder {
                 self.set_mode(Mode::BeforeHead);
             }
             Symbol::End(tag) if !tag.is_page_part() => self.end(input.symbol)?,
-            _ => {
+            Symbol::Start(_) | Symbol::End(_) | Symbol::Char(_) | Symbol::Eof => {
                 self.insert_implied_root()?;
                 self.set_mode(Mode::BeforeHead);
                 return Ok(Outcome::Again);
@@ -56,7 +56,7 @@ impl Builder {
                 self.set_mode(Mode::InHead);
             }
             Symbol::End(tag) if !tag.is_page_part() => self.end(input.symbol)?,
-            _ => {
+            Symbol::Start(_) | Symbol::End(_) | Symbol::Char(_) | Symbol::Eof => {
                 let head = self.insert_implied(Tag::Head)?;
                 self.set_head(head);
                 self.set_mode(Mode::InHead);

@@ -104,7 +104,12 @@ impl Builder {
                 self.end(input.symbol)?;
                 Ok(Outcome::Done)
             }
-            _ => self.select_rules(input),
+            Symbol::Start(_)
+            | Symbol::End(_)
+            | Symbol::Char(_)
+            | Symbol::Comment
+            | Symbol::Doctype
+            | Symbol::Eof => self.select_rules(input),
         }
     }
 }

@@ -35,7 +35,12 @@ impl Builder {
                 self.set_mode(Mode::InTableBody);
                 return Ok(Outcome::Again);
             }
-            _ => return self.table_rules(input),
+            Symbol::Start(_)
+            | Symbol::End(_)
+            | Symbol::Char(_)
+            | Symbol::Comment
+            | Symbol::Doctype
+            | Symbol::Eof => return self.table_rules(input),
         }
         Ok(Outcome::Done)
     }

@@ -28,7 +28,12 @@ impl Builder {
                 self.end(input.symbol)?;
             }
             Symbol::End(tag) if tag.is_ignored_in_table() => self.end(input.symbol)?,
-            _ => return self.body_rules(input),
+            Symbol::Start(_)
+            | Symbol::End(_)
+            | Symbol::Char(_)
+            | Symbol::Comment
+            | Symbol::Doctype
+            | Symbol::Eof => return self.body_rules(input),
         }
         Ok(Outcome::Done)
     }
@@ -127,7 +132,8 @@ impl Builder {
                 self.drop_token(input.symbol, Cause::Misplaced)?;
             }
             Symbol::End(tag) => return self.table_body_end(input, tag),
-            _ => return self.table_rules(input),
+            Symbol::Start(_) | Symbol::Char(_) | Symbol::Comment | Symbol::Doctype | Symbol::Eof =>
+                return self.table_rules(input),
         }
         Ok(Outcome::Done)
     }
@@ -175,7 +181,8 @@ impl Builder {
                 self.drop_token(input.symbol, Cause::Misplaced)?;
             }
             Symbol::End(tag) => return self.row_end(input, tag),
-            _ => return self.table_rules(input),
+            Symbol::Start(_) | Symbol::Char(_) | Symbol::Comment | Symbol::Doctype | Symbol::Eof =>
+                return self.table_rules(input),
         }
         Ok(Outcome::Done)
     }

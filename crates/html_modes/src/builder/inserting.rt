@@ -225,9 +225,9 @@ impl Builder {
 
 /// The name of the element of a start tag: that of the tag, and `img` for `image`.
 fn name_of<'a>(input: Input<'a>) -> &'a str {
-    match input.symbol {
-        Symbol::Start(Tag::Image) => Tag::Img.name(),
-        _ => written_name_of(input.kind),
+    match input.symbol.start() {
+        Some(Tag::Image) => Tag::Img.name(),
+        Some(_) | None => written_name_of(input.kind),
     }
 }
 
