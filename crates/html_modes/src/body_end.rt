@@ -50,12 +50,14 @@ impl Builder {
             Tag::Form => self.form_end(),
             Tag::P => self.paragraph_end()?,
             Tag::Br => self.break_end()?,
-            Tag::Li => self.close_in_scope(Tag::Li, Scope::ListItem),
-            Tag::Dd | Tag::Dt | Tag::Button => self.close_in_scope(tag, Scope::Default),
-            _ if tag.is_block() || tag.is_preformatted() => {
-                self.close_in_scope(tag, Scope::Default);
+            Tag::Li => {
+                let _ = self.close_in_scope(Tag::Li, Scope::ListItem);
             }
-            _ if tag.is_heading() => self.heading_end(),
+            Tag::Dd | Tag::Dt | Tag::Button => self.block_end(tag),
+            _ if tag.is_block() || tag.is_preformatted() => self.block_end(tag),
+            _ if tag.is_heading() => {
+                let _ = self.close_group_in_scope(Group::Heading, Scope::Default);
+            }
             _ if tag.takes_marker() => self.marker_end(tag),
             _ if tag.is_formatting() => self.formatting_end(tag)?,
             _ => self.other_end(input.kind),
@@ -63,16 +65,14 @@ impl Builder {
         Ok(())
     }
 
-    /// Closes an element of this name that is in scope, with all that is open in it.
-    fn close_in_scope(&mut self, tag: Tag, scope: Scope) {
-        if self.has_in_scope(tag, scope) {
-            let _ = self.pop_through(tag);
-        }
+    /// The end tag of a block, or of what is closed like one.
+    fn block_end(&mut self, tag: Tag) {
+        let _ = self.close_in_scope(tag, Scope::Default);
     }
 
     fn form_end(&mut self) {
         if self.has_template() {
-            self.close_in_scope(Tag::Form, Scope::Default);
+            self.block_end(Tag::Form);
             return;
         }
         if let Some(form) = self.take_form() {
@@ -100,16 +100,9 @@ impl Builder {
         Ok(())
     }
 
-    /// The end tag of a heading, which closes one of any level.
-    fn heading_end(&mut self) {
-        if self.has_group_in_scope(Group::Heading, Scope::Default) {
-            let _ = self.pop_through_group(Group::Heading);
-        }
-    }
-
     /// The end tag of an element that put a marker into the list.
     fn marker_end(&mut self, tag: Tag) {
-        if self.has_in_scope(tag, Scope::Default) && self.pop_through(tag) {
+        if self.close_in_scope(tag, Scope::Default) {
             self.clear_to_marker();
         }
     }

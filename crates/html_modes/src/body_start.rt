@@ -226,9 +226,7 @@ impl Builder {
     }
 
     fn button_start(&mut self, input: Input<'_>) -> Result<(), Refusal> {
-        if self.has_in_scope(Tag::Button, Scope::Default) {
-            let _ = self.pop_through(Tag::Button);
-        }
+        let _ = self.close_in_scope(Tag::Button, Scope::Default);
         self.reconstruct()?;
         self.insert(input)?;
         self.frameset_off();

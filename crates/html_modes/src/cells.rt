@@ -49,9 +49,7 @@ impl Builder {
 
     /// Closes the cell that is in scope and goes back to the row, and says whether there was one.
     fn close_cell(&mut self) -> bool {
-        if !self.has_group_in_scope(Group::Cell, Scope::Table)
-            || !self.pop_through_group(Group::Cell)
-        {
+        if !self.close_group_in_scope(Group::Cell, Scope::Table) {
             return false;
         }
         self.leave_cell();
@@ -60,7 +58,7 @@ impl Builder {
 
     /// Closes the cell of this name that is in scope and goes back to the row, and says whether there was one.
     fn close_cell_of(&mut self, tag: Tag) -> bool {
-        if !self.has_in_scope(tag, Scope::Table) || !self.pop_through(tag) {
+        if !self.close_in_scope(tag, Scope::Table) {
             return false;
         }
         self.leave_cell();

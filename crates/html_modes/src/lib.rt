@@ -24,6 +24,8 @@ mod table;
 mod table_parts;
 mod table_text;
 mod template;
+#[cfg(test)]
+mod tests;
 mod text;
 
 pub use builder::Builder;

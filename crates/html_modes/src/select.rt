@@ -87,7 +87,7 @@ impl Builder {
 
     /// Closes the select that is in scope, sets the mode that the elements outside call for, and says whether there was one.
     fn close_select(&mut self) -> bool {
-        if !self.has_in_scope(Tag::Select, Scope::Select) || !self.pop_through(Tag::Select) {
+        if !self.close_in_scope(Tag::Select, Scope::Select) {
             return false;
         }
         self.reset();

@@ -121,7 +121,7 @@ impl Builder {
 
     /// Closes the table that is in scope, sets the mode that the elements outside call for, and says whether there was one.
     fn close_table(&mut self) -> bool {
-        if !self.has_in_scope(Tag::Table, Scope::Table) || !self.pop_through(Tag::Table) {
+        if !self.close_in_scope(Tag::Table, Scope::Table) {
             return false;
         }
         self.reset();

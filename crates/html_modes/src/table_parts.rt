@@ -40,7 +40,7 @@ impl Builder {
 
     /// Closes the caption that is in scope and goes back to the table, and says whether there was one.
     fn close_caption(&mut self) -> bool {
-        if !self.has_in_scope(Tag::Caption, Scope::Table) || !self.pop_through(Tag::Caption) {
+        if !self.close_in_scope(Tag::Caption, Scope::Table) {
             return false;
         }
         self.clear_to_marker();

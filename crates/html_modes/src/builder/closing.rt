@@ -96,11 +96,19 @@ impl Builder {
         self.stack.implied(&mut self.arena, except);
     }
 
+    /// Closes the last open element of the name where it is in a scope, and says whether it was.
+    pub(crate) fn close_in_scope(&mut self, tag: Tag, scope: Scope) -> bool {
+        self.has_in_scope(tag, scope) && self.pop_through(tag)
+    }
+
+    /// Closes the last open element of the group where it is in a scope, and says whether it was.
+    pub(crate) fn close_group_in_scope(&mut self, group: Group, scope: Scope) -> bool {
+        self.has_group_in_scope(group, scope) && self.pop_through_group(group)
+    }
+
     /// Closes an open p, where one is in button scope.
     pub(crate) fn close_p(&mut self) {
-        if self.has_in_scope(Tag::P, Scope::Button) {
-            let _ = self.pop_through(Tag::P);
-        }
+        let _ = self.close_in_scope(Tag::P, Scope::Button);
     }
 
     /// Closes an element, wherever it stands.
