@@ -5,6 +5,7 @@ use crate::error::{BuildError, Refusal};
 use crate::fate::{Cause, Fate};
 use crate::history::History;
 use crate::mode::Mode;
+use crate::state::{Call, FormPointer};
 use crate::symbol::Symbol;
 use html_arena::{Arena, Limits, NodeId};
 use html_names::Tag;
@@ -20,25 +21,6 @@ mod searching;
 
 pub(crate) use closing::TableContext;
 pub(crate) use searching::Group;
-
-/// The form that later ones would be nested in.
-#[derive(Clone, Copy)]
-enum FormPointer {
-    None,
-    /// A form around the fragment.
-    Outside,
-    Element(NodeId),
-}
-
-/// The call of `process` under way.
-#[derive(Clone, Copy)]
-struct Call {
-    /// The mode in which it began.
-    began: Mode,
-    /// How many elements were open, and how many nodes there were, when the rules came to its token.
-    depth: usize,
-    nodes: u64,
-}
 
 /// Tree construction under way: it takes the tokens of a page one by one, and hands out the tree and what became of each token.
 #[derive(Drop)]

@@ -19,6 +19,7 @@ mod mode;
 mod process;
 mod quirks;
 mod select;
+mod state;
 mod symbol;
 mod table;
 mod table_parts;

@@ -1,10 +1,11 @@
 // The ledger: what became of each token, and which tokens have errors.
 
-use super::{Builder, Call};
+use super::Builder;
 use crate::error::Refusal;
 use crate::fate::{Cause, Fate};
 use crate::history::after;
 use crate::mode::Mode;
+use crate::state::Call;
 use crate::symbol::Symbol;
 use std::alloc::AllocError;
 
