@@ -32,6 +32,15 @@ pub fn audit_text(alloc: Global, page: &Page) -> Result<String, AllocError> {
     Ok(out)
 }
 
+/// The counts, and the steps.
+pub fn counts_text(alloc: Global, page: &Page) -> Result<String, AllocError> {
+    let mut out = String::new(alloc);
+    print_counts(&mut out, page)?;
+    let steps = page.arena.meter().steps;
+    writeln!(out, "steps {steps}")?;
+    Ok(out)
+}
+
 fn print_counts(out: &mut String, page: &Page) -> Result<(), AllocError> {
     let count = page.count;
     let tokens = page.tokens.len();

@@ -1,6 +1,6 @@
 // Pages one after another, each with its tree and its ledger.
 
-use crate::audit::audit_text;
+use crate::audit::{audit_text, counts_text};
 use crate::page::{Page, PageFault, page_of, page_with};
 use crate::tree::tree_text;
 use anyhow::Result;
@@ -24,6 +24,18 @@ pub fn run(rt: &HostRuntime, table: &EntityTable, bytes: &[u8]) -> Result<()> {
         let page = &rest[end + 1..end + 1 + length];
         print_page(rt, table, name, page)?;
         rest = &rest[end + 1 + length..];
+    }
+    Ok(())
+}
+
+/// Prints the counts of a page.
+pub fn counts(rt: &HostRuntime, table: &EntityTable, bytes: &[u8]) -> Result<()> {
+    match page_of(rt.alloc(), table, None, bytes) {
+        Ok(page) => {
+            let counts = counts_text(rt.alloc(), &page)?;
+            print!(rt; "{counts}")?;
+        }
+        Err(fault) => println!(rt; "{fault:?}")?,
     }
     Ok(())
 }

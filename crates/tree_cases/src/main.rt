@@ -3,7 +3,8 @@
 //! `tree_cases cases [ENTITIES]` reads a file of tree cases (html5lib's `.dat`) from standard input and prints `case K failed` for each
 //! that fails, and the totals; `tree_cases differences [ENTITIES]` prints besides what was wanted and what came. `tree_cases batch
 //! [ENTITIES]` reads pages, each after a line `CONTEXT LENGTH` (`-` for a document, `!` after a name in a form, `?` after one in quirks mode), and prints for each its tree, its ledger, its errors
-//! and its counts. `tree_cases rows` reads a table of references in its first line, as JSON, and then rows `NAME | WORDS | PAGE`, and prints
+//! and its counts. `tree_cases counts [ENTITIES]` reads one
+//! page and prints its counts. `tree_cases rows` reads a table of references in its first line, as JSON, and then rows `NAME | WORDS | PAGE`, and prints
 //! the tree of each in one line, with its counts. ENTITIES is a file with the table of named character references; without it the five core names are known.
 #![tactic(auto)]
 
@@ -41,6 +42,7 @@ fn main(rt: HostRuntime) -> Result<()> {
     match command {
         "cases" => suite::run(&rt, &table, bytes.as_slice(), false),
         "differences" => suite::run(&rt, &table, bytes.as_slice(), true),
+        "counts" => batch::counts(&rt, &table, bytes.as_slice()),
         "rows" => rows::run(&rt, bytes.as_slice()),
         "batch" => batch::run(&rt, &table, bytes.as_slice()),
         _ => bail!("no such command"),

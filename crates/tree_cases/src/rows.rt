@@ -105,7 +105,7 @@ fn print_row(
             println!(rt; "{name}: refused: {error:?}")?;
             Ok(())
         }
-        Err(_) => bail!("no page"),
+        Err(fault) => bail!("{fault:?}"),
     }
 }
 
