@@ -189,11 +189,6 @@ impl Builder {
         self.mode = mode;
     }
 
-    /// The mode to come back to from text.
-    pub(crate) fn original(&self) -> Mode {
-        self.original
-    }
-
     /// Goes to the mode text, and keeps the mode to come back to.
     pub(crate) fn enter_text(&mut self) {
         self.original = self.mode;

@@ -18,15 +18,6 @@ is_outermost tag.Body = true
 is_outermost tag.Html = true
 is_outermost _ = false
 
--- In head (13.2.6.4.4).
-abbrev pub is_head_void : Tag → Bool
-is_head_void tag.Base = true
-is_head_void tag.Basefont = true
-is_head_void tag.Bgsound = true
-is_head_void tag.Link = true
-is_head_void tag.Meta = true
-is_head_void _ = false
-
 -- In head (13.2.6.4.4, scripting disabled).
 abbrev pub is_head_text : Tag → Bool
 is_head_text tag.Noframes = true
@@ -181,22 +172,6 @@ ends_select_in_table tag.Th = true
 ends_select_in_table tag.Thead = true
 ends_select_in_table tag.Tr = true
 ends_select_in_table _ = false
-
--- In select (13.2.6.4.16).
-abbrev pub is_in_select : Tag → Bool
-is_in_select tag.Hr = true
-is_in_select tag.Html = true
-is_in_select tag.Optgroup = true
-is_in_select tag.Option = true
-is_in_select tag.Script = true
-is_in_select tag.Template = true
-is_in_select _ = false
-
--- After frameset (13.2.6.4.20).
-abbrev pub is_in_frameset : Tag → Bool
-is_in_frameset tag.Html = true
-is_in_frameset tag.Noframes = true
-is_in_frameset _ = false
 
 -- In column group (13.2.6.4.12).
 abbrev pub is_in_column_group : Tag → Bool

@@ -1,6 +1,6 @@
 // The sets of elements that single rules of tree construction take together.
 ghost use Rattle.std.specs.Prelude.{◌≡◌};
-ghost use Rattle.html_names.specs.Groups.{ends_cell, ends_row, ends_section, ends_select, ends_select_in_table, is_definition, is_head_text, is_head_void, is_ignored_in_table, is_in_column_group, is_in_frameset, is_in_select, is_item_stop, is_noscript_part, is_outermost, is_page_part, is_placed, is_preformatted, is_table_head, is_table_part, is_table_piece, is_void_part, is_void_phrase, takes_marker, takes_newline};
+ghost use Rattle.html_names.specs.Groups.{ends_cell, ends_row, ends_section, ends_select, ends_select_in_table, is_definition, is_head_text, is_ignored_in_table, is_in_column_group, is_item_stop, is_noscript_part, is_outermost, is_page_part, is_placed, is_preformatted, is_table_head, is_table_part, is_table_piece, is_void_part, is_void_phrase, takes_marker, takes_newline};
 
 use crate::tag::Tag;
 
@@ -17,16 +17,6 @@ impl Tag {
         ensures { result ≡ is_outermost self }
     {
         matches!(self, Tag::Body | Tag::Html)
-    }
-
-    /// A void element of the head.
-    pub fn is_head_void(self) -> bool
-        ensures { result ≡ is_head_void self }
-    {
-        matches!(
-            self,
-            Tag::Base | Tag::Basefont | Tag::Bgsound | Tag::Link | Tag::Meta
-        )
     }
 
     /// An element of the head that holds text alone.
@@ -199,23 +189,6 @@ impl Tag {
                 | Tag::Thead
                 | Tag::Tr
         )
-    }
-
-    /// An element whose start tag a select does not drop.
-    pub fn is_in_select(self) -> bool
-        ensures { result ≡ is_in_select self }
-    {
-        matches!(
-            self,
-            Tag::Hr | Tag::Html | Tag::Optgroup | Tag::Option | Tag::Script | Tag::Template
-        )
-    }
-
-    /// An element whose start tag is dropped in no frameset mode.
-    pub fn is_in_frameset(self) -> bool
-        ensures { result ≡ is_in_frameset self }
-    {
-        matches!(self, Tag::Html | Tag::Noframes)
     }
 
     /// An element whose start tag a column group does not drop.
