@@ -1,5 +1,5 @@
 -- Clones that were begun and could not be ended.
-use Rattle.std.proofs.Common.{◌≡◌, ℕ, zero, suc, ◌+◌, ◌<◌, ◌≤◌, List, [], ◌∷◌, ◌++◌, length, length-append, map, take, drop, get_or, Option, refl, sym, ◌∙◌, ap, subst, append_assoc, arith}
+use Rattle.std.proofs.Common.{◌≡◌, ℕ, zero, suc, ◌+◌, ◌<◌, ◌≤◌, List, [], ◌∷◌, ◌++◌, length, length-append, map, take, drop, get_or, Option, sym, ◌∙◌, ap, subst, append_assoc, arith}
 use Rattle.std.proofs.lemmas.List.{append-nil, length-map}
 use Rattle.std.specs.List.{sum_by}
 use Rattle.html_arena.specs.declared.arena.Limits.{Limits}
@@ -12,7 +12,7 @@ use Rattle.html_arena.specs.Tree.{Tree, children_of, label_of, more}
 use Rattle.html_arena.specs.Weight.{capped, weight}
 use Rattle.html_open.specs.declared.error.OpenError.{OpenError}
 use Rattle.html_open.specs.declared.error.OpenError.TheVariants.{OutOfMemory, NodeBudget, HeldBudget}
-use Rattle.html_open.specs.Cloning.{AreCloned, IsCut, IsLacking, clone_budget}
+use Rattle.html_open.specs.Cloning.{AreCloned, IsCut, IsCutShort, IsLacking, clone_budget}
 use Rattle.html_open.specs.Reopenings.{IsRefused}
 use Rattle.html_open.proofs.Clones.{cloned-label}
 use Rattle.html_open.proofs.Rounds.{stepped}
@@ -27,7 +27,7 @@ budget-is t u done c b h held =
     ∙ ap (λ (ls : List NodeData). budget_of t.limits (length ls + 1) (more (capped (sum_by weight ls)) (capped (weight (cloned (label_of t c)))))) h.labels_are
 
 lacking-is : (t u : Tree) (done rest : List ℕ) (c : ℕ) (e : OpenError) → c < length t.labels → AreCloned t u done → u.held ≡ capped (sum_by weight u.labels) → IsRefused u c e → IsLacking t done (c ∷ rest) e
-lacking-is t u done rest c OutOfMemory b h held k = tt
+lacking-is t u done rest c OutOfMemory b h held k = sym (budget-is t u done c b h held) ∙ k
 lacking-is t u done rest c NodeBudget b h held k = sym (budget-is t u done c b h held) ∙ k
 lacking-is t u done rest c HeldBudget b h held k = sym (budget-is t u done c b h held) ∙ k
 
@@ -49,36 +49,31 @@ rest-at (x ∷ xs) (suc i) c b e = ap (λ (ys : List ℕ). x ∷ ys) (rest-at xs
 
 -- the next of the elements could not be cloned
 pub cut-next : (t u v : Tree) (xs : List ℕ) (i c : ℕ) (e : OpenError) → i < length xs → c ≡ get_or xs i c → c < length t.labels → AreCloned t u (take i xs) → u.held ≡ capped (sum_by weight u.labels)
-    → IsRefused u c e → v ≡ u → IsCut t v xs e
-cut-next t u v xs i c e l q b h held k s = cut-at t u v xs (take i xs) (drop (suc i) xs) c e (rest-at xs i c l q) b h held k s
-
-lacking-more : (t : Tree) (done rest more : List ℕ) (e : OpenError) → IsLacking t done rest e → IsLacking t done (rest ++ more) e
-lacking-more t done rest more OutOfMemory k = tt
-lacking-more t done [] more NodeBudget k = absurd k
-lacking-more t done (x ∷ xs) more NodeBudget k = k
-lacking-more t done [] more HeldBudget k = absurd k
-lacking-more t done (x ∷ xs) more HeldBudget k = k
-
--- more elements were to be cloned after them
-pub cut-before : (t v : Tree) (xs ys : List ℕ) (e : OpenError) → IsCut t v xs e → IsCut t v (xs ++ ys) e
-cut-before t v xs ys e k = record {
-  done = k.done;
-  rest = k.rest ++ ys;
-  all = ap (λ (zs : List ℕ). zs ++ ys) k.all ∙ append_assoc k.done k.rest ys;
-  labels_are = k.labels_are;
-  same_children = k.same_children;
-  lacking = lacking-more t k.done k.rest ys e k.lacking;
+    → IsRefused u c e → v ≡ u → IsCutShort t v xs e
+cut-next t u v xs i c e l q b h held k s = record {
+  done = take i xs;
+  next = c;
+  rest = drop (suc i) xs;
+  all = rest-at xs i c l q;
+  labels_are = ap (λ (w : Tree). w.labels) s ∙ h.labels_are;
+  same_children = λ x. ap (λ (w : Tree). children_of w x) s ∙ h.same_children x;
+  lacking = lacking-is t u (take i xs) (drop (suc i) xs) c e b h held k;
 }
 
--- none was cloned
-pub cut-none : (t : Tree) (xs : List ℕ) (e : OpenError) → e ≡ OutOfMemory → IsCut t t xs e
-cut-none t xs e q = record {
-  done = [];
-  rest = xs;
-  all = refl;
-  labels_are = sym (append-nil t.labels);
-  same_children = λ x. refl;
-  lacking = subst (IsLacking t [] xs) (sym q) tt;
+lacking-next : (t : Tree) (done rest more : List ℕ) (x : ℕ) (e : OpenError) → IsLacking t done (x ∷ rest) e → IsLacking t done (x ∷ more) e
+lacking-next t done rest more x OutOfMemory k = k
+lacking-next t done rest more x NodeBudget k = k
+lacking-next t done rest more x HeldBudget k = k
+
+-- more elements were to be cloned after them
+pub cut-before : (t v : Tree) (xs ys : List ℕ) (e : OpenError) → IsCutShort t v xs e → IsCut t v (xs ++ ys) e
+cut-before t v xs ys e k = record {
+  done = k.done;
+  rest = k.next ∷ (k.rest ++ ys);
+  all = ap (λ (zs : List ℕ). zs ++ ys) k.all ∙ append_assoc k.done (k.next ∷ k.rest) ys;
+  labels_are = k.labels_are;
+  same_children = k.same_children;
+  lacking = lacking-next t k.done k.rest (k.rest ++ ys) k.next e k.lacking;
 }
 
 -- all were cloned
@@ -104,7 +99,8 @@ cut-length t v xs e k =
 
 -- steps that were counted before do not matter
 lacking-rebase : (t : Tree) (n : ℕ) (done rest : List ℕ) (e : OpenError) → IsLacking (stepped t n) done rest e → IsLacking t done rest e
-lacking-rebase t n done rest OutOfMemory k = tt
+lacking-rebase t n done [] OutOfMemory k = tt
+lacking-rebase t n done (x ∷ xs) OutOfMemory k = k
 lacking-rebase t n done [] NodeBudget k = absurd k
 lacking-rebase t n done (x ∷ xs) NodeBudget k = k
 lacking-rebase t n done [] HeldBudget k = absurd k

@@ -33,3 +33,4 @@ mod Regrouping
 mod Rounds
 mod Looping
 mod Rooted
+pub mod Edits

@@ -1,6 +1,6 @@
 -- Entries are opened anew, one after another.
 use mathlib.Core.Path.{fun_ext}
-use Rattle.std.proofs.Common.{◌≡◌, ◌≢◌, ℕ, suc, ◌+◌, ◌^◌, ◌<◌, ◌≤◌, Bool, true, false, cond, List, [], ◌∷◌, ◌++◌, length, map, get_or, nat_lt, set, Option, Some, None, inl, inr, refl, sym, ◌∙◌, ap, subst, append_assoc, length-append, arith}
+use Rattle.std.proofs.Common.{◌≡◌, ◌≢◌, ℕ, suc, ◌+◌, ◌^◌, ◌<◌, ◌≤◌, Bool, true, false, cond, List, [], ◌∷◌, ◌++◌, length, map, get_or, nat_lt, set, Option, Some, None, Result, Ok, Err, inl, inr, refl, sym, ◌∙◌, ap, subst, append_assoc, length-append, arith}
 use Rattle.std.proofs.lemmas.List.{append-nil, length-set, length-take-le}
 use Rattle.std.specs.List.{list_any, range_with_len}
 use Rattle.html_arena.specs.declared.arena.ArenaError.{ArenaError}
@@ -24,7 +24,7 @@ use Rattle.html_open.specs.Lists.{above, after_index, below, last_index, last_wh
 use Rattle.html_open.specs.Marking.{bare, charged}
 use Rattle.html_open.specs.Opened.{IsMarked, IsOpen, Open, open_at}
 use Rattle.html_open.specs.Placing.{CanPlace, by_table, fosters, outside_table, place_of, place_steps, put, table, target_of, template}
-use Rattle.html_open.specs.Reopening.{IsCause, IsPassed, KeepsClosed, Reopened, clone_steps, clones_of, closed, fresh, reopen_steps, search_steps, stands, with_clone, with_clones}
+use Rattle.html_open.specs.Reopening.{IsCause, IsNextClone, KeepsClosed, Reopened, clone_steps, clones_of, closed, fresh, reopen_steps, search_steps, stands, with_clone, with_clones}
 use Rattle.html_open.specs.Reopenings.{IsRefused, with_reopened}
 use Rattle.html_open.specs.Rooting.{KeepsParents}
 use Rattle.html_open.specs.Searches.{open_or_marker}
@@ -64,13 +64,13 @@ same-steps (x ∷ xs) t u s f e =
 same-budget : (t u : Tree) (x : ℕ) → bare t ≡ bare u → budget t 1 (made_weight t (CloneOf x)) ≡ budget u 1 (made_weight u (CloneOf x))
 same-budget t u x e = ap (λ (v : Tree). budget v 1 (made_weight v (CloneOf x))) e
 
-same-passed : (t u : Tree) (s : List ℕ) (f : Bool) (xs : List ℕ) (e : ArenaError) → bare t ≡ bare u → IsPassed t s f xs e → IsPassed u s f xs e
+same-passed : (t u : Tree) (s : List ℕ) (f : Bool) (xs : List ℕ) (e : Result (Unit {0}) ArenaError) → bare t ≡ bare u → IsNextClone t s f xs e → IsNextClone u s f xs e
 same-passed t u s f xs e q p = record {
   done = p.done;
   next = p.next;
   rest = p.rest;
   elements_are = p.elements_are;
-  refused = sym (same-budget (with_clones t s f p.done) (with_clones u s f p.done) p.next (same-clones p.done t u s f q)) ∙ p.refused;
+  answer_is = sym (same-budget (with_clones t s f p.done) (with_clones u s f p.done) p.next (same-clones p.done t u s f q)) ∙ p.answer_is;
 }
 
 -- the tree in which an entry was opened anew is that with its clone
@@ -219,7 +219,7 @@ pub record UnderWay (f : Bool) (o : Open) (i : ℕ) (s : List ℕ) (l : List Ent
   pub same_off : (y : ℕ) → y < length o.tree.labels → has y o.stack ≡ false → has y s ≡ false
   pub keeps_closed : KeepsClosed o t
   pub parents : KeepsParents o.tree t
-  pub causes : (e : ArenaError) → IsPassed t s f rest e → IsPassed o.tree o.stack f (closed o) e
+  pub causes : (e : Result (Unit {0}) ArenaError) → IsNextClone t s f rest e → IsNextClone o.tree o.stack f (closed o) e
 
 pub reopening-begin : (f : Bool) (s : List ℕ) (l : List Entry) (t : Tree) (i k : ℕ) → IsOpen (open_at s l t) → CanPlace t s
     → i ≡ length (up_to (stands s) l) → k ≡ search_steps (stands s) l → UnderWay f (open_at s l t) i s l (charged t k)
@@ -314,16 +314,18 @@ next-absent f o i s l t u d x b h =
     let r = next-element f o i s l t u d x b h in
     u.absent x (subst (λ v. has x v ≡ true) (sym r.1) (rw (eqb-self x) refl))
 
--- a budget that is told is that of the next clone
+-- what is told is the budget of the next clone, or want of memory where it has room
 pub cause-is : (f : Bool) (o : Open) (i : ℕ) (s : List ℕ) (l : List Entry) (t : Tree) (u : UnderWay f o i s l t) (d : Entry) (x : ℕ) (e : OpenError) → i < length l → get_or l i d ≡ Node x
     → IsRefused t x e → IsCause o f e
-cause-is f o i s l t u d x OutOfMemory b h k = tt
+cause-is f o i s l t u d x OutOfMemory b h k =
+    let r = next-element f o i s l t u d x b h in
+    u.causes (Ok tt) (record { done = []; next = x; rest = r.0; elements_are = r.1; answer_is = k })
 cause-is f o i s l t u d x NodeBudget b h k =
     let r = next-element f o i s l t u d x b h in
-    u.causes arena.NodeBudget (record { done = []; next = x; rest = r.0; elements_are = r.1; refused = k })
+    u.causes (Err arena.NodeBudget) (record { done = []; next = x; rest = r.0; elements_are = r.1; answer_is = k })
 cause-is f o i s l t u d x HeldBudget b h k =
     let r = next-element f o i s l t u d x b h in
-    u.causes arena.HeldBudget (record { done = []; next = x; rest = r.0; elements_are = r.1; refused = k })
+    u.causes (Err arena.HeldBudget) (record { done = []; next = x; rest = r.0; elements_are = r.1; answer_is = k })
 
 -- what one entry more changes
 pub record IsStep (f : Bool) (s s' : List ℕ) (l l' : List Entry) (t t' : Tree) (i x : ℕ) : Type 0 where
@@ -388,16 +390,16 @@ module _ (f : Bool) (o : Open) (i : ℕ) (s s' : List ℕ) (l l' : List Entry) (
             none a m (subst IsElement (u.same_labels a (w.child_in y a m)) g))
             ∙ k;
         parents = parents-then o.tree t t' u.longer u.parents st.parents_kept;
-        causes = λ e p. u.causes e (subst (λ v. IsPassed t s f v e) (sym r)
-            (passed-more (same-passed t' clone (s ++ c ∷ []) f xs e same (subst (λ v. IsPassed t' v f xs e) st.stack p))));
+        causes = λ e p. u.causes e (subst (λ v. IsNextClone t s f v e) (sym r)
+            (passed-more (same-passed t' clone (s ++ c ∷ []) f xs e same (subst (λ v. IsNextClone t' v f xs e) st.stack p))));
       }
     where
       after : (b : Bool) {c : Bool} → c ≡ true → cond b true c ≡ true
       after true h = refl
       after false h = h
 
-      passed-more : {e : ArenaError} → IsPassed (with_clone t s f x) (s ++ length t.labels ∷ []) f xs e → IsPassed t s f (x ∷ xs) e
-      passed-more p = record { done = x ∷ p.done; next = p.next; rest = p.rest; elements_are = ap (λ v. x ∷ v) p.elements_are; refused = p.refused }
+      passed-more : {e : Result (Unit {0}) ArenaError} → IsNextClone (with_clone t s f x) (s ++ length t.labels ∷ []) f xs e → IsNextClone t s f (x ∷ xs) e
+      passed-more p = record { done = x ∷ p.done; next = p.next; rest = p.rest; elements_are = ap (λ v. x ∷ v) p.elements_are; answer_is = p.answer_is }
 
   pub reopening-step : (d : Entry) (x : ℕ) → WellFormed o.tree → UnderWay f o i s l t → i < length l → get_or l i d ≡ Node x → IsStep f s s' l l' t t' i x → UnderWay f o (i + 1) s' l' t'
   reopening-step d x w u b h st = let r = next-element f o i s l t u d x b h in one-more x r.0 w u r.1 st

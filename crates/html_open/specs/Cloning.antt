@@ -1,5 +1,5 @@
 -- What a round of the adoption agency makes and marks (13.2.6.4.7).
-use Rattle.std.specs.Prelude.{◌≡◌, ℕ, ◌+◌, ◌<◌, true, false, cond, nat_le, nat_lt, ◌&&◌, List, [], ◌∷◌, ◌++◌, length, map, Result, Err}
+use Rattle.std.specs.Prelude.{◌≡◌, ℕ, ◌+◌, ◌<◌, true, false, cond, nat_le, nat_lt, ◌&&◌, List, [], ◌∷◌, ◌++◌, length, map, Result, Ok, Err}
 use Rattle.std.specs.List.{sum_by}
 use Rattle.html_names.specs.Sets.{is_formatting}
 use Rattle.html_arena.specs.declared.marks.Mark.{Mark}
@@ -48,9 +48,14 @@ abbrev pub IsFull : Tree → List ℕ → List ℕ → ArenaError → Type 0
 IsFull t done [] cause = ⊥
 IsFull t done (x ∷ xs) cause = clone_budget t done x ≡ Err cause
 
--- a budget is told only where the next clone would pass it; memory can be refused at any time
+-- with the clones of some elements the budget has room for that of the next, if there is one
+abbrev pub HasRoom : Tree → List ℕ → List ℕ → Type 0
+HasRoom t done [] = Unit {0}
+HasRoom t done (x ∷ xs) = clone_budget t done x ≡ Ok tt
+
+-- a budget is told where the next clone would pass it, and want of memory only where it would not, or all were made
 abbrev pub IsLacking : Tree → List ℕ → List ℕ → OpenError → Type 0
-IsLacking t done rest OutOfMemory = Unit {0}
+IsLacking t done rest OutOfMemory = HasRoom t done rest
 IsLacking t done rest NodeBudget = IsFull t done rest arena.NodeBudget
 IsLacking t done rest HeldBudget = IsFull t done rest arena.HeldBudget
 
@@ -62,3 +67,13 @@ pub record IsCut (old new : Tree) (xs : List ℕ) (e : OpenError) : Type 0 where
   pub labels_are : new.labels ≡ with_cloned old done
   pub same_children : (x : ℕ) → children_of new x ≡ children_of old x
   pub lacking : IsLacking old done rest e
+
+-- some of them have been, and the next could not be
+pub record IsCutShort (old new : Tree) (xs : List ℕ) (e : OpenError) : Type 0 where
+  pub done : List ℕ
+  pub next : ℕ
+  pub rest : List ℕ
+  pub all : xs ≡ done ++ next ∷ rest
+  pub labels_are : new.labels ≡ with_cloned old done
+  pub same_children : (x : ℕ) → children_of new x ≡ children_of old x
+  pub lacking : IsLacking old done (next ∷ rest) e

@@ -1,5 +1,5 @@
 -- Reconstructing the active formatting elements (13.2.4.3).
-use Rattle.std.specs.Prelude.{◌≡◌, ℕ, ◌+◌, ◌*◌, Bool, true, false, List, [], ◌∷◌, ◌++◌, length, map, Option, Some, None, Err}
+use Rattle.std.specs.Prelude.{◌≡◌, ℕ, ◌+◌, ◌*◌, Bool, true, false, List, [], ◌∷◌, ◌++◌, length, map, Option, Some, None, Result, Ok, Err}
 use Rattle.std.specs.List.{range_with_len}
 use Rattle.html_arena.specs.declared.arena.ArenaError.{ArenaError}
 use Rattle.html_arena.specs.declared.arena.ArenaError.TheVariants as arena
@@ -81,16 +81,16 @@ clone_steps t stack foster (x ∷ xs) =
 abbrev pub reopen_steps : Open → Bool → ℕ
 reopen_steps o foster = search_steps (stands o.stack) o.list + clone_steps o.tree o.stack foster (closed o)
 
--- with the clones of some elements the budget has no room for that of the next, for this cause
-pub record IsPassed (t : Tree) (stack : List ℕ) (foster : Bool) (elements : List ℕ) (cause : ArenaError) : Type 0 where
+-- what the budget answers to the clone of the next element, with those of some elements before it
+pub record IsNextClone (t : Tree) (stack : List ℕ) (foster : Bool) (elements : List ℕ) (answer : Result (Unit {0}) ArenaError) : Type 0 where
   pub done : List ℕ
   pub next : ℕ
   pub rest : List ℕ
   pub elements_are : elements ≡ done ++ next ∷ rest
-  pub refused : budget (with_clones t stack foster done) 1 (made_weight (with_clones t stack foster done) (CloneOf next)) ≡ Err cause
+  pub answer_is : budget (with_clones t stack foster done) 1 (made_weight (with_clones t stack foster done) (CloneOf next)) ≡ answer
 
--- a budget is told only where a clone would pass it; memory can be refused at any time
+-- the budget is told where the next clone would pass it, and want of memory where it would not
 abbrev pub IsCause : Open → Bool → OpenError → Type 0
-IsCause o foster OutOfMemory = Unit {0}
-IsCause o foster NodeBudget = IsPassed o.tree o.stack foster (closed o) arena.NodeBudget
-IsCause o foster HeldBudget = IsPassed o.tree o.stack foster (closed o) arena.HeldBudget
+IsCause o foster OutOfMemory = IsNextClone o.tree o.stack foster (closed o) (Ok tt)
+IsCause o foster NodeBudget = IsNextClone o.tree o.stack foster (closed o) (Err arena.NodeBudget)
+IsCause o foster HeldBudget = IsNextClone o.tree o.stack foster (closed o) (Err arena.HeldBudget)

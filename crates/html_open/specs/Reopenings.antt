@@ -1,5 +1,5 @@
 -- One entry that is opened anew: what the parts of reopening do.
-use Rattle.std.specs.Prelude.{◌≡◌, ◌≢◌, ℕ, ◌<◌, Bool, true, false, List, [], ◌∷◌, ◌++◌, length, slice_index_or, Option, Some, None, Err}
+use Rattle.std.specs.Prelude.{◌≡◌, ◌≢◌, ℕ, ◌<◌, Bool, true, false, List, [], ◌∷◌, ◌++◌, length, slice_index_or, Option, Some, None, Ok, Err}
 use Rattle.html_arena.specs.declared.arena.ArenaError.TheVariants as arena
 use Rattle.html_arena.specs.declared.data.NewNode.TheVariants.{CloneOf}
 use Rattle.html_arena.specs.declared.marks.Mark.{Mark}
@@ -39,8 +39,8 @@ pub record IsInserted (old new : Tree) (at : Place) (x : ℕ) : Type 0 where
   pub same_parents : (y : ℕ) → y < length old.labels → parent_of new y ≡ parent_of old y
   pub linked : parent_of new (length old.labels) ≢ None
 
--- the clone of x would pass the budget, where one is told
+-- the clone of x would pass the budget where one is told, and would not where memory was refused
 abbrev pub IsRefused : Tree → ℕ → OpenError → Type 0
-IsRefused t x OutOfMemory = Unit {0}
+IsRefused t x OutOfMemory = budget t 1 (made_weight t (CloneOf x)) ≡ Ok tt
 IsRefused t x NodeBudget = budget t 1 (made_weight t (CloneOf x)) ≡ Err arena.NodeBudget
 IsRefused t x HeldBudget = budget t 1 (made_weight t (CloneOf x)) ≡ Err arena.HeldBudget

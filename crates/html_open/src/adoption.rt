@@ -42,7 +42,8 @@ pub enum AdoptEnd {
 /// element stands among them, cloned into it. A current node of the name that is not in the list is popped, and no more.
 ///
 /// At most 32 nodes are made, each a clone of an element in the list. A refusal stops the round under way after some of its clones, which
-/// then stand alone: `NodeBudget` and `HeldBudget` where the next clone would pass that limit, `OutOfMemory` where memory was refused.
+/// then stand alone: `NodeBudget` and `HeldBudget` where the next clone would pass that limit, `OutOfMemory` where memory was refused,
+/// which is told only where the next clone, if there is one, is within both limits.
 /// After a refusal nothing is said of the stack and the list.
 ///
 /// Steps: at least one for each node made, for each element that left the stack, and for each that left the list; with `h` elements on

@@ -1,6 +1,9 @@
 // Reopening the formatting elements that were closed by a block: the list's entries that are not on the stack are opened anew.
-ghost use Rattle.std.specs.Prelude.{◌≡◌, ℕ, ◌+◌, ◌<◌, ◌≤◌, ◌∷◌, [], ◌++◌, IfErr, IfOk, None, OnOk, length, slice_index_or, slice_set, false, true};
+ghost use Rattle.std.specs.Prelude.{◌≡◌, ℕ, ◌+◌, ◌<◌, ◌≤◌, ◌∷◌, [], ◌++◌, IfErr, IfOk, None, Ok, OnOk, length, slice_index_or, slice_set, false, true};
 ghost use Rattle.html_names.specs.Sets.{is_formatting};
+ghost use Rattle.html_arena.specs.declared.data.NewNode.TheVariants.{CloneOf};
+ghost use Rattle.html_arena.specs.Budget.{budget};
+ghost use Rattle.html_arena.specs.Make.{made_weight};
 ghost use Rattle.html_arena.specs.Siblings.{has};
 ghost use Rattle.html_arena.specs.Tree.{WellFormed, more, tag_at};
 ghost use Rattle.html_open.specs.Lists.{IsBelow, after_index, last_index};
@@ -31,7 +34,8 @@ impl FormattingList {
     /// the place for the current node and pushed onto the stack, and takes its entry's place.
     ///
     /// Two steps for each of these entries, and one or two for the one at which the search ends; for each clone the steps of its place,
-    /// and four. After a refusal nothing is said of the stack and the list.
+    /// and four. After a refusal nothing is said of the stack and the list. Memory is told as refused only where the next clone is within
+    /// both limits.
     pub fn reopen(
         &mut self,
         stack: &mut OpenStack,
@@ -127,6 +131,7 @@ fn insert_clone(
     ensures id { IfOk result (λ id. id ≡ length arena.old.labels) }
     ensures tree { OnOk result (arena.new ≡ with_clone (charged arena.old (place_steps arena.old stack.now None foster)) stack.now foster node) }
     ensures laws { OnOk result (IsInserted arena.old arena.new (place_of arena.old stack.now None foster) node) }
+    ensures room { OnOk result (budget arena.old 1 (made_weight arena.old (CloneOf node)) ≡ Ok tt) }
     ensures cause { IfErr result (λ e. IsRefused arena.old node e) }
 {
     let place = place(stack, arena, None, foster);

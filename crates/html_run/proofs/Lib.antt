@@ -1,3 +1,4 @@
 pub mod Chunks
 pub mod Empty
+pub mod Fronts
 pub mod Rest

@@ -1,8 +1,9 @@
 //! One job, over any reader and writers.
 
-ghost use Rattle.std.specs.Prelude.{◌≡◌, ◌≢◌, ◌<◌, List, IfOk, IfErr, IfSome, OnOk, MatchOption, Ok, Err};
+ghost use Rattle.std.specs.Prelude.{◌≡◌, ◌≢◌, ◌<◌, ◌⊎◌, List, IfOk, IfErr, IfSome, OnOk, MatchOption, Ok, Err};
 ghost use Rattle.std.specs.Io.KnownBytes.{Appends};
 ghost use Rattle.html_arena.specs.Walking.{IsRoot};
+ghost use Rattle.html_device.specs.Device.{AppendsFront};
 ghost use Rattle.html_charref.specs.Entities.{core_rows, entities_of};
 ghost use Rattle.html_run.specs.Outcome.{status_of};
 ghost use Rattle.html_run.specs.Profiles.{profile_of};
@@ -15,7 +16,7 @@ ghost use Rattle.html_page.specs.Parsed.{tokens_in};
 use crate::errors::{print_errors, tokens_from};
 use crate::printing::ToSink;
 use crate::refusal::{TableRefusal, outcome};
-use crate::status::{DONE, REFUSED};
+use crate::status::{DONE, FILE_FAULT, REFUSED};
 use crate::tree::print_tree;
 use html_job::{Command, Job};
 use html_page::{
@@ -44,6 +45,10 @@ pub fn run<R: Source, W: Sink, F: Write>(
     ensures normalised { job.now.command ≡ Command.Normalise → result ≡ DONE
         → (rows : List Row) × MatchOption entities.entry (rows ≡ core_rows) (λ bytes. entities_of bytes.now ≡ Ok rows)
         × IsNormalised rows (profile_of job.now.profile) (Appends (W.taken writer.old) (W.taken writer.new)) (R.remaining reader.old) (R.remaining reader.new) }
+    ensures refused { job.now.command ≡ Command.Normalise → result ≡ REFUSED → W.taken writer.new ≡ W.taken writer.old }
+    ensures failed { job.now.command ≡ Command.Normalise → result ≡ FILE_FAULT → (W.taken writer.new ≡ W.taken writer.old)
+        ⊎ ((rows : List Row) × MatchOption entities.entry (rows ≡ core_rows) (λ bytes. entities_of bytes.now ≡ Ok rows)
+        × IsNormalised rows (profile_of job.now.profile) (AppendsFront (W.taken writer.old) (W.taken writer.new)) (R.remaining reader.old) (R.remaining reader.new)) }
     ensures status { result < 4 }
 {
     let input = job.input.unwrap_or("-");

@@ -96,11 +96,14 @@ fn tells_a_refusal(rt: HostRuntime) -> Result<(), Fail> {
             "refused: not yet at 67\n",
         ),
     ];
-    for (bytes, line) in rows {
-        let (status, written, faults) = tree_of(rt.alloc(), bytes)?;
-        assert_eq!(rt; status, REFUSED);
-        assert_eq!(rt; written.as_slice(), b"".as_slice());
-        assert_eq!(rt; faults.as_slice(), line.as_bytes());
+    for command in [Command::Tree, Command::Normalise] {
+        for (bytes, line) in rows {
+            let job = job_of(rt.alloc(), command);
+            let (status, written, faults) = answer(rt.alloc(), &job, bytes)?;
+            assert_eq!(rt; status, REFUSED);
+            assert_eq!(rt; written.as_slice(), b"".as_slice());
+            assert_eq!(rt; faults.as_slice(), line.as_bytes());
+        }
     }
     Ok(())
 }

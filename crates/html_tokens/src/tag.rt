@@ -11,7 +11,7 @@ ghost use Rattle.html_tokens.specs.Fed.{new_tag};
 use crate::attributes::Attr;
 use crate::comment::shown;
 use crate::copied::Copied;
-use crate::keyed::KeyedAttrs;
+use crate::indexed::IndexedAttrs;
 use crate::reference::{ValueRef, digit};
 use html_charref::{Base, Str, add_digit, numeric};
 use std::alloc::{AllocError, Global};
@@ -57,7 +57,7 @@ pub struct TagDraft {
     pub is_end: bool,
     pub start: u64,
     pub name: Str,
-    pub attrs: KeyedAttrs,
+    pub attrs: IndexedAttrs,
     pub part: Part,
     pub attr_name: Str,
     pub attr_value: Str,
@@ -109,7 +109,7 @@ impl TagDraft {
             is_end,
             start,
             name: Str::new(alloc),
-            attrs: KeyedAttrs::new(alloc),
+            attrs: IndexedAttrs::new(alloc),
             part: Part::Name,
             attr_name: Str::new(alloc),
             attr_value: Str::new(alloc),

@@ -1,10 +1,12 @@
 // End tags of formatting names on pages whose tags were read: what is answered, and what stands then.
 use crate::markup::{open, read, tree};
-use crate::page::Page;
+use crate::page::{Page, is_node};
 use crate::refusal::Refusal;
 use crate::script::{Call, apply, build, run};
 use crate::tests::is_out_of_memory;
+use html_arena::NewNode;
 use html_names::Tag;
+use html_open::OpenError;
 use std::alloc::Global;
 use std::test::Fail;
 
@@ -254,6 +256,29 @@ fn refused_adoption_is_told(rt: HostRuntime) -> Result<(), Fail> {
             assert_eq!(rt; left.open.as_str(), "html body i p");
         }
         Err(error) => assert!(rt; is_out_of_memory(error)),
+    }
+    Ok(())
+}
+
+// The same, once the page stands: after a refusal the tree is the old one with clones that stand alone, and takes nodes.
+#[test]
+fn refused_adoption_leaves_a_tree(rt: HostRuntime) -> Result<(), Fail> {
+    let alloc = rt.alloc();
+    let page = match page_of(alloc, "<b><i><p>x") {
+        Ok(page) => page,
+        Err(error) => {
+            assert!(rt; is_out_of_memory(error));
+            return Ok(());
+        }
+    };
+    let nodes = page.arena().len();
+    let (mut arena, end) = page.adopt_last(Tag::B, false)?;
+    if let Err(error) = end {
+        assert_eq!(rt; error, OpenError::OutOfMemory);
+        assert!(rt; arena.len() <= nodes.saturating_add(2));
+        assert_eq!(rt; tree(&arena, alloc)?.as_str(), "body[b[i[p[x]]]]");
+        let node = arena.make(NewNode::Text)?;
+        assert!(rt; is_node(&arena, node));
     }
     Ok(())
 }

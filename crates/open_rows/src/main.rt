@@ -10,6 +10,8 @@ mod adoptions;
 #[cfg(test)]
 mod markup;
 mod measures;
+#[cfg(test)]
+mod misnested;
 mod page;
 mod refusal;
 #[cfg(test)]

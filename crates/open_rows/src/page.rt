@@ -11,7 +11,7 @@ use crate::refusal::Refusal;
 use html_arena::{Arena, Limits, Mark, NewNode, NodeData, NodeId, Origin};
 use html_charref::Str;
 use html_names::Tag;
-use html_open::{AdoptEnd, FormattingList, OpenStack, Place, Scope, adopt, place};
+use html_open::{AdoptEnd, FormattingList, OpenError, OpenStack, Place, Scope, adopt, place};
 use html_tokens::Attrs;
 use std::alloc::Global;
 use std::marker::Model;
@@ -271,6 +271,25 @@ impl Page {
             newest: None,
         };
         Ok((page, end))
+    }
+
+    /// Follows an end tag of a formatting name, and gives the tree that is left with what was answered, after a refusal too.
+    pub(crate) fn adopt_last(
+        mut self,
+        name: Tag,
+        foster: bool,
+    ) -> Result<(Arena, Result<AdoptEnd, OpenError>), Refusal> {
+        if !can_place(&self.stack, &mut self.arena) {
+            return Err(Refusal::Condition);
+        }
+        if !is_first_free(&self.stack, &mut self.arena) {
+            return Err(Refusal::Condition);
+        }
+        let mut arena = self.arena;
+        let mut stack = self.stack;
+        let mut list = self.list;
+        let end = adopt(&mut stack, &mut list, &mut arena, name, foster);
+        Ok((arena, end))
     }
 }
 

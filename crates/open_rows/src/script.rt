@@ -1,4 +1,5 @@
 // Calls on a page by the numbers of nodes, and what they answer and cost, as text.
+use crate::markup::read;
 use crate::page::Page;
 use crate::refusal::Refusal;
 use html_arena::NodeId;
@@ -14,6 +15,8 @@ pub(crate) enum Call {
     Make(&'static str),
     /// An element with the attribute `id="a"`.
     Named(&'static str),
+    /// Start tags and texts of one character, each read as `markup::read` does.
+    Read(&'static str),
     Link(usize, usize),
     Push(usize),
     Enter(usize),
@@ -87,6 +90,7 @@ pub(crate) fn edit(page: &mut Page, alloc: Global, call: Call) -> Result<(), Ref
     match call {
         Call::Make(name) => make(page, alloc, name, false),
         Call::Named(name) => make(page, alloc, name, true),
+        Call::Read(tags) => read(page, alloc, tags),
         Call::Link(parent, child) => page.link(NodeId::at(parent), NodeId::at(child)),
         Call::Push(node) => page.push(NodeId::at(node)),
         Call::Enter(node) => page.enter(NodeId::at(node)),

@@ -4,38 +4,76 @@ ghost use Rattle.html_names.specs.Sets.{is_formatting};
 ghost use Rattle.html_arena.specs.declared.marks.Mark.TheVariants.{InList};
 ghost use Rattle.html_arena.specs.Tree.{marked, tag_at};
 ghost use Rattle.html_open.specs.Adopting.{originals};
-ghost use Rattle.html_open.specs.Cloning.{AreCloned, AreFormatting, IsCut};
+ghost use Rattle.html_open.specs.Cloning.{AreCloned, AreFormatting, IsCut, IsCutShort};
 ghost use Rattle.html_open.specs.Marking.{IsCounted};
 ghost use Rattle.html_open.specs.Opened.{AreNodes};
 ghost use Rattle.html_open.specs.Reopenings.{IsRefused};
 
 use crate::error::OpenError;
 use html_arena::{Arena, Mark, NewNode, NodeId};
-use std::alloc::{AllocError, Global};
+use std::marker::Model;
 
 /// How many of the elements between the formatting element and the special one may be cloned.
 const MOST_CLONED: usize = 3;
 
+/// Elements to be cloned, kept without memory of their own.
+#[derive(Drop)]
+pub(crate) struct Originals {
+    nodes: [NodeId; MOST_CLONED],
+    len: usize,
+}
+
+impl Model for Originals {
+    ghost use Rattle.std.specs.Prelude.{ℕ, List, ◌≤◌, take};
+
+    ghost Value = { List ℕ };
+
+    ghost view = { λ o. take o.len o.nodes };
+
+    ghost invariant = { λ o. o.len ≤ 3 };
+}
+
+impl Originals {
+    fn new() -> Originals
+        ensures { result ≡ [] }
+    {
+        Originals {
+            nodes: [NodeId::at(0); MOST_CLONED],
+            len: 0,
+        }
+    }
+
+    fn push(&mut self, node: NodeId)
+        requires { length self.old < 3 }
+        ensures { self.new ≡ self.old ++ node ∷ [] }
+    {
+        self.nodes[self.len] = node;
+        self.len += 1;
+    }
+
+    pub(crate) fn as_slice(&self) -> &[NodeId]
+        ensures { result.now ≡ self.now }
+    {
+        &self.nodes[..self.len]
+    }
+}
+
 /// Of the last three of the elements between the formatting element and the special one those in the list, the last first.
-pub(crate) fn elements_to_clone(
-    alloc: Global,
-    inner: &[NodeId],
-    arena: &Arena,
-) -> Result<Vec<NodeId>, AllocError>
+pub(crate) fn elements_to_clone(inner: &[NodeId], arena: &Arena) -> Originals
     requires { AreNodes arena.now inner.now }
-    ensures { IfOk result (λ v. v.items ≡ originals (marked arena.now InList) inner.now) }
+    ensures { result ≡ originals (marked arena.now InList) inner.now }
 {
     let from = inner.len().saturating_sub(MOST_CLONED);
-    let mut chosen = Vec::new(alloc);
+    let mut chosen = Originals::new();
     let mut at = inner.len();
     while at > from {
         at -= 1;
         let node = inner[at];
         if arena.marked(node, Mark::InList) {
-            chosen.push(node)?;
+            chosen.push(node);
         }
     }
-    Ok(chosen)
+    chosen
 }
 
 /// Makes a clone of each element, in order, and one of the formatting element after them.
@@ -61,7 +99,7 @@ pub(crate) fn clone_all(
 fn make_clones(arena: &mut Arena, originals: &[NodeId]) -> Result<(), OpenError>
     requires { AreFormatting arena.old originals.now }
     ensures cloned { OnOk result (AreCloned arena.old arena.new originals.now) }
-    ensures cut { IfErr result (λ e. IsCut arena.old arena.new originals.now e) }
+    ensures cut { IfErr result (λ e. IsCutShort arena.old arena.new originals.now e) }
     ensures steps { IsCounted arena.old.steps arena.new.steps (length arena.new.labels - length arena.old.labels) (length arena.new.labels - length arena.old.labels) }
 {
     for node in originals {

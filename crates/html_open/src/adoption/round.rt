@@ -87,7 +87,7 @@ fn regroup(
     ensures steps { IsCounted arena.old.steps arena.new.steps (length arena.new.labels - length arena.old.labels) (length arena.new.labels + 10) }
 {
     arena.forest();
-    let originals = elements_to_clone(alloc, &nodes[at + 1..block_at], arena)?;
+    let originals = elements_to_clone(&nodes[at + 1..block_at], arena);
     let first = arena.len() as usize;
     let clone = clone_all(arena, originals.as_slice(), nodes[at])?;
     let end = arena.len() as usize;

@@ -1,4 +1,4 @@
-use Rattle.std.proofs.Common.{◌≡◌, ◌≤◌, drop, length}
+use Rattle.std.proofs.Common.{◌≡◌, ◌+◌, ◌≤◌, drop, length}
 use Rattle.std.specs.Prelude.{filter, reverse}
 use Rattle.html_arena.specs.declared.marks.Mark.TheVariants.{InList}
 use Rattle.html_arena.specs.Tree.{marked}
@@ -8,7 +8,8 @@ abbrev pub invariant-loop-at : goal.invariant-loop-at
 invariant-loop-at l = record {
   low : l.from ≤ l.at;
   high : l.at ≤ length l.inner;
-  chosen_is : l.chosen.items ≡ reverse (filter (marked l.arena InList) (drop l.at l.inner));
+  few : length l.chosen + l.at ≤ length l.inner;
+  chosen_is : l.chosen ≡ reverse (filter (marked l.arena InList) (drop l.at l.inner));
 }
 
 abbrev pub decreases-loop-at : goal.decreases-loop-at

@@ -3,7 +3,7 @@ use Rattle.std.proofs.lemmas.Map.Text.{btree_map_updates_text}
 use Rattle.std.specs.String.{string_bytes}
 use Rattle.html_tokens.specs.Places.{few}
 use Rattle.html_tokens.proofs.PlaceLemmas.{found_more, found_still}
-use Rattle.html_tokens.proofs.keyed.KeyedAttrs.push.Goals as goal
+use Rattle.html_tokens.proofs.indexed.IndexedAttrs.push.Goals as goal
 
 pub invariant_of-self-in_err-push-2 : goal.invariant_of-self-in_err-push-2
 invariant_of-self-in_err-push-2 c =

@@ -4,7 +4,7 @@ use Rattle.std.specs.Str.{encode_utf8_all}
 use Rattle.html_tokens.specs.Places.{few}
 use Rattle.html_tokens.specs.Tag.{has_name}
 use Rattle.html_tokens.proofs.PlaceLemmas.{not_found}
-use Rattle.html_tokens.proofs.keyed.KeyedAttrs.search.Goals as goal
+use Rattle.html_tokens.proofs.indexed.IndexedAttrs.search.Goals as goal
 
 pub returns-in-None-clause-found : goal.returns-in-None-clause-found
 returns-in-None-clause-found c =

@@ -15,13 +15,13 @@ const FEW: usize = 16;
 /// Attributes in order, seen as their list. The names after the first few have their places in a tree, so that a tag of
 /// many attributes takes little time, whatever their names are.
 #[derive(Drop)]
-pub struct KeyedAttrs {
+pub struct IndexedAttrs {
     alloc: Global,
     attrs: Attrs,
     places: BTreeMap<String, usize>,
 }
 
-impl Model for KeyedAttrs {
+impl Model for IndexedAttrs {
     ghost use Rattle.std.specs.Prelude.{List};
     ghost use Rattle.html_tokens.specs.declared.attributes.Attr.{Attr};
     ghost use Rattle.html_tokens.specs.Places.{AreFound};
@@ -57,11 +57,11 @@ fn search_at(attrs: &[Attr], place: usize, name: &Str) -> (bool, usize)
     search(attrs, name)
 }
 
-impl KeyedAttrs {
-    pub(crate) fn new(alloc: Global) -> KeyedAttrs
+impl IndexedAttrs {
+    pub(crate) fn new(alloc: Global) -> IndexedAttrs
         ensures { result ≡ [] }
     {
-        KeyedAttrs {
+        IndexedAttrs {
             alloc,
             attrs: Attrs::new(alloc),
             places: BTreeMap::new(alloc),
