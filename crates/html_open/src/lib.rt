@@ -17,6 +17,6 @@ pub use adoption::{AdoptEnd, adopt};
 pub use error::OpenError;
 pub use html_names::Scope;
 pub use list::FormattingList;
-pub use places::Place;
+pub use places::{Place, put};
 pub use placing::place;
 pub use stack::OpenStack;

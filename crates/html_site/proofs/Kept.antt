@@ -1,0 +1,1 @@
+-- What edits leave of a tree under way.
