@@ -1,31 +1,31 @@
 //! Calls of a ledger, each where the ledger takes it.
 
 use crate::words::{char_of, fate_of, symbol_of};
-use anyhow::{Result, bail};
+use anyhow::Result;
 use html_arena::NodeId;
 use html_ledger::{Cause, Fate, Ledger, Symbol};
 use std::alloc::Global;
 
-/// Gives a token its fate, if it may have it.
-pub(crate) fn give(ledger: &mut Ledger, symbol: Symbol, fate: Fate) -> Result<()> {
+/// Gives a token its fate, and says whether it may have it.
+pub(crate) fn give(ledger: &mut Ledger, symbol: Symbol, fate: Fate) -> Result<bool> {
     if !ledger.is_quiet() || !ledger.history().may_have(symbol, &fate) {
-        bail!("no such fate")
+        return Ok(false);
     }
     ledger.give(symbol, fate)?;
-    Ok(())
+    Ok(true)
 }
 
 /// An end tag or the end of the page, which had an effect or none.
-fn end(ledger: &mut Ledger, symbol: Symbol, ignored: bool) -> Result<()> {
+fn end(ledger: &mut Ledger, symbol: Symbol, ignored: bool) -> Result<bool> {
     if !ledger.is_quiet() || !symbol.is_end() {
-        bail!("no end")
+        return Ok(false);
     }
     ledger.end(symbol, ignored)?;
-    Ok(())
+    Ok(true)
 }
 
 /// Gives a code point the fate that it has in a body.
-fn give_char(ledger: &mut Ledger, c: char) -> Result<()> {
+fn give_char(ledger: &mut Ledger, c: char) -> Result<bool> {
     let symbol = Symbol::Char(c);
     let fate = match ledger.history().must_drop(symbol) {
         Some(cause) => Fate::Dropped(cause),
@@ -36,41 +36,45 @@ fn give_char(ledger: &mut Ledger, c: char) -> Result<()> {
 }
 
 /// Gives the code points that were kept their fates.
-fn settle(ledger: &mut Ledger) -> Result<()> {
+fn settle(ledger: &mut Ledger) -> Result<bool> {
     let kept = ledger.take_kept();
     for c in &kept {
-        give_char(ledger, *c)?;
+        if !give_char(ledger, *c)? {
+            return Ok(false);
+        }
     }
-    Ok(())
+    Ok(true)
 }
 
 /// Gives code points their fates in one go where they may all become text, else one by one.
-fn give_run(alloc: Global, ledger: &mut Ledger, letters: &str) -> Result<()> {
+fn give_run(alloc: Global, ledger: &mut Ledger, letters: &str) -> Result<bool> {
     let mut run = Vec::new(alloc);
     for c in letters.chars() {
         run.push(char_of(c))?;
     }
     if ledger.is_quiet() && ledger.history().may_text_run(run.as_slice()) {
         ledger.give_run(run.as_slice(), NodeId::at(5))?;
-        return Ok(());
+        return Ok(true);
     }
     for c in &run {
-        give_char(ledger, *c)?;
+        if !give_char(ledger, *c)? {
+            return Ok(false);
+        }
     }
-    Ok(())
+    Ok(true)
 }
 
 /// Keeps a code point.
-fn keep(ledger: &mut Ledger, symbol: Symbol) -> Result<()> {
-    match symbol {
-        Symbol::Char(c) => ledger.keep(c)?,
-        _ => bail!("no code point"),
-    }
-    Ok(())
+fn keep(ledger: &mut Ledger, symbol: Symbol) -> Result<bool> {
+    let Symbol::Char(c) = symbol else {
+        return Ok(false);
+    };
+    ledger.keep(c)?;
+    Ok(true)
 }
 
 /// Does what a token and the word of its fate ask for.
-pub(crate) fn enter(ledger: &mut Ledger, token: &str, fate: &str) -> Result<()> {
+pub(crate) fn enter(ledger: &mut Ledger, token: &str, fate: &str) -> Result<bool> {
     let symbol = symbol_of(token)?;
     match fate {
         "kept" => keep(ledger, symbol),
@@ -80,21 +84,31 @@ pub(crate) fn enter(ledger: &mut Ledger, token: &str, fate: &str) -> Result<()> 
     }
 }
 
-/// Does what the words ask for, one after another.
-pub(crate) fn enter_all(alloc: Global, ledger: &mut Ledger, words: &[&str]) -> Result<()> {
-    let mut token = None;
+/// Does what a word by itself asks for.
+fn enter_kept(alloc: Global, ledger: &mut Ledger, letters: &str) -> Result<bool> {
+    if letters.is_empty() {
+        settle(ledger)
+    } else {
+        give_run(alloc, ledger, letters)
+    }
+}
+
+/// Does what the words ask for, one after another, and says whether the ledger took it all.
+pub(crate) fn enter_all(alloc: Global, ledger: &mut Ledger, words: &[&str]) -> Result<bool> {
+    let mut token = "";
     for word in words {
-        match token {
-            Some(known) => {
-                enter(ledger, known, *word)?;
-                token = None;
-            }
-            None => match word.strip_prefix("+") {
-                Some("") => settle(ledger)?,
-                Some(letters) => give_run(alloc, ledger, letters)?,
-                None => token = Some(*word),
-            },
+        let mut taken = true;
+        if !token.is_empty() {
+            taken = enter(ledger, token, *word)?;
+            token = "";
+        } else if let Some(letters) = word.strip_prefix("+") {
+            taken = enter_kept(alloc, ledger, letters)?;
+        } else {
+            token = *word;
+        }
+        if !taken {
+            return Ok(false);
         }
     }
-    Ok(())
+    Ok(true)
 }

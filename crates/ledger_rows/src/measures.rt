@@ -13,7 +13,7 @@ use std::time::Instant;
 /// A ledger in a body.
 fn in_body(alloc: Global) -> Result<Ledger> {
     let mut ledger = Ledger::new(alloc, Setting::Document);
-    give(
+    let _ = give(
         &mut ledger,
         Symbol::Start(Tag::Body),
         Fate::Made(NodeId::at(3)),
@@ -48,7 +48,7 @@ fn push_tokens(tokens: &mut Tokens, count: u64) -> Result<()> {
 fn give_chars(ledger: &mut Ledger, count: u64) -> Result<()> {
     let node = NodeId::at(4);
     for _ in 0..count {
-        give(ledger, Symbol::Char('a'), Fate::Text(node))?;
+        let _ = give(ledger, Symbol::Char('a'), Fate::Text(node))?;
     }
     Ok(())
 }

@@ -84,7 +84,7 @@ fn may(alloc: Global, setting: Setting, words: &[&str]) -> Result<String> {
 fn ledger(alloc: Global, setting: Setting, words: &[&str]) -> Result<String> {
     let mut ledger = Ledger::new(alloc, setting);
     let mut out = String::new(alloc);
-    if enter_all(alloc, &mut ledger, words).is_err() {
+    if !enter_all(alloc, &mut ledger, words)? {
         let number = ledger.number();
         return Ok(format!(in alloc; "no such fate at {number}")?);
     }
