@@ -1,6 +1,7 @@
 //! The element names that HTML's tree construction and serialising tell apart, and the sets of them.
 #![tactic(auto)]
 
+mod groups;
 mod names;
 mod sets;
 mod tag;

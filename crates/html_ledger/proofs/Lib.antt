@@ -1,0 +1,9 @@
+pub mod Feeding
+pub mod Rising
+pub mod Since
+pub mod Spreading
+pub mod Flagged
+pub mod Stretches
+pub mod Telling
+pub mod Words
+pub mod Texted

@@ -1,0 +1,2 @@
+pub mod Pieced
+pub mod Found
