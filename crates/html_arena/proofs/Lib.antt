@@ -13,6 +13,7 @@ pub mod Neighbours
 pub mod Once
 pub mod Refusals
 pub mod Relabel
+pub mod Runs
 pub mod Shape
 pub mod Shown
 pub mod Siblings

@@ -1,8 +1,11 @@
 // What a node is, apart from its links.
-ghost use Rattle.std.specs.Prelude.{◌≡◌, ◌+◌, ◌<◌, [], OnOk, OnErr, IfOk, length, slice_set};
+ghost use Rattle.std.specs.Prelude.{◌≡◌, ◌+◌, ◌<◌, ◌≤◌, [], ◌∷◌, ◌++◌, OnOk, OnErr, IfOk, length, slice_set, string_bytes};
+ghost use Rattle.std.specs.Char.{len_utf8};
+ghost use Rattle.std.specs.List.{sum_by};
 ghost use Rattle.std.specs.Str.{chars};
+ghost use Rattle.std.specs.String.{string_capacity, string_len};
 ghost use Rattle.html_names.specs.Sets.{is_formatting};
-ghost use Rattle.html_arena.specs.Data.{IsText, IsElement, attrs_in, cloned, contents_in, host_in, is_clone_in, is_linkable, kind_in, label_in, name_in, origin_in, tag_in, text_in, with_attrs, with_char};
+ghost use Rattle.html_arena.specs.Data.{IsText, IsElement, attrs_in, cloned, contents_in, host_in, is_clone_in, is_linkable, kind_in, label_in, name_in, origin_in, tag_in, text_in, with_attrs, with_char, with_run};
 ghost use Rattle.html_arena.specs.Weight.{weight, attrs_weight, optional_weight, capped};
 
 use crate::attributes::{SharedAttrs, attrs_held};
@@ -140,6 +143,72 @@ fn push_to_text(node: &mut NodeData, c: char) -> Result<(), AllocError>
         text.push(c)?;
     }
     Ok(())
+}
+
+/// Adds a run of code points to a text.
+pub(crate) fn push_run(
+    nodes: &mut Vec<NodeData>,
+    node: NodeId,
+    run: &[char],
+) -> Result<(), AllocError>
+    requires node_in { node < length nodes.old.items }
+    requires is_text { IsText (label_in nodes.old.items node) }
+    ensures ok { OnOk result (nodes.new.items ≡ slice_set nodes.old.items node (with_run (label_in nodes.old.items node) run.now)) }
+    ensures err { OnErr result (nodes.new.items ≡ nodes.old.items) }
+{
+    push_run_to_text(&mut nodes[node.index()], run)
+}
+
+fn push_run_to_text(node: &mut NodeData, run: &[char]) -> Result<(), AllocError>
+    requires { IsText node.old }
+    ensures ok { OnOk result (node.new ≡ with_run node.old run.now) }
+    ensures err { OnErr result (node.new ≡ node.old) }
+{
+    if let NodeData::Text { text } = node {
+        extend_text(text, run)?;
+    }
+    Ok(())
+}
+
+/// Adds a run of code points at the end of a text, or leaves it as it was.
+fn extend_text(text: &mut Str, run: &[char]) -> Result<(), AllocError>
+    ensures ok { OnOk result (text.new ≡ text.old ++ run.now) }
+    ensures err { OnErr result (text.new ≡ text.old) }
+{
+    extend(&mut text.0, run)
+}
+
+/// Adds a run of code points at the end, for which memory is reserved once.
+fn extend(text: &mut String, run: &[char]) -> Result<(), AllocError>
+    ensures ok { OnOk result (chars (string_bytes text.new) ≡ chars (string_bytes text.old) ++ run.now) }
+    ensures err { OnErr result (string_bytes text.new ≡ string_bytes text.old) }
+{
+    text.reserve(bytes_of(run))?;
+    for c in run {
+        push_within(text, *c)?;
+    }
+    Ok(())
+}
+
+/// Adds a code point at the end; fails only where the text has no capacity for it.
+fn push_within(text: &mut String, c: char) -> Result<(), AllocError>
+    ensures ok { OnOk result (chars (string_bytes text.new) ≡ chars (string_bytes text.old) ++ c ∷ []) }
+    ensures len { OnOk result (string_len text.new ≡ string_len text.old + len_utf8 c) }
+    ensures capacity { string_capacity text.old ≤ string_capacity text.new }
+    ensures full { OnErr result (string_capacity text.old < string_len text.old + len_utf8 c) }
+{
+    text.push(c)
+}
+
+/// The length in UTF-8 of a run of code points.
+fn bytes_of(run: &[char]) -> usize
+    ensures { result ≡ sum_by len_utf8 run.now }
+{
+    let mut bytes = 0;
+    for c in run {
+        bytes += c.len_utf8();
+    }
+    bytes
 }
 
 /// Gives an element other attributes.
