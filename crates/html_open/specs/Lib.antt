@@ -4,6 +4,7 @@ pub mod Attributes
 pub mod Cloning
 pub mod Entries
 pub mod Hanging
+pub mod Inserting
 pub mod Leaving
 pub mod Lists
 pub mod Marking

@@ -1,5 +1,5 @@
 // The list of active formatting elements.
-ghost use Rattle.std.specs.Prelude.{◌≡◌, ℕ, ◌+◌, ◌<◌, ◌∷◌, [], ◌++◌, length, IfErr, OnErr, OnOk, drop, false, take, true, ◌*◌, ◌≤◌};
+ghost use Rattle.std.specs.Prelude.{◌≡◌, ℕ, ◌+◌, ◌<◌, ◌∷◌, [], ◌++◌, length, IfErr, IfSome, OnErr, OnOk, drop, false, take, true, ◌*◌, ◌≤◌};
 ghost use Rattle.html_arena.specs.declared.marks.Mark.TheVariants.{InList};
 ghost use Rattle.html_arena.specs.Tree.{with_marked};
 ghost use Rattle.html_open.specs.Lists.{IsBelow, below, looked};
@@ -139,7 +139,9 @@ impl FormattingList {
     pub fn last_named(&self, arena: &mut Arena, name: Tag) -> Option<NodeId>
         requires { AreNodes arena.old (nodes_of self.now) }
         ensures node { result ≡ last_named arena.old name self.now }
+        ensures member { IfSome result (λ x. has_node x self.now ≡ true) }
         ensures steps { arena.new ≡ charged arena.old (looked (named_or_marker arena.old name) self.now) }
+        ensures keeps { (s : _) → IsOpen (open_at s self.now arena.old) → IsOpen (open_at s self.now arena.new) }
     {
         let entries = self.entries.as_slice();
         let found = last_entry(entries, arena, &SoughtEntry::NamedOrMarker(name));
@@ -176,6 +178,7 @@ impl FormattingList {
         requires marked { IsMarked arena.old InList (nodes_of self.now) }
         ensures answer { result ≡ has_node node self.now }
         ensures steps { arena.new ≡ charged arena.old 1 }
+        ensures keeps { (s : _) → IsOpen (open_at s self.now arena.old) → IsOpen (open_at s self.now arena.new) }
     {
         arena.charge(PRESENCE);
         arena.marked(node, Mark::InList)

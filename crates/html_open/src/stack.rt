@@ -1,13 +1,15 @@
 // The stack of open elements.
-ghost use Rattle.std.specs.Prelude.{◌≡◌, ℕ, ◌+◌, ◌<◌, ◌∷◌, [], ◌++◌, List, eqb, length, slice_index, None, IfErr, OnErr, OnOk, drop, false, take, true, ◌≤◌};
+ghost use Rattle.std.specs.Prelude.{◌≡◌, ℕ, ◌+◌, ◌<◌, ◌∷◌, [], ◌++◌, List, eqb, length, slice_index, None, IfErr, IfSome, OnErr, OnOk, drop, false, take, true, ◌≤◌};
 ghost use Rattle.html_arena.specs.declared.marks.Mark.TheVariants.{OnStack};
 ghost use Rattle.html_arena.specs.Siblings.{has, last_of};
 ghost use Rattle.html_arena.specs.Tree.{more, named, tag_at, with_marked};
+ghost use Rattle.html_names.specs.declared.sets.Scope.TheVariants.{Default};
+ghost use Rattle.html_open.specs.AdoptFinding.{element_in_scope};
 ghost use Rattle.html_open.specs.Entries.{removal_steps};
 ghost use Rattle.html_open.specs.Lists.{above, last_index, looked, up_to, with_last, without_last};
 ghost use Rattle.html_open.specs.Marking.{all_unmarked, charged, unmarked};
 ghost use Rattle.html_open.specs.Opened.{AreNodes, CanPush, IsMarked, IsOpen, open_at};
-ghost use Rattle.html_open.specs.Scopes.{ends, implied_steps, in_scope, match_or_end, stays};
+ghost use Rattle.html_open.specs.Scopes.{element_or_end, ends, implied_steps, in_scope, match_or_end, stays};
 
 use crate::error::OpenError;
 use crate::search::{PRESENCE, Sought, after, last_index, removal, steps_to};
@@ -84,6 +86,7 @@ impl OpenStack {
         requires { AreNodes arena.old self.old }
         ensures stack { self.old ≡ with_last self.new result }
         ensures none { result ≡ None → self.old ≡ [] }
+        ensures member { IfSome result (λ x. has x self.old ≡ true) }
         ensures tree { arena.new ≡ charged (unmarked arena.old OnStack result) 1 }
         ensures keeps { (l : _) → IsOpen (open_at self.old l arena.old) → IsOpen (open_at self.new l arena.new) }
     {
@@ -116,7 +119,9 @@ impl OpenStack {
     /// The current node. One step.
     pub fn current(&self, arena: &mut Arena) -> Option<NodeId>
         ensures node { result ≡ last_of self.now }
+        ensures member { IfSome result (λ x. has x self.now ≡ true) }
         ensures steps { arena.new ≡ charged arena.old 1 }
+        ensures keeps { (l : _) → IsOpen (open_at self.now l arena.old) → IsOpen (open_at self.now l arena.new) }
     {
         arena.charge(1);
         last_node(self.nodes.as_slice())
@@ -126,7 +131,9 @@ impl OpenStack {
     pub fn at(&self, arena: &mut Arena, index: usize) -> NodeId
         requires { index < length self.now }
         ensures node { result ≡ slice_index self.now index }
+        ensures member { has result self.now ≡ true }
         ensures steps { arena.new ≡ charged arena.old 1 }
+        ensures keeps { (l : _) → IsOpen (open_at self.now l arena.old) → IsOpen (open_at self.now l arena.new) }
     {
         arena.charge(1);
         self.nodes[index]
@@ -136,10 +143,27 @@ impl OpenStack {
     pub fn index_of(&self, arena: &mut Arena, node: NodeId) -> Option<usize>
         requires { AreNodes arena.old self.now }
         ensures index { result ≡ last_index (eqb node) self.now }
+        ensures below { IfSome result (λ i. i < length self.now) }
+        ensures there { IfSome result (λ i. slice_index self.now i ≡ node) }
         ensures steps { arena.new ≡ charged arena.old (looked (eqb node) self.now) }
+        ensures keeps { (l : _) → IsOpen (open_at self.now l arena.old) → IsOpen (open_at self.now l arena.new) }
     {
         let nodes = self.nodes.as_slice();
         let index = last_index(nodes, arena, &Sought::Node(node));
+        arena.charge(steps_to(nodes.len(), index));
+        index
+    }
+
+    /// The index of the last element of this name. One step for each element from the current node down to it; for all where it is absent.
+    pub fn index_named(&self, arena: &mut Arena, name: Tag) -> Option<usize>
+        requires { AreNodes arena.old self.now }
+        ensures index { result ≡ last_index (named arena.old name) self.now }
+        ensures below { IfSome result (λ i. i < length self.now) }
+        ensures steps { arena.new ≡ charged arena.old (looked (named arena.old name) self.now) }
+        ensures keeps { (l : _) → IsOpen (open_at self.now l arena.old) → IsOpen (open_at self.now l arena.new) }
+    {
+        let nodes = self.nodes.as_slice();
+        let index = last_index(nodes, arena, &Sought::Tag(name));
         arena.charge(steps_to(nodes.len(), index));
         index
     }
@@ -150,6 +174,7 @@ impl OpenStack {
         requires marked { IsMarked arena.old OnStack self.now }
         ensures answer { result ≡ has node self.now }
         ensures steps { arena.new ≡ charged arena.old 1 }
+        ensures keeps { (l : _) → IsOpen (open_at self.now l arena.old) → IsOpen (open_at self.now l arena.new) }
     {
         arena.charge(PRESENCE);
         arena.marked(node, Mark::OnStack)
@@ -161,6 +186,7 @@ impl OpenStack {
         requires { AreNodes arena.old self.now }
         ensures answer { result ≡ in_scope (named arena.old name) (ends arena.old scope) self.now }
         ensures steps { arena.new ≡ charged arena.old (looked (match_or_end arena.old name scope) self.now) }
+        ensures keeps { (l : _) → IsOpen (open_at self.now l arena.old) → IsOpen (open_at self.now l arena.new) }
     {
         let nodes = self.nodes.as_slice();
         let found = last_index(nodes, arena, &Sought::InScope(name, scope));
@@ -168,6 +194,23 @@ impl OpenStack {
         match found {
             None => false,
             Some(index) => arena.is_named(nodes[index], name),
+        }
+    }
+
+    /// Whether this very element is in the default scope: it is on the stack, and no end of the scope stands after it. One step for each
+    /// element from the current node down to it, or to the first that ends the scope; for all where there is neither.
+    pub fn is_in_scope(&self, arena: &mut Arena, node: NodeId) -> bool
+        requires { AreNodes arena.old self.now }
+        ensures answer { result ≡ element_in_scope arena.old node self.now }
+        ensures steps { arena.new ≡ charged arena.old (looked (element_or_end arena.old node Default) self.now) }
+        ensures keeps { (l : _) → IsOpen (open_at self.now l arena.old) → IsOpen (open_at self.now l arena.new) }
+    {
+        let nodes = self.nodes.as_slice();
+        let found = last_index(nodes, arena, &Sought::ElementInScope(node, Scope::Default));
+        arena.charge(steps_to(nodes.len(), found));
+        match found {
+            None => false,
+            Some(index) => node == nodes[index],
         }
     }
 
@@ -187,8 +230,8 @@ impl OpenStack {
         self.pop_to(arena, kept);
     }
 
-    /// Takes elements off until there are `len`.
-    pub(crate) fn pop_to(&mut self, arena: &mut Arena, len: usize)
+    /// Takes elements off until there are `len`, without a step.
+    pub fn pop_to(&mut self, arena: &mut Arena, len: usize)
         requires nodes_in { AreNodes arena.old self.old }
         requires len_in { len ≤ length self.old }
         ensures stack { self.new ≡ take len self.old }

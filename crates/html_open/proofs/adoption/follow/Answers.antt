@@ -12,7 +12,8 @@ use Rattle.html_open.proofs.Descending.{closed-more, closed-none, closed-rebased
 use Rattle.std.proofs.lemmas.Result.{err_from_is_err_and}
 use Rattle.html_open.specs.declared.error.OpenError.{OpenError}
 use Rattle.html_open.specs.Adopting.{IsRefusal}
-use Rattle.html_open.proofs.Stopping.{refusal-is, stopped-closed, stopped-length, stopped-made}
+use Rattle.html_open.proofs.Staying.{survives-ends, survives-popped, survives-rebase, survives-round, survives-start, survives-stopped, survives-then}
+use Rattle.html_open.proofs.Stopping.{refusal-is, stopped-can-place, stopped-closed, stopped-free, stopped-length, stopped-made, stopped-open}
 use Rattle.html_open.proofs.Leaving.{paid-again, paid-popped, paid-same, paid-then}
 use Rattle.html_open.proofs.Rooted.{ends-can-place, ends-first, ends-free, popped-can-place, popped-first, popped-free, popped-roots, roots-rebase, roots-same, roots-then, round-first}
 use Rattle.html_open.proofs.Shrinking.{counted-end, counted-popped, counted-round, round-listed, round-shorter}
@@ -24,6 +25,7 @@ pub rounding-init : goal.rounding-init
 rounding-init c = record {
   rounds = no_round (open_at c.pop_unlisted.new.stack c.args.list.now c.pop_unlisted.new.arena);
   descends = descends-start (open_at c.pop_unlisted.new.stack c.args.list.now c.pop_unlisted.new.arena);
+  survives = survives-start (open_at c.pop_unlisted.new.stack c.args.list.now c.pop_unlisted.new.arena);
   opened = c.pop_unlisted.ensures.kept;
   can_place = subst (λ (v : List ℕ). CanPlace c.pop_unlisted.new.arena v) (sym (c.pop_unlisted.ensures.same_stack c.if-pop_unlisted.false)) (subst (λ (t : Tree). CanPlace t c.args.stack.now) (sym (c.pop_unlisted.ensures.same_tree c.if-pop_unlisted.false)) (can-place-stepped c.args.arena.now c.pop_unlisted.new.arena.steps c.args.stack.now c.requires.can_place));
   first_free = subst (λ (v : List ℕ). IsFirstFree v c.args.list.now) (sym (c.pop_unlisted.ensures.same_stack c.if-pop_unlisted.false)) c.requires.first_free;
@@ -44,6 +46,7 @@ rounding-preserved c =
     record {
       rounds = rounds-more c.args.name c.args.foster c.rounding._index (c.rounding._index + 1) (open_at c.pop_unlisted.new.stack c.args.list.now c.pop_unlisted.new.arena) (open_at c.rounding.stack c.rounding.list c.rounding.arena) (open_at c.turn.new.stack c.turn.new.list c.turn.new.arena) (omega arith) c.rounding.invariant.rounds r;
       descends = descends-round c.args.name c.args.foster (open_at c.pop_unlisted.new.stack c.args.list.now c.pop_unlisted.new.arena) (open_at c.rounding.stack c.rounding.list c.rounding.arena) (open_at c.turn.new.stack c.turn.new.list c.turn.new.arena) c.forest.ensures.well_formed c.forest-in-rounding.ensures.well_formed c.rounding.invariant.opened c.rounding.invariant.can_place c.rounding.invariant.descends r;
+      survives = survives-then (open_at c.pop_unlisted.new.stack c.args.list.now c.pop_unlisted.new.arena) (open_at c.rounding.stack c.rounding.list c.rounding.arena) (open_at c.turn.new.stack c.turn.new.list c.turn.new.arena) c.rounding.invariant.survives (survives-round c.args.name c.args.foster (open_at c.rounding.stack c.rounding.list c.rounding.arena) (open_at c.turn.new.stack c.turn.new.list c.turn.new.arena) r c.rounding.invariant.opened);
       opened = c.in_ok-end.ensures.kept;
       can_place = c.in_ok-end.ensures.can_place c.in_default.is;
       first_free = c.in_ok-end.ensures.first_free c.in_default.is;
@@ -113,24 +116,24 @@ pub returns-in-Some-clause-closed : goal.returns-in-Some-clause-closed
 returns-in-Some-clause-closed c = closed-rebased c.args.stack.now c.args.list.now c.args.arena.now c.pop_unlisted.new.arena.steps (open_at c.pop_unlisted.new.stack c.args.list.now c.pop_unlisted.new.arena) c.turn.new.arena (ap (λ (v : List ℕ). open_at v c.args.list.now c.pop_unlisted.new.arena) (c.pop_unlisted.ensures.same_stack c.if-pop_unlisted.false) ∙ ap (λ (t : Tree). open_at c.args.stack.now c.args.list.now t) (c.pop_unlisted.ensures.same_tree c.if-pop_unlisted.false)) (ends-closed c.args.name c.in-Some.end (open_at c.pop_unlisted.new.stack c.args.list.now c.pop_unlisted.new.arena) (open_at c.rounding.stack c.rounding.list c.rounding.arena) (open_at c.turn.new.stack c.turn.new.list c.turn.new.arena) c.rounding.invariant.descends (subst (λ (e : Option AdoptEnd). IsTurn c.args.name c.args.foster e (open_at c.rounding.stack c.rounding.list c.rounding.arena) (open_at c.turn.new.stack c.turn.new.list c.turn.new.arena)) c.in-Some.is c.in_ok-end.ensures.turned))
 
 pub returns-in_err-end-clause-made : goal.returns-in_err-end-clause-made
-returns-in_err-end-clause-made c = made-rebase c.args.stack.now c.args.list.now c.args.arena.now c.pop_unlisted.new.arena.steps (open_at c.pop_unlisted.new.stack c.args.list.now c.pop_unlisted.new.arena) c.turn.new.arena (ap (λ (v : List ℕ). open_at v c.args.list.now c.pop_unlisted.new.arena) (c.pop_unlisted.ensures.same_stack c.if-pop_unlisted.false) ∙ ap (λ (t : Tree). open_at c.args.stack.now c.args.list.now t) (c.pop_unlisted.ensures.same_tree c.if-pop_unlisted.false)) (made-more (open_at c.pop_unlisted.new.stack c.args.list.now c.pop_unlisted.new.arena) (open_at c.rounding.stack c.rounding.list c.rounding.arena) c.turn.new.arena c.rounding.invariant.descends (stopped-made c.args.name (open_at c.rounding.stack c.rounding.list c.rounding.arena) c.turn.new.arena c.in_err-end.field-0.0 c.in_err-end.ensures.stopped))
+returns-in_err-end-clause-made c = made-rebase c.args.stack.now c.args.list.now c.args.arena.now c.pop_unlisted.new.arena.steps (open_at c.pop_unlisted.new.stack c.args.list.now c.pop_unlisted.new.arena) c.turn.new.arena (ap (λ (v : List ℕ). open_at v c.args.list.now c.pop_unlisted.new.arena) (c.pop_unlisted.ensures.same_stack c.if-pop_unlisted.false) ∙ ap (λ (t : Tree). open_at c.args.stack.now c.args.list.now t) (c.pop_unlisted.ensures.same_tree c.if-pop_unlisted.false)) (made-more (open_at c.pop_unlisted.new.stack c.args.list.now c.pop_unlisted.new.arena) (open_at c.rounding.stack c.rounding.list c.rounding.arena) c.turn.new.arena c.rounding.invariant.descends (stopped-made c.args.name (open_at c.rounding.stack c.rounding.list c.rounding.arena) (open_at c.turn.new.stack c.turn.new.list c.turn.new.arena) c.in_err-end.field-0.0 c.in_err-end.ensures.stopped))
 
 pub returns-in_err-end-clause-closed : goal.returns-in_err-end-clause-closed
-returns-in_err-end-clause-closed c = closed-rebased c.args.stack.now c.args.list.now c.args.arena.now c.pop_unlisted.new.arena.steps (open_at c.pop_unlisted.new.stack c.args.list.now c.pop_unlisted.new.arena) c.turn.new.arena (ap (λ (v : List ℕ). open_at v c.args.list.now c.pop_unlisted.new.arena) (c.pop_unlisted.ensures.same_stack c.if-pop_unlisted.false) ∙ ap (λ (t : Tree). open_at c.args.stack.now c.args.list.now t) (c.pop_unlisted.ensures.same_tree c.if-pop_unlisted.false)) (closed-more (open_at c.pop_unlisted.new.stack c.args.list.now c.pop_unlisted.new.arena) (open_at c.rounding.stack c.rounding.list c.rounding.arena) c.turn.new.arena c.forest.ensures.well_formed c.rounding.invariant.descends (stopped-closed c.args.name (open_at c.rounding.stack c.rounding.list c.rounding.arena) c.turn.new.arena c.in_err-end.field-0.0 c.in_err-end.ensures.stopped))
+returns-in_err-end-clause-closed c = closed-rebased c.args.stack.now c.args.list.now c.args.arena.now c.pop_unlisted.new.arena.steps (open_at c.pop_unlisted.new.stack c.args.list.now c.pop_unlisted.new.arena) c.turn.new.arena (ap (λ (v : List ℕ). open_at v c.args.list.now c.pop_unlisted.new.arena) (c.pop_unlisted.ensures.same_stack c.if-pop_unlisted.false) ∙ ap (λ (t : Tree). open_at c.args.stack.now c.args.list.now t) (c.pop_unlisted.ensures.same_tree c.if-pop_unlisted.false)) (closed-more (open_at c.pop_unlisted.new.stack c.args.list.now c.pop_unlisted.new.arena) (open_at c.rounding.stack c.rounding.list c.rounding.arena) c.turn.new.arena c.forest.ensures.well_formed c.rounding.invariant.descends (stopped-closed c.args.name (open_at c.rounding.stack c.rounding.list c.rounding.arena) (open_at c.turn.new.stack c.turn.new.list c.turn.new.arena) c.in_err-end.field-0.0 c.in_err-end.ensures.stopped))
 
 pub returns-in_err-end-clause-clones : goal.returns-in_err-end-clause-clones
 returns-in_err-end-clause-clones c =
     let g = c.rounding.invariant.grown in
     let h = c.rounding-test.true in
-    let k = stopped-length c.args.name (open_at c.rounding.stack c.rounding.list c.rounding.arena) c.turn.new.arena c.in_err-end.field-0.0 c.in_err-end.ensures.stopped in
+    let k = stopped-length c.args.name (open_at c.rounding.stack c.rounding.list c.rounding.arena) (open_at c.turn.new.stack c.turn.new.list c.turn.new.arena) c.in_err-end.field-0.0 c.in_err-end.ensures.stopped in
     let e = ap (λ (t : Tree). length t.labels) (c.pop_unlisted.ensures.same_tree c.if-pop_unlisted.false) in
     omega (arith, g, h, k, e)
 
 pub returns-in_err-end-clause-cause : goal.returns-in_err-end-clause-cause
 returns-in_err-end-clause-cause c =
     let p = err_from_is_err_and c.from_residual.result c.from_residual.ensures.1 in
-    rw p.1 (subst (λ (e : OpenError). IsRefusal c.args.name c.args.foster (open_at c.args.stack.now c.args.list.now c.args.arena.now) c.turn.new.arena e) (sym p.2)
-    (refusal-is c.args.name c.args.foster c.args.stack.now c.args.list.now c.args.arena.now c.pop_unlisted.new.arena.steps c.rounding._index (open_at c.pop_unlisted.new.stack c.args.list.now c.pop_unlisted.new.arena) (open_at c.rounding.stack c.rounding.list c.rounding.arena) c.turn.new.arena c.in_err-end.field-0.0 (ap (λ (v : List ℕ). open_at v c.args.list.now c.pop_unlisted.new.arena) (c.pop_unlisted.ensures.same_stack c.if-pop_unlisted.false) ∙ ap (λ (t : Tree). open_at c.args.stack.now c.args.list.now t) (c.pop_unlisted.ensures.same_tree c.if-pop_unlisted.false)) (c.pop_unlisted.ensures.no c.if-pop_unlisted.false) c.rounding-test.true c.rounding.invariant.rounds c.in_err-end.ensures.stopped))
+    rw p.1 (subst (λ (e : OpenError). IsRefusal c.args.name c.args.foster (open_at c.args.stack.now c.args.list.now c.args.arena.now) (open_at c.turn.new.stack c.turn.new.list c.turn.new.arena) e) (sym p.2)
+    (refusal-is c.args.name c.args.foster c.args.stack.now c.args.list.now c.args.arena.now c.pop_unlisted.new.arena.steps c.rounding._index (open_at c.pop_unlisted.new.stack c.args.list.now c.pop_unlisted.new.arena) (open_at c.rounding.stack c.rounding.list c.rounding.arena) (open_at c.turn.new.stack c.turn.new.list c.turn.new.arena) c.in_err-end.field-0.0 (ap (λ (v : List ℕ). open_at v c.args.list.now c.pop_unlisted.new.arena) (c.pop_unlisted.ensures.same_stack c.if-pop_unlisted.false) ∙ ap (λ (t : Tree). open_at c.args.stack.now c.args.list.now t) (c.pop_unlisted.ensures.same_tree c.if-pop_unlisted.false)) (c.pop_unlisted.ensures.no c.if-pop_unlisted.false) c.rounding-test.true c.rounding.invariant.rounds c.in_err-end.ensures.stopped))
 
 pub returns-clause-steps : goal.returns-clause-steps
 returns-clause-steps c =
@@ -156,7 +159,7 @@ returns-in-Some-clause-steps c =
 pub returns-in_err-end-clause-steps : goal.returns-in_err-end-clause-steps
 returns-in_err-end-clause-steps c =
     let h = c.rounding-test.true in
-    let k = labels-longer (open_at c.rounding.stack c.rounding.list c.rounding.arena) c.turn.new.arena (stopped-made c.args.name (open_at c.rounding.stack c.rounding.list c.rounding.arena) c.turn.new.arena c.in_err-end.field-0.0 c.in_err-end.ensures.stopped) in
+    let k = labels-longer (open_at c.rounding.stack c.rounding.list c.rounding.arena) c.turn.new.arena (stopped-made c.args.name (open_at c.rounding.stack c.rounding.list c.rounding.arena) (open_at c.turn.new.stack c.turn.new.list c.turn.new.arena) c.in_err-end.field-0.0 c.in_err-end.ensures.stopped) in
     subst (λ (n : ℕ). IsCounted c.args.arena.now.steps c.turn.new.arena.steps (length c.turn.new.arena.labels - n) (32 * ((length c.args.stack.now + length c.args.list.now + 4) * (length c.args.stack.now + length c.args.list.now + 4)) + 8 * length c.turn.new.arena.labels)) (ap (λ (t : Tree). length t.labels) (c.pop_unlisted.ensures.same_tree c.if-pop_unlisted.false))
     (counted-end (suc c.rounding._index) c.args.arena.now.steps c.pop_unlisted.new.arena.steps c.turn.new.arena.steps (length c.pop_unlisted.new.arena.labels) (length c.turn.new.arena.labels) (length c.args.stack.now) (length c.args.list.now) (omega (arith, h)) c.pop_unlisted.ensures.steps
     (subst (λ (v : List ℕ). IsCounted c.pop_unlisted.new.arena.steps c.turn.new.arena.steps (length c.turn.new.arena.labels - length c.pop_unlisted.new.arena.labels) (times (suc c.rounding._index) (length c.turn.new.arena.labels + 4 * length v + 3 * length c.args.list.now + 36))) (c.pop_unlisted.ensures.same_stack c.if-pop_unlisted.false)
@@ -214,3 +217,48 @@ pub returns-in-Some-clause-roots : goal.returns-in-Some-clause-roots
 returns-in-Some-clause-roots c =
     roots-rebase c.args.stack.now c.pop_unlisted.new.stack c.args.list.now c.args.arena.now c.pop_unlisted.new.arena c.turn.new.arena (c.pop_unlisted.ensures.same_stack c.if-pop_unlisted.false) (c.pop_unlisted.ensures.same_tree c.if-pop_unlisted.false)
     (roots-then (open_at c.pop_unlisted.new.stack c.args.list.now c.pop_unlisted.new.arena) (open_at c.rounding.stack c.rounding.list c.rounding.arena) c.turn.new.arena c.rounding.invariant.descends c.rounding.invariant.first c.rounding.invariant.opened.stack_once (labels-longer (open_at c.pop_unlisted.new.stack c.args.list.now c.pop_unlisted.new.arena) c.rounding.arena c.rounding.invariant.descends.made) c.rounding.invariant.roots c.in_ok-end.ensures.roots)
+
+-- a round that was stopped leaves what the rounds before it left, and clones that stand alone
+pub returns-in_err-end-clause-kept : goal.returns-in_err-end-clause-kept
+returns-in_err-end-clause-kept c =
+    stopped-open c.args.name (open_at c.rounding.stack c.rounding.list c.rounding.arena) (open_at c.turn.new.stack c.turn.new.list c.turn.new.arena) c.in_err-end.field-0.0 c.in_err-end.ensures.stopped
+    c.forest-in-rounding.ensures.well_formed c.rounding.invariant.opened
+
+pub returns-in_err-end-clause-first : goal.returns-in_err-end-clause-first
+returns-in_err-end-clause-first c = λ x e n.
+    ap first_of c.in_err-end.ensures.stopped.stack_is ∙ c.rounding.invariant.first ∙ ap first_of (c.pop_unlisted.ensures.same_stack c.if-pop_unlisted.false) ∙ e
+
+pub returns-in_err-end-clause-can_place : goal.returns-in_err-end-clause-can_place
+returns-in_err-end-clause-can_place c = λ l.
+    stopped-can-place c.args.name (open_at c.rounding.stack c.rounding.list c.rounding.arena) (open_at c.turn.new.stack c.turn.new.list c.turn.new.arena) c.in_err-end.field-0.0 c.in_err-end.ensures.stopped
+    c.rounding.invariant.opened c.rounding.invariant.can_place
+
+pub returns-in_err-end-clause-first_free : goal.returns-in_err-end-clause-first_free
+returns-in_err-end-clause-first_free c =
+    stopped-free c.args.name (open_at c.rounding.stack c.rounding.list c.rounding.arena) (open_at c.turn.new.stack c.turn.new.list c.turn.new.arena) c.in_err-end.field-0.0 c.in_err-end.ensures.stopped
+    c.rounding.invariant.first_free
+
+pub returns-then-pop_unlisted-clause-survives : goal.returns-then-pop_unlisted-clause-survives
+returns-then-pop_unlisted-clause-survives c = λ plain.
+    survives-popped c.args.name (open_at c.args.stack.now c.args.list.now c.args.arena.now) (open_at c.pop_unlisted.new.stack c.args.list.now c.pop_unlisted.new.arena) plain (c.pop_unlisted.ensures.yes c.if-pop_unlisted.true)
+
+pub returns-clause-survives : goal.returns-clause-survives
+returns-clause-survives c = λ plain.
+    survives-rebase c.args.stack.now c.args.list.now c.args.arena.now c.pop_unlisted.new.arena.steps (open_at c.pop_unlisted.new.stack c.args.list.now c.pop_unlisted.new.arena) (open_at c.rounding.stack c.rounding.list c.rounding.arena)
+    (ap (λ (v : List ℕ). open_at v c.args.list.now c.pop_unlisted.new.arena) (c.pop_unlisted.ensures.same_stack c.if-pop_unlisted.false) ∙ ap (λ (t : Tree). open_at c.args.stack.now c.args.list.now t) (c.pop_unlisted.ensures.same_tree c.if-pop_unlisted.false))
+    c.rounding.invariant.survives
+
+pub returns-in-Some-clause-survives : goal.returns-in-Some-clause-survives
+returns-in-Some-clause-survives c = λ plain.
+    survives-rebase c.args.stack.now c.args.list.now c.args.arena.now c.pop_unlisted.new.arena.steps (open_at c.pop_unlisted.new.stack c.args.list.now c.pop_unlisted.new.arena) (open_at c.turn.new.stack c.turn.new.list c.turn.new.arena)
+    (ap (λ (v : List ℕ). open_at v c.args.list.now c.pop_unlisted.new.arena) (c.pop_unlisted.ensures.same_stack c.if-pop_unlisted.false) ∙ ap (λ (t : Tree). open_at c.args.stack.now c.args.list.now t) (c.pop_unlisted.ensures.same_tree c.if-pop_unlisted.false))
+    (survives-then (open_at c.pop_unlisted.new.stack c.args.list.now c.pop_unlisted.new.arena) (open_at c.rounding.stack c.rounding.list c.rounding.arena) (open_at c.turn.new.stack c.turn.new.list c.turn.new.arena) c.rounding.invariant.survives
+    (survives-ends c.args.name c.in-Some.end (open_at c.rounding.stack c.rounding.list c.rounding.arena) (open_at c.turn.new.stack c.turn.new.list c.turn.new.arena) c.rounding.invariant.opened
+    (subst (λ (e : Option AdoptEnd). IsTurn c.args.name c.args.foster e (open_at c.rounding.stack c.rounding.list c.rounding.arena) (open_at c.turn.new.stack c.turn.new.list c.turn.new.arena)) c.in-Some.is c.in_ok-end.ensures.turned)))
+
+pub returns-in_err-end-clause-survives : goal.returns-in_err-end-clause-survives
+returns-in_err-end-clause-survives c = λ plain.
+    survives-rebase c.args.stack.now c.args.list.now c.args.arena.now c.pop_unlisted.new.arena.steps (open_at c.pop_unlisted.new.stack c.args.list.now c.pop_unlisted.new.arena) (open_at c.turn.new.stack c.turn.new.list c.turn.new.arena)
+    (ap (λ (v : List ℕ). open_at v c.args.list.now c.pop_unlisted.new.arena) (c.pop_unlisted.ensures.same_stack c.if-pop_unlisted.false) ∙ ap (λ (t : Tree). open_at c.args.stack.now c.args.list.now t) (c.pop_unlisted.ensures.same_tree c.if-pop_unlisted.false))
+    (survives-then (open_at c.pop_unlisted.new.stack c.args.list.now c.pop_unlisted.new.arena) (open_at c.rounding.stack c.rounding.list c.rounding.arena) (open_at c.turn.new.stack c.turn.new.list c.turn.new.arena) c.rounding.invariant.survives
+    (survives-stopped c.args.name (open_at c.rounding.stack c.rounding.list c.rounding.arena) (open_at c.turn.new.stack c.turn.new.list c.turn.new.arena) c.in_err-end.field-0.0 c.rounding.invariant.opened c.in_err-end.ensures.stopped))
