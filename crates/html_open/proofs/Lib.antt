@@ -37,3 +37,5 @@ pub mod Edits
 pub mod Members
 pub mod Newly
 pub mod Staying
+pub mod Lasting
+pub mod Firsts

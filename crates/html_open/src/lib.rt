@@ -19,7 +19,7 @@ pub use adoption::{AdoptEnd, adopt};
 pub use error::OpenError;
 pub use html_names::Scope;
 pub use inserting::insert;
-pub use keeping::kept_by_edits;
+pub use keeping::{first_kept_by_edits, kept_by_edits};
 pub use list::FormattingList;
 pub use places::{Place, put};
 pub use placing::place;

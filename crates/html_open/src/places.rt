@@ -4,10 +4,12 @@ ghost use Rattle.html_arena.specs.Data.{is_linkable};
 ghost use Rattle.html_arena.specs.Siblings.{has};
 ghost use Rattle.html_arena.specs.Tree.{ancestors, children_of, label_of, parent_of};
 ghost use Rattle.html_open.specs.Hanging.{IsPut};
+ghost use Rattle.html_open.specs.Inserting.{SparesClosed};
 ghost use Rattle.html_open.specs.Marking.{IsCounted};
 ghost use Rattle.html_open.specs.declared.entry.Entry.{Entry};
 ghost use Rattle.html_open.specs.Opened.{IsApart, IsOpen, open_at};
-ghost use Rattle.html_open.specs.Placing.{IsPlace, parent_at, put, way_up};
+ghost use Rattle.html_open.specs.Placing.{CanPlace, IsPlace, parent_at, put, way_up};
+ghost use Rattle.html_open.specs.Reopening.{KeepsClosed};
 
 use html_arena::{Arena, NodeId};
 
@@ -32,6 +34,8 @@ pub fn put(arena: &mut Arena, place: Place, node: NodeId)
     ensures children { (x : ℕ) → parent_at arena.old place ≢ Some x → children_of arena.new x ≡ children_of arena.old x }
     ensures parents { (x : ℕ) → x ≢ node → parent_of arena.new x ≡ parent_of arena.old x }
     ensures keeps { (s : List ℕ) (l : List Entry) → IsApart arena.old s node → IsOpen (open_at s l arena.old) → IsOpen (open_at s l arena.new) }
+    ensures can_place { (s : List ℕ) → CanPlace arena.old s → CanPlace arena.new s }
+    ensures closed { (s : List ℕ) (l : List Entry) → SparesClosed arena.old s place → KeepsClosed (open_at s l arena.old) arena.new }
 {
     link_at(arena, place, node);
 }

@@ -1,14 +1,16 @@
 // The stack of open elements.
-ghost use Rattle.std.specs.Prelude.{◌≡◌, ℕ, ◌+◌, ◌<◌, ◌∷◌, [], ◌++◌, List, eqb, length, slice_index, None, IfErr, IfSome, OnErr, OnOk, drop, false, take, true, ◌≤◌};
+ghost use Rattle.std.specs.Prelude.{◌≡◌, ◌≢◌, ℕ, ◌+◌, ◌<◌, ◌∷◌, [], ◌++◌, List, eqb, length, slice_index, None, Some, IfErr, IfSome, OnErr, OnOk, drop, false, take, true, ◌≤◌};
 ghost use Rattle.html_arena.specs.declared.marks.Mark.TheVariants.{OnStack};
-ghost use Rattle.html_arena.specs.Siblings.{has, last_of};
+ghost use Rattle.html_arena.specs.Siblings.{first_of, has, last_of};
 ghost use Rattle.html_arena.specs.Tree.{more, named, tag_at, with_marked};
 ghost use Rattle.html_names.specs.declared.sets.Scope.TheVariants.{Default};
 ghost use Rattle.html_open.specs.AdoptFinding.{element_in_scope};
+ghost use Rattle.html_open.specs.Adopting.{IsFirstFree};
 ghost use Rattle.html_open.specs.Entries.{removal_steps};
 ghost use Rattle.html_open.specs.Lists.{above, last_index, looked, up_to, with_last, without_last};
-ghost use Rattle.html_open.specs.Marking.{all_unmarked, charged, unmarked};
+ghost use Rattle.html_open.specs.Marking.{IsSameTree, all_unmarked, charged, unmarked};
 ghost use Rattle.html_open.specs.Opened.{AreNodes, CanPush, IsMarked, IsOpen, open_at};
+ghost use Rattle.html_open.specs.Placing.{CanPlace};
 ghost use Rattle.html_open.specs.Scopes.{element_or_end, ends, implied_steps, in_scope, match_or_end, stays};
 
 use crate::error::OpenError;
@@ -68,6 +70,10 @@ impl OpenStack {
         ensures stack { OnOk result (self.new ≡ self.old ++ node ∷ []) }
         ensures tree { OnOk result (arena.new ≡ charged (with_marked arena.old OnStack node true) 1) }
         ensures keeps { OnOk result ((l : _) → IsOpen (open_at self.old l arena.old) → CanPush (open_at self.old l arena.old) node → IsOpen (open_at self.new l arena.new)) }
+        ensures nodes_in { OnOk result (AreNodes arena.old self.old → AreNodes arena.new self.new) }
+        ensures first { OnOk result (0 < length self.old → first_of self.new ≡ first_of self.old) }
+        ensures can_place { OnOk result (CanPlace arena.old self.old → CanPlace arena.new self.new) }
+        ensures first_free { OnOk result ((l : _) → 0 < length self.old → IsFirstFree self.old l → IsFirstFree self.new l) }
         ensures same_stack { OnErr result (self.new ≡ self.old) }
         ensures same_tree { OnErr result (arena.new ≡ arena.old) }
         ensures cause { IfErr result (λ e. e ≡ OpenError.OutOfMemory) }
@@ -89,6 +95,12 @@ impl OpenStack {
         ensures member { IfSome result (λ x. has x self.old ≡ true) }
         ensures tree { arena.new ≡ charged (unmarked arena.old OnStack result) 1 }
         ensures keeps { (l : _) → IsOpen (open_at self.old l arena.old) → IsOpen (open_at self.new l arena.new) }
+        ensures tree_kept { IsSameTree arena.old arena.new }
+        ensures steps { arena.new.steps ≡ more arena.old.steps 1 }
+        ensures fewer { (x : ℕ) → has x self.old ≡ false → has x self.new ≡ false }
+        ensures first { 0 < length self.new → first_of self.new ≡ first_of self.old }
+        ensures can_place { 0 < length self.new → CanPlace arena.old self.old → CanPlace arena.new self.new }
+        ensures first_free { (l : _) → IsFirstFree self.old l → IsFirstFree self.new l }
     {
         arena.forest();
         let node = self.take_last(arena);
@@ -104,6 +116,12 @@ impl OpenStack {
         ensures stack { self.new ≡ without_last (eqb node) self.old }
         ensures tree { arena.new ≡ charged (with_marked arena.old OnStack node false) (removal_steps (eqb node) self.old) }
         ensures keeps { (l : _) → IsOpen (open_at self.old l arena.old) → IsOpen (open_at self.new l arena.new) }
+        ensures tree_kept { IsSameTree arena.old arena.new }
+        ensures steps { arena.new.steps ≡ more arena.old.steps (removal_steps (eqb node) self.old) }
+        ensures fewer { (x : ℕ) → has x self.old ≡ false → has x self.new ≡ false }
+        ensures first { first_of self.old ≢ Some node → first_of self.new ≡ first_of self.old }
+        ensures can_place { first_of self.old ≢ Some node → CanPlace arena.old self.old → CanPlace arena.new self.new }
+        ensures first_free { (l : _) → first_of self.old ≢ Some node → IsFirstFree self.old l → IsFirstFree self.new l }
     {
         arena.forest();
         let nodes = self.nodes.as_slice();
@@ -221,6 +239,12 @@ impl OpenStack {
         ensures stack { self.new ≡ up_to (stays arena.old except) self.old }
         ensures tree { arena.new ≡ charged (all_unmarked arena.old OnStack (above (stays arena.old except) self.old)) (implied_steps arena.old except self.old) }
         ensures keeps { (l : _) → IsOpen (open_at self.old l arena.old) → IsOpen (open_at self.new l arena.new) }
+        ensures tree_kept { IsSameTree arena.old arena.new }
+        ensures steps { arena.new.steps ≡ more arena.old.steps (implied_steps arena.old except self.old) }
+        ensures fewer { (x : ℕ) → has x self.old ≡ false → has x self.new ≡ false }
+        ensures first { 0 < length self.new → first_of self.new ≡ first_of self.old }
+        ensures can_place { 0 < length self.new → CanPlace arena.old self.old → CanPlace arena.new self.new }
+        ensures first_free { (l : _) → IsFirstFree self.old l → IsFirstFree self.new l }
     {
         let nodes = self.nodes.as_slice();
         let found = last_index(nodes, arena, &Sought::Staying(except));
@@ -237,6 +261,12 @@ impl OpenStack {
         ensures stack { self.new ≡ take len self.old }
         ensures tree { arena.new ≡ all_unmarked arena.old OnStack (drop len self.old) }
         ensures keeps { (l : _) → IsOpen (open_at self.old l arena.old) → IsOpen (open_at self.new l arena.new) }
+        ensures tree_kept { IsSameTree arena.old arena.new }
+        ensures steps { arena.new.steps ≡ arena.old.steps }
+        ensures fewer { (x : ℕ) → has x self.old ≡ false → has x self.new ≡ false }
+        ensures first { 0 < length self.new → first_of self.new ≡ first_of self.old }
+        ensures can_place { 0 < length self.new → CanPlace arena.old self.old → CanPlace arena.new self.new }
+        ensures first_free { (l : _) → IsFirstFree self.old l → IsFirstFree self.new l }
     {
         'popping: while self.len() > len {
             arena.forest();

@@ -1,4 +1,5 @@
 use Rattle.html_open.proofs.Edits.{grown-apart, open-grown, open-linked, open-moved, open-relabelled, open-unlinked}
+use Rattle.html_open.proofs.Firsts.{empty-open}
 use Rattle.html_open.proofs.Keeps.{open-charged}
 use Rattle.html_open.proofs.Newly.{can-place-charged}
 use Rattle.html_open.proofs.keeping.kept_by_edits.Goals as goal
@@ -26,3 +27,6 @@ returns-clause-moved c = open-moved
 
 pub returns-clause-relabelled : goal.returns-clause-relabelled
 returns-clause-relabelled c = open-relabelled
+
+pub returns-clause-empty : goal.returns-clause-empty
+returns-clause-empty c = empty-open
