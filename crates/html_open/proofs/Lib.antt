@@ -39,3 +39,6 @@ pub mod Newly
 pub mod Staying
 pub mod Lasting
 pub mod Firsts
+pub mod Costing
+pub mod Enduring
+pub mod Narrowing

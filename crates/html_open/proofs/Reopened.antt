@@ -25,7 +25,7 @@ use Rattle.html_open.specs.Lists.{above, after_index, below, last_index, last_wh
 use Rattle.html_open.specs.Marking.{bare, charged}
 use Rattle.html_open.specs.Opened.{IsMarked, IsOpen, Open, open_at}
 use Rattle.html_open.specs.Placing.{CanPlace, by_table, fosters, outside_table, place_of, place_steps, put, table, target_of, template}
-use Rattle.html_open.specs.Reopening.{IsCause, IsNextClone, KeepsClosed, Reopened, ReopenedFirst, clone_steps, clones_of, closed, fresh, reopen_steps, search_steps, stands, with_clone, with_clones}
+use Rattle.html_open.specs.Reopening.{IsCause, IsNextClone, ClonedFirst, KeepsClosed, Reopened, ReopenedFirst, clone_steps, clones_of, closed, fresh, reopen_steps, search_steps, stands, with_clone, with_clones}
 use Rattle.html_open.specs.Reopenings.{IsRefused, IsTried, with_reopened}
 use Rattle.html_open.specs.Rooting.{KeepsParents}
 use Rattle.html_open.specs.Searches.{open_or_marker}
@@ -147,7 +147,7 @@ labels-reopened : (t : Tree) (s : List ℕ) (f : Bool) (x : ℕ) → (with_reope
 labels-reopened t s f x = labels-put (made (charged t (place_steps t s None f)) (CloneOf x)) (place_of t s None f) (length t.labels)
 
 -- the entries that are opened anew are elements off the stack
-none-above : {X : Type 0} (p : X → Bool) (xs : List X) → list_any p (above p xs) ≡ false
+pub none-above : {X : Type 0} (p : X → Bool) (xs : List X) → list_any p (above p xs) ≡ false
 none-above p [] = refl
 none-above p (x ∷ xs) = elim (cases_bool (list_any p xs)) [
   | inl a ↦ rw a (none-above p xs)
@@ -157,14 +157,14 @@ none-above p (x ∷ xs) = elim (cases_bool (list_any p xs)) [
   ]
 ]
 
-split-above : {X : Type 0} (p : X → Bool) (xs : List X) → xs ≡ up_to p xs ++ above p xs
+pub split-above : {X : Type 0} (p : X → Bool) (xs : List X) → xs ≡ up_to p xs ++ above p xs
 split-above p [] = refl
 split-above p (x ∷ xs) = elim (cases_bool (list_any p xs)) [
   | inl a ↦ rw a (ap (λ v. x ∷ v) (split-above p xs))
   | inr a ↦ elim (cases_bool (p x)) [ inl b ↦ rw (a, b) refl | inr b ↦ rw (a, b) refl ]
 ]
 
-all-nodes : (s : List ℕ) (es : List Entry) → list_any (stands s) es ≡ false → es ≡ map Node (nodes_of es)
+pub all-nodes : (s : List ℕ) (es : List Entry) → list_any (stands s) es ≡ false → es ≡ map Node (nodes_of es)
 all-nodes s [] h = refl
 all-nodes s (Marker ∷ es) h = absurd cc
 all-nodes s (Node x ∷ es) h = elim (cases_bool (has x s)) [
@@ -494,6 +494,26 @@ module _ (f : Bool) (o : Open) (i : ℕ) (s : List ℕ) (l : List Entry) (t : Tr
   pub made-so-far : MadeClones o t
   made-so-far = record { elements = u.done; listed = done-listed; labels_are = u.labels_are }
 
+  pub in-order : ClonedFirst (closed o) o.tree t
+  in-order = record { done = u.done; rest = u.rest; all = u.all; labels_are = u.labels_are }
+
+  pub in-order-tried : (d : Entry) (x : ℕ) (v : Tree) → i < length l → get_or l i d ≡ Node x → IsTried t v x → ClonedFirst (closed o) o.tree v
+  in-order-tried d x v b h k =
+      let r = next-element f o i s l t u d x b h in
+      let first : has x u.rest ≡ true = subst (λ ys. has x ys ≡ true) (sym r.1) (rw (eqb-self x) refl) in
+      let made = map (λ y. cloned (label_of o.tree y)) u.done in
+      elim (cases_bool k.is_made) [
+        | inl e ↦ record {
+          done = u.done ++ x ∷ [];
+          rest = r.0;
+          all = u.all ∙ ap (λ ys. u.done ++ ys) r.1 ∙ sym (append_assoc u.done (x ∷ []) r.0);
+          labels_are = k.labels_are ∙ rw e (ap (λ w. w ++ cloned (label_of t x) ∷ []) u.labels_are ∙ append_assoc o.tree.labels made (cloned (label_of t x) ∷ [])
+              ∙ ap (λ n. o.tree.labels ++ (made ++ cloned n ∷ [])) (u.same_labels x (u.rest_in x first))
+              ∙ ap (λ w. o.tree.labels ++ w) (sym (map-append (λ y. cloned (label_of o.tree y)) u.done (x ∷ []))));
+        }
+        | inr e ↦ record { done = u.done; rest = u.rest; all = u.all; labels_are = k.labels_are ∙ rw e (append-nil t.labels) ∙ u.labels_are }
+      ]
+
   -- the clone of the next element may have been made
   pub made-tried : (d : Entry) (x : ℕ) (v : Tree) → i < length l → get_or l i d ≡ Node x → IsTried t v x → MadeClones o v
   made-tried d x v b h k =
@@ -536,22 +556,22 @@ module _ (o p : Open) (h : IsOpen o) (c : CanPlace o.tree o.stack) (k : Reopened
   pub first-is : first_of p.stack ≡ first_of o.stack
   first-is = ap first_of k.stack_is ∙ first-longer o.tree o.stack (fresh o.tree (length k.done)) c
 
-  apart : (x a n : ℕ) → x < a → has x (range_with_len a n) ≡ false
+  pub apart : (x a n : ℕ) → x < a → has x (range_with_len a n) ≡ false
   apart x a zero l = refl
   apart x a (suc n) l = elim (cases_eqb x a) [ inl e ↦ absurd (let q = e.1 in omega arith) | inr e ↦ rw e.0 (apart x (a + 1) n (omega arith)) ]
 
   out : (x : ℕ) (xs : List ℕ) → ((y : ℕ) → has y xs ≡ true → has_node y o.list ≡ true) → has_node x o.list ≡ false → has x xs ≡ false
   out x xs g n = elim (cases_bool (has x xs)) [ inl e ↦ absurd (let w = g x e in cc) | inr e ↦ e ]
 
-  up-listed : (y : ℕ) → has y (nodes_of (up_to (stands o.stack) o.list)) ≡ true → has_node y o.list ≡ true
+  pub up-listed : (y : ℕ) → has y (nodes_of (up_to (stands o.stack) o.list)) ≡ true → has_node y o.list ≡ true
   up-listed y e =
       ap (has y) (ap nodes_of (split-above (stands o.stack) o.list) ∙ nodes-append (up_to (stands o.stack) o.list) (above (stands o.stack) o.list))
       ∙ has-append y (nodes_of (up_to (stands o.stack) o.list)) (closed o) ∙ rw e refl
 
-  rest-listed : (y : ℕ) → has y k.rest ≡ true → has_node y o.list ≡ true
+  pub rest-listed : (y : ℕ) → has y k.rest ≡ true → has_node y o.list ≡ true
   rest-listed y e = closed-listed o y (ap (has y) k.all ∙ has-append y k.done k.rest ∙ elim (cases_bool (has y k.done)) [ inl q ↦ rw q refl | inr q ↦ rw q e ])
 
-  list-nodes : nodes_of p.list ≡ (nodes_of (up_to (stands o.stack) o.list) ++ fresh o.tree (length k.done)) ++ k.rest
+  pub list-nodes : nodes_of p.list ≡ (nodes_of (up_to (stands o.stack) o.list) ++ fresh o.tree (length k.done)) ++ k.rest
   list-nodes =
       ap nodes_of k.list_is ∙ nodes-append (up_to (stands o.stack) o.list ++ map Node (fresh o.tree (length k.done))) (map Node k.rest)
       ∙ ap (λ v. v ++ nodes_of (map Node k.rest)) (nodes-append (up_to (stands o.stack) o.list) (map Node (fresh o.tree (length k.done))))

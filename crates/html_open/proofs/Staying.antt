@@ -35,7 +35,7 @@ use Rattle.html_open.proofs.Stopping.{stopped-same}
 use Rattle.html_open.proofs.Upwards.{has-first, has-more}
 
 -- no formatting element is special
-formatting-plain : (g : Tag) → is_formatting g ≡ true → is_special g ≡ false
+pub formatting-plain : (g : Tag) → is_formatting g ≡ true → is_special g ≡ false
 formatting-plain tag.A h = refl
 formatting-plain tag.B h = refl
 formatting-plain tag.Big h = refl
@@ -53,14 +53,14 @@ formatting-plain tag.U h = refl
 formatting-plain _ h = absurd (let k = h in cc)
 
 -- what passes a test
-filter-same : (p q : ℕ → Bool) (xs : List ℕ) → ((x : ℕ) → has x xs ≡ true → p x ≡ q x) → filter p xs ≡ filter q xs
+pub filter-same : (p q : ℕ → Bool) (xs : List ℕ) → ((x : ℕ) → has x xs ≡ true → p x ≡ q x) → filter p xs ≡ filter q xs
 filter-same p q [] h = refl
 filter-same p q (x ∷ xs) h =
     let r = filter-same p q xs (λ y m. h y (has-more y x xs m)) in
     let e = h x (has-first x xs) in
     elim (cases_bool (q x)) [ inl a ↦ rw (e, a) (ap (λ ys. x ∷ ys) r) | inr a ↦ rw (e, a) r ]
 
-filter-none : (p : ℕ → Bool) (xs : List ℕ) → ((x : ℕ) → has x xs ≡ true → p x ≡ false) → filter p xs ≡ []
+pub filter-none : (p : ℕ → Bool) (xs : List ℕ) → ((x : ℕ) → has x xs ≡ true → p x ≡ false) → filter p xs ≡ []
 filter-none p [] h = refl
 filter-none p (x ∷ xs) h = rw (h x (has-first x xs)) (filter-none p xs (λ y m. h y (has-more y x xs m)))
 
@@ -83,7 +83,7 @@ six p A B C D E F A' B' C' D' E' F' a b c d e f =
     glue X Y X' Y' x y = filter-append p X Y ∙ ap (λ v. v ++ filter p Y) x ∙ ap (λ v. X' ++ v) y
 
 -- markers
-markers-map : (ys : List ℕ) → filter is_marker (map Node ys) ≡ []
+pub markers-map : (ys : List ℕ) → filter is_marker (map Node ys) ≡ []
 markers-map [] = refl
 markers-map (y ∷ ys) = markers-map ys
 

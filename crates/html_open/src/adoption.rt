@@ -6,7 +6,7 @@ ghost use Rattle.html_arena.specs.Siblings.{first_of, last_of};
 ghost use Rattle.html_arena.specs.Tree.{WellFormed, named};
 ghost use Rattle.html_open.specs.AdoptFinding.{IsPlain};
 ghost use Rattle.html_open.specs.Adopting.{Adopted, Closed, IsFirstFree, IsRefusal, IsStopped, IsTurn, MadeClones, Popped, Survives, pops_at_once};
-ghost use Rattle.html_open.specs.Leaving.{IsPaid};
+ghost use Rattle.html_open.specs.Leaving.{IsPaid, listed_weight};
 ghost use Rattle.html_open.specs.Marking.{IsCounted};
 ghost use Rattle.html_open.specs.Opened.{IsOpen, open_at};
 ghost use Rattle.html_open.specs.Placing.{CanPlace};
@@ -70,11 +70,15 @@ pub fn adopt(
     ensures closed { KeepsClosed (open_at stack.old list.old arena.old) arena.new }
     ensures survives { is_special name ≡ false → Survives (open_at stack.old list.old arena.old) (open_at stack.new list.new arena.new) }
     ensures clones { length arena.new.labels ≤ length arena.old.labels + 32 }
+    ensures held { arena.new.held ≤ arena.old.held + 32 * listed_weight arena.old list.old }
+    ensures no_more_open { length stack.new ≤ length stack.old }
+    ensures no_more_listed { length list.new ≤ length list.old }
     ensures cause { IfErr result (λ e. IsRefusal name foster (open_at stack.old list.old arena.old) (open_at stack.new list.new arena.new) e) }
     ensures steps { IsCounted arena.old.steps arena.new.steps (length arena.new.labels - length arena.old.labels) (32 * ((length stack.old + length list.old + 4) * (length stack.old + length list.old + 4)) + 8 * length arena.new.labels) }
     ensures paid { OnOk result (IsPaid (open_at stack.old list.old arena.old) (open_at stack.new list.new arena.new)) }
     ensures well_formed { WellFormed arena.new }
 {
+    arena.forest();
     let end = follow(stack, list, arena, name, foster);
     arena.forest();
     end

@@ -27,8 +27,9 @@ impl FormattingList {
     ghost use Rattle.html_open.specs.declared.entry.Entry.TheVariants.{Marker, Node};
     ghost use Rattle.html_open.specs.Entries.{nodes_of};
     ghost use Rattle.html_open.specs.Opened.{IsOpen, open_at};
-    ghost use Rattle.html_open.specs.Adopting.{IsFirstFree, MadeClones};
-    ghost use Rattle.html_open.specs.Reopening.{IsCause, KeepsClosed, Reopened, ReopenedFirst, clones_of, reopen_steps};
+    ghost use Rattle.html_open.specs.Adopting.{IsFirstFree, MadeClones, Survives};
+    ghost use Rattle.html_open.specs.Leaving.{listed_weight};
+    ghost use Rattle.html_open.specs.Reopening.{ClonedFirst, IsCause, KeepsClosed, Reopened, ReopenedFirst, clones_of, closed, reopen_steps};
     ghost use Rattle.html_open.specs.Rooting.{KeepsParents};
 
     /// Opens anew the elements of the entries after the last one that is a marker or on the stack: for each, in order, a clone is put at
@@ -52,6 +53,12 @@ impl FormattingList {
         ensures clones { OnOk result (arena.new.labels ≡ arena.old.labels ++ clones_of (open_at stack.old self.old arena.old)) }
         ensures made { MadeClones (open_at stack.old self.old arena.old) arena.new }
         ensures so_far { ReopenedFirst (open_at stack.old self.old arena.old) (open_at stack.new self.new arena.new) }
+        ensures in_order { ClonedFirst (closed (open_at stack.old self.old arena.old)) arena.old arena.new }
+        ensures survives { Survives (open_at stack.old self.old arena.old) (open_at stack.new self.new arena.new) }
+        ensures nodes { length arena.new.labels ≤ length arena.old.labels + length self.old }
+        ensures held { arena.new.held ≤ arena.old.held + listed_weight arena.old self.old }
+        ensures opened { length stack.new ≤ length stack.old + length self.old }
+        ensures entries { length self.new ≡ length self.old }
         ensures first { first_of stack.new ≡ first_of stack.old }
         ensures first_free { IsFirstFree stack.old self.old → IsFirstFree stack.new self.new }
         ensures closed { KeepsClosed (open_at stack.old self.old arena.old) arena.new }

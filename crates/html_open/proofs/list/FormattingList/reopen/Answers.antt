@@ -4,7 +4,9 @@ use Rattle.html_open.specs.declared.entry.Entry.{Entry}
 use Rattle.html_open.specs.declared.entry.Entry.TheVariants.{Marker, Node}
 use Rattle.html_open.specs.Opened.{open_at}
 use Rattle.html_open.specs.Reopening.{IsCause}
-use Rattle.html_open.proofs.Reopened.{cause-is, closed-then, entry-is, first-is, free-is, labels-are, made-so-far, made-tried, next-absent, no-marker, parents-then, reopened-is, reopening-starts, reopening-step, same-length, so-far, so-far-as, steps-are, way-as}
+use Rattle.html_open.proofs.Costing.{reopened-entries, reopened-held, reopened-nodes, reopened-opened}
+use Rattle.html_open.proofs.Enduring.{reopened-survives}
+use Rattle.html_open.proofs.Reopened.{cause-is, closed-then, entry-is, first-is, free-is, in-order, in-order-tried, labels-are, made-so-far, made-tried, next-absent, no-marker, parents-then, reopened-is, reopening-starts, reopening-step, same-length, so-far, so-far-as, steps-are, way-as}
 use Rattle.html_open.proofs.list.FormattingList.reopen.Goals.{in-Node+in_ok-reopened, in_default}
 use Rattle.html_open.proofs.list.FormattingList.reopen.Goals as goal
 
@@ -124,3 +126,47 @@ returns-clause-first c =
 pub returns-clause-first_free : goal.returns-clause-first_free
 returns-clause-first_free c =
     free-is (open_at c.args.stack.now c.args.self.now c.args.arena.now) (open_at c.reopening.stack c.reopening.self c.reopening.arena) c.requires.is_open c.requires.can_place (returns-clause-so_far c)
+
+pub returns-in_err-reopened-clause-in_order : goal.returns-in_err-reopened-clause-in_order
+returns-in_err-reopened-clause-in_order c =
+    let b : c.reopening.index < length c.reopening.self = (let t = c.reopening-test.true in let n = c.reopening.invariant.len_is in omega arith) in
+    in-order-tried c.args.foster (open_at c.args.stack.now c.args.self.now c.args.arena.now) c.reopening.index c.reopening.stack c.reopening.self c.reopening.arena c.reopening.invariant.way
+    Marker c.in-Node.node c.reopen_entry-reopened.new.arena b (entry-is c.self-in-reopening.inside.entries.items c.reopening.self c.reopening.index c.index.result.now (Node c.in-Node.node) c.self-in-reopening.view_is b c.index.ensures c.in-Node.is)
+    c.in_err-reopened.ensures.tried
+
+pub returns-in_err-reopened-clause-survives : goal.returns-in_err-reopened-clause-survives
+returns-in_err-reopened-clause-survives c =
+    reopened-survives (open_at c.args.stack.now c.args.self.now c.args.arena.now) (open_at c.reopen_entry-reopened.new.stack c.reopen_entry-reopened.new.self c.reopen_entry-reopened.new.arena)
+    c.requires.is_open c.requires.can_place (returns-in_err-reopened-clause-so_far c) c.reopen_entry-reopened.ensures.keeps (returns-in_err-reopened-clause-made c)
+
+pub returns-in_err-reopened-clause-nodes : goal.returns-in_err-reopened-clause-nodes
+returns-in_err-reopened-clause-nodes c = reopened-nodes (open_at c.args.stack.now c.args.self.now c.args.arena.now) (open_at c.reopen_entry-reopened.new.stack c.reopen_entry-reopened.new.self c.reopen_entry-reopened.new.arena) (returns-in_err-reopened-clause-in_order c)
+
+pub returns-in_err-reopened-clause-held : goal.returns-in_err-reopened-clause-held
+returns-in_err-reopened-clause-held c = reopened-held (open_at c.args.stack.now c.args.self.now c.args.arena.now) (open_at c.reopen_entry-reopened.new.stack c.reopen_entry-reopened.new.self c.reopen_entry-reopened.new.arena) c.forest.ensures.held c.forest-in-Node.ensures.held (returns-in_err-reopened-clause-in_order c)
+
+pub returns-in_err-reopened-clause-opened : goal.returns-in_err-reopened-clause-opened
+returns-in_err-reopened-clause-opened c = reopened-opened (open_at c.args.stack.now c.args.self.now c.args.arena.now) (open_at c.reopen_entry-reopened.new.stack c.reopen_entry-reopened.new.self c.reopen_entry-reopened.new.arena) (returns-in_err-reopened-clause-so_far c)
+
+pub returns-in_err-reopened-clause-entries : goal.returns-in_err-reopened-clause-entries
+returns-in_err-reopened-clause-entries c = reopened-entries (open_at c.args.stack.now c.args.self.now c.args.arena.now) (open_at c.reopen_entry-reopened.new.stack c.reopen_entry-reopened.new.self c.reopen_entry-reopened.new.arena) (returns-in_err-reopened-clause-so_far c)
+
+pub returns-clause-in_order : goal.returns-clause-in_order
+returns-clause-in_order c = in-order c.args.foster (open_at c.args.stack.now c.args.self.now c.args.arena.now) c.reopening.index c.reopening.stack c.reopening.self c.reopening.arena c.reopening.invariant.way
+
+pub returns-clause-survives : goal.returns-clause-survives
+returns-clause-survives c =
+    reopened-survives (open_at c.args.stack.now c.args.self.now c.args.arena.now) (open_at c.reopening.stack c.reopening.self c.reopening.arena)
+    c.requires.is_open c.requires.can_place (returns-clause-so_far c) c.reopening.invariant.way.is_open (returns-clause-made c)
+
+pub returns-clause-nodes : goal.returns-clause-nodes
+returns-clause-nodes c = reopened-nodes (open_at c.args.stack.now c.args.self.now c.args.arena.now) (open_at c.reopening.stack c.reopening.self c.reopening.arena) (returns-clause-in_order c)
+
+pub returns-clause-held : goal.returns-clause-held
+returns-clause-held c = reopened-held (open_at c.args.stack.now c.args.self.now c.args.arena.now) (open_at c.reopening.stack c.reopening.self c.reopening.arena) c.forest.ensures.held c.forest-2.ensures.held (returns-clause-in_order c)
+
+pub returns-clause-opened : goal.returns-clause-opened
+returns-clause-opened c = reopened-opened (open_at c.args.stack.now c.args.self.now c.args.arena.now) (open_at c.reopening.stack c.reopening.self c.reopening.arena) (returns-clause-so_far c)
+
+pub returns-clause-entries : goal.returns-clause-entries
+returns-clause-entries c = reopened-entries (open_at c.args.stack.now c.args.self.now c.args.arena.now) (open_at c.reopening.stack c.reopening.self c.reopening.arena) (returns-clause-so_far c)
