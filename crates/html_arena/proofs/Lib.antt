@@ -21,3 +21,4 @@ pub mod Template
 pub mod UnderWay
 pub mod Upward
 pub mod Whole
+pub mod Ascii

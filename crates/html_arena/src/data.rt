@@ -1,8 +1,8 @@
 // What a node is, apart from its links.
-ghost use Rattle.std.specs.Prelude.{◌≡◌, ◌+◌, ◌<◌, ◌≤◌, [], ◌∷◌, ◌++◌, OnOk, OnErr, IfOk, length, slice_set, string_bytes};
+ghost use Rattle.std.specs.Prelude.{◌≡◌, ◌+◌, ◌<◌, ◌≤◌, [], ◌∷◌, ◌++◌, OnOk, OnErr, IfOk, length, slice_set, string_bytes, take};
 ghost use Rattle.std.specs.Char.{len_utf8};
 ghost use Rattle.std.specs.List.{sum_by};
-ghost use Rattle.std.specs.Str.{chars};
+ghost use Rattle.std.specs.Str.{IsAscii, chars};
 ghost use Rattle.std.specs.String.{string_capacity, string_len};
 ghost use Rattle.html_names.specs.Sets.{is_formatting};
 ghost use Rattle.html_arena.specs.Data.{IsText, IsElement, attrs_in, cloned, contents_in, host_in, is_clone_in, is_linkable, kind_in, label_in, name_in, origin_in, tag_in, text_in, with_attrs, with_char, with_run};
@@ -178,16 +178,73 @@ fn extend_text(text: &mut Str, run: &[char]) -> Result<(), AllocError>
     extend(&mut text.0, run)
 }
 
+/// How many code points of ASCII are copied at once.
+const BLOCK: usize = 64;
+
 /// Adds a run of code points at the end, for which memory is reserved once.
 fn extend(text: &mut String, run: &[char]) -> Result<(), AllocError>
     ensures ok { OnOk result (chars (string_bytes text.new) ≡ chars (string_bytes text.old) ++ run.now) }
     ensures err { OnErr result (string_bytes text.new ≡ string_bytes text.old) }
 {
     text.reserve(bytes_of(run))?;
-    for c in run {
-        push_within(text, *c)?;
+    let mut done = 0;
+    'copying: while done < run.len() {
+        done += push_front(text, &run[done..])?;
     }
     Ok(())
+}
+
+/// Adds a front of a run at the end, a block of ASCII or else its first code point, and answers its length; fails only where the text
+/// has no capacity for the run.
+fn push_front(text: &mut String, run: &[char]) -> Result<usize, AllocError>
+    requires { 0 < length run.now }
+    ensures some { IfOk result (λ n. 0 < n) }
+    ensures within { IfOk result (λ n. n ≤ length run.now) }
+    ensures ok { IfOk result (λ n. chars (string_bytes text.new) ≡ chars (string_bytes text.old) ++ take n run.now) }
+    ensures len { IfOk result (λ n. string_len text.new ≡ string_len text.old + sum_by len_utf8 (take n run.now)) }
+    ensures capacity { string_capacity text.old ≤ string_capacity text.new }
+    ensures full { OnErr result (string_capacity text.old < string_len text.old + sum_by len_utf8 run.now) }
+{
+    let mut block = [0; BLOCK];
+    let len = copy_ascii(run, &mut block);
+    if len == 0 {
+        push_within(text, run[0])?;
+        return Ok(1);
+    }
+    push_ascii(text, &block[..len])?;
+    Ok(len)
+}
+
+/// Copies the ASCII at the start of a run, as far as there is room, and answers how many code points that are.
+fn copy_ascii(run: &[char], block: &mut [u8]) -> usize
+    ensures within { result ≤ length run.now }
+    ensures room { result ≤ length block.old }
+    ensures same_len { length block.new ≡ length block.old }
+    ensures copied { take result block.new ≡ take result run.now }
+    ensures ascii { IsAscii (take result run.now) }
+{
+    let most = run.len().min(block.len());
+    let mut len = 0;
+    'copying: while len < most {
+        let c = run[len];
+        if !c.is_ascii() {
+            break;
+        }
+        block[len] = c as u8;
+        len += 1;
+    }
+    len
+}
+
+/// Adds ASCII at the end; fails only where the text has no capacity for it.
+fn push_ascii(text: &mut String, ascii: &[u8]) -> Result<(), AllocError>
+    requires { IsAscii ascii.now }
+    ensures ok { OnOk result (chars (string_bytes text.new) ≡ chars (string_bytes text.old) ++ ascii.now) }
+    ensures len { OnOk result (string_len text.new ≡ string_len text.old + length ascii.now) }
+    ensures capacity { string_capacity text.old ≤ string_capacity text.new }
+    ensures full { OnErr result (string_capacity text.old < string_len text.old + length ascii.now) }
+{
+    text.push_str(unsafe { std::str::from_utf8_unchecked(ascii) })
 }
 
 /// Adds a code point at the end; fails only where the text has no capacity for it.
