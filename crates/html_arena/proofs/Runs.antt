@@ -10,10 +10,6 @@ use Rattle.html_arena.specs.Laws.{IsRelabelled}
 use Rattle.html_arena.specs.Tree.{Tree, label_of, more, texted, texted_each, texted_run}
 use Rattle.html_arena.proofs.Chains.{run_laws, with_char-text}
 
-pub pushed_len : {X E : Type 0} (r : Result X E) (new old k l : ℕ) → new ≡ (if is_ok r then old + k else old) → k ≡ l → OnOk r (new ≡ old + l)
-pushed_len (Ok v) new old k l e f = e ∙ ap (λ n. old + n) f
-pushed_len (Err v) new old k l e f = tt
-
 run_none : (d : NodeData) → IsText d → with_run d [] ≡ d
 run_none (Text s) i = ap (λ l. Text l) (append-nil s)
 run_none Document i = refl
