@@ -42,3 +42,4 @@ pub mod Firsts
 pub mod Costing
 pub mod Enduring
 pub mod Narrowing
+pub mod Outcomes

@@ -16,3 +16,4 @@ pub mod Reopenings
 pub mod Rooting
 pub mod Scopes
 pub mod Searches
+pub mod Outcome

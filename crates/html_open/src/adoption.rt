@@ -1,14 +1,15 @@
 // The adoption agency: what an end tag of a formatting name does to the open elements (13.2.6.4.7).
-ghost use Rattle.std.specs.Prelude.{◌≡◌, ℕ, ◌+◌, ◌-◌, ◌*◌, ◌<◌, ◌≤◌, IfErr, IfOk, None, OnOk, Some, false, length, true};
+ghost use Rattle.std.specs.Prelude.{◌≡◌, ℕ, ◌+◌, ◌-◌, ◌*◌, ◌<◌, ◌≤◌, Bool, IfErr, IfOk, None, OnOk, Some, false, length, true};
 ghost use Rattle.html_names.specs.Sets.{is_special};
 ghost use Rattle.html_names.specs.declared.tag.Tag.{Tag};
 ghost use Rattle.html_arena.specs.Siblings.{first_of, last_of};
 ghost use Rattle.html_arena.specs.Tree.{WellFormed, named};
 ghost use Rattle.html_open.specs.AdoptFinding.{IsPlain};
-ghost use Rattle.html_open.specs.Adopting.{Adopted, Closed, IsFirstFree, IsRefusal, IsStopped, IsTurn, MadeClones, Popped, Survives, pops_at_once};
+ghost use Rattle.html_open.specs.Adopting.{Adopted, Closed, IsFirstFree, IsRefusal, IsStopped, IsTurn, MadeClones, Popped, Rounds, Survives, pops_at_once};
 ghost use Rattle.html_open.specs.Leaving.{IsPaid, listed_weight};
 ghost use Rattle.html_open.specs.Marking.{IsCounted};
-ghost use Rattle.html_open.specs.Opened.{IsOpen, open_at};
+ghost use Rattle.html_open.specs.Opened.{IsOpen, Open, open_at};
+ghost use Rattle.html_open.specs.Outcome.{IsAlike};
 ghost use Rattle.html_open.specs.Placing.{CanPlace};
 ghost use Rattle.html_open.specs.Reopening.{KeepsClosed};
 ghost use Rattle.html_open.specs.Rooting.{KeepsRoots};
@@ -202,3 +203,8 @@ fn close(
     stack.pop_to(arena, at);
     list.remove(arena, node);
 }
+
+/// A law: so many rounds of an adoption leave one stack, one list and one tree, marks, steps and what is held apart.
+pub fn rounds_have_one_outcome()
+    ensures { (s : Tag) (foster : Bool) (n : ℕ) (o p q : Open) → IsOpen o → Rounds s foster n o p → Rounds s foster n o q → IsAlike p q }
+{}

@@ -15,7 +15,7 @@ mod reopening;
 mod search;
 mod stack;
 
-pub use adoption::{AdoptEnd, adopt};
+pub use adoption::{AdoptEnd, adopt, rounds_have_one_outcome};
 pub use error::OpenError;
 pub use html_names::Scope;
 pub use inserting::insert;
