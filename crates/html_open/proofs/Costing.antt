@@ -86,7 +86,7 @@ adopted-held o u a b m few =
     omega (arith, g, s, k)
 
 -- the entries that are opened anew
-closed-length : (o : Open) → length (up_to (stands o.stack) o.list) + length (closed o) ≡ length o.list
+pub closed-length : (o : Open) → length (up_to (stands o.stack) o.list) + length (closed o) ≡ length o.list
 closed-length o =
     let a = ap length (split-above (stands o.stack) o.list) in
     let b = length-append (up_to (stands o.stack) o.list) (above (stands o.stack) o.list) in

@@ -43,3 +43,4 @@ pub mod Costing
 pub mod Enduring
 pub mod Narrowing
 pub mod Outcomes
+pub mod Bounding

@@ -1,23 +1,30 @@
--- Rounds of an adoption have one outcome.
-use Rattle.std.proofs.Common.{◌≡◌, ◌≢◌, ℕ, zero, suc, ◌+◌, Bool, true, false, not, List, [], ◌∷◌, ◌++◌, length, map, get_or, Option, Some, None, inl, inr, refl, sym, ◌∙◌, ap, subst, append_assoc, arith}
+-- An adoption has one outcome.
+use Rattle.std.proofs.Common.{◌≡◌, ◌≢◌, ℕ, zero, suc, ◌+◌, ◌<◌, Bool, true, false, cond, eqb, not, List, [], ◌∷◌, ◌++◌, length, map, get_or, Option, Some, None, ◌⊎◌, inl, inr, refl, sym, ◌∙◌, ap, subst, append_assoc, arith}
 use Rattle.std.proofs.lemmas.Bool.{false≢true}
 use Rattle.std.specs.List.{flat_map, list_any}
 use Rattle.html_names.specs.declared.tag.Tag.{Tag}
 use Rattle.html_arena.specs.declared.marks.Marks.{Marks}
 use Rattle.html_arena.specs.Data.{cloned}
-use Rattle.html_arena.specs.Siblings.{Distinct, has}
+use Rattle.html_arena.specs.Siblings.{Distinct, has, last_of}
 use Rattle.html_arena.specs.Tree.{Tree, WellFormed, children_of, label_of, parent_of}
+use Rattle.html_open.specs.declared.adoption.AdoptEnd.{AdoptEnd}
+use Rattle.html_open.specs.declared.adoption.AdoptEnd.TheVariants.{Done, OtherEndTag}
 use Rattle.html_open.specs.declared.entry.Entry.{Entry}
 use Rattle.html_open.specs.declared.places.Place.{Place}
 use Rattle.html_open.specs.declared.places.Place.TheVariants.{Before, Last}
-use Rattle.html_open.specs.AdoptFinding.{special}
-use Rattle.html_open.specs.Adopting.{Round, Rounds, clones_down, no_round, one_more, originals, relisted}
-use Rattle.html_open.specs.Entries.{has_node}
+use Rattle.html_open.specs.AdoptFinding.{element_in_scope, special}
+use Rattle.html_open.specs.Adopting.{Adopted, Ends, Popped, Round, Rounds, clones_down, closes, eight, fewer, forgets, no_entry, no_round, one_more, originals, out_of_scope, popped, pops_at_once, relisted}
+use Rattle.html_open.specs.Entries.{has_node, last_named, without_node}
 use Rattle.html_open.specs.Hanging.{chain_top, chained, with_put}
+use Rattle.html_open.specs.Lists.{above, below}
+use Rattle.html_open.specs.Marking.{IsSameTree}
 use Rattle.html_open.specs.Opened.{IsOpen, Open, open_at}
 use Rattle.html_open.specs.Outcome.{IsAlike}
 use Rattle.html_open.specs.Placing.{place_at}
-use Rattle.html_open.proofs.Keeps.{cases_bool, has-append}
+use Rattle.html_open.proofs.Closing.{last-pushed}
+use Rattle.html_open.proofs.Keeps.{Distinct-remove, cases_bool, eqb-self}
+use Rattle.html_open.proofs.Lasting.{not-right}
+use Rattle.html_open.proofs.Lists.{any-has}
 use Rattle.html_open.proofs.Upwards.{has-first}
 use Rattle.html_open.proofs.Ordering.{has-right}
 
@@ -245,3 +252,201 @@ rounds-one s foster (suc n) o p q h a b = by (λ x y i j. rounds-one s foster n 
         let k = f x y i j in
         round-one s foster x p q (rounds-open s foster n o x h i) r
         (round-other s foster x.stack x.list x.tree y.tree.marks y.tree.held y.tree.steps q (subst (λ v. Round s foster v q) (alike-tree x y k) r'))
+
+-- where a round goes, a special element stands after the formatting one, so no end is near
+above-of : (f : ℕ) (xs ys : List ℕ) → has f ys ≡ false → above (eqb f) (xs ++ f ∷ ys) ≡ ys
+above-of f [] ys h = rw (any-has f ys ∙ h, eqb-self f) refl
+above-of f (x ∷ xs) ys h = rw (any-has f (xs ++ f ∷ ys) ∙ has-right f xs (f ∷ ys) (has-first f ys)) (above-of f xs ys h)
+
+any-middle : (p : ℕ → Bool) (xs ys : List ℕ) (g : ℕ) → p g ≡ true → list_any p (xs ++ g ∷ ys) ≡ true
+any-middle p [] ys g h = rw h refl
+any-middle p (x ∷ xs) ys g h = (let r = any-middle p xs ys g h in elim (cases_bool (p x)) [ inl a ↦ rw a refl | inr a ↦ rw a r ])
+
+module _ (s : Tag) (foster : Bool) (o p : Open) (h : IsOpen o) (r : Round s foster o p) where
+  abbrev front : List ℕ
+  front = r.lower ++ r.a ∷ []
+
+  abbrev back : List ℕ
+  back = r.inner ++ (r.g ∷ r.upper)
+
+  parted : o.stack ≡ front ++ r.f ∷ back
+  parted = r.stack_was ∙ sym (append_assoc r.lower (r.a ∷ []) (r.f ∷ back))
+
+  on-stack : has r.f o.stack ≡ true
+  on-stack = ap (has r.f) parted ∙ has-right r.f front (r.f ∷ back) (has-first r.f back)
+
+  blocked : list_any (special o.tree) (above (eqb r.f) o.stack) ≡ true
+  blocked =
+      let d = (Distinct-remove r.f front back (subst Distinct parted h.stack_once)).1 in
+      ap (λ v. list_any (special o.tree) (above (eqb r.f) v)) parted ∙ ap (list_any (special o.tree)) (above-of r.f front back (not-right r.f front back d)) ∙ any-middle (special o.tree) r.inner r.upper r.g r.g_special
+
+  no-end : (end : AdoptEnd) (x q : Open) → x ≡ o → Ends s end x q → ⊥
+  no-end _ _ _ e (closes x q k) =
+      let f = same k.f (sym (ap (λ (v : Open). last_named v.tree s v.list) e) ∙ k.formatting) in
+      false≢true (sym k.no_special ∙ ap (λ (v : Open). list_any (special v.tree) (above (eqb k.f) v.stack)) e ∙ ap (λ v. list_any (special o.tree) (above (eqb v) o.stack)) f ∙ blocked)
+    where
+      same : (f : ℕ) → last_named o.tree s o.list ≡ Some f → f ≡ r.f
+      same f i = (let j : Some f ≡ Some r.f = sym i ∙ r.formatting in cc)
+  no-end _ _ _ e (forgets x q k) =
+      let f = same k.f (sym (ap (λ (v : Open). last_named v.tree s v.list) e) ∙ k.formatting) in
+      false≢true (sym k.off_stack ∙ ap (λ (v : Open). has k.f v.stack) e ∙ ap (λ v. has v o.stack) f ∙ on-stack)
+    where
+      same : (f : ℕ) → last_named o.tree s o.list ≡ Some f → f ≡ r.f
+      same f i = (let j : Some f ≡ Some r.f = sym i ∙ r.formatting in cc)
+  no-end _ _ _ e (out_of_scope x q k) =
+      let f = same k.f (sym (ap (λ (v : Open). last_named v.tree s v.list) e) ∙ k.formatting) in
+      false≢true (sym k.not_in_scope ∙ ap (λ (v : Open). element_in_scope v.tree k.f v.stack) e ∙ ap (λ v. element_in_scope o.tree v o.stack) f ∙ r.in_scope)
+    where
+      same : (f : ℕ) → last_named o.tree s o.list ≡ Some f → f ≡ r.f
+      same f i = (let j : Some f ≡ Some r.f = sym i ∙ r.formatting in cc)
+  no-end _ _ _ e (no_entry x q k) =
+      let j : None ≡ Some r.f = sym k.none ∙ ap (λ (v : Open). last_named v.tree s v.list) e ∙ r.formatting in absurd cc
+
+-- how it ends, by the entry of the name
+abbrev end_by : Option ℕ → AdoptEnd
+end_by None = OtherEndTag
+end_by (Some f) = Done
+
+abbrev stack_by : Open → Option ℕ → List ℕ
+stack_by o None = o.stack
+stack_by o (Some f) = cond (has f o.stack) (cond (element_in_scope o.tree f o.stack) (below (eqb f) o.stack) o.stack) o.stack
+
+abbrev list_by : Open → Option ℕ → List Entry
+list_by o None = o.list
+list_by o (Some f) = cond (has f o.stack) (cond (element_in_scope o.tree f o.stack) (without_node f o.list) o.list) (without_node f o.list)
+
+record IsEnd (s : Tag) (end : AdoptEnd) (o p : Open) : Type 0 where
+  end_is : end ≡ end_by (last_named o.tree s o.list)
+  stack_is : p.stack ≡ stack_by o (last_named o.tree s o.list)
+  list_is : p.list ≡ list_by o (last_named o.tree s o.list)
+  tree_is : IsSameTree o.tree p.tree
+
+ends-are : (s : Tag) (end : AdoptEnd) (o p : Open) → Ends s end o p → IsEnd s end o p
+ends-are s _ _ _ (closes o p k) = record {
+  end_is = sym (ap end_by k.formatting);
+  stack_is = k.stack_is ∙ sym (ap (stack_by o) k.formatting ∙ rw (k.on_stack, k.in_scope) refl);
+  list_is = k.list_is ∙ sym (ap (list_by o) k.formatting ∙ rw (k.on_stack, k.in_scope) refl);
+  tree_is = k.tree_is;
+}
+ends-are s _ _ _ (forgets o p k) = record {
+  end_is = sym (ap end_by k.formatting);
+  stack_is = k.stack_is ∙ sym (ap (stack_by o) k.formatting ∙ rw k.off_stack refl);
+  list_is = k.list_is ∙ sym (ap (list_by o) k.formatting ∙ rw k.off_stack refl);
+  tree_is = k.tree_is;
+}
+ends-are s _ _ _ (out_of_scope o p k) = record {
+  end_is = sym (ap end_by k.formatting);
+  stack_is = k.unchanged.stack_is ∙ sym (ap (stack_by o) k.formatting ∙ rw (k.on_stack, k.not_in_scope) refl);
+  list_is = k.unchanged.list_is ∙ sym (ap (list_by o) k.formatting ∙ rw (k.on_stack, k.not_in_scope) refl);
+  tree_is = k.unchanged.tree_is;
+}
+ends-are s _ _ _ (no_entry o p k) = record {
+  end_is = sym (ap end_by k.none);
+  stack_is = k.unchanged.stack_is ∙ sym (ap (stack_by o) k.none);
+  list_is = k.unchanged.list_is ∙ sym (ap (list_by o) k.none);
+  tree_is = k.unchanged.tree_is;
+}
+
+-- two ends from one state, marks, steps and what is held apart
+end-one : (s : Tag) (stack : List ℕ) (list : List Entry) (t : Tree) (ms : List Marks) (a b : ℕ) (end end' : AdoptEnd) (p q : Open) → IsEnd s end (open_at stack list t) p → IsEnd s end' (open_at stack list (other t ms a b)) q
+    → (end ≡ end') × IsAlike p q
+end-one s stack list t ms a b end end' p q k k' = (
+  k.end_is ∙ sym k'.end_is,
+  record {
+    same_stack = k'.stack_is ∙ ap-other-stack (last_named t s list) ∙ sym k.stack_is;
+    same_list = k'.list_is ∙ ap-other-list (last_named t s list) ∙ sym k.list_is;
+    same_labels = ap (λ (v : Tree). v.labels) k'.tree_is ∙ sym (ap (λ (v : Tree). v.labels) k.tree_is);
+    same_parents = ap (λ (v : Tree). v.parents) k'.tree_is ∙ sym (ap (λ (v : Tree). v.parents) k.tree_is);
+    same_children = ap (λ (v : Tree). v.children) k'.tree_is ∙ sym (ap (λ (v : Tree). v.children) k.tree_is);
+    same_limits = ap (λ (v : Tree). v.limits) k'.tree_is ∙ sym (ap (λ (v : Tree). v.limits) k.tree_is);
+  },
+)
+  where
+    ap-other-stack : (f : Option ℕ) → stack_by (open_at stack list (other t ms a b)) f ≡ stack_by (open_at stack list t) f
+    ap-other-stack None = refl
+    ap-other-stack (Some f) = refl
+
+    ap-other-list : (f : Option ℕ) → list_by (open_at stack list (other t ms a b)) f ≡ list_by (open_at stack list t) f
+    ap-other-list None = refl
+    ap-other-list (Some f) = refl
+
+-- of more rounds than n, the first n and the next
+record HasNext (s : Tag) (foster : Bool) (n : ℕ) (o : Open) : Type 0 where
+  m : Open
+  next : Open
+  rounds : Rounds s foster n o m
+  round : Round s foster m next
+
+has-next : (s : Tag) (foster : Bool) (k n : ℕ) (o p : Open) → n < k → Rounds s foster k o p → HasNext s foster n o
+has-next s foster zero n o p b r = absurd (omega arith)
+has-next s foster (suc k) n o p b r = by (λ m c i. has-next s foster k n o m c i) (after s foster (suc k) o p r)
+  where
+    order : (a c : ℕ) → a < suc c → (a ≡ c) ⊎ (a < c)
+    order a c l = grind arith
+
+    by : ((m : Open) → n < k → Rounds s foster k o m → HasNext s foster n o) → IsAfter s foster o p (suc k) → HasNext s foster n o
+    by f (later _ m i j) = elim (order n k b) [
+      | inl e ↦ record { m = m; next = p; rounds = subst (λ v. Rounds s foster v o m) (sym e) i; round = j }
+      | inr e ↦ f m e i
+    ]
+
+-- after so many rounds it ended, so there is no other round
+no-more : (s : Tag) (foster : Bool) (k n : ℕ) (o p x q : Open) (end : AdoptEnd) → IsOpen o → n < k → Rounds s foster k o p → Rounds s foster n o x → Ends s end x q → ⊥
+no-more s foster k n o p x q end h b r i e =
+    let j = has-next s foster k n o p b r in
+    let a = rounds-one s foster n o x j.m h i j.rounds in
+    let r' = round-other s foster x.stack x.list x.tree j.m.tree.marks j.m.tree.held j.m.tree.steps j.next (subst (λ v. Round s foster v j.next) (alike-tree x j.m a) j.round) in
+    no-end s foster x j.next (rounds-open s foster n o x h i) r' end x q refl e
+
+-- the ways of an adoption
+data IsWay (s : Tag) (foster : Bool) (end : AdoptEnd) (o p : Open) : Type 0 where
+  by_pop : end ≡ Done → Popped s o p → IsWay s foster end o p
+  by_eight : end ≡ Done → pops_at_once s o (last_of o.stack) ≡ false → Rounds s foster 8 o p → IsWay s foster end o p
+  by_fewer : (n : ℕ) (m : Open) → pops_at_once s o (last_of o.stack) ≡ false → n < 8 → Rounds s foster n o m → Ends s end m p → IsWay s foster end o p
+
+way : (s : Tag) (foster : Bool) (end : AdoptEnd) (o p : Open) → Adopted s foster end o p → IsWay s foster end o p
+way s foster _ _ _ (popped o p k) = by_pop refl k
+way s foster _ _ _ (eight o p n r) = by_eight refl n r
+way s foster _ _ _ (fewer end n o p q c b r e) = by_fewer n p c b r e
+
+pops : (s : Tag) (o p : Open) → Popped s o p → pops_at_once s o (last_of o.stack) ≡ true
+pops s o p k = ap (pops_at_once s o) (ap last_of k.stack_was ∙ last-pushed p.stack k.current) ∙ rw (k.is_named, k.not_listed) refl
+
+popped-one : (s : Tag) (o p q : Open) → Popped s o p → Popped s o q → IsAlike p q
+popped-one s o p q k k' = record {
+  same_stack = (last-one k'.current k.current q.stack p.stack (sym k'.stack_was ∙ k.stack_was)).0;
+  same_list = k'.list_is ∙ sym k.list_is;
+  same_labels = ap (λ (v : Tree). v.labels) k'.tree_is ∙ sym (ap (λ (v : Tree). v.labels) k.tree_is);
+  same_parents = ap (λ (v : Tree). v.parents) k'.tree_is ∙ sym (ap (λ (v : Tree). v.parents) k.tree_is);
+  same_children = ap (λ (v : Tree). v.children) k'.tree_is ∙ sym (ap (λ (v : Tree). v.children) k.tree_is);
+  same_limits = ap (λ (v : Tree). v.limits) k'.tree_is ∙ sym (ap (λ (v : Tree). v.limits) k.tree_is);
+}
+
+module _ (s : Tag) (foster : Bool) (end end' : AdoptEnd) (o p q : Open) (h : IsOpen o) where
+  fewer-one : (n n' : ℕ) (m m' : Open) → Rounds s foster n o m → Ends s end m p → Rounds s foster n' o m' → Ends s end' m' q → (end ≡ end') × IsAlike p q
+  fewer-one n n' m m' r e r' e' = elim (order n n') [
+    | inl b ↦ absurd (no-more s foster n' n o m' m p end h b r' r e)
+    | inr c ↦ elim c [
+      | inl b ↦ absurd (no-more s foster n n' o m m' q end' h b r r' e')
+      | inr b ↦
+          let a = rounds-one s foster n o m m' h r (subst (λ v. Rounds s foster v o m') (sym b) r') in
+          end-one s m.stack m.list m.tree m'.tree.marks m'.tree.held m'.tree.steps end end' p q (ends-are s end m p e) (subst (λ v. IsEnd s end' v q) (alike-tree m m' a) (ends-are s end' m' q e'))
+    ]
+  ]
+    where
+      order : (a b : ℕ) → (a < b) ⊎ ((b < a) ⊎ (a ≡ b))
+      order a b = grind arith
+
+  ways-one : IsWay s foster end o p → IsWay s foster end' o q → (end ≡ end') × IsAlike p q
+  ways-one (by_pop e k) (by_pop e' k') = (e ∙ sym e', popped-one s o p q k k')
+  ways-one (by_pop e k) (by_eight e' c r) = absurd (false≢true (sym c ∙ pops s o p k))
+  ways-one (by_pop e k) (by_fewer n m c b r i) = absurd (false≢true (sym c ∙ pops s o p k))
+  ways-one (by_eight e c r) (by_pop e' k) = absurd (false≢true (sym c ∙ pops s o q k))
+  ways-one (by_eight e c r) (by_eight e' c' r') = (e ∙ sym e', rounds-one s foster 8 o p q h r r')
+  ways-one (by_eight e c r) (by_fewer n m c' b r' i) = absurd (no-more s foster 8 n o p m q end' h b r r' i)
+  ways-one (by_fewer n m c b r i) (by_pop e k) = absurd (false≢true (sym c ∙ pops s o q k))
+  ways-one (by_fewer n m c b r i) (by_eight e c' r') = absurd (no-more s foster 8 n o q m p end h b r' r i)
+  ways-one (by_fewer n m c b r i) (by_fewer n' m' c' b' r' i') = fewer-one n n' m m' r i r' i'
+
+pub adopted-one : (s : Tag) (foster : Bool) (end end' : AdoptEnd) (o p q : Open) → IsOpen o → Adopted s foster end o p → Adopted s foster end' o q → (end ≡ end') × IsAlike p q
+adopted-one s foster end end' o p q h a b = ways-one s foster end end' o p q h (way s foster end o p a) (way s foster end' o q b)

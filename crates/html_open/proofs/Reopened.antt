@@ -105,7 +105,7 @@ outside-parent t s = by (last_where (table t) s)
     by None = tt
     by (Some b) = table-parent b (parent_of t b) refl
 
-place-parent : (t : Tree) (s : List ℕ) (f : Bool) → HasParent t (place_of t s None f)
+pub place-parent : (t : Tree) (s : List ℕ) (f : Bool) → HasParent t (place_of t s None f)
 place-parent t s f = elim (cases_bool (fosters t (target_of s None) f)) [
   | inl a ↦ elim (cases_bool (list_any (template t) (above (table t) s))) [
     | inl b ↦ rw (a, b) tt
@@ -114,7 +114,7 @@ place-parent t s f = elim (cases_bool (fosters t (target_of s None) f)) [
   | inr a ↦ rw a tt
 ]
 
-steps-put : (t : Tree) (p : Place) (c : ℕ) → HasParent t p → (put t p c).steps ≡ more t.steps 1
+pub steps-put : (t : Tree) (p : Place) (c : ℕ) → HasParent t p → (put t p c).steps ≡ more t.steps 1
 steps-put t (Last p) c h = refl
 steps-put t (Before b) c h = by (parent_of t b) h
   where
@@ -122,7 +122,7 @@ steps-put t (Before b) c h = by (parent_of t b) h
     by None k = absurd (k refl)
     by (Some p) k = refl
 
-has-parent-made : (t : Tree) (k x : ℕ) (p : Place) → HasParent t p → HasParent (made (charged t k) (CloneOf x)) p
+pub has-parent-made : (t : Tree) (k x : ℕ) (p : Place) → HasParent t p → HasParent (made (charged t k) (CloneOf x)) p
 has-parent-made t k x (Last p) h = tt
 has-parent-made t k x (Before b) h = λ q. h (sym (get-default t.parents b None) ∙ q)
 

@@ -5,7 +5,7 @@ ghost use Rattle.html_names.specs.declared.tag.Tag.{Tag};
 ghost use Rattle.html_arena.specs.Siblings.{first_of, last_of};
 ghost use Rattle.html_arena.specs.Tree.{WellFormed, named};
 ghost use Rattle.html_open.specs.AdoptFinding.{IsPlain};
-ghost use Rattle.html_open.specs.Adopting.{Adopted, Closed, IsFirstFree, IsRefusal, IsStopped, IsTurn, MadeClones, Popped, Rounds, Survives, pops_at_once};
+ghost use Rattle.html_open.specs.Adopting.{Adopted, Closed, IsFirstFree, IsRefusal, IsStopped, IsTurn, MadeClones, Popped, Survives, pops_at_once};
 ghost use Rattle.html_open.specs.Leaving.{IsPaid, listed_weight};
 ghost use Rattle.html_open.specs.Marking.{IsCounted};
 ghost use Rattle.html_open.specs.Opened.{IsOpen, Open, open_at};
@@ -204,7 +204,8 @@ fn close(
     list.remove(arena, node);
 }
 
-/// A law: so many rounds of an adoption leave one stack, one list and one tree, marks, steps and what is held apart.
-pub fn rounds_have_one_outcome()
-    ensures { (s : Tag) (foster : Bool) (n : ℕ) (o p q : Open) → IsOpen o → Rounds s foster n o p → Rounds s foster n o q → IsAlike p q }
+/// A law: an adoption ends in one way, and leaves one stack, one list and one tree, marks, steps and what is held apart.
+pub fn adoption_has_one_outcome()
+    ensures end { (s : Tag) (foster : Bool) (a b : AdoptEnd) (o p q : Open) → IsOpen o → Adopted s foster a o p → Adopted s foster b o q → a ≡ b }
+    ensures outcome { (s : Tag) (foster : Bool) (a b : AdoptEnd) (o p q : Open) → IsOpen o → Adopted s foster a o p → Adopted s foster b o q → IsAlike p q }
 {}

@@ -15,7 +15,7 @@ mod reopening;
 mod search;
 mod stack;
 
-pub use adoption::{AdoptEnd, adopt, rounds_have_one_outcome};
+pub use adoption::{AdoptEnd, adopt, adoption_has_one_outcome};
 pub use error::OpenError;
 pub use html_names::Scope;
 pub use inserting::insert;

@@ -1,5 +1,5 @@
 // Reopening the formatting elements that were closed by a block: the list's entries that are not on the stack are opened anew.
-ghost use Rattle.std.specs.Prelude.{◌≡◌, ℕ, ◌+◌, ◌<◌, ◌≤◌, ◌∷◌, [], ◌++◌, IfErr, IfOk, None, Ok, OnErr, OnOk, length, slice_index_or, slice_set, false, true};
+ghost use Rattle.std.specs.Prelude.{◌≡◌, ℕ, ◌+◌, ◌*◌, ◌<◌, ◌≤◌, ◌∷◌, [], ◌++◌, IfErr, IfOk, None, Ok, OnErr, OnOk, length, slice_index_or, slice_set, false, true};
 ghost use Rattle.html_names.specs.Sets.{is_formatting};
 ghost use Rattle.html_arena.specs.declared.data.NewNode.TheVariants.{CloneOf};
 ghost use Rattle.html_arena.specs.Budget.{budget};
@@ -36,8 +36,9 @@ impl FormattingList {
     /// the place for the current node and pushed onto the stack, and takes its entry's place.
     ///
     /// Two steps for each of these entries, and one or two for the one at which the search ends; for each clone the steps of its place,
-    /// and four. After a refusal the first of these entries are done, the others are as they were, and one clone more may stand at its place,
-    /// neither on the stack nor in the list. Memory is told as refused only where the next clone is within both limits.
+    /// and four: at most `l (h + l + 7)`, after a refusal too, with `h` elements on the stack and `l` entries in the list. After a refusal the
+    /// first of these entries are done, the others are as they were, and one clone more may stand at its place, neither on the stack nor in
+    /// the list. Memory is told as refused only where the next clone is within both limits.
     pub fn reopen(
         &mut self,
         stack: &mut OpenStack,
@@ -59,6 +60,7 @@ impl FormattingList {
         ensures held { arena.new.held ≤ arena.old.held + listed_weight arena.old self.old }
         ensures opened { length stack.new ≤ length stack.old + length self.old }
         ensures entries { length self.new ≡ length self.old }
+        ensures steps_most { arena.new.steps ≤ arena.old.steps + length self.old * (length stack.old + length self.old + 7) }
         ensures first { first_of stack.new ≡ first_of stack.old }
         ensures first_free { IsFirstFree stack.old self.old → IsFirstFree stack.new self.new }
         ensures closed { KeepsClosed (open_at stack.old self.old arena.old) arena.new }
@@ -114,6 +116,7 @@ impl FormattingList {
         ensures same_list { OnErr result (self.new ≡ self.old) }
         ensures same_stack { OnErr result (stack.new ≡ stack.old) }
         ensures tried { OnErr result (IsTried arena.old arena.new node) }
+        ensures steps { OnErr result (arena.new.steps ≤ more arena.old.steps (place_steps arena.old stack.old None foster + 2)) }
         ensures keeps { IsOpen (open_at stack.new self.new arena.new) }
         ensures can_place { CanPlace arena.new stack.new }
         ensures closed { KeepsClosed (open_at stack.old self.old arena.old) arena.new }

@@ -4,6 +4,7 @@ use Rattle.html_open.specs.declared.entry.Entry.{Entry}
 use Rattle.html_open.specs.declared.entry.Entry.TheVariants.{Marker, Node}
 use Rattle.html_open.specs.Opened.{open_at}
 use Rattle.html_open.specs.Reopening.{IsCause}
+use Rattle.html_open.proofs.Bounding.{refused-few, under-way-few}
 use Rattle.html_open.proofs.Costing.{reopened-entries, reopened-held, reopened-nodes, reopened-opened}
 use Rattle.html_open.proofs.Enduring.{reopened-survives}
 use Rattle.html_open.proofs.Reopened.{cause-is, closed-then, entry-is, first-is, free-is, in-order, in-order-tried, labels-are, made-so-far, made-tried, next-absent, no-marker, parents-then, reopened-is, reopening-starts, reopening-step, same-length, so-far, so-far-as, steps-are, way-as}
@@ -170,3 +171,13 @@ returns-clause-opened c = reopened-opened (open_at c.args.stack.now c.args.self.
 
 pub returns-clause-entries : goal.returns-clause-entries
 returns-clause-entries c = reopened-entries (open_at c.args.stack.now c.args.self.now c.args.arena.now) (open_at c.reopening.stack c.reopening.self c.reopening.arena) (returns-clause-so_far c)
+
+pub returns-clause-steps_most : goal.returns-clause-steps_most
+returns-clause-steps_most c = under-way-few c.args.foster (open_at c.args.stack.now c.args.self.now c.args.arena.now) c.reopening.index c.reopening.stack c.reopening.self c.reopening.arena c.reopening.invariant.way
+
+pub returns-in_err-reopened-clause-steps_most : goal.returns-in_err-reopened-clause-steps_most
+returns-in_err-reopened-clause-steps_most c =
+    let b : c.reopening.index < length c.reopening.self = (let t = c.reopening-test.true in let n = c.reopening.invariant.len_is in omega arith) in
+    refused-few c.args.foster (open_at c.args.stack.now c.args.self.now c.args.arena.now) c.reopening.index c.reopening.stack c.reopening.self c.reopening.arena c.reopening.invariant.way
+    Marker c.in-Node.node c.reopen_entry-reopened.new.arena b (entry-is c.self-in-reopening.inside.entries.items c.reopening.self c.reopening.index c.index.result.now (Node c.in-Node.node) c.self-in-reopening.view_is b c.index.ensures c.in-Node.is)
+    c.in_err-reopened.ensures.steps

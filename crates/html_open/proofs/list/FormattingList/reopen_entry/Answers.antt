@@ -7,6 +7,7 @@ use Rattle.html_open.specs.Marking.{charged}
 use Rattle.html_open.specs.Opened.{IsOpen, open_at}
 use Rattle.html_open.specs.Placing.{CanPlace, place_of, place_steps}
 use Rattle.html_open.proofs.Anew.{can-place, can-place-inserted, can-same, inserted-keeps, marks-swapped, reopened-keeps, set-at, split-at}
+use Rattle.html_open.proofs.Bounding.{on-err, placed-steps, tried-steps}
 use Rattle.html_open.proofs.Inserted.{longer, parents-inserted}
 use Rattle.html_open.proofs.Keeps.{moved_stack, open-charged}
 use Rattle.html_open.proofs.Lists.{node-at}
@@ -130,3 +131,9 @@ returns-in_err-push-clause-parents c =
     let t = c.args.arena.now in
     let e = c.in_err-push.ensures.same_tree in
     parents-inserted t c.insert_clone.new.arena c.push.new.arena (place_of t c.args.stack.now None c.args.foster) c.args.node c.in_ok-clone.ensures.laws (ap (λ (v : Tree). v.labels) e) (ap (λ (v : Tree). v.parents) e)
+
+pub returns-in_err-clone-clause-steps : goal.returns-in_err-clone-clause-steps
+returns-in_err-clone-clause-steps c = on-err _ (placed-steps c.args.arena.now c.insert_clone.new.arena c.args.stack.now c.args.foster c.in_err-clone.ensures.same)
+
+pub returns-in_err-push-clause-steps : goal.returns-in_err-push-clause-steps
+returns-in_err-push-clause-steps c = on-err _ (tried-steps c.args.arena.now c.insert_clone.new.arena c.push.new.arena c.args.stack.now c.args.foster c.args.node c.in_ok-clone.ensures.tree c.in_err-push.ensures.same_tree)
