@@ -536,6 +536,26 @@ fn a_run_is_taken_up_to_the_limit(rt: HostRuntime) -> Result<(), Fail> {
     Ok(())
 }
 
+// Two blocks of ASCII, each cut short by a wider code point, against the same code points one by one.
+#[test]
+fn a_long_run_is_its_code_points(rt: HostRuntime) -> Result<(), Fail> {
+    let alloc = rt.alloc();
+    let mut arena = Arena::new(alloc);
+    run(&mut arena, alloc, &[Call::Text, Call::Text])?;
+    let mut long = ['a'; 150];
+    long[100] = 'é';
+    long[149] = '😀';
+    assert_eq!(rt; push_run(&mut arena, NodeId::at(0), &long), Ok(150));
+    for c in &long {
+        push(&mut arena, NodeId::at(1), *c)?;
+    }
+    let in_one = told(alloc, &arena, 0)?;
+    let singly = told(alloc, &arena, 1)?;
+    assert_eq!(rt; in_one.as_str(), singly.as_str());
+    assert_eq!(rt; counts(&arena), (2, 300, 302));
+    Ok(())
+}
+
 #[test]
 fn marks_are_apart(rt: HostRuntime) -> Result<(), Fail> {
     let alloc = rt.alloc();

@@ -1,5 +1,5 @@
 -- An adoption makes neither the stack nor the list longer.
-use Rattle.std.proofs.Common.{◌≡◌, ◌≢◌, ℕ, zero, suc, ◌+◌, ◌<◌, ◌≤◌, Bool, true, false, eqb, not, List, [], ◌∷◌, ◌++◌, length, length-append, Result, Ok, Err, IfOk, IfErr, Some, inl, inr, refl, sym, ◌∙◌, ap, subst, arith}
+use Rattle.std.proofs.Common.{◌≡◌, ◌≢◌, ℕ, zero, suc, ◌+◌, ◌<◌, ◌≤◌, Bool, true, false, eqb, not, List, [], ◌∷◌, ◌++◌, length, length-append, Some, inl, inr, refl, sym, ◌∙◌, ap, subst, arith}
 use Rattle.std.proofs.lemmas.Bool.{false≢true}
 use Rattle.std.specs.List.{flat_map, list_any}
 use Rattle.html_names.specs.declared.tag.Tag.{Tag}
@@ -117,7 +117,7 @@ module _ (s : Tag) (foster : Bool) where
   ends-narrow _ _ _ (out_of_scope o p k) = ((let a = ap length k.unchanged.stack_is in omega (arith, a)), (let a = ap length k.unchanged.list_is in omega (arith, a)))
   ends-narrow _ _ _ (no_entry o p k) = ((let a = ap length k.unchanged.stack_is in omega (arith, a)), (let a = ap length k.unchanged.list_is in omega (arith, a)))
 
-  adopted-narrow : (end : AdoptEnd) (o p : Open) → IsOpen o → Adopted s foster end o p → (length p.stack ≤ length o.stack) × (length p.list ≤ length o.list)
+  pub adopted-narrow : (end : AdoptEnd) (o p : Open) → IsOpen o → Adopted s foster end o p → (length p.stack ≤ length o.stack) × (length p.list ≤ length o.list)
   adopted-narrow _ _ _ h (popped o p k) =
       ((let a = ap length k.stack_was in let b = length-append p.stack (k.current ∷ []) in omega (arith, a, b)), (let a = ap length k.list_is in omega (arith, a)))
   adopted-narrow _ _ _ h (eight o p n rs) = (let i = rounds-narrow 8 o p h rs in (i.0, i.1))
@@ -130,7 +130,7 @@ module _ (s : Tag) (foster : Bool) where
       let d = j.1 in
       (omega (arith, a, c), omega (arith, b, d))
 
-  refused-narrow : (o p : Open) (e : OpenError) → IsOpen o → IsRefusal s foster o p e → (length p.stack ≤ length o.stack) × (length p.list ≤ length o.list)
+  pub refused-narrow : (o p : Open) (e : OpenError) → IsOpen o → IsRefusal s foster o p e → (length p.stack ≤ length o.stack) × (length p.list ≤ length o.list)
   refused-narrow o p e h k =
       let i = rounds-narrow k.n o k.p h k.rounds in
       let a = i.0 in
@@ -138,8 +138,3 @@ module _ (s : Tag) (foster : Bool) where
       let c = ap length k.stopped.stack_is in
       let d = ap length k.stopped.list_is in
       (omega (arith, a, c), omega (arith, b, d))
-
-  pub adoption-narrow : (r : Result AdoptEnd OpenError) (o p : Open) → IsOpen o → IfOk r (λ end. Adopted s foster end o p) → IfErr r (λ e. IsRefusal s foster o p e)
-      → (length p.stack ≤ length o.stack) × (length p.list ≤ length o.list)
-  adoption-narrow (Ok end) o p h a b = adopted-narrow end o p h a
-  adoption-narrow (Err e) o p h a b = refused-narrow o p e h b

@@ -80,46 +80,20 @@ pub fn adopt(
     ensures well_formed { WellFormed arena.new }
 {
     arena.forest();
-    let end = follow(stack, list, arena, name, foster);
-    arena.forest();
-    end
-}
-
-/// Follows an end tag of a formatting name.
-fn follow(
-    stack: &mut OpenStack,
-    list: &mut FormattingList,
-    arena: &mut Arena,
-    name: Tag,
-    foster: bool,
-) -> Result<AdoptEnd, OpenError>
-    requires open { IsOpen (open_at stack.old list.old arena.old) }
-    requires can_place { CanPlace arena.old stack.old }
-    requires first_free { IsFirstFree stack.old list.old }
-    ensures adopted { IfOk result (λ end. Adopted name foster end (open_at stack.old list.old arena.old) (open_at stack.new list.new arena.new)) }
-    ensures kept { IsOpen (open_at stack.new list.new arena.new) }
-    ensures first { (x : ℕ) → first_of stack.old ≡ Some x → named arena.old name x ≡ false → first_of stack.new ≡ Some x }
-    ensures can_place { 0 < length stack.new → CanPlace arena.new stack.new }
-    ensures first_free { IsFirstFree stack.new list.new }
-    ensures roots { OnOk result (KeepsRoots (open_at stack.old list.old arena.old) arena.new) }
-    ensures made { MadeClones (open_at stack.old list.old arena.old) arena.new }
-    ensures closed { KeepsClosed (open_at stack.old list.old arena.old) arena.new }
-    ensures survives { is_special name ≡ false → Survives (open_at stack.old list.old arena.old) (open_at stack.new list.new arena.new) }
-    ensures clones { length arena.new.labels ≤ length arena.old.labels + 32 }
-    ensures cause { IfErr result (λ e. IsRefusal name foster (open_at stack.old list.old arena.old) (open_at stack.new list.new arena.new) e) }
-    ensures steps { IsCounted arena.old.steps arena.new.steps (length arena.new.labels - length arena.old.labels) (32 * ((length stack.old + length list.old + 4) * (length stack.old + length list.old + 4)) + 8 * length arena.new.labels) }
-    ensures paid { OnOk result (IsPaid (open_at stack.old list.old arena.old) (open_at stack.new list.new arena.new)) }
-{
     if pop_unlisted(stack, list, arena, name) {
+        arena.forest();
         return Ok(AdoptEnd::Done);
     }
     arena.forest();
     'rounding: for _index in 0..ROUNDS {
         arena.forest();
-        if let Some(end) = turn(stack, list, arena, name, foster)? {
+        let turned = turn(stack, list, arena, name, foster);
+        arena.forest();
+        if let Some(end) = turned? {
             return Ok(end);
         }
     }
+    arena.forest();
     Ok(AdoptEnd::Done)
 }
 

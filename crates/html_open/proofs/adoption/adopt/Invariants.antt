@@ -8,7 +8,7 @@ use Rattle.html_open.specs.Opened.{IsOpen, open_at}
 use Rattle.html_open.specs.Placing.{CanPlace}
 use Rattle.html_open.specs.Rooting.{KeepsRoots}
 use Rattle.html_open.proofs.Descending.{Descends}
-use Rattle.html_open.proofs.adoption.follow.Given as goal
+use Rattle.html_open.proofs.adoption.adopt.Given as goal
 
 abbrev pub invariant-rounding : goal.invariant-rounding
 invariant-rounding l = record {
