@@ -1,5 +1,5 @@
 -- A run of code points at the end of a text: in one go and one by one.
-use Rattle.std.proofs.Common.{◌≡◌, ℕ, suc, ◌+◌, ◌-◌, ◌^◌, ◌<◌, ◌≤◌, min, List, [], ◌∷◌, length, take, set, get_or, Result, Ok, Err, IfOk, OnOk, OnErr, if◌then◌else◌, is_ok, refl, sym, ap, subst, ◌∙◌, arith, append_assoc, append-nil}
+use Rattle.std.proofs.Common.{◌≡◌, ℕ, suc, ◌+◌, ◌-◌, ◌^◌, ◌<◌, ◌≤◌, min, List, [], ◌∷◌, length, take, set, get_or, Result, Ok, Err, IfOk, OnErr, refl, sym, ap, subst, ◌∙◌, arith, append_assoc, append-nil}
 use Rattle.std.proofs.lemmas.List.{get_or-set_same, length-set, length-take-le, set-get_or, set-set}
 use Rattle.html_arena.specs.declared.arena.ArenaError.TheVariants.{HeldBudget}
 use Rattle.html_arena.specs.declared.data.NodeData.{NodeData}

@@ -1,5 +1,5 @@
 -- What a reopening counts at most, whether it ends or is refused.
-use Rattle.std.proofs.Common.{◌≡◌, ℕ, zero, suc, ◌+◌, ◌-◌, ◌*◌, ◌^◌, ◌<◌, ◌≤◌, Bool, true, false, List, [], ◌∷◌, ◌++◌, length, length-append, get_or, Option, Some, None, Result, Ok, Err, OnErr, inl, inr, refl, sym, ◌∙◌, ap, subst, arith}
+use Rattle.std.proofs.Common.{◌≡◌, ℕ, zero, suc, ◌+◌, ◌-◌, ◌*◌, ◌<◌, ◌≤◌, Bool, false, List, [], ◌∷◌, ◌++◌, length, length-append, get_or, Option, Some, None, Result, Ok, Err, OnErr, inl, inr, refl, ◌∙◌, ap, subst, arith}
 use Rattle.std.proofs.Math.Nat.{suc-mul}
 use Rattle.std.proofs.lemmas.Nat.{mul-le}
 use Rattle.std.specs.List.{list_any}
@@ -8,7 +8,7 @@ use Rattle.html_arena.specs.Make.{made}
 use Rattle.html_arena.specs.Tree.{Tree, more}
 use Rattle.html_open.specs.declared.entry.Entry.{Entry}
 use Rattle.html_open.specs.declared.entry.Entry.TheVariants.{Marker, Node}
-use Rattle.html_open.specs.Lists.{above, last_where, looked, up_to}
+use Rattle.html_open.specs.Lists.{above, last_where}
 use Rattle.html_open.specs.Marking.{charged}
 use Rattle.html_open.specs.Opened.{Open}
 use Rattle.html_open.specs.Placing.{place_of, place_steps, target_of}

@@ -1,22 +1,19 @@
 -- What clones hold, and how long the stack and the list are after a reopening.
-use Rattle.std.proofs.Common.{◌≡◌, ℕ, zero, suc, ◌+◌, ◌-◌, ◌*◌, ◌^◌, ◌<◌, ◌≤◌, Bool, true, false, min, List, [], ◌∷◌, ◌++◌, length, length-append, map, inl, inr, refl, sym, ◌∙◌, ap, subst, arith}
+use Rattle.std.proofs.Common.{◌≡◌, ℕ, zero, suc, ◌+◌, ◌-◌, ◌*◌, ◌^◌, ◌≤◌, true, min, List, [], ◌∷◌, ◌++◌, length, length-append, map, inl, inr, refl, ◌∙◌, ap, arith}
 use Rattle.std.proofs.lemmas.List.{length-map}
 use Rattle.std.proofs.lemmas.List.Sums.{sum_by-append, sum_by-cons}
 use Rattle.std.proofs.Math.Nat.{suc-mul}
 use Rattle.std.proofs.lemmas.Nat.{mul-le}
 use Rattle.std.specs.List.{range_with_len, sum_by}
-use Rattle.std.specs.Prelude.{filter}
-use Rattle.std.proofs.lemmas.List.Elements.{filter-append}
 use Rattle.html_arena.specs.declared.data.NodeData.{NodeData}
 use Rattle.html_arena.specs.declared.data.NodeData.TheVariants.{Document, Contents, Element, Text, Comment, Doctype}
 use Rattle.html_arena.specs.Data.{cloned}
 use Rattle.html_arena.specs.Siblings.{has}
 use Rattle.html_arena.specs.Tree.{Tree, label_of}
 use Rattle.html_arena.specs.Weight.{capped, weight}
-use Rattle.html_open.specs.declared.entry.Entry.{Entry}
-use Rattle.html_open.specs.declared.entry.Entry.TheVariants.{Marker, Node}
+use Rattle.html_open.specs.declared.entry.Entry.TheVariants.{Node}
 use Rattle.html_open.specs.Adopting.{MadeClones}
-use Rattle.html_open.specs.Entries.{has_node, nodes_of}
+use Rattle.html_open.specs.Entries.{nodes_of}
 use Rattle.html_open.specs.Leaving.{listed_weight}
 use Rattle.html_open.specs.Lists.{above, up_to}
 use Rattle.html_open.specs.Opened.{Open}

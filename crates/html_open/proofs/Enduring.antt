@@ -1,13 +1,13 @@
 -- What stays on the stack and in the list through a reopening.
-use Rattle.std.proofs.Common.{◌≡◌, ℕ, ◌+◌, ◌<◌, ◌≤◌, Bool, true, false, List, [], ◌∷◌, ◌++◌, length, length-append, map, inl, inr, refl, sym, ◌∙◌, ap, subst, arith}
+use Rattle.std.proofs.Common.{◌≡◌, ℕ, ◌+◌, true, false, List, [], ◌∷◌, ◌++◌, length, map, inl, inr, refl, sym, ◌∙◌, ap}
 use Rattle.std.proofs.lemmas.Bool.{false≢true}
 use Rattle.std.specs.Prelude.{filter}
 use Rattle.std.proofs.lemmas.List.Elements.{filter-append}
 use Rattle.html_names.specs.Sets.{is_special}
 use Rattle.html_arena.specs.declared.data.NodeData.{NodeData}
-use Rattle.html_arena.specs.Data.{cloned, tag_in}
+use Rattle.html_arena.specs.Data.{tag_in}
 use Rattle.html_arena.specs.Siblings.{has}
-use Rattle.html_arena.specs.Tree.{label_of, tag_at}
+use Rattle.html_arena.specs.Tree.{tag_at}
 use Rattle.html_open.specs.declared.entry.Entry.{Entry}
 use Rattle.html_open.specs.declared.entry.Entry.TheVariants.{Node}
 use Rattle.html_open.specs.AdoptFinding.{special}
@@ -18,7 +18,6 @@ use Rattle.html_open.specs.Opened.{IsOpen, Open}
 use Rattle.html_open.specs.Placing.{CanPlace}
 use Rattle.html_open.specs.Reopening.{ReopenedFirst, closed, fresh, stands}
 use Rattle.html_open.proofs.Descending.{label-kept, labels-longer}
-use Rattle.html_open.proofs.Keeps.{cases_bool, has-append}
 use Rattle.html_open.proofs.Ordering.{has-either, has-left, has-right}
 use Rattle.html_open.proofs.Reopened.{all-nodes, apart, list-nodes, none-above, rest-listed, split-above, up-listed}
 use Rattle.html_open.proofs.Staying.{filter-none, filter-same, formatting-plain, markers-map}

@@ -21,7 +21,7 @@ use Rattle.html_open.specs.Inserting.{IsOpenTarget, SparesClosed}
 use Rattle.html_open.specs.Marking.{bare, charged}
 use Rattle.html_open.specs.Opened.{AreNodes, IsOpen, open_at}
 use Rattle.html_open.specs.Placing.{CanPlace, IsPlace, fostered, fosters, inside, parent_at, place_of, put, table, target_of}
-use Rattle.html_open.proofs.Keeps.{cases_bool, cases_eqb, eqb-self}
+use Rattle.html_open.proofs.Keeps.{cases_eqb, eqb-self}
 use Rattle.html_open.proofs.Standing.{not-parent, place-at-by, place-by}
 
 -- tag and parent of the first element decide

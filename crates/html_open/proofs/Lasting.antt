@@ -1,6 +1,6 @@
 -- What lasts where an element is taken off the stack or an entry off the list: what was not there is not there, the first element is the
 -- first, and it can take what has no better place.
-use Rattle.std.proofs.Common.{◌≡◌, ◌≢◌, ℕ, zero, suc, ◌+◌, ◌<◌, ◌≤◌, Bool, true, false, cond, eqb, List, [], ◌∷◌, ◌++◌, length, length-append, take, Option, Some, None, inl, inr, refl, sym, ◌∙◌, ap, subst, arith}
+use Rattle.std.proofs.Common.{◌≡◌, ◌≢◌, ℕ, zero, suc, ◌+◌, ◌<◌, ◌≤◌, Bool, true, false, eqb, List, [], ◌∷◌, ◌++◌, length, length-append, take, Option, Some, None, inl, inr, refl, sym, ◌∙◌, ap, subst, arith}
 use Rattle.std.proofs.lemmas.Bool.{false≢true}
 use Rattle.std.specs.List.{list_any}
 use Rattle.html_arena.specs.declared.marks.Mark.{Mark}
@@ -10,14 +10,14 @@ use Rattle.html_arena.specs.Tree.{Tree, more}
 use Rattle.html_open.specs.declared.entry.Entry.{Entry}
 use Rattle.html_open.specs.declared.entry.Entry.TheVariants.{Marker, Node}
 use Rattle.html_open.specs.Adopting.{IsFirstFree}
-use Rattle.html_open.specs.Entries.{alike, displaced, has_node, has_three, is_marker, nodes_of, push_steps, pushed}
+use Rattle.html_open.specs.Entries.{alike, has_node, has_three, is_marker, nodes_of, pushed}
 use Rattle.html_open.specs.Lists.{above, below, up_to, with_last, without_first, without_last}
 use Rattle.html_open.specs.Marking.{IsSameTree, all_unmarked, bare, charged, unmarked}
 use Rattle.html_open.specs.Opened.{AreNodes}
 use Rattle.html_open.specs.Placing.{CanPlace}
 use Rattle.html_open.proofs.Closing.{bare-all}
 use Rattle.html_open.proofs.Counting.{all_unmarked-steps}
-use Rattle.html_open.proofs.Keeps.{cases_bool, cases_eqb, eqb-self, has-append, has-tail, nodes-append, split-last}
+use Rattle.html_open.proofs.Keeps.{cases_bool, cases_eqb, has-append, has-tail, nodes-append, split-last}
 use Rattle.html_open.proofs.Ordering.{has-either, has-head}
 use Rattle.html_open.proofs.Rooted.{without-node}
 

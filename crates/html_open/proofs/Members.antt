@@ -2,7 +2,7 @@
 use Rattle.std.proofs.Common.{◌≡◌, ℕ, ◌-◌, ◌<◌, true, eqb, List, [], ◌∷◌, length, get_or, IfSome, Option, Some, None, sym, ◌∙◌, ap, subst, arith}
 use Rattle.html_names.specs.declared.tag.Tag.{Tag}
 use Rattle.html_arena.specs.Siblings.{has, last_of}
-use Rattle.html_arena.specs.Tree.{Tree}
+use Rattle.html_arena.specs.Tree.{Tree, named}
 use Rattle.html_open.specs.declared.entry.Entry.{Entry}
 use Rattle.html_open.specs.Entries.{has_node, last_named}
 use Rattle.html_open.specs.Lists.{last_index, with_last}
@@ -38,3 +38,8 @@ index-there xs x (Some i) e = sym (eqb-true x (get_or xs i 0) (last_where-passes
 pub named-member : (t : Tree) (s : Tag) (es : List Entry) (o : Option ℕ) → o ≡ last_named t s es → IfSome o (λ x. has_node x es ≡ true)
 named-member t s es None e = tt
 named-member t s es (Some x) e = last_named-in t s es x (sym e)
+
+pub named-there : (t : Tree) (name : Tag) (xs ys : List ℕ) (o : Option ℕ) → xs ≡ ys → o ≡ last_index (named t name) xs → IfSome o (λ i. named t name (get_or ys i 0) ≡ true)
+named-there t name xs ys None q e = tt
+named-there t name xs ys (Some i) q e =
+    ap (λ (v : List ℕ). named t name (get_or v i 0)) (sym q) ∙ last_where-passes (named t name) xs (get_or xs i 0) (last_where-at (named t name) xs i 0 (sym e))

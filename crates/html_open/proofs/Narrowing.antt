@@ -1,22 +1,22 @@
 -- An adoption makes neither the stack nor the list longer.
-use Rattle.std.proofs.Common.{◌≡◌, ◌≢◌, ℕ, zero, suc, ◌+◌, ◌<◌, ◌≤◌, Bool, true, false, eqb, not, List, [], ◌∷◌, ◌++◌, length, length-append, Some, inl, inr, refl, sym, ◌∙◌, ap, subst, arith}
+use Rattle.std.proofs.Common.{◌≡◌, ◌≢◌, ℕ, ◌+◌, ◌≤◌, Bool, true, false, eqb, not, List, [], ◌∷◌, ◌++◌, length, length-append, inl, inr, refl, sym, ◌∙◌, ap, subst, arith}
 use Rattle.std.proofs.lemmas.Bool.{false≢true}
 use Rattle.std.specs.List.{flat_map, list_any}
 use Rattle.html_names.specs.declared.tag.Tag.{Tag}
-use Rattle.html_arena.specs.Siblings.{Distinct, first_of, has, is_in}
+use Rattle.html_arena.specs.Siblings.{Distinct, has}
 use Rattle.html_open.specs.declared.adoption.AdoptEnd.{AdoptEnd}
 use Rattle.html_open.specs.declared.entry.Entry.{Entry}
 use Rattle.html_open.specs.declared.entry.Entry.TheVariants.{Marker, Node}
 use Rattle.html_open.specs.declared.error.OpenError.{OpenError}
 use Rattle.html_open.specs.Adopting.{Adopted, Ends, IsRefusal, Round, Rounds, closes, eight, fewer, forgets, heirs, no_entry, no_round, one_more, originals, out_of_scope, popped, relisted}
-use Rattle.html_open.specs.Entries.{has_node, is_node, nodes_of, without_node}
+use Rattle.html_open.specs.Entries.{has_node, is_node, nodes_of}
 use Rattle.html_open.specs.Lists.{above, below, without_last}
 use Rattle.html_open.specs.Opened.{IsOpen, Open}
 use Rattle.html_open.proofs.Finding.{last_named-in}
 use Rattle.html_open.proofs.Keeps.{Distinct-remove, cases_bool, cases_eqb, eqb-self, split-last}
 use Rattle.html_open.proofs.Lasting.{not-left, not-right}
 use Rattle.html_open.proofs.Numbering.{originals-in}
-use Rattle.html_open.proofs.Shrinking.{entry-length, heirs-few, heirs-two, only, relisted-length, relisted-same-length, round-shorter}
+use Rattle.html_open.proofs.Shrinking.{entry-length, heirs-few, heirs-two, relisted-length, relisted-same-length, round-shorter}
 
 -- the formatting element goes and its clone comes, so the list is no longer
 module _ (f : ℕ) (stays : ℕ → Bool) (x0 : ℕ) (cs : List ℕ) (n k : ℕ) where
@@ -98,7 +98,7 @@ module _ (s : Tag) (foster : Bool) where
       by (x ∷ cs) e =
           no-longer r.f (λ y. not (has y r.inner)) x cs (length o.tree.labels) r.k o.list h.list_once (last_named-in o.tree s o.list r.f r.formatting)
           (λ q. (let i = (originals-in (λ y. has_node y o.list) r.inner x (subst (λ (v : List ℕ). has x v ≡ true) e (rw (eqb-self x) refl))).0 in
-            let j : has r.f r.inner ≡ true = subst (λ z. has z r.inner ≡ true) (sym q) i in false≢true (sym f-once ∙ j)))
+          let j : has r.f r.inner ≡ true = subst (λ z. has z r.inner ≡ true) (sym q) i in false≢true (sym f-once ∙ j)))
 
   rounds-narrow : (n : ℕ) (o p : Open) → IsOpen o → Rounds s foster n o p → (length p.stack ≤ length o.stack) × (length p.list ≤ length o.list) × IsOpen p
   rounds-narrow _ _ _ h (no_round o) = (omega arith, omega arith, h)

@@ -13,9 +13,9 @@ ghost use Rattle.html_open.specs.Marking.{IsSameTree, charged};
 ghost use Rattle.html_open.specs.Opened.{AreNodes, IsApart, IsOpen, open_at};
 ghost use Rattle.html_open.specs.Placing.{CanPlace};
 
-/// A law: what is true between calls is kept where steps are counted, where nodes are made, where one that is no open element nor above one is linked, where one is
-/// taken from its parent, where children are moved from a node that is above no open element, and where a node gets another label of the
-/// same tag and token. Nodes that were just made are apart from all open elements.
+/// A law: what is true between calls is true where there is no node, and is kept where steps are counted, where nodes are made, where one that
+/// is no open element nor above one is linked, where one is taken from its parent, where children are moved from a node that is above no open
+/// element, and where a node gets another label of the same tag and token. Nodes that were just made are apart from all open elements.
 pub fn kept_by_edits()
     ensures empty { (limits : Option Limits) → IsOpen (open_at [] [] (empty_tree limits)) }
     ensures charged { (s : List ℕ) (l : List Entry) (t : Tree) (n : ℕ) → IsOpen (open_at s l t) → IsOpen (open_at s l (charged t n)) }

@@ -177,6 +177,7 @@ impl OpenStack {
         requires { AreNodes arena.old self.now }
         ensures index { result ≡ last_index (named arena.old name) self.now }
         ensures below { IfSome result (λ i. i < length self.now) }
+        ensures there { IfSome result (λ i. named arena.old name (slice_index self.now i) ≡ true) }
         ensures steps { arena.new ≡ charged arena.old (looked (named arena.old name) self.now) }
         ensures keeps { (l : _) → IsOpen (open_at self.now l arena.old) → IsOpen (open_at self.now l arena.new) }
     {

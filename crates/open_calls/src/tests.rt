@@ -2,10 +2,10 @@
 ghost use Rattle.std.specs.Prelude.{◌≡◌, ◌<◌, OnOk, IfOk, length};
 ghost use Rattle.html_open.specs.Opened.{AreNodes};
 
-use html_open::{OpenStack, Place, insert, put};
 use html_arena::{Arena, NewNode, NodeId, Origin};
 use html_charref::Str;
 use html_names::Tag;
+use html_open::{OpenStack, Place, insert, put};
 use html_tokens::Attrs;
 use std::alloc::Global;
 use std::test::Fail;

@@ -1,4 +1,4 @@
-use Rattle.std.proofs.Common.{◌≡◌, ◌≤◌, List, ℕ, length, string_bytes, take, ◌∙◌, ap, subst, sym, arith}
+use Rattle.std.proofs.Common.{◌≡◌, length, string_bytes, take, ◌∙◌, ap, subst, sym, arith}
 use Rattle.std.proofs.lemmas.List.{append-nil, take_rest}
 use Rattle.std.proofs.lemmas.Str.{IsCharBoundary-from_take, IsUtf8-string_bytes}
 use Rattle.std.specs.Str.{IsUtf8, chars}
@@ -15,7 +15,6 @@ copying-init c =
       longer = (let l = ap length e in omega (arith, l));
       front = ap (take (length old)) e ∙ take-self old;
     }
-
 
 pub truncate-requires : goal.truncate-requires
 truncate-requires c =

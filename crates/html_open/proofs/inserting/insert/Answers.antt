@@ -1,4 +1,4 @@
-use Rattle.std.proofs.Common.{◌≡◌, ◌+◌, ◌∙◌, ap, length, arith}
+use Rattle.std.proofs.Common.{◌∙◌, ap, length, arith}
 use Rattle.html_arena.specs.Make.{label_for, made, nodes_made}
 use Rattle.html_arena.specs.Tree.{Tree}
 use Rattle.html_open.specs.Placing.{put}

@@ -4,6 +4,7 @@ use Rattle.html_open.specs.Lists.{looked}
 use Rattle.html_open.specs.Marking.{charged}
 use Rattle.html_open.proofs.Lists.{steps_index}
 use Rattle.html_open.proofs.Keeps.{charged_keeps}
+use Rattle.html_open.proofs.Members.{named-there}
 use Rattle.html_open.proofs.stack.OpenStack.index_named.Goals as goal
 
 pub returns-clause-steps : goal.returns-clause-steps
@@ -16,3 +17,6 @@ returns-clause-steps c =
 
 pub returns-clause-keeps : goal.returns-clause-keeps
 returns-clause-keeps c = λ l. charged_keeps c.args.self.now l c.args.arena.now c.charge.new.self _ c.charge.ensures
+
+pub returns-clause-there : goal.returns-clause-there
+returns-clause-there c = named-there c.args.arena.now c.args.name c.as_slice-nodes.result.now c.args.self.now c.last_index-index.result (c.as_slice-nodes.ensures.value ∙ c.self.view_is) c.last_index-index.ensures.index
