@@ -59,3 +59,29 @@ pub(crate) fn build(alloc: Global, elements: u64) -> Result<Arena, ArenaError> {
     }
     Ok(arena)
 }
+
+/// How many code points a run has.
+const RUN: usize = 4_096;
+/// How many runs there are in 16 MB of ASCII.
+const RUNS: u64 = 4_096;
+
+/// A text of 16 MB, added in runs.
+pub(crate) fn in_runs(alloc: Global) -> Result<Arena, ArenaError> {
+    let mut arena = Arena::new(alloc);
+    let node = arena.make(NewNode::Text)?;
+    let run = ['a'; RUN];
+    for _ in 0..RUNS {
+        arena.append_run(node, &run)?;
+    }
+    Ok(arena)
+}
+
+/// The same text, added one code point after another.
+pub(crate) fn one_by_one(alloc: Global) -> Result<Arena, ArenaError> {
+    let mut arena = Arena::new(alloc);
+    let node = arena.make(NewNode::Text)?;
+    for _ in 0..RUNS * RUN as u64 {
+        arena.append_text(node, 'a')?;
+    }
+    Ok(arena)
+}

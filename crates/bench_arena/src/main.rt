@@ -4,7 +4,7 @@
 mod build;
 mod count;
 
-use build::build;
+use build::{build, in_runs, one_by_one};
 use count::{Counts, count};
 use html_arena::Arena;
 use std::env;
@@ -37,6 +37,18 @@ fn main(rt: HostRuntime) -> anyhow::Result<()> {
     if given.is_some() {
         println!(rt; "built, us        {built:>12}")?;
         println!(rt; "walked, us       {walked:>12}")?;
+        let start = Instant::now(&rt)?;
+        let text = in_runs(rt.alloc())?;
+        let took = start.elapsed(&rt)?.as_micros();
+        let held = text.held();
+        println!(rt; "held in runs     {held:>12}")?;
+        println!(rt; "in runs, us      {took:>12}")?;
+        let start = Instant::now(&rt)?;
+        let text = one_by_one(rt.alloc())?;
+        let took = start.elapsed(&rt)?.as_micros();
+        let held = text.held();
+        println!(rt; "held one by one  {held:>12}")?;
+        println!(rt; "one by one, us   {took:>12}")?;
     }
     Ok(())
 }

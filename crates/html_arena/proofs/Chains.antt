@@ -9,13 +9,15 @@ use Rattle.html_arena.specs.declared.data.NodeData.{NodeData}
 use Rattle.html_arena.specs.declared.data.NodeData.TheVariants.{Document, Contents, Element, Text, Comment, Doctype}
 use Rattle.html_arena.specs.declared.data.NewNode.{NewNode}
 use Rattle.html_arena.specs.declared.data.NewNode.TheVariants as new
-use Rattle.html_arena.specs.Data.{IsElement, IsText, attrs_in, cloned, is_linkable, with_attrs, with_char}
+use Rattle.html_arena.specs.Data.{IsElement, IsText, attrs_in, cloned, is_linkable, with_attrs, with_char, with_run}
 use Rattle.html_arena.specs.Make.{CanMake, has_contents, label_for, made, made_weight, makes_child, nodes_made}
 use Rattle.html_arena.specs.Merge.{merged}
 use Rattle.html_arena.specs.Laws.{IsGrown, IsLinked, IsMoved, IsRelabelled, IsUnlinked}
+use Rattle.html_arena.specs.Marks.{has_mark, no_marks}
 use Rattle.html_arena.specs.Siblings.{has, put_before, without}
-use Rattle.html_arena.specs.Tree.{Tree, WellFormed, Climbs, added, added_template, ancestors, ancestors_within, appended, children_of, detached, inserted, label_of, moved, parent_of, texted, with_merged}
+use Rattle.html_arena.specs.Tree.{Tree, WellFormed, Climbs, added, added_template, ancestors, ancestors_within, appended, children_of, detached, inserted, label_of, moved, parent_of, texted, texted_run, with_merged}
 use Rattle.html_arena.proofs.Labels.{formatting-element}
+use Rattle.html_arena.proofs.Made.{get_or-default_push}
 use Rattle.html_arena.proofs.Siblings.{cases_bool, cases_eqb, eqb-apart, eqb-self, has-tail}
 use Rattle.html_arena.proofs.Laws.{added-children, added-parent, ancestors-climb, ancestors-frame, ancestors-root, appended-children, appended-parent, climbs-closed, detached-children, detached-labels, detached-parent, moved-children, moved-parent, no_children, no_parent, put_children}
 
@@ -107,6 +109,8 @@ append_laws t p c w v pb cb a n =
       children_are = appended-children t w p c pb;
       above_others = others t (appended t p c) c (Some p) up w refl;
       above_child = linked-above t (appended t p c) c p up a w v refl pb n;
+      same_labels = refl;
+      same_marks = refl;
     }
 
 put_parent : (t : Tree) → WellFormed t → (c n p : ℕ) → c < length t.labels → (x : ℕ) → parent_of (inserted t c n (Some p)) x ≡ cond (eqb x c) (Some p) (parent_of t x)
@@ -125,6 +129,8 @@ insert_some t c n p e w v nb cb a h =
       children_are = put_children t w c n p pb;
       above_others = others t (inserted t c n (Some p)) c (Some p) up w refl;
       above_child = linked-above t (inserted t c n (Some p)) c p up a w v refl pb above;
+      same_labels = refl;
+      same_marks = refl;
     }
 
 pub insert_laws : (t : Tree) (c n : ℕ) (o : Option ℕ) → parent_of t n ≡ o → WellFormed t → WellFormed (inserted t c n o) → n < length t.labels → c < length t.labels → parent_of t c ≡ None → has c (n ∷ ancestors t n) ≡ false
@@ -132,16 +138,23 @@ pub insert_laws : (t : Tree) (c n : ℕ) (o : Option ℕ) → parent_of t n ≡ 
 insert_laws t c n None e w v nb cb a h = tt
 insert_laws t c n (Some p) e w v nb cb a h = insert_some t c n p e w v nb cb a h
 
+detached-marks : (t : Tree) (c : ℕ) (o : Option ℕ) → (detached t c o).marks ≡ t.marks
+detached-marks t c None = refl
+detached-marks t c (Some p) = refl
+
 pub detach_laws : (t : Tree) (c : ℕ) → WellFormed t → WellFormed (detached t c (parent_of t c)) → c < length t.labels → IsUnlinked t (detached t c (parent_of t c)) c
 detach_laws t c w v b =
     let up = detached-parent t w c b in
-    let l = ap length (detached-labels t c (parent_of t c)) in
+    let same = detached-labels t c (parent_of t c) in
+    let l = ap length same in
     record {
       well_formed = v;
       parent_is = up;
       children_are = detached-children t w c;
       above_others = others t (detached t c (parent_of t c)) c None up w l;
       above_child = unlinked-above t (detached t c (parent_of t c)) c up w v l b;
+      same_labels = same;
+      same_marks = detached-marks t c (parent_of t c);
     }
 
 pub move_laws : (t : Tree) (from to : ℕ) → WellFormed t → WellFormed (moved t from to) → from < length t.labels → to < length t.labels → IsMoved t (moved t from to) from to
@@ -153,6 +166,8 @@ move_laws t from to w v fb tb = record {
     | inl e ↦ absurd (let c = ancestors-climb t w x b in let m = has_up x (ancestors t x) y c.0 k (w.child_has_parent from y e) in cc)
     | inr e ↦ rw e refl
   ]);
+  same_labels = refl;
+  same_marks = refl;
 }
   where
     -- with a node on the chain, its parent is above
@@ -194,6 +209,7 @@ added_laws t d h w v =
       same_parent = added-parent t d h;
       same_children = added-children t d h;
       same_ancestors = λ x b. ancestors-frame t (added t d h) w x b (omega arith) (λ y k. added-parent t d h y);
+      same_marks = λ m x. ap (has_mark m) (get_or-default_push t.marks no_marks x);
     }
 
 get_or-default_pair : {X : Type 0} (xs : List X) (d : X) (i : ℕ) → get_or (xs ++ d ∷ d ∷ []) i d ≡ get_or xs i d
@@ -222,6 +238,7 @@ template_laws t d h w v =
       same_parent = up;
       same_children = kids;
       same_ancestors = λ x b. ancestors-frame t (added_template t d h) w x b (omega arith) (λ y k. up y);
+      same_marks = λ m x. ap (has_mark m) (get_or-default_pair t.marks no_marks x);
     }
 
 made_by : (t : Tree) (d : NodeData) (h : ℕ) (b : Bool) → WellFormed t → WellFormed (cond b (added_template t d h) (added t d h)) → IsGrown t (cond b (added_template t d h) (added t d h)) (cond b 2 1)
@@ -267,8 +284,8 @@ pub made_child_at : {E : Type 0} (r : Result ℕ E) (t u : Tree) (n : NewNode) �
 made_child_at (Ok id) t u n h i e = ap is_linkable (ap (label_of u) i ∙ ap (λ (v : Tree). label_of v (length t.labels)) e ∙ made_label t n) ∙ made_child t n h
 made_child_at (Err x) t u n h i e = tt
 
-relabel_laws : (t u : Tree) (x : ℕ) (d : NodeData) → x < length t.labels → u.labels ≡ set t.labels x d → u.parents ≡ t.parents → u.children ≡ t.children → IsRelabelled t u x d
-relabel_laws t u x d b e p k = record {
+relabel_laws : (t u : Tree) (x : ℕ) (d : NodeData) → x < length t.labels → u.labels ≡ set t.labels x d → u.parents ≡ t.parents → u.children ≡ t.children → u.marks ≡ t.marks → IsRelabelled t u x d
+relabel_laws t u x d b e p k m = record {
   same_length = ap length e ∙ length-set t.labels x d;
   label_is = ap (λ (ds : List NodeData). get_or ds x Document) e ∙ get_or-set_same t.labels x d Document b;
   other_labels = λ y n. ap (λ (ds : List NodeData). get_or ds y Document) e ∙ get_or-set_other t.labels x y d Document n;
@@ -277,15 +294,19 @@ relabel_laws t u x d b e p k = record {
   same_ancestors = λ y.
       ap (λ (ps : List (Option ℕ)). ancestors_within (length u.labels) ps (get_or ps y None)) p
       ∙ ap (λ n. ancestors_within n t.parents (parent_of t y)) (ap length e ∙ length-set t.labels x d);
+  same_marks = m;
 }
 
 pub texted_laws : (t : Tree) (x c : ℕ) → x < length t.labels → IsRelabelled t (texted t x c) x (with_char (label_of t x) c)
-texted_laws t x c b = relabel_laws t (texted t x c) x (with_char (label_of t x) c) b refl refl refl
+texted_laws t x c b = relabel_laws t (texted t x c) x (with_char (label_of t x) c) b refl refl refl refl
+
+pub run_laws : (t : Tree) (x : ℕ) (run : List ℕ) → x < length t.labels → IsRelabelled t (texted_run t x run) x (with_run (label_of t x) run)
+run_laws t x run b = relabel_laws t (texted_run t x run) x (with_run (label_of t x) run) b refl refl refl refl
 
 pub merged_laws : (t : Tree) (x : ℕ) (later : List Attr) → x < length t.labels → IsRelabelled t (with_merged t x later) x (with_attrs (label_of t x) (merged (attrs_in (label_of t x)) later))
-merged_laws t x later b = relabel_laws t (with_merged t x later) x (with_attrs (label_of t x) (merged (attrs_in (label_of t x)) later)) b refl refl refl
+merged_laws t x later b = relabel_laws t (with_merged t x later) x (with_attrs (label_of t x) (merged (attrs_in (label_of t x)) later)) b refl refl refl refl
 
-with_char-text : (d : NodeData) (c : ℕ) → IsText d → IsText (with_char d c)
+pub with_char-text : (d : NodeData) (c : ℕ) → IsText d → IsText (with_char d c)
 with_char-text (Text s) c i = tt
 with_char-text Document c i = absurd i
 with_char-text (Contents h) c i = absurd i

@@ -10,7 +10,7 @@ use Rattle.html_arena.specs.declared.links.Links.{Links}
 use Rattle.html_arena.specs.declared.marks.Marks.{Marks}
 use Rattle.html_arena.specs.declared.data.NodeData.{NodeData}
 use Rattle.html_arena.specs.declared.data.NodeData.TheVariants.{Document, Contents, Element, Text, Comment, Doctype}
-use Rattle.html_arena.specs.Data.{label_in, tag_in, name_in, contents_in, host_in, is_linkable, IsElement, IsText, IsLone, cloned, with_char, with_attrs}
+use Rattle.html_arena.specs.Data.{label_in, tag_in, name_in, contents_in, host_in, is_linkable, IsElement, IsText, IsLone, cloned, with_char, with_run, with_attrs}
 use Rattle.html_arena.specs.Links.{blank, parent_at}
 use Rattle.html_arena.specs.Templates.{Templates}
 use Rattle.html_arena.specs.Whole.{IsLabelled, IsArena}
@@ -153,6 +153,14 @@ cloned-lone (Contents x) h t = absurd cc
 cloned-lone (Text s) h t = absurd cc
 cloned-lone (Comment s i) h t = absurd cc
 cloned-lone (Doctype n p s i) h t = absurd cc
+
+pub with_run-same : (d : NodeData) (run : List ℕ) → IsText d → (tag_in (with_run d run) ≡ tag_in d) × (name_in (with_run d run) ≡ name_in d) × (contents_in (with_run d run) ≡ contents_in d) × (host_in (with_run d run) ≡ host_in d)
+with_run-same (Text s) run i = (refl, refl, refl, refl)
+with_run-same Document run i = absurd i
+with_run-same (Contents h) run i = absurd i
+with_run-same (Element e) run i = absurd i
+with_run-same (Comment s j) run i = absurd i
+with_run-same (Doctype n p s j) run i = absurd i
 
 pub with_char-same : (d : NodeData) (c : ℕ) → IsText d → (tag_in (with_char d c) ≡ tag_in d) × (name_in (with_char d c) ≡ name_in d) × (contents_in (with_char d c) ≡ contents_in d) × (host_in (with_char d c) ≡ host_in d)
 with_char-same (Text s) c i = (refl, refl, refl, refl)

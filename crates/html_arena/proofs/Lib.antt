@@ -13,6 +13,7 @@ pub mod Neighbours
 pub mod Once
 pub mod Refusals
 pub mod Relabel
+pub mod Runs
 pub mod Shape
 pub mod Shown
 pub mod Siblings
@@ -20,3 +21,4 @@ pub mod Template
 pub mod UnderWay
 pub mod Upward
 pub mod Whole
+pub mod Ascii

@@ -1,6 +1,6 @@
 -- A text with one more code point, and an element with more attributes.
 use Rattle.std.proofs.Common.{◌≡◌, ℕ, ◌+◌, ◌-◌, ◌^◌, min, ◌<◌, ◌≤◌, List, [], ◌∷◌, ◌++◌, length, get_or, set, refl, sym, ◌∙◌, ap, subst, arith}
-use Rattle.std.proofs.lemmas.List.{length-set, length_push}
+use Rattle.std.proofs.lemmas.List.{length-append, length-set, length_push}
 use Rattle.std.proofs.lemmas.List.Sums.{sum_by-set}
 use Rattle.std.specs.List.{sum_by}
 use Rattle.html_tokens.specs.declared.attributes.Attr.{Attr}
@@ -8,12 +8,12 @@ use Rattle.html_arena.specs.declared.links.Links.{Links}
 use Rattle.html_arena.specs.declared.marks.Marks.{Marks}
 use Rattle.html_arena.specs.declared.data.NodeData.{NodeData}
 use Rattle.html_arena.specs.declared.data.NodeData.TheVariants.{Document, Contents, Element, Text, Comment, Doctype}
-use Rattle.html_arena.specs.Data.{IsElement, IsText, attrs_in, contents_in, host_in, label_in, name_in, tag_in, with_attrs, with_char}
+use Rattle.html_arena.specs.Data.{IsElement, IsText, attrs_in, contents_in, host_in, label_in, name_in, tag_in, with_attrs, with_char, with_run}
 use Rattle.html_arena.specs.Merge.{lacking, merged}
 use Rattle.html_arena.specs.Tree.{more}
 use Rattle.html_arena.specs.Weight.{attrs_weight, capped, weight}
 use Rattle.html_arena.specs.Whole.{IsArena}
-use Rattle.html_arena.proofs.Labels.{relabelled, with_attrs-same, with_char-same}
+use Rattle.html_arena.proofs.Labels.{relabelled, with_attrs-same, with_char-same, with_run-same}
 use Rattle.html_arena.proofs.Merging.{sum-append}
 
 weight-with_char : (d : NodeData) (c : ℕ) → IsText d → weight (with_char d c) ≡ weight d + 1
@@ -23,6 +23,14 @@ weight-with_char (Contents h) c i = absurd i
 weight-with_char (Element e) c i = absurd i
 weight-with_char (Comment d j) c i = absurd i
 weight-with_char (Doctype n p s j) c i = absurd i
+
+weight-with_run : (d : NodeData) (run : List ℕ) → IsText d → weight (with_run d run) ≡ weight d + length run
+weight-with_run (Text s) run i = length-append s run
+weight-with_run Document run i = absurd i
+weight-with_run (Contents h) run i = absurd i
+weight-with_run (Element e) run i = absurd i
+weight-with_run (Comment d j) run i = absurd i
+weight-with_run (Doctype n p s j) run i = absurd i
 
 three : (n a b : ℕ) → n + (a + b) ≡ n + a + b
 three n a b = omega arith
@@ -38,6 +46,9 @@ weight-merged (Doctype n p s j) later i = absurd i
 -- what is held, up to the greatest number m, with k more
 held_more : (h s t k m : ℕ) → h ≡ min s m → t ≡ s + k → min (h + min k m) m ≡ min t m
 held_more h s t k m e f = omega arith
+
+more_capped : (h k m : ℕ) → min (h + k) m ≡ min (h + min k m) m
+more_capped h k m = omega arith
 
 -- the same seen of the label at x but for its weight, which grows by k
 module _ (ls : List Links) (ds : List NodeData) (ms : List Marks) (h : ℕ) (a : IsArena ls ds ms h) where
@@ -61,6 +72,10 @@ module _ (ls : List Links) (ds : List NodeData) (ms : List Marks) (h : ℕ) (a :
 
   pub texted_arena : (x c h' : ℕ) (new : List NodeData) → x < length ds → IsText (label_in ds x) → new ≡ set ds x (with_char (label_in ds x) c) → h' ≡ more h 1 → IsArena ls new ms h'
   texted_arena x c h' new b t ed eh = weighed x h' 1 new (with_char (label_in ds x) c) b ed (weight-with_char (label_in ds x) c t) eh (with_char-same (label_in ds x) c t)
+
+  pub run_arena : (x h' : ℕ) (run : List ℕ) (new : List NodeData) → x < length ds → IsText (label_in ds x) → new ≡ set ds x (with_run (label_in ds x) run) → h' ≡ more h (length run) → IsArena ls new ms h'
+  run_arena x h' run new b t ed eh =
+      weighed x h' (length run) new (with_run (label_in ds x) run) b ed (weight-with_run (label_in ds x) run t) (eh ∙ more_capped h (length run) (2 ^ 128 - 1)) (with_run-same (label_in ds x) run t)
 
   pub merged_arena : (x h' : ℕ) (later : List Attr) (new : List NodeData) → x < length ds → IsElement (label_in ds x) → new ≡ set ds x (with_attrs (label_in ds x) (merged (attrs_in (label_in ds x)) later))
       → h' ≡ more h (capped (attrs_weight (lacking (attrs_in (label_in ds x)) later))) → IsArena ls new ms h'

@@ -132,6 +132,15 @@ with_char (Element e) c = Element e
 with_char (Comment s i) c = Comment s i
 with_char (Doctype n p s i) c = Doctype n p s i
 
+-- a text with more code points
+abbrev pub with_run : NodeData → List ℕ → NodeData
+with_run (Text s) run = Text (s ++ run)
+with_run Document run = Document
+with_run (Contents h) run = Contents h
+with_run (Element e) run = Element e
+with_run (Comment s i) run = Comment s i
+with_run (Doctype n p s i) run = Doctype n p s i
+
 -- an element with other attributes
 abbrev pub with_attrs : NodeData → List Attr → NodeData
 with_attrs (Element e) attrs = Element (record e { attrs = attrs })

@@ -9,7 +9,7 @@ use Rattle.html_arena.specs.declared.data.NodeData.TheVariants.{Document, Conten
 use Rattle.html_arena.specs.declared.marks.Mark.{Mark}
 use Rattle.html_arena.specs.declared.marks.Marks.{Marks}
 use Rattle.html_arena.specs.declared.arena.Limits.{Limits}
-use Rattle.html_arena.specs.Data.{label_in, tag_in, name_in, contents_in, host_in, with_char, with_attrs, attrs_in}
+use Rattle.html_arena.specs.Data.{label_in, tag_in, name_in, contents_in, host_in, with_char, with_run, with_attrs, attrs_in}
 use Rattle.html_arena.specs.Marks.{no_marks, has_mark, with_mark}
 use Rattle.html_arena.specs.Merge.{lacking, merged}
 use Rattle.html_arena.specs.Siblings.{has, Distinct, put_before, without}
@@ -142,6 +142,15 @@ sibling side (Some p) t x = side x (children_of t p)
 -- a text has one more code point
 abbrev pub texted : Tree → ℕ → ℕ → Tree
 texted t x c = record t { labels = slice_set t.labels x (with_char (label_of t x) c); held = more t.held 1; steps = more t.steps 1 }
+
+-- a text has a run of code points more, one step each
+abbrev pub texted_run : Tree → ℕ → List ℕ → Tree
+texted_run t x run = record t { labels = slice_set t.labels x (with_run (label_of t x) run); held = more t.held (length run); steps = more t.steps (length run) }
+
+-- a text has more code points, added one after another
+abbrev pub texted_each : Tree → ℕ → List ℕ → Tree
+texted_each t x [] = t
+texted_each t x (c ∷ run) = texted_each (texted t x c) x run
 
 -- an element has, after its own attributes, those of a later tag whose names it lacked; each name was compared with each
 abbrev pub with_merged : Tree → ℕ → List Attr → Tree

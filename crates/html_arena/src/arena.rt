@@ -1,22 +1,22 @@
 // The nodes of a page: what they are, and their links.
-ghost use Rattle.std.specs.Prelude.{◌≡◌, ◌≢◌, ℕ, ◌+◌, ◌<◌, ◌≤◌, List, [], ◌∷◌, ◌++◌, length, Option, Some, None, OnOk, OnErr, IfOk, IfErr, IfSome, Ok, false, true, vec_len};
+ghost use Rattle.std.specs.Prelude.{◌≡◌, ◌≢◌, ℕ, ◌+◌, ◌^◌, ◌<◌, ◌≤◌, List, [], ◌∷◌, ◌++◌, length, Option, Some, None, OnOk, OnErr, IfOk, IfErr, IfSome, Ok, Err, false, take, true, vec_len};
 ghost use Rattle.std.specs.List.{sum_by};
 ghost use Rattle.std.specs.Str.{chars};
 ghost use Rattle.html_names.specs.Names.{tag_of};
 ghost use Rattle.html_names.specs.Sets.{is_formatting, is_template};
 ghost use Rattle.html_arena.specs.Budget.{budget, RefusedBy};
-ghost use Rattle.html_arena.specs.Data.{IsElement, IsLone, IsText, attrs_in, cloned, contents_in, host_in, is_clone_in, is_linkable, kind_in, name_in, origin_in, tag_in, text_in, with_attrs, with_char};
+ghost use Rattle.html_arena.specs.Data.{IsElement, IsLone, IsText, attrs_in, cloned, contents_in, host_in, is_clone_in, is_linkable, kind_in, name_in, origin_in, tag_in, text_in, with_attrs, with_char, with_run};
 ghost use Rattle.html_arena.specs.Laws.{IsGrown, IsLinked, IsMoved, IsRelabelled, IsUnlinked};
 ghost use Rattle.html_arena.specs.Make.{CanMake, label_for, made, made_weight, makes_child, nodes_made, plain_element, template_element};
 ghost use Rattle.html_arena.specs.Merge.{lacking, merged};
 ghost use Rattle.html_arena.specs.Siblings.{after, before, first_of, has, last_of, put_before};
-ghost use Rattle.html_arena.specs.Tree.{Tree, WellFormed, added, added_template, ancestors, appended, children_of, detached, empty_tree, inserted, label_of, marked, more, moved, named, parent_of, reparented, sibling, tag_at, texted, with_marked, with_merged};
+ghost use Rattle.html_arena.specs.Tree.{Tree, WellFormed, added, added_template, ancestors, appended, children_of, detached, empty_tree, inserted, label_of, marked, more, moved, named, parent_of, reparented, sibling, tag_at, texted, texted_each, texted_run, with_marked, with_merged};
 ghost use Rattle.html_arena.specs.Weight.{attrs_weight, capped, weight};
 
 use crate::attributes::{SharedAttrs, lacking_held, merge};
 use crate::data::{
     ElementData, Kind, NewNode, NodeData, Origin, clone_of, element_held, held_of, label_at,
-    push_char, set_attrs,
+    push_char, push_run, set_attrs,
 };
 use crate::links::NodeId;
 use crate::links::packed::PackedLinks;
@@ -241,6 +241,26 @@ impl Arena {
         ensures cause { IfErr result (λ e. RefusedBy (budget self.old 0 1) e) }
     {
         self.push_text(node, c)
+    }
+
+    /// Adds the longest front of a run that the limit on held code points takes to a text, and answers its length.
+    pub fn append_run(&mut self, node: NodeId, run: &[char]) -> Result<usize, ArenaError>
+        requires node_in { node < length self.old.labels }
+        requires is_text { IsText (label_of self.old node) }
+        ensures front { IfOk result (λ n. n ≤ length run.now) }
+        ensures within { IfOk result (λ n. 0 < n → budget self.old 0 n ≡ Ok tt) }
+        ensures longest { IfOk result (λ n. n < length run.now → budget self.new 0 1 ≡ Err ArenaError.HeldBudget) }
+        ensures added { IfOk result (λ n. self.new ≡ texted_run self.old node (take n run.now)) }
+        ensures one_by_one { IfOk result (λ n. self.new ≡ texted_each self.old node (take n run.now)) }
+        ensures relabelled { IfOk result (λ n. IsRelabelled self.old self.new node (with_run (label_of self.old node) (take n run.now))) }
+        ensures still_text { IsText (label_of self.new node) }
+        ensures refused { OnErr result (self.new ≡ self.old) }
+        ensures some { OnErr result (0 < length run.now) }
+        ensures cause { IfErr result (λ e. RefusedBy (budget self.old 0 1) e) }
+        ensures not_held { IfErr result (λ e. e ≢ ArenaError.HeldBudget) }
+    {
+        self.counts();
+        self.push_front(node, run)
     }
 
     /// Gives an element those attributes of a later tag of its name whose names it lacks, after its own.
@@ -589,6 +609,77 @@ impl Arena {
         push_char(&mut self.nodes, node, c)?;
         self.held = self.held.saturating_add(1);
         self.steps = self.steps.saturating_add(1);
+        Ok(())
+    }
+
+    /// How many of so many more code points, one after another, are within the limits.
+    fn room_for_run(&self, wanted: usize) -> Result<usize, ArenaError>
+        ensures most { IfOk result (λ n. n ≤ wanted) }
+        ensures within { IfOk result (λ n. 0 < n → budget self.now 0 n ≡ Ok tt) }
+        ensures longest { IfOk result (λ n. n < wanted → budget self.now 0 (n + 1) ≡ Err ArenaError.HeldBudget) }
+        ensures some { OnErr result (0 < wanted) }
+        ensures nodes { IfErr result (λ e. e ≡ ArenaError.NodeBudget) }
+        ensures cause { OnErr result (budget self.now 0 1 ≡ Err ArenaError.NodeBudget) }
+    {
+        match self.limits {
+            None => Ok(wanted),
+            Some(limits) => {
+                if wanted == 0 {
+                    Ok(0)
+                } else if self.nodes.len() as u128 > limits.nodes as u128 {
+                    Err(ArenaError::NodeBudget)
+                } else {
+                    let room = (limits.held as u128).saturating_sub(self.held);
+                    if room < wanted as u128 {
+                        Ok(room as usize)
+                    } else {
+                        Ok(wanted)
+                    }
+                }
+            }
+        }
+    }
+
+    /// A law of every arena: its counts are numbers of 128 bits.
+    fn counts(&self)
+        ensures held { self.now.held < 2 ^ 128 }
+        ensures steps { self.now.steps < 2 ^ 128 }
+    {
+        let _held = self.held;
+        let _steps = self.steps;
+    }
+
+    fn push_front(&mut self, node: NodeId, run: &[char]) -> Result<usize, ArenaError>
+        requires node_in { node < length self.old.labels }
+        requires is_text { IsText (label_of self.old node) }
+        ensures front { IfOk result (λ n. n ≤ length run.now) }
+        ensures within { IfOk result (λ n. 0 < n → budget self.old 0 n ≡ Ok tt) }
+        ensures longest { IfOk result (λ n. n < length run.now → budget self.old 0 (n + 1) ≡ Err ArenaError.HeldBudget) }
+        ensures added { IfOk result (λ n. self.new ≡ texted_run self.old node (take n run.now)) }
+        ensures refused { OnErr result (self.new ≡ self.old) }
+        ensures some { OnErr result (0 < length run.now) }
+        ensures cause { IfErr result (λ e. RefusedBy (budget self.old 0 1) e) }
+        ensures not_held { IfErr result (λ e. e ≢ ArenaError.HeldBudget) }
+    {
+        self.counts();
+        let taken = self.room_for_run(run.len())?;
+        if taken > 0 {
+            self.push_whole(node, &run[..taken])?;
+        }
+        Ok(taken)
+    }
+
+    /// Adds a run to a text, whatever the limits.
+    fn push_whole(&mut self, node: NodeId, run: &[char]) -> Result<(), ArenaError>
+        requires node_in { node < length self.old.labels }
+        requires is_text { IsText (label_of self.old node) }
+        ensures added { OnOk result (self.new ≡ texted_run self.old node run.now) }
+        ensures refused { OnErr result (self.new ≡ self.old) }
+        ensures cause { IfErr result (λ e. e ≡ ArenaError.OutOfMemory) }
+    {
+        push_run(&mut self.nodes, node, run)?;
+        self.held = self.held.saturating_add(run.len() as u128);
+        self.steps = self.steps.saturating_add(run.len() as u128);
         Ok(())
     }
 

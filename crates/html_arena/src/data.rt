@@ -1,8 +1,9 @@
 // What a node is, apart from its links.
-ghost use Rattle.std.specs.Prelude.{◌≡◌, ◌+◌, ◌<◌, [], OnOk, OnErr, IfOk, length, slice_set};
-ghost use Rattle.std.specs.Str.{chars};
+ghost use Rattle.std.specs.Prelude.{◌≡◌, ◌+◌, ◌<◌, ◌≤◌, [], ◌∷◌, ◌++◌, OnOk, OnErr, IfOk, length, slice_set, string_bytes, take, true, if◌then◌else◌, is_ok};
+ghost use Rattle.std.specs.Char.{encode_utf8};
+ghost use Rattle.std.specs.Str.{IsAscii, chars};
 ghost use Rattle.html_names.specs.Sets.{is_formatting};
-ghost use Rattle.html_arena.specs.Data.{IsText, IsElement, attrs_in, cloned, contents_in, host_in, is_clone_in, is_linkable, kind_in, label_in, name_in, origin_in, tag_in, text_in, with_attrs, with_char};
+ghost use Rattle.html_arena.specs.Data.{IsText, IsElement, attrs_in, cloned, contents_in, host_in, is_clone_in, is_linkable, kind_in, label_in, name_in, origin_in, tag_in, text_in, with_attrs, with_char, with_run};
 ghost use Rattle.html_arena.specs.Weight.{weight, attrs_weight, optional_weight, capped};
 
 use crate::attributes::{SharedAttrs, attrs_held};
@@ -140,6 +141,152 @@ fn push_to_text(node: &mut NodeData, c: char) -> Result<(), AllocError>
         text.push(c)?;
     }
     Ok(())
+}
+
+/// Adds a run of code points to a text.
+pub(crate) fn push_run(
+    nodes: &mut Vec<NodeData>,
+    node: NodeId,
+    run: &[char],
+) -> Result<(), AllocError>
+    requires node_in { node < length nodes.old.items }
+    requires is_text { IsText (label_in nodes.old.items node) }
+    ensures ok { OnOk result (nodes.new.items ≡ slice_set nodes.old.items node (with_run (label_in nodes.old.items node) run.now)) }
+    ensures err { OnErr result (nodes.new.items ≡ nodes.old.items) }
+{
+    push_run_to_text(&mut nodes[node.index()], run)
+}
+
+fn push_run_to_text(node: &mut NodeData, run: &[char]) -> Result<(), AllocError>
+    requires { IsText node.old }
+    ensures ok { OnOk result (node.new ≡ with_run node.old run.now) }
+    ensures err { OnErr result (node.new ≡ node.old) }
+{
+    if let NodeData::Text { text } = node {
+        extend_text(text, run)?;
+    }
+    Ok(())
+}
+
+/// Adds a run of code points at the end of a text, or leaves it as it was.
+fn extend_text(text: &mut Str, run: &[char]) -> Result<(), AllocError>
+    ensures ok { OnOk result (text.new ≡ text.old ++ run.now) }
+    ensures err { OnErr result (text.new ≡ text.old) }
+{
+    extend(&mut text.0, run)
+}
+
+/// How many code points of ASCII are copied at once.
+const BLOCK: usize = 64;
+
+/// Adds a run of code points at the end, or leaves the text as it was.
+fn extend(text: &mut String, run: &[char]) -> Result<(), AllocError>
+    ensures ok { OnOk result (chars (string_bytes text.new) ≡ chars (string_bytes text.old) ++ run.now) }
+    ensures err { OnErr result (string_bytes text.new ≡ string_bytes text.old) }
+{
+    let start = text.len();
+    text.reserve(run.len())?;
+    let mut done = 0;
+    'copying: while done < run.len() {
+        match push_front(text, &run[done..]) {
+            Ok(len) => done += len,
+            Err(error) => {
+                text.truncate(start);
+                return Err(error);
+            }
+        }
+    }
+    Ok(())
+}
+
+/// Adds a front of a run at the end, a block of ASCII or else its first code point, and answers its length.
+fn push_front(text: &mut String, run: &[char]) -> Result<usize, AllocError>
+    requires { 0 < length run.now }
+    ensures some { IfOk result (λ n. 0 < n) }
+    ensures within { IfOk result (λ n. n ≤ length run.now) }
+    ensures ok { IfOk result (λ n. chars (string_bytes text.new) ≡ chars (string_bytes text.old) ++ take n run.now) }
+    ensures longer { length (string_bytes text.old) ≤ length (string_bytes text.new) }
+    ensures front { take (length (string_bytes text.old)) (string_bytes text.new) ≡ string_bytes text.old }
+    ensures err { OnErr result (string_bytes text.new ≡ string_bytes text.old) }
+{
+    let mut block = [0; BLOCK];
+    let len = copy_ascii(run, &mut block);
+    if len == 0 {
+        push_one(text, run[0])?;
+        return Ok(1);
+    }
+    push_ascii(text, &block[..len])?;
+    Ok(len)
+}
+
+/// Adds a code point at the end.
+fn push_one(text: &mut String, c: char) -> Result<(), AllocError>
+    ensures ok { OnOk result (chars (string_bytes text.new) ≡ chars (string_bytes text.old) ++ c ∷ []) }
+    ensures bytes { string_bytes text.new ≡ (if is_ok result then string_bytes text.old ++ encode_utf8 c else string_bytes text.old) }
+{
+    text.push(c)
+}
+
+/// Copies the ASCII at the start of a run, as far as there is room, and answers how many code points that are.
+fn copy_ascii(run: &[char], block: &mut [u8]) -> usize
+    requires { 0 < length run.now }
+    ensures within { result ≤ length run.now }
+    ensures room { result ≤ length block.old }
+    ensures same_len { length block.new ≡ length block.old }
+    ensures copied { take result block.new ≡ take result run.now }
+    ensures ascii { IsAscii (take result run.now) }
+{
+    if !run[0].is_ascii() {
+        return 0;
+    }
+    let most = run.len().min(block.len());
+    let front = &run[..most];
+    if is_all_ascii(front) {
+        narrow(front, block);
+        return most;
+    }
+    let mut len = 0;
+    'copying: while len < most {
+        let c = run[len];
+        if !c.is_ascii() {
+            break;
+        }
+        block[len] = c as u8;
+        len += 1;
+    }
+    len
+}
+
+/// Whether all code points are ASCII. It looks at each, so that many are looked at at once.
+fn is_all_ascii(run: &[char]) -> bool
+    ensures { result ≡ true → IsAscii run.now }
+{
+    let mut is_ascii = true;
+    for c in run {
+        is_ascii = is_ascii & c.is_ascii();
+    }
+    is_ascii
+}
+
+/// Copies ASCII.
+fn narrow(ascii: &[char], block: &mut [u8])
+    requires ascii { IsAscii ascii.now }
+    requires room { length ascii.now ≤ length block.old }
+    ensures same_len { length block.new ≡ length block.old }
+    ensures copied { take (length ascii.now) block.new ≡ ascii.now }
+{
+    for index in 0..ascii.len() {
+        block[index] = ascii[index] as u8;
+    }
+}
+
+/// Adds ASCII at the end.
+fn push_ascii(text: &mut String, ascii: &[u8]) -> Result<(), AllocError>
+    requires { IsAscii ascii.now }
+    ensures ok { OnOk result (chars (string_bytes text.new) ≡ chars (string_bytes text.old) ++ ascii.now) }
+    ensures bytes { string_bytes text.new ≡ (if is_ok result then string_bytes text.old ++ ascii.now else string_bytes text.old) }
+{
+    text.push_str(unsafe { std::str::from_utf8_unchecked(ascii) })
 }
 
 /// Gives an element other attributes.

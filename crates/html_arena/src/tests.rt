@@ -21,6 +21,7 @@ enum Call {
     Clone(usize),
     Text,
     Char(usize, char),
+    Run(usize, &'static [char]),
     Append(usize, usize),
     Before(usize, usize),
     Detach(usize),
@@ -130,6 +131,17 @@ fn push(arena: &mut Arena, node: NodeId, c: char) -> Result<(), Refusal> {
     Ok(())
 }
 
+fn push_run(arena: &mut Arena, node: NodeId, run: &[char]) -> Result<usize, Refusal> {
+    if !is_node(arena, node) {
+        return Err(Refusal::Condition);
+    }
+    if !is_text(arena, node) {
+        return Err(Refusal::Condition);
+    }
+    let taken = arena.append_run(node, run)?;
+    Ok(taken)
+}
+
 fn merge(arena: &mut Arena, alloc: Global, node: NodeId) -> Result<(), Refusal> {
     if !is_node(arena, node) {
         return Err(Refusal::Condition);
@@ -210,6 +222,10 @@ fn apply(arena: &mut Arena, alloc: Global, call: Call) -> Result<(), Refusal> {
             Ok(())
         }
         Call::Char(node, c) => push(arena, NodeId::at(node), c),
+        Call::Run(node, run) => {
+            push_run(arena, NodeId::at(node), run)?;
+            Ok(())
+        }
         Call::Append(parent, child) => append(arena, NodeId::at(parent), NodeId::at(child)),
         Call::Before(child, next) => put_before(arena, NodeId::at(child), NodeId::at(next)),
         Call::Detach(node) => detach(arena, NodeId::at(node)),
@@ -491,6 +507,56 @@ fn budgets_are_exact(rt: HostRuntime) -> Result<(), Fail> {
 }
 
 #[test]
+fn a_run_is_taken_up_to_the_limit(rt: HostRuntime) -> Result<(), Fail> {
+    let alloc = rt.alloc();
+    let limits = Limits {
+        nodes: 1,
+        held: 6,
+        code_points: 0,
+    };
+    let mut arena = Arena::within(alloc, limits);
+    arena.make(NewNode::Text)?;
+    let node = NodeId::at(0);
+    assert_eq!(rt; push_run(&mut arena, node, &[]), Ok(0));
+    assert_eq!(rt; counts(&arena), (1, 0, 1));
+    assert_eq!(rt; push_run(&mut arena, node, &['a', 'é', '€', '😀']), Ok(4));
+    assert_eq!(rt; counts(&arena), (1, 4, 5));
+    assert_eq!(rt; push_run(&mut arena, node, &['b', 'c', 'd']), Ok(2));
+    assert_eq!(rt; counts(&arena), (1, 6, 7));
+    assert_eq!(rt; push_run(&mut arena, node, &['d']), Ok(0));
+    assert_eq!(rt; counts(&arena), (1, 6, 7));
+    assert_eq!(rt;
+        apply(&mut arena, alloc, Call::Char(0, 'd')),
+        Err(Refusal::Arena(ArenaError::HeldBudget))
+    );
+    assert_eq!(rt;
+        told(alloc, &arena, 0)?.as_str(),
+        "Text  [] aé€😀bc Nothing false"
+    );
+    Ok(())
+}
+
+// Two blocks of ASCII, each cut short by a wider code point, against the same code points one by one.
+#[test]
+fn a_long_run_is_its_code_points(rt: HostRuntime) -> Result<(), Fail> {
+    let alloc = rt.alloc();
+    let mut arena = Arena::new(alloc);
+    run(&mut arena, alloc, &[Call::Text, Call::Text])?;
+    let mut long = ['a'; 150];
+    long[100] = 'é';
+    long[149] = '😀';
+    assert_eq!(rt; push_run(&mut arena, NodeId::at(0), &long), Ok(150));
+    for c in &long {
+        push(&mut arena, NodeId::at(1), *c)?;
+    }
+    let in_one = told(alloc, &arena, 0)?;
+    let singly = told(alloc, &arena, 1)?;
+    assert_eq!(rt; in_one.as_str(), singly.as_str());
+    assert_eq!(rt; counts(&arena), (2, 300, 302));
+    Ok(())
+}
+
+#[test]
 fn marks_are_apart(rt: HostRuntime) -> Result<(), Fail> {
     let alloc = rt.alloc();
     let mut arena = Arena::new(alloc);
@@ -593,6 +659,7 @@ fn refusals_change_nothing(rt: HostRuntime) -> Result<(), Fail> {
         Call::Element("template"),
         Call::Merge(1),
         Call::Char(0, 'x'),
+        Call::Run(0, &['y', 'é', '€', '😀']),
     ];
     for step in &calls {
         let before = counts(&arena);
@@ -602,6 +669,6 @@ fn refusals_change_nothing(rt: HostRuntime) -> Result<(), Fail> {
             apply(&mut arena, alloc, *step)?;
         }
     }
-    assert_eq!(rt; counts(&arena), (5, 29, 7));
+    assert_eq!(rt; counts(&arena), (5, 33, 11));
     Ok(())
 }

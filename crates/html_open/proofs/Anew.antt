@@ -1,6 +1,6 @@
 -- One entry is opened anew: what is true between calls is kept.
-use Rattle.std.proofs.Common.{◌≡◌, ℕ, zero, suc, ◌<◌, Bool, true, false, List, [], ◌∷◌, ◌++◌, length, take, drop, get_or, set, None, inl, inr, refl, sym, ◌∙◌, ap, subst, arith}
-use Rattle.std.proofs.lemmas.List.{length-set}
+use Rattle.std.proofs.Common.{◌≡◌, ◌≢◌, ℕ, zero, suc, ◌<◌, Bool, true, false, List, [], ◌∷◌, ◌++◌, length, take, drop, get_or, set, None, inl, inr, refl, sym, ◌∙◌, ap, subst, arith}
+use Rattle.std.proofs.lemmas.List.{append-nil, get_or-set_other, length-set, set_comm}
 use Rattle.html_names.specs.Sets.{is_formatting}
 use Rattle.html_names.specs.Tags.{is_same}
 use Rattle.html_names.specs.declared.tag.Tag.TheVariants as tag
@@ -8,9 +8,10 @@ use Rattle.html_arena.specs.declared.data.Origin.TheVariants.{Token}
 use Rattle.html_arena.specs.declared.marks.Mark.TheVariants.{OnStack, InList}
 use Rattle.html_arena.specs.declared.marks.Mark.{Mark}
 use Rattle.html_arena.specs.Data.{IsElement, label_in, origin_in, tag_in}
-use Rattle.html_arena.specs.Marks.{with_mark}
+use Rattle.html_arena.specs.declared.marks.Marks.{Marks}
+use Rattle.html_arena.specs.Marks.{no_marks, with_mark}
 use Rattle.html_arena.specs.Siblings.{has}
-use Rattle.html_arena.specs.Tree.{Tree, marks_of, tag_at, with_marked}
+use Rattle.html_arena.specs.Tree.{Tree, marks_of, more, tag_at, with_marked}
 use Rattle.html_open.specs.declared.entry.Entry.{Entry}
 use Rattle.html_open.specs.declared.entry.Entry.TheVariants.{Node}
 use Rattle.html_open.specs.declared.places.Place.{Place}
@@ -20,7 +21,7 @@ use Rattle.html_open.specs.Opened.{AreNodes, AreOneByOrigin, IsOpen, IsOrdered, 
 use Rattle.html_open.specs.Placing.{CanPlace}
 use Rattle.html_open.specs.Reopenings.{IsInserted}
 use Rattle.html_open.proofs.Inserted.{element-new, label-old, longer, origin-new, tag-new}
-use Rattle.html_open.proofs.Keeps.{Core, Distinct-remove, cases_bool, cases_eqb, core-charged, core-drop_list, core-list, core-push, core_by, eqb-self, has-insert, has-less, has-more, nodes-append, whole_by}
+use Rattle.html_open.proofs.Keeps.{Core, Distinct-remove, cases_bool, cases_eqb, core, core-charged, core-drop_list, core-list, core-push, core_by, eqb-self, has-insert, has-less, has-more, nodes-append, whole, whole_by}
 
 pub split-at : (xs : List Entry) (i : ℕ) (x : ℕ) (d : Entry) → i < length xs → get_or xs i d ≡ Node x → xs ≡ take i xs ++ Node x ∷ drop (suc i) xs
 split-at [] i x d l e = absurd (omega arith)
@@ -132,3 +133,18 @@ module _ (t new : Tree) (at : Place) (x : ℕ) (r : IsInserted t new at x) where
   can-place (y ∷ s) ys n h = λ e q.
       let l : y < length t.labels = n y (rw (eqb-self y) refl) in
       h (ap (λ d. is_same (tag_in d) tag.Table) (sym (label-old t new at x r y l)) ∙ e) (sym (r.same_parents y l) ∙ q)
+
+  -- the clone alone is there
+  pub inserted-keeps : (s : List ℕ) (l : List Entry) → IsOpen (open_at s l t) → IsOpen (open_at s l new)
+  inserted-keeps s l k = whole s l new (core-inserted s (nodes_of l) (core (open_at s l t) k))
+
+  pub can-place-inserted : (s : List ℕ) → AreNodes t s → CanPlace t s → CanPlace new s
+  can-place-inserted s n h = subst (CanPlace new) (append-nil s) (can-place s [] n h)
+
+-- marks of two nodes are set in any order
+pub marks-swapped : (t : Tree) (x c : ℕ) → x ≢ c → with_marked (charged (with_marked t OnStack c true) 1) InList x false ≡ charged (with_marked (with_marked t InList x false) OnStack c true) 1
+marks-swapped t x c ne =
+    ap (λ (ms : List Marks). record t { marks = ms; steps = more t.steps 1 })
+    (ap (λ (m : Marks). set (set t.marks c (with_mark OnStack true (marks_of t c))) x (with_mark InList false m)) (get_or-set_other t.marks c x (with_mark OnStack true (marks_of t c)) no_marks ne)
+    ∙ set_comm t.marks c x (with_mark OnStack true (marks_of t c)) (with_mark InList false (marks_of t x)) (λ e. ne (sym e))
+    ∙ ap (λ (m : Marks). set (set t.marks x (with_mark InList false (marks_of t x))) c (with_mark OnStack true m)) (sym (get_or-set_other t.marks x c (with_mark InList false (marks_of t x)) no_marks (λ e. ne (sym e)))))

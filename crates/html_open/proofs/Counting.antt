@@ -147,12 +147,6 @@ grown-regrouped t v h = record { least = h.least; most = (let k = h.most in omeg
 pub regroup-same : (t v : Tree) → v ≡ t → IsCountedRound t v
 regroup-same t v e = grown-regrouped t v (grown-same t v e)
 
-pub regroup-left : (t u v : Tree) → IsCountedGrown t u → v ≡ record u { marks = v.marks } → IsCountedRound t v
-regroup-left t u v h e =
-    let a = ap (λ (x : Tree). x.steps) e in
-    let b = ap (λ (x : Tree). length x.labels) e in
-    record { least = (let k = h.least in omega (arith, k, a, b)); most = (let k = h.most in omega (arith, k, a, b)) }
-
 pub regroup-counted : (t u u2 u3 v : Tree) (first clone c : ℕ) → length u.labels ≡ length t.labels + c + 1 → c ≤ 3 → first ≡ length t.labels → clone ≡ length t.labels + c → IsCountedGrown t u
     → u2 ≡ record u { marks = u2.marks } → u3 ≡ record u2 { marks = u3.marks } → IsCounted u3.steps v.steps 0 (length u3.labels + (clone - first) + 3) → v.labels ≡ u3.labels → IsCountedRound t v
 regroup-counted t u u2 u3 v first clone c l few a b h e2 e3 k e =

@@ -8,7 +8,7 @@ use Rattle.html_arena.specs.declared.data.NodeData.{NodeData}
 use Rattle.html_arena.specs.Budget.{budget, budget_of}
 use Rattle.html_arena.specs.Data.{cloned}
 use Rattle.html_arena.specs.Make.{made_weight}
-use Rattle.html_arena.specs.Tree.{Tree, children_of, label_of, more}
+use Rattle.html_arena.specs.Tree.{Tree, children_of, label_of, marked, more, parent_of}
 use Rattle.html_arena.specs.Weight.{capped, weight}
 use Rattle.html_open.specs.declared.error.OpenError.{OpenError}
 use Rattle.html_open.specs.declared.error.OpenError.TheVariants.{OutOfMemory, NodeBudget, HeldBudget}
@@ -38,6 +38,8 @@ cut-at t u v xs done rest c e q b h held k s = record {
   rest = c ∷ rest;
   all = q;
   labels_are = ap (λ (w : Tree). w.labels) s ∙ h.labels_are;
+  same_marks = λ m x. ap (λ (w : Tree). marked w m x) s ∙ h.same_marks m x;
+  same_parents = λ x. ap (λ (w : Tree). parent_of w x) s ∙ h.same_parents x;
   same_children = λ x. ap (λ (w : Tree). children_of w x) s ∙ h.same_children x;
   lacking = lacking-is t u done rest c e b h held k;
 }
@@ -56,6 +58,8 @@ cut-next t u v xs i c e l q b h held k s = record {
   rest = drop (suc i) xs;
   all = rest-at xs i c l q;
   labels_are = ap (λ (w : Tree). w.labels) s ∙ h.labels_are;
+  same_marks = λ m x. ap (λ (w : Tree). marked w m x) s ∙ h.same_marks m x;
+  same_parents = λ x. ap (λ (w : Tree). parent_of w x) s ∙ h.same_parents x;
   same_children = λ x. ap (λ (w : Tree). children_of w x) s ∙ h.same_children x;
   lacking = lacking-is t u (take i xs) (drop (suc i) xs) c e b h held k;
 }
@@ -72,17 +76,21 @@ cut-before t v xs ys e k = record {
   rest = k.next ∷ (k.rest ++ ys);
   all = ap (λ (zs : List ℕ). zs ++ ys) k.all ∙ append_assoc k.done (k.next ∷ k.rest) ys;
   labels_are = k.labels_are;
+  same_marks = k.same_marks;
+  same_parents = k.same_parents;
   same_children = k.same_children;
   lacking = lacking-next t k.done k.rest (k.rest ++ ys) k.next e k.lacking;
 }
 
 -- all were cloned
-pub cut-all : (t u v : Tree) (xs : List ℕ) (e : OpenError) → e ≡ OutOfMemory → AreCloned t u xs → v ≡ record u { marks = v.marks } → IsCut t v xs e
+pub cut-all : (t u v : Tree) (xs : List ℕ) (e : OpenError) → e ≡ OutOfMemory → AreCloned t u xs → v ≡ u → IsCut t v xs e
 cut-all t u v xs e q h s = record {
   done = xs;
   rest = [];
   all = sym (append-nil xs);
   labels_are = ap (λ (w : Tree). w.labels) s ∙ h.labels_are;
+  same_marks = λ m x. ap (λ (w : Tree). marked w m x) s ∙ h.same_marks m x;
+  same_parents = λ x. ap (λ (w : Tree). parent_of w x) s ∙ h.same_parents x;
   same_children = λ x. ap (λ (w : Tree). children_of w x) s ∙ h.same_children x;
   lacking = subst (IsLacking t xs []) (sym q) tt;
 }
@@ -112,6 +120,8 @@ cut-rebase t n v xs e k = record {
   rest = k.rest;
   all = k.all;
   labels_are = k.labels_are;
+  same_marks = k.same_marks;
+  same_parents = k.same_parents;
   same_children = k.same_children;
   lacking = lacking-rebase t n k.done k.rest e k.lacking;
 }

@@ -117,7 +117,7 @@ module _ (s : Tag) (foster : Bool) (o p : Open) (r : Round s foster o p) (opened
     labels_are = r.labels_are;
   }
 
-  label-new : (x : ℕ) → length o.tree.labels ≤ x → x ≤ length o.tree.labels + length r.cs
+  pub label-new : (x : ℕ) → length o.tree.labels ≤ x → x ≤ length o.tree.labels + length r.cs
       → label_of p.tree x ≡ cloned (label_of o.tree (get_or (r.cs ++ r.f ∷ []) (x - length o.tree.labels) 0))
   label-new x a b =
       let e = length-append r.cs (r.f ∷ []) in

@@ -54,7 +54,7 @@ last-node p (e ∷ es) x h = elim (cases_bool (list_any p es)) [
 pub last_named-in : (t : Tree) (s : Tag) (es : List Entry) (x : ℕ) → last_named t s es ≡ Some x → has x (nodes_of es) ≡ true
 last_named-in t s es x h = above-node is_marker es x (last-node (entry_named t s) (above is_marker es) x h)
 
-last_where-passes : {X : Type 0} (p : X → Bool) (xs : List X) (y : X) → last_where p xs ≡ Some y → p y ≡ true
+pub last_where-passes : {X : Type 0} (p : X → Bool) (xs : List X) (y : X) → last_where p xs ≡ Some y → p y ≡ true
 last_where-passes p [] y h = absurd (let k = h in cc)
 last_where-passes p (x ∷ xs) y h = elim (cases_bool (list_any p xs)) [
   | inl e ↦ last_where-passes p xs y (rw e at h)

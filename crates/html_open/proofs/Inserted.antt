@@ -52,7 +52,7 @@ put-marks t (Before b) c = by (parent_of t b)
     by None = refl
     by (Some p) = refl
 
-parent-same : (t m : Tree) (p : Place) → ((x : ℕ) → parent_of m x ≡ parent_of t x) → parent_at m p ≡ parent_at t p
+pub parent-same : (t m : Tree) (p : Place) → ((x : ℕ) → parent_of m x ≡ parent_of t x) → parent_at m p ≡ parent_at t p
 parent-same t m (Last p) h = refl
 parent-same t m (Before b) h = h b
 

@@ -321,6 +321,9 @@ moved_list s l l' t t' e f k = subst (λ (v : List Entry). IsOpen (open_at s v t
 pub open-charged : (s : List ℕ) (l : List Entry) (t : Tree) (n : ℕ) → IsOpen (open_at s l t) → IsOpen (open_at s l (charged t n))
 open-charged s l t n k = whole s l (charged t n) (core-charged s (nodes_of l) t n (core (open_at s l t) k))
 
+pub charged_keeps : (s : List ℕ) (l : List Entry) (t t' : Tree) (n : ℕ) → t' ≡ charged t n → IsOpen (open_at s l t) → IsOpen (open_at s l t')
+charged_keeps s l t t' n e k = moved_stack s s l (charged t n) t' refl e (open-charged s l t n k)
+
 -- the calls on the stack
 pub push-keeps : (s s' : List ℕ) (l : List Entry) (t t' : Tree) (c n : ℕ) → length t.marks ≡ length t.labels
     → s' ≡ s ++ c ∷ [] → t' ≡ charged (with_marked t OnStack c true) n → IsOpen (open_at s l t) → CanPush (open_at s l t) c → IsOpen (open_at s' l t')

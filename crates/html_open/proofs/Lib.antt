@@ -1,35 +1,46 @@
-mod Lists
-mod Keeps
-mod Popping
-mod Naming
-mod Clearing
-mod Fostering
-mod Inserted
-mod Anew
-mod Standing
-mod Searching
-mod Reopened
-mod Pushes
-mod PushKeeps
-mod Counting
-mod Cutting
-mod Descending
-mod Stopping
-mod Shrinking
-mod Finding
-mod Leaving
-mod Marked
-mod Upwards
-mod Hangs
-mod Clones
-mod Closing
-mod Numbering
-mod Ordering
-mod SafePlaces
-mod Rounding
-mod Splitting
-mod Readied
-mod Regrouping
-mod Rounds
-mod Looping
-mod Rooted
+pub mod Lists
+pub mod Keeps
+pub mod Popping
+pub mod Naming
+pub mod Clearing
+pub mod Fostering
+pub mod Inserted
+pub mod Anew
+pub mod Standing
+pub mod Searching
+pub mod Reopened
+pub mod Pushes
+pub mod PushKeeps
+pub mod Counting
+pub mod Cutting
+pub mod Descending
+pub mod Stopping
+pub mod Shrinking
+pub mod Finding
+pub mod Leaving
+pub mod Marked
+pub mod Upwards
+pub mod Hangs
+pub mod Clones
+pub mod Closing
+pub mod Numbering
+pub mod Ordering
+pub mod SafePlaces
+pub mod Rounding
+pub mod Splitting
+pub mod Readied
+pub mod Regrouping
+pub mod Rounds
+pub mod Looping
+pub mod Rooted
+pub mod Edits
+pub mod Members
+pub mod Newly
+pub mod Staying
+pub mod Lasting
+pub mod Firsts
+pub mod Costing
+pub mod Enduring
+pub mod Narrowing
+pub mod Outcomes
+pub mod Bounding

@@ -54,6 +54,8 @@ module _ (s : Tag) (foster : Bool) (stack : List ℕ) (list : List Entry) (t : T
     labels_are = r.labels_are;
     children_are = λ x. r.children_are x ∙ put-stepped t n (place_at t stack r.a foster) (chain_top r.g (length t.labels) r.k) x (chained t r.g (length t.labels) r.k x);
     limits_are = r.limits_are;
+    well_formed = r.well_formed;
+    is_open = r.is_open;
   }
 
   pub closed-rebase : (q : Open) → Closed s (open_at stack list (stepped t n)) q → Closed s (open_at stack list t) q

@@ -1,7 +1,7 @@
 -- Entries are opened anew, one after another.
 use mathlib.Core.Path.{fun_ext}
-use Rattle.std.proofs.Common.{◌≡◌, ◌≢◌, ℕ, suc, ◌+◌, ◌^◌, ◌<◌, ◌≤◌, Bool, true, false, cond, List, [], ◌∷◌, ◌++◌, length, map, get_or, nat_lt, set, Option, Some, None, Result, Ok, Err, inl, inr, refl, sym, ◌∙◌, ap, subst, append_assoc, length-append, arith}
-use Rattle.std.proofs.lemmas.List.{append-nil, length-set, length-take-le}
+use Rattle.std.proofs.Common.{◌≡◌, ◌≢◌, ℕ, zero, suc, ◌+◌, ◌^◌, ◌<◌, ◌≤◌, Bool, true, false, cond, List, [], ◌∷◌, ◌++◌, length, map, get_or, nat_lt, set, Option, Some, None, Result, Ok, Err, inl, inr, refl, sym, ◌∙◌, ap, subst, append_assoc, length-append, arith}
+use Rattle.std.proofs.lemmas.List.{append-nil, length-map, length-set, length-take-le}
 use Rattle.std.specs.List.{list_any, range_with_len}
 use Rattle.html_arena.specs.declared.arena.ArenaError.{ArenaError}
 use Rattle.html_arena.specs.declared.arena.ArenaError.TheVariants as arena
@@ -11,7 +11,7 @@ use Rattle.html_arena.specs.declared.marks.Mark.TheVariants.{OnStack}
 use Rattle.html_arena.specs.Budget.{budget}
 use Rattle.html_arena.specs.Data.{IsElement, cloned, label_in}
 use Rattle.html_arena.specs.Make.{made, made_weight}
-use Rattle.html_arena.specs.Siblings.{has}
+use Rattle.html_arena.specs.Siblings.{first_of, has}
 use Rattle.html_arena.specs.Tree.{Tree, WellFormed, children_of, inserted, label_of, more, parent_of}
 use Rattle.html_open.specs.declared.entry.Entry.{Entry}
 use Rattle.html_open.specs.declared.entry.Entry.TheVariants.{Marker, Node}
@@ -19,15 +19,17 @@ use Rattle.html_open.specs.declared.error.OpenError.{OpenError}
 use Rattle.html_open.specs.declared.error.OpenError.TheVariants.{OutOfMemory, NodeBudget, HeldBudget}
 use Rattle.html_open.specs.declared.places.Place.{Place}
 use Rattle.html_open.specs.declared.places.Place.TheVariants.{Last, Before}
-use Rattle.html_open.specs.Entries.{nodes_of}
+use Rattle.html_open.specs.Adopting.{IsFirstFree, MadeClones}
+use Rattle.html_open.specs.Entries.{has_node, nodes_of}
 use Rattle.html_open.specs.Lists.{above, after_index, below, last_index, last_where, up_to}
 use Rattle.html_open.specs.Marking.{bare, charged}
 use Rattle.html_open.specs.Opened.{IsMarked, IsOpen, Open, open_at}
 use Rattle.html_open.specs.Placing.{CanPlace, by_table, fosters, outside_table, place_of, place_steps, put, table, target_of, template}
-use Rattle.html_open.specs.Reopening.{IsCause, IsNextClone, KeepsClosed, Reopened, clone_steps, clones_of, closed, fresh, reopen_steps, search_steps, stands, with_clone, with_clones}
-use Rattle.html_open.specs.Reopenings.{IsRefused, with_reopened}
+use Rattle.html_open.specs.Reopening.{IsCause, IsNextClone, ClonedFirst, KeepsClosed, Reopened, ReopenedFirst, clone_steps, clones_of, closed, fresh, reopen_steps, search_steps, stands, with_clone, with_clones}
+use Rattle.html_open.specs.Reopenings.{IsRefused, IsTried, with_reopened}
 use Rattle.html_open.specs.Rooting.{KeepsParents}
 use Rattle.html_open.specs.Searches.{open_or_marker}
+use Rattle.html_open.proofs.Clones.{map-append}
 use Rattle.html_open.proofs.Hangs.{ge-of, lt-of}
 use Rattle.html_open.proofs.Inserted.{get-before, get-default}
 use Rattle.html_open.proofs.Keeps.{cases_bool, cases_eqb, eqb-self, has-append, nodes-append, open-charged}
@@ -103,7 +105,7 @@ outside-parent t s = by (last_where (table t) s)
     by None = tt
     by (Some b) = table-parent b (parent_of t b) refl
 
-place-parent : (t : Tree) (s : List ℕ) (f : Bool) → HasParent t (place_of t s None f)
+pub place-parent : (t : Tree) (s : List ℕ) (f : Bool) → HasParent t (place_of t s None f)
 place-parent t s f = elim (cases_bool (fosters t (target_of s None) f)) [
   | inl a ↦ elim (cases_bool (list_any (template t) (above (table t) s))) [
     | inl b ↦ rw (a, b) tt
@@ -112,7 +114,7 @@ place-parent t s f = elim (cases_bool (fosters t (target_of s None) f)) [
   | inr a ↦ rw a tt
 ]
 
-steps-put : (t : Tree) (p : Place) (c : ℕ) → HasParent t p → (put t p c).steps ≡ more t.steps 1
+pub steps-put : (t : Tree) (p : Place) (c : ℕ) → HasParent t p → (put t p c).steps ≡ more t.steps 1
 steps-put t (Last p) c h = refl
 steps-put t (Before b) c h = by (parent_of t b) h
   where
@@ -120,7 +122,7 @@ steps-put t (Before b) c h = by (parent_of t b) h
     by None k = absurd (k refl)
     by (Some p) k = refl
 
-has-parent-made : (t : Tree) (k x : ℕ) (p : Place) → HasParent t p → HasParent (made (charged t k) (CloneOf x)) p
+pub has-parent-made : (t : Tree) (k x : ℕ) (p : Place) → HasParent t p → HasParent (made (charged t k) (CloneOf x)) p
 has-parent-made t k x (Last p) h = tt
 has-parent-made t k x (Before b) h = λ q. h (sym (get-default t.parents b None) ∙ q)
 
@@ -145,7 +147,7 @@ labels-reopened : (t : Tree) (s : List ℕ) (f : Bool) (x : ℕ) → (with_reope
 labels-reopened t s f x = labels-put (made (charged t (place_steps t s None f)) (CloneOf x)) (place_of t s None f) (length t.labels)
 
 -- the entries that are opened anew are elements off the stack
-none-above : {X : Type 0} (p : X → Bool) (xs : List X) → list_any p (above p xs) ≡ false
+pub none-above : {X : Type 0} (p : X → Bool) (xs : List X) → list_any p (above p xs) ≡ false
 none-above p [] = refl
 none-above p (x ∷ xs) = elim (cases_bool (list_any p xs)) [
   | inl a ↦ rw a (none-above p xs)
@@ -155,14 +157,14 @@ none-above p (x ∷ xs) = elim (cases_bool (list_any p xs)) [
   ]
 ]
 
-split-above : {X : Type 0} (p : X → Bool) (xs : List X) → xs ≡ up_to p xs ++ above p xs
+pub split-above : {X : Type 0} (p : X → Bool) (xs : List X) → xs ≡ up_to p xs ++ above p xs
 split-above p [] = refl
 split-above p (x ∷ xs) = elim (cases_bool (list_any p xs)) [
   | inl a ↦ rw a (ap (λ v. x ∷ v) (split-above p xs))
   | inr a ↦ elim (cases_bool (p x)) [ inl b ↦ rw (a, b) refl | inr b ↦ rw (a, b) refl ]
 ]
 
-all-nodes : (s : List ℕ) (es : List Entry) → list_any (stands s) es ≡ false → es ≡ map Node (nodes_of es)
+pub all-nodes : (s : List ℕ) (es : List Entry) → list_any (stands s) es ≡ false → es ≡ map Node (nodes_of es)
 all-nodes s [] h = refl
 all-nodes s (Marker ∷ es) h = absurd cc
 all-nodes s (Node x ∷ es) h = elim (cases_bool (has x s)) [
@@ -181,6 +183,27 @@ off-stack s (Node y ∷ es) x h i = elim (cases_bool (has y s)) [
   ]
 ]
 
+-- they are elements of the list
+closed-listed : (o : Open) (x : ℕ) → has x (closed o) ≡ true → has_node x o.list ≡ true
+closed-listed o x h =
+    ap (has x) (ap nodes_of (split-above (stands o.stack) o.list) ∙ nodes-append (up_to (stands o.stack) o.list) (above (stands o.stack) o.list))
+    ∙ has-append x (nodes_of (up_to (stands o.stack) o.list)) (closed o) ∙ either (has x (nodes_of (up_to (stands o.stack) o.list))) h
+  where
+    either : (b : Bool) {c : Bool} → c ≡ true → cond b true c ≡ true
+    either true h = refl
+    either false h = h
+
+-- one number more
+range-more : (a n : ℕ) → range_with_len a (suc n) ≡ range_with_len a n ++ (a + n) ∷ []
+range-more a zero = ap (λ v. v ∷ []) (let e : a ≡ a + 0 = omega arith in e)
+range-more a (suc n) = ap (λ v. a ∷ v) (range-more (a + 1) n ∙ ap (λ v. range_with_len (a + 1) n ++ v ∷ []) (let e : (a + 1) + n ≡ a + suc n = omega arith in e))
+
+fresh-more : (t : Tree) (xs : List ℕ) (x c : ℕ) → c ≡ length t.labels + length xs → fresh t (length (xs ++ x ∷ [])) ≡ fresh t (length xs) ++ c ∷ []
+fresh-more t xs x c e =
+    let k = length-append xs (x ∷ []) in
+    let m : length (xs ++ x ∷ []) ≡ suc (length xs) = omega (arith, k) in
+    ap (fresh t) m ∙ range-more (length t.labels) (length xs) ∙ ap (λ v. fresh t (length xs) ++ v ∷ []) (sym e)
+
 -- a mark tells what is on the stack
 pub by-mark : (t : Tree) (s : List ℕ) → IsMarked t OnStack s → open_or_marker t ≡ stands s
 by-mark t s m = fun_ext (λ e. same e)
@@ -190,7 +213,7 @@ by-mark t s m = fun_ext (λ e. same e)
     same (Node x) = m x
 
 -- parents that are kept twice
-parents-then : (t u v : Tree) → length t.labels ≤ length u.labels → KeepsParents t u → KeepsParents u v → KeepsParents t v
+pub parents-then : (t u v : Tree) → length t.labels ≤ length u.labels → KeepsParents t u → KeepsParents u v → KeepsParents t v
 parents-then t u v l h k = record {
   same = λ x b. k.same x (omega arith) ∙ h.same x b;
   linked = λ x a b q. elim (cases_bool (nat_lt x (length u.labels))) [
@@ -202,8 +225,14 @@ parents-then t u v l h k = record {
 -- so far, the entries before an index are done
 pub record UnderWay (f : Bool) (o : Open) (i : ℕ) (s : List ℕ) (l : List Entry) (t : Tree) : Type 0 where
   pub front : List Entry
+  pub done : List ℕ
   pub rest : List ℕ
+  pub all : closed o ≡ done ++ rest
+  pub rest_in : (x : ℕ) → has x rest ≡ true → x < length o.tree.labels
   pub list_is : l ≡ front ++ map Node rest
+  pub front_is : front ≡ up_to (stands o.stack) o.list ++ map Node (fresh o.tree (length done))
+  pub stack_is : s ≡ o.stack ++ fresh o.tree (length done)
+  pub labels_are : t.labels ≡ o.tree.labels ++ map (λ x. cloned (label_of o.tree x)) done
   pub index_is : length front ≡ i
   pub is_open : IsOpen (open_at s l t)
   pub can_place : CanPlace t s
@@ -228,8 +257,14 @@ reopening-begin f s l t i k h c e g =
     let n = none-above (stands s) l in
     record {
       front = up_to (stands s) l;
+      done = [];
       rest = closed o;
+      all = refl;
+      rest_in = λ x j. h.list_in x (closed-listed o x j);
       list_is = split-above (stands s) l ∙ ap (λ v. up_to (stands s) l ++ v) (all-nodes s (above (stands s) l) n);
+      front_is = sym (append-nil (up_to (stands s) l));
+      stack_is = sym (append-nil s);
+      labels_are = sym (append-nil t.labels);
       index_is = sym e;
       is_open = open-charged s l t k h;
       can_place = can s c;
@@ -337,6 +372,17 @@ pub record IsStep (f : Bool) (s s' : List ℕ) (l l' : List Entry) (t t' : Tree)
   pub closed_kept : KeepsClosed (open_at s l t) t'
   pub parents_kept : KeepsParents t t'
 
+-- what stays closed in a later tree stayed so from the start
+pub closed-then : (f : Bool) (o : Open) (i : ℕ) (s : List ℕ) (l : List Entry) (t v : Tree) → WellFormed o.tree → UnderWay f o i s l t → KeepsClosed (open_at s l t) v → KeepsClosed o v
+closed-then f o i s l t v w u k = λ y el off none.
+    let e = u.keeps_closed y el off none in
+    let b = element-in o.tree y el in
+    k y (subst IsElement (sym (u.same_labels y b)) el) (u.same_off y b off)
+    (λ a h g.
+    let m : has a (children_of o.tree y) ≡ true = subst (λ v. has a v ≡ true) e h in
+    none a m (subst IsElement (u.same_labels a (w.child_in y a m)) g))
+    ∙ e
+
 module _ (f : Bool) (o : Open) (i : ℕ) (s s' : List ℕ) (l l' : List Entry) (t t' : Tree) where
   one-more : (x : ℕ) (xs : List ℕ) (w : WellFormed o.tree) (u : UnderWay f o i s l t) → u.rest ≡ x ∷ xs → IsStep f s s' l l' t t' i x → UnderWay f o (i + 1) s' l' t'
   one-more x xs w u r st =
@@ -354,9 +400,22 @@ module _ (f : Bool) (o : Open) (i : ℕ) (s s' : List ℕ) (l l' : List Entry) (
       λ y j. u.is_open.list_in y (subst (λ v. has y v ≡ true) (sym (ap nodes_of u.list_is ∙ nodes-append u.front (map Node u.rest) ∙ ap (λ v. nodes_of u.front ++ v) (nodes-map u.rest)))
       (has-append y (nodes_of u.front) u.rest ∙ after (has y (nodes_of u.front)) (in_rest y j))) in
       let steps : t'.steps ≡ more t.steps (place_steps t s None f + 4) = ap (λ (v : Tree). v.steps) st.tree ∙ steps-reopened t s f x in
+      let first : has x u.rest ≡ true = subst (λ v. has x v ≡ true) (sym r) (rw (eqb-self x) refl) in
+      let up = up_to (stands o.stack) o.list in
+      let made = map (λ y. cloned (label_of o.tree y)) u.done in
+      let grown = fresh-more o.tree u.done x c (ap length u.labels_are ∙ length-append o.tree.labels made ∙ ap (λ n. length o.tree.labels + n) (length-map u.done (λ y. cloned (label_of o.tree y)))) in
       record {
         front = u.front ++ Node c ∷ [];
+        done = u.done ++ x ∷ [];
         rest = xs;
+        all = u.all ∙ ap (λ v. u.done ++ v) r ∙ sym (append_assoc u.done (x ∷ []) xs);
+        rest_in = λ y j. u.rest_in y (in_rest y j);
+        front_is = ap (λ v. v ++ Node c ∷ []) u.front_is ∙ append_assoc up (map Node (fresh o.tree (length u.done))) (Node c ∷ [])
+            ∙ ap (λ v. up ++ v) (sym (map-append Node (fresh o.tree (length u.done)) (c ∷ []))) ∙ ap (λ v. up ++ map Node v) (sym grown);
+        stack_is = st.stack ∙ ap (λ v. v ++ c ∷ []) u.stack_is ∙ append_assoc o.stack (fresh o.tree (length u.done)) (c ∷ []) ∙ ap (λ v. o.stack ++ v) (sym grown);
+        labels_are = labels ∙ ap (λ v. v ++ cloned (label_of t x) ∷ []) u.labels_are ∙ append_assoc o.tree.labels made (cloned (label_of t x) ∷ [])
+            ∙ ap (λ d. o.tree.labels ++ (made ++ cloned d ∷ [])) (u.same_labels x (u.rest_in x first))
+            ∙ ap (λ v. o.tree.labels ++ v) (sym (map-append (λ y. cloned (label_of o.tree y)) u.done (x ∷ [])));
         list_is = st.list ∙ ap (λ v. set v i (Node c)) (u.list_is ∙ ap (λ v. u.front ++ map Node v) r)
             ∙ set-middle u.front (map Node xs) i (Node x) (Node c) u.index_is ∙ sym (append_assoc u.front (Node c ∷ []) (map Node xs));
         index_is = length-append u.front (Node c ∷ []) ∙ (let k = u.index_is in omega arith);
@@ -381,14 +440,7 @@ module _ (f : Bool) (o : Open) (i : ℕ) (s s' : List ℕ) (l l' : List Entry) (
         longer = let k = u.longer in omega arith;
         same_labels = λ y j. old y (let k = u.longer in omega arith) ∙ u.same_labels y j;
         same_off = λ y j q. ap (has y) st.stack ∙ off-longer y c s (let k = u.longer in omega arith) (u.same_off y j q);
-        keeps_closed = λ y el off none.
-            let k = u.keeps_closed y el off none in
-            let b = element-in o.tree y el in
-            st.closed_kept y (subst IsElement (sym (u.same_labels y b)) el) (u.same_off y b off)
-            (λ a h g.
-            let m : has a (children_of o.tree y) ≡ true = subst (λ v. has a v ≡ true) k h in
-            none a m (subst IsElement (u.same_labels a (w.child_in y a m)) g))
-            ∙ k;
+        keeps_closed = closed-then f o i s l t t' w u st.closed_kept;
         parents = parents-then o.tree t t' u.longer u.parents st.parents_kept;
         causes = λ e p. u.causes e (subst (λ v. IsNextClone t s f v e) (sym r)
             (passed-more (same-passed t' clone (s ++ c ∷ []) f xs e same (subst (λ v. IsNextClone t' v f xs e) st.stack p))));
@@ -430,6 +482,117 @@ module _ (f : Bool) (o : Open) (i : ℕ) (s : List ℕ) (l : List Entry) (t : Tr
 
   pub labels-are : length l ≤ i → t.labels ≡ o.tree.labels ++ clones_of o
   labels-are b = sym (append-nil t.labels) ∙ ap (λ v. t.labels ++ map (λ x. cloned (label_of t x)) v) (sym (none-left b)) ∙ u.labels_end
+
+-- at every turn the first entries are done
+module _ (f : Bool) (o : Open) (i : ℕ) (s : List ℕ) (l : List Entry) (t : Tree) (u : UnderWay f o i s l t) where
+  pub so-far : ReopenedFirst o (open_at s l t)
+  so-far = record { done = u.done; rest = u.rest; all = u.all; list_is = u.list_is ∙ ap (λ v. v ++ map Node u.rest) u.front_is; stack_is = u.stack_is }
+
+  done-listed : (x : ℕ) → has x u.done ≡ true → has_node x o.list ≡ true
+  done-listed x h = closed-listed o x (ap (has x) u.all ∙ has-append x u.done u.rest ∙ rw h refl)
+
+  pub made-so-far : MadeClones o t
+  made-so-far = record { elements = u.done; listed = done-listed; labels_are = u.labels_are }
+
+  pub in-order : ClonedFirst (closed o) o.tree t
+  in-order = record { done = u.done; rest = u.rest; all = u.all; labels_are = u.labels_are }
+
+  pub in-order-tried : (d : Entry) (x : ℕ) (v : Tree) → i < length l → get_or l i d ≡ Node x → IsTried t v x → ClonedFirst (closed o) o.tree v
+  in-order-tried d x v b h k =
+      let r = next-element f o i s l t u d x b h in
+      let first : has x u.rest ≡ true = subst (λ ys. has x ys ≡ true) (sym r.1) (rw (eqb-self x) refl) in
+      let made = map (λ y. cloned (label_of o.tree y)) u.done in
+      elim (cases_bool k.is_made) [
+        | inl e ↦ record {
+          done = u.done ++ x ∷ [];
+          rest = r.0;
+          all = u.all ∙ ap (λ ys. u.done ++ ys) r.1 ∙ sym (append_assoc u.done (x ∷ []) r.0);
+          labels_are = k.labels_are ∙ rw e (ap (λ w. w ++ cloned (label_of t x) ∷ []) u.labels_are ∙ append_assoc o.tree.labels made (cloned (label_of t x) ∷ [])
+              ∙ ap (λ n. o.tree.labels ++ (made ++ cloned n ∷ [])) (u.same_labels x (u.rest_in x first))
+              ∙ ap (λ w. o.tree.labels ++ w) (sym (map-append (λ y. cloned (label_of o.tree y)) u.done (x ∷ []))));
+        }
+        | inr e ↦ record { done = u.done; rest = u.rest; all = u.all; labels_are = k.labels_are ∙ rw e (append-nil t.labels) ∙ u.labels_are }
+      ]
+
+  -- the clone of the next element may have been made
+  pub made-tried : (d : Entry) (x : ℕ) (v : Tree) → i < length l → get_or l i d ≡ Node x → IsTried t v x → MadeClones o v
+  made-tried d x v b h k =
+      let r = next-element f o i s l t u d x b h in
+      let first : has x u.rest ≡ true = subst (λ ys. has x ys ≡ true) (sym r.1) (rw (eqb-self x) refl) in
+      let made = map (λ y. cloned (label_of o.tree y)) u.done in
+      elim (cases_bool k.is_made) [
+        | inl e ↦ record {
+          elements = u.done ++ x ∷ [];
+          listed = λ y j. elim (cases_bool (has y u.done)) [
+            | inl q ↦ done-listed y q
+            | inr q ↦ (let p : has y (x ∷ []) ≡ true = (let m = sym (has-append y u.done (x ∷ [])) ∙ j in rw q at m) in
+                elim (cases_eqb y x) [
+                  | inl z ↦ subst (λ n. has_node n o.list ≡ true) (sym z.1) (closed-listed o x (ap (has x) u.all ∙ has-append x u.done u.rest ∙ after (has x u.done) first))
+                  | inr z ↦ absurd (let w = rw z.0 at p in cc)
+                ])
+          ];
+          labels_are = k.labels_are ∙ rw e (ap (λ w. w ++ cloned (label_of t x) ∷ []) u.labels_are ∙ append_assoc o.tree.labels made (cloned (label_of t x) ∷ [])
+              ∙ ap (λ n. o.tree.labels ++ (made ++ cloned n ∷ [])) (u.same_labels x (u.rest_in x first))
+              ∙ ap (λ w. o.tree.labels ++ w) (sym (map-append (λ y. cloned (label_of o.tree y)) u.done (x ∷ []))));
+        }
+        | inr e ↦ record { elements = u.done; listed = done-listed; labels_are = k.labels_are ∙ rw e (append-nil t.labels) ∙ u.labels_are }
+      ]
+    where
+      after : (b : Bool) {c : Bool} → c ≡ true → cond b true c ≡ true
+      after true h = refl
+      after false h = h
+
+pub so-far-as : (f : Bool) (o : Open) (i : ℕ) (s s' : List ℕ) (l l' : List Entry) (t t' : Tree) → UnderWay f o i s l t → s' ≡ s → l' ≡ l → ReopenedFirst o (open_at s' l' t')
+so-far-as f o i s s' l l' t t' u a b =
+    let k = so-far f o i s l t u in
+    record { done = k.done; rest = k.rest; all = k.all; list_is = b ∙ k.list_is; stack_is = a ∙ k.stack_is }
+
+-- the first element stays first, and stays out of the list
+first-longer : (t : Tree) (s ys : List ℕ) → CanPlace t s → first_of (s ++ ys) ≡ first_of s
+first-longer t [] ys h = absurd h
+first-longer t (x ∷ xs) ys h = refl
+
+module _ (o p : Open) (h : IsOpen o) (c : CanPlace o.tree o.stack) (k : ReopenedFirst o p) where
+  pub first-is : first_of p.stack ≡ first_of o.stack
+  first-is = ap first_of k.stack_is ∙ first-longer o.tree o.stack (fresh o.tree (length k.done)) c
+
+  pub apart : (x a n : ℕ) → x < a → has x (range_with_len a n) ≡ false
+  apart x a zero l = refl
+  apart x a (suc n) l = elim (cases_eqb x a) [ inl e ↦ absurd (let q = e.1 in omega arith) | inr e ↦ rw e.0 (apart x (a + 1) n (omega arith)) ]
+
+  out : (x : ℕ) (xs : List ℕ) → ((y : ℕ) → has y xs ≡ true → has_node y o.list ≡ true) → has_node x o.list ≡ false → has x xs ≡ false
+  out x xs g n = elim (cases_bool (has x xs)) [ inl e ↦ absurd (let w = g x e in cc) | inr e ↦ e ]
+
+  pub up-listed : (y : ℕ) → has y (nodes_of (up_to (stands o.stack) o.list)) ≡ true → has_node y o.list ≡ true
+  up-listed y e =
+      ap (has y) (ap nodes_of (split-above (stands o.stack) o.list) ∙ nodes-append (up_to (stands o.stack) o.list) (above (stands o.stack) o.list))
+      ∙ has-append y (nodes_of (up_to (stands o.stack) o.list)) (closed o) ∙ rw e refl
+
+  pub rest-listed : (y : ℕ) → has y k.rest ≡ true → has_node y o.list ≡ true
+  rest-listed y e = closed-listed o y (ap (has y) k.all ∙ has-append y k.done k.rest ∙ elim (cases_bool (has y k.done)) [ inl q ↦ rw q refl | inr q ↦ rw q e ])
+
+  pub list-nodes : nodes_of p.list ≡ (nodes_of (up_to (stands o.stack) o.list) ++ fresh o.tree (length k.done)) ++ k.rest
+  list-nodes =
+      ap nodes_of k.list_is ∙ nodes-append (up_to (stands o.stack) o.list ++ map Node (fresh o.tree (length k.done))) (map Node k.rest)
+      ∙ ap (λ v. v ++ nodes_of (map Node k.rest)) (nodes-append (up_to (stands o.stack) o.list) (map Node (fresh o.tree (length k.done))))
+      ∙ ap (λ v. (nodes_of (up_to (stands o.stack) o.list) ++ v) ++ nodes_of (map Node k.rest)) (nodes-map (fresh o.tree (length k.done)))
+      ∙ ap (λ v. (nodes_of (up_to (stands o.stack) o.list) ++ fresh o.tree (length k.done)) ++ v) (nodes-map k.rest)
+
+  pub free-is : IsFirstFree o.stack o.list → IsFirstFree p.stack p.list
+  free-is free = λ x e.
+      let q : first_of o.stack ≡ Some x = sym first-is ∙ e in
+      let n = free x q in
+      ap (has x) list-nodes ∙ has-append x (nodes_of (up_to (stands o.stack) o.list) ++ fresh o.tree (length k.done)) k.rest
+      ∙ rw (
+        has-append x (nodes_of (up_to (stands o.stack) o.list)) (fresh o.tree (length k.done)),
+        out x (nodes_of (up_to (stands o.stack) o.list)) up-listed n,
+        apart x (length o.tree.labels) (length k.done) (h.stack_in x (first-in x o.stack q)),
+        out x k.rest rest-listed n,
+      ) refl
+    where
+      first-in : (x : ℕ) (s : List ℕ) → first_of s ≡ Some x → has x s ≡ true
+      first-in x [] e = absurd (let w = e in cc)
+      first-in x (y ∷ ys) e = (let q : x ≡ y = (let w : Some y ≡ Some x = e in cc) in rw q (rw (eqb-self y) refl))
 
 -- the entries before the first that is opened anew
 start-is : (p : Entry → Bool) (l : List Entry) (i : ℕ) → i ≡ after_index (last_index p l) → i ≡ length (up_to p l)

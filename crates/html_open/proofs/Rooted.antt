@@ -200,7 +200,7 @@ below-node p (e ∷ es) x h = elim (cases_bool (list_any p es)) [
     by r Marker k = r k
     by r (Node y) k = elim (cases_eqb x y) [ inl q ↦ rw q.0 refl | inr q ↦ rw q.0 (r (rw q.0 at k)) ]
 
-without-node : (p : Entry → Bool) (es : List Entry) (x : ℕ) → has x (nodes_of (without_last p es)) ≡ true → has x (nodes_of es) ≡ true
+pub without-node : (p : Entry → Bool) (es : List Entry) (x : ℕ) → has x (nodes_of (without_last p es)) ≡ true → has x (nodes_of es) ≡ true
 without-node p es x h = elim (cases_bool (list_any p es)) [
   | inl a ↦ (
       let b : has x (nodes_of (below p es ++ above p es)) ≡ true = rw a at h in

@@ -144,8 +144,9 @@ module _ (stack : List ℕ) (entries : List Entry) (t : Tree) (at b : ℕ) (w : 
       (no-table-after t f X (inner ++ (g ∷ upper)) c.stack_once (c.formatting f f-listed) scope-at) (no-template-after t f X (inner ++ (g ∷ upper)) c.stack_once (c.formatting f f-listed) scope-at)).apart y
       (subst (λ (v : List ℕ). has y v ≡ true) (rest-of stack at b lt within) h))
 
-  pub round-is : (new : Open) (i : ℕ) (target : Place) → target ≡ place_at t stack a foster → IsRegrouped at b target (open_at stack entries (stepped t i)) new → Round s foster (open_at stack entries t) new
-  round-is new i target e r = record {
+  pub round-is : (new : Open) (i : ℕ) (target : Place) → target ≡ place_at t stack a foster → IsRegrouped at b target (open_at stack entries (stepped t i)) new → WellFormed new.tree → IsOpen new
+      → Round s foster (open_at stack entries t) new
+  round-is new i target e r well h = record {
     lower = take (at - 1) stack;
     a = a;
     f = f;
@@ -170,6 +171,8 @@ module _ (stack : List ℕ) (entries : List Entry) (t : Tree) (at b : ℕ) (w : 
         r.children_are x ∙ put-stepped t i target (chain_top g (length t.labels) (length t.labels + length r.cs)) x (chained t g (length t.labels) (length t.labels + length r.cs) x)
         ∙ ap (λ (p : Place). with_put t p (chain_top g (length t.labels) (length t.labels + length r.cs)) x (chained t g (length t.labels) (length t.labels + length r.cs) x)) e;
     limits_are = r.limits_are;
+    well_formed = well;
+    is_open = h;
   }
 
 -- the first element stays first

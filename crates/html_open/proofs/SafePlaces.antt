@@ -25,7 +25,7 @@ use Rattle.html_open.proofs.Keeps.{cases_bool, eqb-self, eqb-true}
 use Rattle.html_open.proofs.Ordering.{distinct-cross, has-either, has-head, has-left, has-right, ordered-cross}
 use Rattle.html_open.proofs.Upwards.{above-all, has-first, has-more}
 
-same-tag : (g h : Tag) → is_same g h ≡ true → g ≡ h
+pub same-tag : (g h : Tag) → is_same g h ≡ true → g ≡ h
 same-tag g h e = number_injective g h (eqb-true (number g) (number h) e)
 
 -- a table and a template end the scope, and are no formatting elements
@@ -86,7 +86,7 @@ above-in p (y ∷ ys) x h = elim (cases_bool (list_any p ys)) [
   ]
 ]
 
-below-in : (p : ℕ → Bool) (xs : List ℕ) (x : ℕ) → has x (below p xs) ≡ true → has x xs ≡ true
+pub below-in : (p : ℕ → Bool) (xs : List ℕ) (x : ℕ) → has x (below p xs) ≡ true → has x xs ≡ true
 below-in p [] x h = h
 below-in p (y ∷ ys) x h = elim (cases_bool (list_any p ys)) [
   | inl a ↦ elim (has-head x y (below p ys) (rw a at h)) [

@@ -38,7 +38,7 @@ module _ (f : ℕ) (stays : ℕ → Bool) (cs : List ℕ) (n k : ℕ) where
   stay-few false x = omega arith
 
   -- an element has one heir, and the first of those that are cloned has two
-  heirs-few : (x : ℕ) → is_in x (first_of cs) ≡ false → length (heirs f stays cs n k x) ≤ 1
+  pub heirs-few : (x : ℕ) → is_in x (first_of cs) ≡ false → length (heirs f stays cs n k x) ≤ 1
   heirs-few x h = elim (cases_eqb x f) [
     | inl q ↦ rw q.0 (single cs)
     | inr q ↦ elim (cases_bool (has x cs)) [
@@ -51,7 +51,7 @@ module _ (f : ℕ) (stays : ℕ → Bool) (cs : List ℕ) (n k : ℕ) where
       single [] = omega arith
       single (z ∷ zs) = omega arith
 
-  heirs-two : (x : ℕ) → length (heirs f stays cs n k x) ≤ 2
+  pub heirs-two : (x : ℕ) → length (heirs f stays cs n k x) ≤ 2
   heirs-two x = elim (cases_bool (is_in x (first_of cs))) [
     | inr h ↦ (let a = heirs-few x h in omega (arith, a))
     | inl h ↦ elim (cases_eqb x f) [
@@ -67,11 +67,11 @@ module _ (f : ℕ) (stays : ℕ → Bool) (cs : List ℕ) (n k : ℕ) where
       single [] = omega arith
       single (z ∷ zs) = omega arith
 
-  entry-length : (x : ℕ) (es : List Entry) → length (flat_map (relisted f stays cs n k) (Node x ∷ es)) ≡ length (heirs f stays cs n k x) + length (flat_map (relisted f stays cs n k) es)
+  pub entry-length : (x : ℕ) (es : List Entry) → length (flat_map (relisted f stays cs n k) (Node x ∷ es)) ≡ length (heirs f stays cs n k x) + length (flat_map (relisted f stays cs n k) es)
   entry-length x es = (let a = length-append (map Node (heirs f stays cs n k x)) (flat_map (relisted f stays cs n k) es) in let b = length-map (heirs f stays cs n k x) Node in omega (arith, a, b))
 
   -- where the first of them is not there
-  relisted-same-length : (es : List Entry) → ((x : ℕ) → has x (nodes_of es) ≡ true → is_in x (first_of cs) ≡ false) → length (flat_map (relisted f stays cs n k) es) ≤ length es
+  pub relisted-same-length : (es : List Entry) → ((x : ℕ) → has x (nodes_of es) ≡ true → is_in x (first_of cs) ≡ false) → length (flat_map (relisted f stays cs n k) es) ≤ length es
   relisted-same-length [] h = omega arith
   relisted-same-length (Marker ∷ es) h = (let r = relisted-same-length es h in omega (arith, r))
   relisted-same-length (Node x ∷ es) h =
@@ -80,7 +80,7 @@ module _ (f : ℕ) (stays : ℕ → Bool) (cs : List ℕ) (n k : ℕ) where
       let b = heirs-few x (h x (rw (eqb-self x) refl)) in
       omega (arith, r, a, b)
 
-  only : (x y : ℕ) (os : List ℕ) → is_in x (first_of os) ≡ true → is_in y (first_of os) ≡ true → x ≡ y
+  pub only : (x y : ℕ) (os : List ℕ) → is_in x (first_of os) ≡ true → is_in y (first_of os) ≡ true → x ≡ y
   only x y [] a b = absurd (let c = a in cc)
   only x y (z ∷ zs) a b = elim (cases_eqb x z) [
     | inl p ↦ elim (cases_eqb y z) [ inl q ↦ p.1 ∙ sym q.1 | inr q ↦ absurd (let c = rw q.0 at b in cc) ]

@@ -1,21 +1,32 @@
 -- What a round leaves that could not be ended.
-use Rattle.std.proofs.Common.{◌≡◌, ℕ, zero, suc, ◌+◌, ◌-◌, ◌<◌, ◌≤◌, Bool, true, false, List, [], ◌∷◌, length, length-append, take, drop, get_or, inl, inr, sym, subst, arith}
+use Rattle.std.proofs.Common.{◌≡◌, ℕ, zero, suc, ◌+◌, ◌-◌, ◌<◌, ◌≤◌, Bool, true, false, List, [], ◌∷◌, length, length-append, map, take, drop, get_or, inl, inr, sym, ◌∙◌, ap, subst, arith}
+use Rattle.std.proofs.lemmas.List.{get_or_append_left}
 use Rattle.html_names.specs.declared.tag.Tag.{Tag}
-use Rattle.html_arena.specs.Siblings.{has, last_of}
-use Rattle.html_arena.specs.Tree.{Tree}
+use Rattle.html_names.specs.declared.tag.Tag.TheVariants as tag
+use Rattle.html_names.specs.Tags.{is_same}
+use Rattle.html_arena.specs.declared.data.NodeData.{NodeData}
+use Rattle.html_arena.specs.declared.data.NodeData.TheVariants.{Document}
+use Rattle.html_arena.specs.Data.{IsElement, cloned, label_in, origin_in, tag_in}
+use Rattle.html_arena.specs.Siblings.{first_of, has, last_of}
+use Rattle.html_arena.specs.Tree.{Tree, WellFormed, label_of}
+use Rattle.html_arena.proofs.Laws.{ancestors-frame}
 use Rattle.html_open.specs.declared.entry.Entry.{Entry}
 use Rattle.html_open.specs.declared.error.OpenError.{OpenError}
 use Rattle.html_open.specs.AdoptFinding.{IsBlock}
-use Rattle.html_open.specs.Adopting.{IsRefusal, IsStopped, MadeClones, Rounds, no_round, originals, pops_at_once, round_originals}
+use Rattle.html_open.specs.Adopting.{IsFirstFree, IsRefusal, IsStopped, MadeClones, Rounds, no_round, originals, pops_at_once, round_originals}
+use Rattle.html_open.specs.Cloning.{IsCut}
 use Rattle.html_open.specs.Entries.{has_node}
-use Rattle.html_open.specs.Opened.{Open, open_at}
+use Rattle.html_open.specs.Opened.{AreNodes, IsOpen, Open, open_at}
+use Rattle.html_open.specs.Placing.{CanPlace}
 use Rattle.html_open.specs.Reopening.{KeepsClosed}
 use Rattle.html_open.proofs.Cutting.{cut-length, cut-rebase}
+use Rattle.html_open.proofs.Edits.{open-alike, ordered-fewer}
 use Rattle.html_open.proofs.Finding.{last_named-in}
 use Rattle.html_open.proofs.Looping.{rounds-rebase}
 use Rattle.html_open.proofs.Numbering.{originals-few, originals-in}
 use Rattle.html_open.proofs.Ordering.{has-either, has-head, has-left}
 use Rattle.html_open.proofs.Rounds.{stepped}
+use Rattle.html_open.proofs.Upwards.{has-first}
 
 -- the elements that a round clones are in the list, and at most four
 originals-listed : (s : Tag) (o : Open) (at b : ℕ) → IsBlock s o at b → (x : ℕ) → has x (round_originals o at b) ≡ true → has_node x o.list ≡ true
@@ -33,18 +44,18 @@ originals-length o at b =
     let c = length-append (originals (λ y. has_node y o.list) (take (b - (at + 1)) (drop (at + 1) o.stack))) (get_or o.stack at 0 ∷ []) in
     omega (arith, a, c)
 
-pub stopped-made : (s : Tag) (o : Open) (v : Tree) (e : OpenError) → IsStopped s o v e → MadeClones o v
-stopped-made s o v e k = record {
+pub stopped-made : (s : Tag) (o q : Open) (e : OpenError) → IsStopped s o q e → MadeClones o q.tree
+stopped-made s o q e k = record {
   elements = k.cut.done;
   listed = λ x h. originals-listed s o k.at k.b k.block x (subst (λ (ys : List ℕ). has x ys ≡ true) (sym k.cut.all) (has-left x k.cut.done k.cut.rest h));
   labels_are = k.cut.labels_are;
 }
 
-pub stopped-closed : (s : Tag) (o : Open) (v : Tree) (e : OpenError) → IsStopped s o v e → KeepsClosed o v
-stopped-closed s o v e k = λ x el off none. k.cut.same_children x
+pub stopped-closed : (s : Tag) (o q : Open) (e : OpenError) → IsStopped s o q e → KeepsClosed o q.tree
+stopped-closed s o q e k = λ x el off none. k.cut.same_children x
 
-pub stopped-length : (s : Tag) (o : Open) (v : Tree) (e : OpenError) → IsStopped s o v e → length v.labels ≤ length o.tree.labels + 4
-stopped-length s o v e k = (let a = cut-length o.tree v (round_originals o k.at k.b) e k.cut in let c = originals-length o k.at k.b in omega (arith, a, c))
+pub stopped-length : (s : Tag) (o q : Open) (e : OpenError) → IsStopped s o q e → length q.tree.labels ≤ length o.tree.labels + 4
+stopped-length s o q e k = (let a = cut-length o.tree q.tree (round_originals o k.at k.b) e k.cut in let c = originals-length o k.at k.b in omega (arith, a, c))
 
 -- steps that were counted before do not matter
 block-rebase : (s : Tag) (stack : List ℕ) (entries : List Entry) (t : Tree) (a at b : ℕ) → IsBlock s (open_at stack entries (stepped t a)) at b → IsBlock s (open_at stack entries t) at b
@@ -60,15 +71,17 @@ block-rebase s stack entries t a at b k = record {
   block = record { within = k.block.within; after = k.block.after; passes = k.block.passes; none_before = k.block.none_before };
 }
 
-stopped-rebase : (s : Tag) (stack : List ℕ) (list : List Entry) (t : Tree) (n : ℕ) (v : Tree) (e : OpenError) → IsStopped s (open_at stack list (stepped t n)) v e → IsStopped s (open_at stack list t) v e
+stopped-rebase : (s : Tag) (stack : List ℕ) (list : List Entry) (t : Tree) (n : ℕ) (v : Open) (e : OpenError) → IsStopped s (open_at stack list (stepped t n)) v e → IsStopped s (open_at stack list t) v e
 stopped-rebase s stack list t n v e k = record {
   at = k.at;
   b = k.b;
   block = block-rebase s stack list t n k.at k.b k.block;
-  cut = cut-rebase t n v (round_originals (open_at stack list t) k.at k.b) e k.cut;
+  stack_is = k.stack_is;
+  list_is = k.list_is;
+  cut = cut-rebase t n v.tree (round_originals (open_at stack list t) k.at k.b) e k.cut;
 }
 
-pub refusal-is : (s : Tag) (foster : Bool) (stack : List ℕ) (list : List Entry) (t : Tree) (n i : ℕ) (o p : Open) (v : Tree) (e : OpenError) → o ≡ open_at stack list (stepped t n)
+pub refusal-is : (s : Tag) (foster : Bool) (stack : List ℕ) (list : List Entry) (t : Tree) (n i : ℕ) (o p v : Open) (e : OpenError) → o ≡ open_at stack list (stepped t n)
     → pops_at_once s (open_at stack list t) (last_of stack) ≡ false → i < 8 → Rounds s foster i o p → IsStopped s p v e → IsRefusal s foster (open_at stack list t) v e
 refusal-is s foster stack list t n zero _ _ v e q h l (no_round o) k = record {
   not_popped = h;
@@ -86,3 +99,41 @@ refusal-is s foster stack list t n (suc i) o p v e q h l r k = record {
   rounds = rounds-rebase s foster stack list t n i o p q r;
   stopped = k;
 }
+
+-- what is true between calls is true of the clones that were made, which stand alone
+module _ (t v : Tree) (xs : List ℕ) (e : OpenError) (k : IsCut t v xs e) where
+  label-same : (x : ℕ) → x < length t.labels → label_of v x ≡ label_of t x
+  label-same x b = ap (λ (ls : List NodeData). label_in ls x) k.labels_are ∙ get_or_append_left t.labels (map (λ y. cloned (label_of t y)) k.done) Document x b
+
+  no-fewer : length t.labels ≤ length v.labels
+  no-fewer = (let a = ap length k.labels_are in let b = length-append t.labels (map (λ y. cloned (label_of t y)) k.done) in omega (arith, a, b))
+
+  pub cut-open : (s : List ℕ) (l : List Entry) → WellFormed t → IsOpen (open_at s l t) → IsOpen (open_at s l v)
+  cut-open s l w h =
+      open-alike s l t v (record {
+        no_fewer = no-fewer;
+        elements = λ x b g. subst IsElement (sym (label-same x b)) g;
+        tags = λ x b. ap tag_in (label-same x b);
+        origins = λ x b. ap origin_in (label-same x b);
+        marks = k.same_marks;
+      }) (ordered-fewer t v s (λ x y b c q. ap (has y) (ancestors-frame t v w x (h.stack_in x b) no-fewer (λ z a. k.same_parents z)) ∙ q) h.ordered) h
+
+  pub cut-can-place : (s : List ℕ) → AreNodes t s → CanPlace t s → CanPlace v s
+  cut-can-place [] b c = c
+  cut-can-place (x ∷ xs) b c = λ a q. c (ap (λ d. is_same (tag_in d) tag.Table) (sym (label-same x (b x (has-first x xs)))) ∙ a) (sym (k.same_parents x) ∙ q)
+
+-- and so of the round that was stopped
+module _ (s : Tag) (o q : Open) (e : OpenError) (k : IsStopped s o q e) where
+  pub stopped-open : WellFormed o.tree → IsOpen o → IsOpen q
+  stopped-open w h =
+      let r : IsOpen (open_at o.stack o.list q.tree) = cut-open o.tree q.tree (round_originals o k.at k.b) e k.cut o.stack o.list w h in
+      subst (λ (v : List ℕ). IsOpen (open_at v q.list q.tree)) (sym k.stack_is) (subst (λ (v : List Entry). IsOpen (open_at o.stack v q.tree)) (sym k.list_is) r)
+
+  pub stopped-same : (length o.tree.labels ≤ length q.tree.labels) × ((x : ℕ) → x < length o.tree.labels → label_of q.tree x ≡ label_of o.tree x)
+  stopped-same = (no-fewer o.tree q.tree (round_originals o k.at k.b) e k.cut, label-same o.tree q.tree (round_originals o k.at k.b) e k.cut)
+
+  pub stopped-can-place : IsOpen o → CanPlace o.tree o.stack → CanPlace q.tree q.stack
+  stopped-can-place h c = subst (CanPlace q.tree) (sym k.stack_is) (cut-can-place o.tree q.tree (round_originals o k.at k.b) e k.cut o.stack h.stack_in c)
+
+  pub stopped-free : IsFirstFree o.stack o.list → IsFirstFree q.stack q.list
+  stopped-free f = λ x a. ap (has_node x) k.list_is ∙ f x (sym (ap first_of k.stack_is) ∙ a)

@@ -1,10 +1,10 @@
 -- The adoption agency (13.2.6.4.7): what an end tag of a formatting name leaves of the stack, the list and the tree.
-use Rattle.std.specs.Prelude.{◌≡◌, ℕ, zero, suc, ◌+◌, ◌-◌, ◌<◌, Bool, true, false, cond, eqb, ◌&&◌, not, List, [], ◌∷◌, ◌++◌, length, map, filter, reverse, drop, take, slice_index, Option, Some, None}
+use Rattle.std.specs.Prelude.{◌≡◌, ℕ, zero, suc, ◌+◌, ◌-◌, ◌<◌, ◌≤◌, Bool, true, false, cond, eqb, ◌&&◌, not, List, [], ◌∷◌, ◌++◌, length, map, filter, reverse, drop, take, slice_index, Option, Some, None}
 use Rattle.std.specs.List.{flat_map, list_any}
 use Rattle.html_names.specs.declared.tag.Tag.{Tag}
 use Rattle.html_arena.specs.Data.{cloned}
 use Rattle.html_arena.specs.Siblings.{has, is_in, first_of, last_of}
-use Rattle.html_arena.specs.Tree.{Tree, label_of, named, children_of, parent_of, tag_at}
+use Rattle.html_arena.specs.Tree.{Tree, WellFormed, label_of, named, children_of, parent_of, tag_at}
 use Rattle.html_open.specs.declared.adoption.AdoptEnd.{AdoptEnd}
 use Rattle.html_open.specs.declared.adoption.AdoptEnd.TheVariants.{Done, OtherEndTag}
 use Rattle.html_open.specs.declared.entry.Entry.{Entry}
@@ -13,11 +13,11 @@ use Rattle.html_open.specs.declared.error.OpenError.{OpenError}
 use Rattle.html_open.specs.declared.places.Place.{Place}
 use Rattle.html_open.specs.AdoptFinding.{IsBlock, element_in_scope, special}
 use Rattle.html_open.specs.Cloning.{IsCut}
-use Rattle.html_open.specs.Entries.{has_node, last_named, without_node}
+use Rattle.html_open.specs.Entries.{has_node, is_marker, last_named, without_node}
 use Rattle.html_open.specs.Hanging.{chain_top, chained, hung_parent, with_put}
 use Rattle.html_open.specs.Lists.{above, below}
 use Rattle.html_open.specs.Marking.{IsSameTree}
-use Rattle.html_open.specs.Opened.{Open}
+use Rattle.html_open.specs.Opened.{IsOpen, Open}
 use Rattle.html_open.specs.Placing.{place_at}
 
 -- no special element stands after the formatting element f: the stack ends before it, and it is out of the list
@@ -95,6 +95,9 @@ pub record Round (s : Tag) (foster : Bool) (old new : Open) : Type 0 where
   pub children_are : (x : ℕ) → children_of new.tree x
       ≡ with_put old.tree (place_at old.tree old.stack a foster) (chain_top g (length old.tree.labels) k) x (chained old.tree g (length old.tree.labels) k x)
   pub limits_are : new.tree.limits ≡ old.tree.limits
+  -- what is left is a tree, with what is true between calls: the lists of children tell the parents
+  pub well_formed : WellFormed new.tree
+  pub is_open : IsOpen new
 
 -- the same for the elements at two indices of the stack, and what is put at a place
 pub record IsRegrouped (at b : ℕ) (target : Place) (old new : Open) : Type 0 where
@@ -191,22 +194,33 @@ pub data Adopted (s : Tag) (foster : Bool) : AdoptEnd → Open → Open → Type
   fewer : (end : AdoptEnd) (n : ℕ) (o p q : Open) → pops_at_once s o (last_of o.stack) ≡ false → n < 8 → Rounds s foster n o p → Ends s end p q
       → Adopted s foster end o q
 
+-- The special elements of the stack are the same, in order, and so are the markers of the list. What else stands on the stack or in the
+-- list stood there before, or is new.
+pub record Survives (old new : Open) : Type 0 where
+  pub no_fewer : length old.tree.labels ≤ length new.tree.labels
+  pub special_are : filter (special new.tree) new.stack ≡ filter (special old.tree) old.stack
+  pub markers_are : filter is_marker new.list ≡ filter is_marker old.list
+  pub on_stack : (x : ℕ) → x < length old.tree.labels → has x new.stack ≡ true → has x old.stack ≡ true
+  pub in_list : (x : ℕ) → x < length old.tree.labels → has_node x new.list ≡ true → has_node x old.list ≡ true
+
 -- the elements that a round clones, in order, where the formatting element and the first special element stand at two indices
 abbrev pub round_originals : Open → ℕ → ℕ → List ℕ
 round_originals o at b = originals (λ x. has_node x o.list) (take (b - (at + 1)) (drop (at + 1) o.stack)) ++ slice_index o.stack at ∷ []
 
--- a round was begun and could not be ended
-pub record IsStopped (s : Tag) (o : Open) (new : Tree) (e : OpenError) : Type 0 where
+-- a round was begun and could not be ended: the stack and the list are as they were
+pub record IsStopped (s : Tag) (old new : Open) (e : OpenError) : Type 0 where
   pub at : ℕ
   pub b : ℕ
-  pub block : IsBlock s o at b
-  pub cut : IsCut o.tree new (round_originals o at b) e
+  pub block : IsBlock s old at b
+  pub stack_is : new.stack ≡ old.stack
+  pub list_is : new.list ≡ old.list
+  pub cut : IsCut old.tree new.tree (round_originals old at b) e
 
--- why an adoption was refused: less than eight rounds were done, and the next could not be ended
-pub record IsRefusal (s : Tag) (foster : Bool) (o : Open) (new : Tree) (e : OpenError) : Type 0 where
-  pub not_popped : pops_at_once s o (last_of o.stack) ≡ false
+-- why an adoption was refused, and what it left: less than eight rounds were done, and the next could not be ended
+pub record IsRefusal (s : Tag) (foster : Bool) (old new : Open) (e : OpenError) : Type 0 where
+  pub not_popped : pops_at_once s old (last_of old.stack) ≡ false
   pub n : ℕ
   pub few : n < 8
   pub p : Open
-  pub rounds : Rounds s foster n o p
+  pub rounds : Rounds s foster n old p
   pub stopped : IsStopped s p new e

@@ -59,12 +59,14 @@ IsLacking t done rest OutOfMemory = HasRoom t done rest
 IsLacking t done rest NodeBudget = IsFull t done rest arena.NodeBudget
 IsLacking t done rest HeldBudget = IsFull t done rest arena.HeldBudget
 
--- some of the elements that were to be cloned have been, and no node was moved: there was no more room
+-- some of the elements that were to be cloned have been, and no node was moved or marked: there was no more room
 pub record IsCut (old new : Tree) (xs : List ℕ) (e : OpenError) : Type 0 where
   pub done : List ℕ
   pub rest : List ℕ
   pub all : xs ≡ done ++ rest
   pub labels_are : new.labels ≡ with_cloned old done
+  pub same_marks : (m : Mark) (x : ℕ) → marked new m x ≡ marked old m x
+  pub same_parents : (x : ℕ) → parent_of new x ≡ parent_of old x
   pub same_children : (x : ℕ) → children_of new x ≡ children_of old x
   pub lacking : IsLacking old done rest e
 
@@ -75,5 +77,7 @@ pub record IsCutShort (old new : Tree) (xs : List ℕ) (e : OpenError) : Type 0 
   pub rest : List ℕ
   pub all : xs ≡ done ++ next ∷ rest
   pub labels_are : new.labels ≡ with_cloned old done
+  pub same_marks : (m : Mark) (x : ℕ) → marked new m x ≡ marked old m x
+  pub same_parents : (x : ℕ) → parent_of new x ≡ parent_of old x
   pub same_children : (x : ℕ) → children_of new x ≡ children_of old x
   pub lacking : IsLacking old done (next ∷ rest) e

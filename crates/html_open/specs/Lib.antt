@@ -4,6 +4,7 @@ pub mod Attributes
 pub mod Cloning
 pub mod Entries
 pub mod Hanging
+pub mod Inserting
 pub mod Leaving
 pub mod Lists
 pub mod Marking
@@ -15,3 +16,4 @@ pub mod Reopenings
 pub mod Rooting
 pub mod Scopes
 pub mod Searches
+pub mod Outcome

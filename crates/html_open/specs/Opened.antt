@@ -1,6 +1,7 @@
 -- The stack of open elements, the list of active formatting elements and the tree together: what is true of them between calls (13.2.4).
 use Rattle.std.specs.Prelude.{◌≡◌, ℕ, ◌<◌, true, false, List, [], ◌∷◌, length}
 use Rattle.html_names.specs.Sets.{is_formatting}
+use Rattle.html_arena.specs.declared.data.NodeData.{NodeData}
 use Rattle.html_arena.specs.declared.data.Origin.{Origin}
 use Rattle.html_arena.specs.declared.data.Origin.TheVariants.{Token}
 use Rattle.html_arena.specs.declared.marks.Mark.{Mark}
@@ -31,6 +32,10 @@ origin_at t x = origin_in (label_of t x)
 abbrev pub IsOrdered : Tree → List ℕ → Type 0
 IsOrdered t [] = Unit {0}
 IsOrdered t (x ∷ xs) = ((y : ℕ) → has y xs ≡ true → has y (ancestors t x) ≡ false) × IsOrdered t xs
+
+-- x is no element of the stack, nor above one
+abbrev pub IsApart : Tree → List ℕ → ℕ → Type 0
+IsApart t stack x = (y : ℕ) → has y stack ≡ true → has x (y ∷ ancestors t y) ≡ false
 
 -- a mark tells who is in a list
 abbrev pub IsMarked : Tree → Mark → List ℕ → Type 0
@@ -76,3 +81,8 @@ pub record CanList (o : Open) (x : ℕ) : Type 0 where
   pub absent : has_node x o.list ≡ false
   pub origin_new : (i y : ℕ) → has_node y o.list ≡ true → origin_at o.tree x ≡ Token i → origin_at o.tree y ≡ Token i → ⊥
   pub shared : (i y : ℕ) → has y o.stack ≡ true → origin_at o.tree x ≡ Token i → origin_at o.tree y ≡ Token i → x ≡ y
+
+-- no element of the stack or of the list comes from the token of d
+pub record IsUnseen (o : Open) (d : NodeData) : Type 0 where
+  pub on_stack : (i y : ℕ) → has y o.stack ≡ true → origin_in d ≡ Token i → origin_at o.tree y ≡ Token i → ⊥
+  pub in_list : (i y : ℕ) → has_node y o.list ≡ true → origin_in d ≡ Token i → origin_at o.tree y ≡ Token i → ⊥

@@ -49,6 +49,21 @@ pub record Reopened (foster : Bool) (old new : Open) : Type 0 where
   pub stack_is : new.stack ≡ old.stack ++ fresh old.tree (length (closed old))
   pub tree_is : IsSameTree (with_clones old.tree old.stack foster (closed old)) new.tree
 
+-- The first of those entries are done, in order, and the others are as they were.
+pub record ReopenedFirst (old new : Open) : Type 0 where
+  pub done : List ℕ
+  pub rest : List ℕ
+  pub all : closed old ≡ done ++ rest
+  pub list_is : new.list ≡ (up_to (stands old.stack) old.list ++ map Node (fresh old.tree (length done))) ++ map Node rest
+  pub stack_is : new.stack ≡ old.stack ++ fresh old.tree (length done)
+
+-- clones of the first of some elements were made, in order, and no other node
+pub record ClonedFirst (elements : List ℕ) (old new : Tree) : Type 0 where
+  pub done : List ℕ
+  pub rest : List ℕ
+  pub all : elements ≡ done ++ rest
+  pub labels_are : new.labels ≡ old.labels ++ map (λ x. cloned (label_of old x)) done
+
 -- the clones, in order: the name, the attributes and the token of each are those of its original
 abbrev pub clones_of : Open → List NodeData
 clones_of o = map (λ x. cloned (label_of o.tree x)) (closed o)

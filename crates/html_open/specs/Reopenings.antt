@@ -1,5 +1,5 @@
 -- One entry that is opened anew: what the parts of reopening do.
-use Rattle.std.specs.Prelude.{◌≡◌, ◌≢◌, ℕ, ◌<◌, Bool, true, false, List, [], ◌∷◌, ◌++◌, length, slice_index_or, Option, Some, None, Ok, Err}
+use Rattle.std.specs.Prelude.{◌≡◌, ◌≢◌, ℕ, ◌<◌, Bool, true, false, cond, List, [], ◌∷◌, ◌++◌, length, slice_index_or, Option, Some, None, Ok, Err}
 use Rattle.html_arena.specs.declared.arena.ArenaError.TheVariants as arena
 use Rattle.html_arena.specs.declared.data.NewNode.TheVariants.{CloneOf}
 use Rattle.html_arena.specs.declared.marks.Mark.{Mark}
@@ -44,3 +44,8 @@ abbrev pub IsRefused : Tree → ℕ → OpenError → Type 0
 IsRefused t x OutOfMemory = budget t 1 (made_weight t (CloneOf x)) ≡ Ok tt
 IsRefused t x NodeBudget = budget t 1 (made_weight t (CloneOf x)) ≡ Err arena.NodeBudget
 IsRefused t x HeldBudget = budget t 1 (made_weight t (CloneOf x)) ≡ Err arena.HeldBudget
+
+-- the clone of x is the one node more, or there is none
+pub record IsTried (old new : Tree) (x : ℕ) : Type 0 where
+  pub is_made : Bool
+  pub labels_are : new.labels ≡ old.labels ++ cond is_made (cloned (label_of old x) ∷ []) []

@@ -1,5 +1,5 @@
 -- Elements in scope, and implied end tags (13.2.4.2 and 13.2.6.3).
-use Rattle.std.specs.Prelude.{ℕ, ◌+◌, ◌*◌, Bool, false, cond, not, ◌||◌, ◌&&◌, List, length, Option, Some, None}
+use Rattle.std.specs.Prelude.{ℕ, ◌+◌, ◌*◌, Bool, false, cond, eqb, not, ◌||◌, ◌&&◌, List, length, Option, Some, None}
 use Rattle.std.specs.List.{list_any}
 use Rattle.html_names.specs.declared.tag.Tag.{Tag}
 use Rattle.html_names.specs.declared.sets.Scope.{Scope}
@@ -18,6 +18,10 @@ ends t scope x = ends_scope scope (tag_at t x)
 -- the elements at which a search for a name in a scope stops
 abbrev pub match_or_end : Tree → Tag → Scope → ℕ → Bool
 match_or_end t name scope x = named t name x || ends t scope x
+
+-- the elements at which a search for x in a scope stops
+abbrev pub element_or_end : Tree → ℕ → Scope → ℕ → Bool
+element_or_end t x scope y = eqb x y || ends t scope y
 
 -- the tag is the excepted one
 abbrev pub is_excepted : Option Tag → Tag → Bool

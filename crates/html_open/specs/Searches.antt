@@ -9,11 +9,12 @@ use Rattle.html_open.specs.declared.search.Sought.TheVariants as sought
 use Rattle.html_open.specs.declared.search.SoughtEntry.{SoughtEntry}
 use Rattle.html_open.specs.declared.search.SoughtEntry.TheVariants as sought_entry
 use Rattle.html_open.specs.Entries.{is_marker, is_node, named_or_marker}
-use Rattle.html_open.specs.Scopes.{match_or_end, stays}
+use Rattle.html_open.specs.Scopes.{element_or_end, match_or_end, stays}
 
 abbrev pub is_sought : Tree → Sought → ℕ → Bool
 is_sought t (sought.Node y) x = eqb y x
 is_sought t (sought.InScope g s) x = match_or_end t g s x
+is_sought t (sought.ElementInScope y s) x = element_or_end t y s x
 is_sought t (sought.Tag g) x = named t g x
 is_sought t (sought.Staying except) x = stays t except x
 

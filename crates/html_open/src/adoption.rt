@@ -1,13 +1,15 @@
 // The adoption agency: what an end tag of a formatting name does to the open elements (13.2.6.4.7).
-ghost use Rattle.std.specs.Prelude.{◌≡◌, ℕ, ◌+◌, ◌-◌, ◌*◌, ◌<◌, ◌≤◌, IfErr, IfOk, None, OnOk, Some, false, length, true};
+ghost use Rattle.std.specs.Prelude.{◌≡◌, ℕ, ◌+◌, ◌-◌, ◌*◌, ◌<◌, ◌≤◌, Bool, IfErr, IfOk, None, OnOk, Some, false, length, true};
+ghost use Rattle.html_names.specs.Sets.{is_special};
 ghost use Rattle.html_names.specs.declared.tag.Tag.{Tag};
 ghost use Rattle.html_arena.specs.Siblings.{first_of, last_of};
 ghost use Rattle.html_arena.specs.Tree.{WellFormed, named};
 ghost use Rattle.html_open.specs.AdoptFinding.{IsPlain};
-ghost use Rattle.html_open.specs.Adopting.{Adopted, Closed, IsFirstFree, IsRefusal, IsStopped, IsTurn, MadeClones, Popped, pops_at_once};
-ghost use Rattle.html_open.specs.Leaving.{IsPaid};
+ghost use Rattle.html_open.specs.Adopting.{Adopted, Closed, IsFirstFree, IsRefusal, IsStopped, IsTurn, MadeClones, Popped, Survives, pops_at_once};
+ghost use Rattle.html_open.specs.Leaving.{IsPaid, listed_weight};
 ghost use Rattle.html_open.specs.Marking.{IsCounted};
-ghost use Rattle.html_open.specs.Opened.{IsOpen, open_at};
+ghost use Rattle.html_open.specs.Opened.{IsOpen, Open, open_at};
+ghost use Rattle.html_open.specs.Outcome.{IsAlike};
 ghost use Rattle.html_open.specs.Placing.{CanPlace};
 ghost use Rattle.html_open.specs.Reopening.{KeepsClosed};
 ghost use Rattle.html_open.specs.Rooting.{KeepsRoots};
@@ -44,7 +46,7 @@ pub enum AdoptEnd {
 /// At most 32 nodes are made, each a clone of an element in the list. A refusal stops the round under way after some of its clones, which
 /// then stand alone: `NodeBudget` and `HeldBudget` where the next clone would pass that limit, `OutOfMemory` where memory was refused,
 /// which is told only where the next clone, if there is one, is within both limits.
-/// After a refusal nothing is said of the stack and the list.
+/// The stack and the list are then as the rounds before left them.
 ///
 /// Steps: at least one for each node made, for each element that left the stack, and for each that left the list; with `h` elements on
 /// the stack, `l` entries in the list and, in the end, `c` nodes at most `32 (h + l + 4)² + 8 c`. After a refusal too, at least one for
@@ -60,58 +62,38 @@ pub fn adopt(
     requires can_place { CanPlace arena.old stack.old }
     requires first_free { IsFirstFree stack.old list.old }
     ensures adopted { IfOk result (λ end. Adopted name foster end (open_at stack.old list.old arena.old) (open_at stack.new list.new arena.new)) }
-    ensures kept { OnOk result (IsOpen (open_at stack.new list.new arena.new)) }
-    ensures first { OnOk result ((x : ℕ) → first_of stack.old ≡ Some x → named arena.old name x ≡ false → first_of stack.new ≡ Some x) }
-    ensures can_place { OnOk result (0 < length stack.new → CanPlace arena.new stack.new) }
-    ensures first_free { OnOk result (IsFirstFree stack.new list.new) }
+    ensures kept { IsOpen (open_at stack.new list.new arena.new) }
+    ensures first { (x : ℕ) → first_of stack.old ≡ Some x → named arena.old name x ≡ false → first_of stack.new ≡ Some x }
+    ensures can_place { 0 < length stack.new → CanPlace arena.new stack.new }
+    ensures first_free { IsFirstFree stack.new list.new }
     ensures roots { OnOk result (KeepsRoots (open_at stack.old list.old arena.old) arena.new) }
     ensures made { MadeClones (open_at stack.old list.old arena.old) arena.new }
     ensures closed { KeepsClosed (open_at stack.old list.old arena.old) arena.new }
+    ensures survives { is_special name ≡ false → Survives (open_at stack.old list.old arena.old) (open_at stack.new list.new arena.new) }
     ensures clones { length arena.new.labels ≤ length arena.old.labels + 32 }
-    ensures cause { IfErr result (λ e. IsRefusal name foster (open_at stack.old list.old arena.old) arena.new e) }
+    ensures held { arena.new.held ≤ arena.old.held + 32 * listed_weight arena.old list.old }
+    ensures no_more_open { length stack.new ≤ length stack.old }
+    ensures no_more_listed { length list.new ≤ length list.old }
+    ensures cause { IfErr result (λ e. IsRefusal name foster (open_at stack.old list.old arena.old) (open_at stack.new list.new arena.new) e) }
     ensures steps { IsCounted arena.old.steps arena.new.steps (length arena.new.labels - length arena.old.labels) (32 * ((length stack.old + length list.old + 4) * (length stack.old + length list.old + 4)) + 8 * length arena.new.labels) }
     ensures paid { OnOk result (IsPaid (open_at stack.old list.old arena.old) (open_at stack.new list.new arena.new)) }
     ensures well_formed { WellFormed arena.new }
 {
-    let end = follow(stack, list, arena, name, foster);
     arena.forest();
-    end
-}
-
-/// Follows an end tag of a formatting name.
-fn follow(
-    stack: &mut OpenStack,
-    list: &mut FormattingList,
-    arena: &mut Arena,
-    name: Tag,
-    foster: bool,
-) -> Result<AdoptEnd, OpenError>
-    requires open { IsOpen (open_at stack.old list.old arena.old) }
-    requires can_place { CanPlace arena.old stack.old }
-    requires first_free { IsFirstFree stack.old list.old }
-    ensures adopted { IfOk result (λ end. Adopted name foster end (open_at stack.old list.old arena.old) (open_at stack.new list.new arena.new)) }
-    ensures kept { OnOk result (IsOpen (open_at stack.new list.new arena.new)) }
-    ensures first { OnOk result ((x : ℕ) → first_of stack.old ≡ Some x → named arena.old name x ≡ false → first_of stack.new ≡ Some x) }
-    ensures can_place { OnOk result (0 < length stack.new → CanPlace arena.new stack.new) }
-    ensures first_free { OnOk result (IsFirstFree stack.new list.new) }
-    ensures roots { OnOk result (KeepsRoots (open_at stack.old list.old arena.old) arena.new) }
-    ensures made { MadeClones (open_at stack.old list.old arena.old) arena.new }
-    ensures closed { KeepsClosed (open_at stack.old list.old arena.old) arena.new }
-    ensures clones { length arena.new.labels ≤ length arena.old.labels + 32 }
-    ensures cause { IfErr result (λ e. IsRefusal name foster (open_at stack.old list.old arena.old) arena.new e) }
-    ensures steps { IsCounted arena.old.steps arena.new.steps (length arena.new.labels - length arena.old.labels) (32 * ((length stack.old + length list.old + 4) * (length stack.old + length list.old + 4)) + 8 * length arena.new.labels) }
-    ensures paid { OnOk result (IsPaid (open_at stack.old list.old arena.old) (open_at stack.new list.new arena.new)) }
-{
     if pop_unlisted(stack, list, arena, name) {
+        arena.forest();
         return Ok(AdoptEnd::Done);
     }
     arena.forest();
     'rounding: for _index in 0..ROUNDS {
         arena.forest();
-        if let Some(end) = turn(stack, list, arena, name, foster)? {
+        let turned = turn(stack, list, arena, name, foster);
+        arena.forest();
+        if let Some(end) = turned? {
             return Ok(end);
         }
     }
+    arena.forest();
     Ok(AdoptEnd::Done)
 }
 
@@ -131,7 +113,7 @@ fn turn(
     ensures can_place { IfOk result (λ end. end ≡ None → CanPlace arena.new stack.new) }
     ensures first_free { IfOk result (λ end. end ≡ None → IsFirstFree stack.new list.new) }
     ensures roots { OnOk result (KeepsRoots (open_at stack.old list.old arena.old) arena.new) }
-    ensures stopped { IfErr result (λ e. IsStopped name (open_at stack.old list.old arena.old) arena.new e) }
+    ensures stopped { IfErr result (λ e. IsStopped name (open_at stack.old list.old arena.old) (open_at stack.new list.new arena.new) e) }
     ensures steps { IsCounted arena.old.steps arena.new.steps (length arena.new.labels - length arena.old.labels) (length arena.new.labels + 4 * length stack.old + 3 * length list.old + 12) }
     ensures paid { OnOk result (IsPaid (open_at stack.old list.old arena.old) (open_at stack.new list.new arena.new)) }
 {
@@ -195,3 +177,9 @@ fn close(
     stack.pop_to(arena, at);
     list.remove(arena, node);
 }
+
+/// A law: an adoption ends in one way, and leaves one stack, one list and one tree, marks, steps and what is held apart.
+pub fn adoption_has_one_outcome()
+    ensures end { (s : Tag) (foster : Bool) (a b : AdoptEnd) (o p q : Open) → IsOpen o → Adopted s foster a o p → Adopted s foster b o q → a ≡ b }
+    ensures outcome { (s : Tag) (foster : Bool) (a b : AdoptEnd) (o p q : Open) → IsOpen o → Adopted s foster a o p → Adopted s foster b o q → IsAlike p q }
+{}

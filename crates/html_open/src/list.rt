@@ -1,9 +1,11 @@
 // The list of active formatting elements.
-ghost use Rattle.std.specs.Prelude.{◌≡◌, ℕ, ◌+◌, ◌<◌, ◌∷◌, [], ◌++◌, length, IfErr, OnErr, OnOk, drop, false, take, true, ◌*◌, ◌≤◌};
+ghost use Rattle.std.specs.Prelude.{◌≡◌, ◌≢◌, ℕ, ◌+◌, ◌<◌, ◌∷◌, [], ◌++◌, length, Some, IfErr, IfSome, OnErr, OnOk, drop, false, take, true, ◌*◌, ◌≤◌};
 ghost use Rattle.html_arena.specs.declared.marks.Mark.TheVariants.{InList};
-ghost use Rattle.html_arena.specs.Tree.{with_marked};
+ghost use Rattle.html_arena.specs.Siblings.{first_of};
+ghost use Rattle.html_arena.specs.Tree.{more, with_marked};
+ghost use Rattle.html_open.specs.Adopting.{IsFirstFree};
 ghost use Rattle.html_open.specs.Lists.{IsBelow, below, looked};
-ghost use Rattle.html_open.specs.Marking.{all_unmarked, charged, unmarked};
+ghost use Rattle.html_open.specs.Marking.{IsSameTree, all_unmarked, charged, unmarked};
 ghost use Rattle.html_open.specs.Placing.{IsTarget};
 ghost use Rattle.html_open.specs.Opened.{AreNodes, CanList, IsMarked, IsOpen, open_at};
 
@@ -53,6 +55,11 @@ impl FormattingList {
         ensures list { OnOk result (self.new ≡ pushed arena.old node self.old) }
         ensures tree { OnOk result (arena.new ≡ charged (with_marked (unmarked arena.old InList (displaced arena.old node self.old)) InList node true) (push_steps arena.old node self.old)) }
         ensures keeps { OnOk result ((s : _) → IsOpen (open_at s self.old arena.old) → CanList (open_at s self.old arena.old) node → IsOpen (open_at s self.new arena.new)) }
+        ensures tree_kept { OnOk result (IsSameTree arena.old arena.new) }
+        ensures steps { OnOk result (arena.new.steps ≡ more arena.old.steps (push_steps arena.old node self.old)) }
+        ensures fewer { OnOk result ((x : ℕ) → x ≢ node → has_node x self.old ≡ false → has_node x self.new ≡ false) }
+        ensures longer { OnOk result (length self.new ≤ length self.old + 1) }
+        ensures first_free { OnOk result ((s : _) → first_of s ≢ Some node → IsFirstFree s self.old → IsFirstFree s self.new) }
         ensures same_list { OnErr result (self.new ≡ self.old) }
         ensures same_tree { OnErr result (arena.new ≡ arena.old) }
         ensures cause { IfErr result (λ e. e ≡ OpenError.OutOfMemory) }
@@ -76,6 +83,8 @@ impl FormattingList {
         ensures list { OnOk result (self.new ≡ self.old ++ Marker ∷ []) }
         ensures tree { OnOk result (arena.new ≡ charged arena.old 1) }
         ensures keeps { OnOk result ((s : _) → IsOpen (open_at s self.old arena.old) → IsOpen (open_at s self.new arena.new)) }
+        ensures fewer { OnOk result ((x : ℕ) → has_node x self.old ≡ false → has_node x self.new ≡ false) }
+        ensures first_free { OnOk result ((s : _) → IsFirstFree s self.old → IsFirstFree s self.new) }
         ensures same_list { OnErr result (self.new ≡ self.old) }
         ensures same_tree { OnErr result (arena.new ≡ arena.old) }
         ensures cause { IfErr result (λ e. e ≡ OpenError.OutOfMemory) }
@@ -93,6 +102,10 @@ impl FormattingList {
         ensures list { self.new ≡ below is_marker self.old }
         ensures tree { arena.new ≡ charged (all_unmarked arena.old InList (cleared self.old)) (2 * looked is_marker self.old) }
         ensures keeps { (s : _) → IsOpen (open_at s self.old arena.old) → IsOpen (open_at s self.new arena.new) }
+        ensures tree_kept { IsSameTree arena.old arena.new }
+        ensures steps { arena.new.steps ≡ more arena.old.steps (2 * looked is_marker self.old) }
+        ensures fewer { (x : ℕ) → has_node x self.old ≡ false → has_node x self.new ≡ false }
+        ensures first_free { (s : _) → IsFirstFree s self.old → IsFirstFree s self.new }
     {
         let entries = self.entries.as_slice();
         let found = last_entry(entries, arena, &SoughtEntry::Marker);
@@ -139,7 +152,9 @@ impl FormattingList {
     pub fn last_named(&self, arena: &mut Arena, name: Tag) -> Option<NodeId>
         requires { AreNodes arena.old (nodes_of self.now) }
         ensures node { result ≡ last_named arena.old name self.now }
+        ensures member { IfSome result (λ x. has_node x self.now ≡ true) }
         ensures steps { arena.new ≡ charged arena.old (looked (named_or_marker arena.old name) self.now) }
+        ensures keeps { (s : _) → IsOpen (open_at s self.now arena.old) → IsOpen (open_at s self.now arena.new) }
     {
         let entries = self.entries.as_slice();
         let found = last_entry(entries, arena, &SoughtEntry::NamedOrMarker(name));
@@ -158,6 +173,10 @@ impl FormattingList {
         ensures list { self.new ≡ without_node node self.old }
         ensures tree { arena.new ≡ charged (with_marked arena.old InList node false) (removal_steps (is_node node) self.old) }
         ensures keeps { (s : _) → IsOpen (open_at s self.old arena.old) → IsOpen (open_at s self.new arena.new) }
+        ensures tree_kept { IsSameTree arena.old arena.new }
+        ensures steps { arena.new.steps ≡ more arena.old.steps (removal_steps (is_node node) self.old) }
+        ensures fewer { (x : ℕ) → has_node x self.old ≡ false → has_node x self.new ≡ false }
+        ensures first_free { (s : _) → IsFirstFree s self.old → IsFirstFree s self.new }
     {
         arena.forest();
         let entries = self.entries.as_slice();
@@ -176,6 +195,7 @@ impl FormattingList {
         requires marked { IsMarked arena.old InList (nodes_of self.now) }
         ensures answer { result ≡ has_node node self.now }
         ensures steps { arena.new ≡ charged arena.old 1 }
+        ensures keeps { (s : _) → IsOpen (open_at s self.now arena.old) → IsOpen (open_at s self.now arena.new) }
     {
         arena.charge(PRESENCE);
         arena.marked(node, Mark::InList)

@@ -1,10 +1,12 @@
 // The place for a node, by the stack.
-ghost use Rattle.std.specs.Prelude.{◌≡◌, ◌<◌, ◌+◌, length};
+ghost use Rattle.std.specs.Prelude.{◌≡◌, ◌<◌, ◌+◌, List, length};
 ghost use Rattle.html_arena.specs.Tree.{named, tag_at};
 ghost use Rattle.html_names.specs.declared.tag.Tag.TheVariants as tag;
+ghost use Rattle.html_open.specs.declared.entry.Entry.{Entry};
+ghost use Rattle.html_open.specs.Inserting.{IsOpenTarget, SparesClosed};
 ghost use Rattle.html_open.specs.Lists.{IsBelow, last_index, last_where};
 ghost use Rattle.html_open.specs.Marking.{charged};
-ghost use Rattle.html_open.specs.Opened.{AreNodes};
+ghost use Rattle.html_open.specs.Opened.{AreNodes, IsOpen, open_at};
 ghost use Rattle.html_open.specs.Placing.{CanPlace, IsPlace, IsTarget, fostered, fosters, inside, outside_table, place_of, place_steps, table, target_of};
 
 use crate::places::Place;
@@ -22,7 +24,11 @@ pub fn place(stack: &OpenStack, arena: &mut Arena, target: Option<NodeId>, foste
     ensures place { result ≡ place_of arena.old stack.now target foster }
     ensures there { IsPlace arena.old result }
     ensures steps { arena.new ≡ charged arena.old (place_steps arena.old stack.now target foster) }
+    ensures keeps { (l : List Entry) → IsOpen (open_at stack.now l arena.old) → IsOpen (open_at stack.now l arena.new) }
+    ensures can_place_still { CanPlace arena.new stack.now }
+    ensures spares_closed { (l : List Entry) → IsOpen (open_at stack.now l arena.old) → IsOpenTarget stack.now target → SparesClosed arena.new stack.now result }
 {
+    arena.forest();
     let nodes = stack.as_slice();
     let target = target_node(nodes, arena, target);
     if is_fostered(arena, target, foster) {

@@ -1,17 +1,17 @@
 // Reopening the formatting elements that were closed by a block: the list's entries that are not on the stack are opened anew.
-ghost use Rattle.std.specs.Prelude.{◌≡◌, ℕ, ◌+◌, ◌<◌, ◌≤◌, ◌∷◌, [], ◌++◌, IfErr, IfOk, None, Ok, OnOk, length, slice_index_or, slice_set, false, true};
+ghost use Rattle.std.specs.Prelude.{◌≡◌, ℕ, ◌+◌, ◌*◌, ◌<◌, ◌≤◌, ◌∷◌, [], ◌++◌, IfErr, IfOk, None, Ok, OnErr, OnOk, length, slice_index_or, slice_set, false, true};
 ghost use Rattle.html_names.specs.Sets.{is_formatting};
 ghost use Rattle.html_arena.specs.declared.data.NewNode.TheVariants.{CloneOf};
 ghost use Rattle.html_arena.specs.Budget.{budget};
 ghost use Rattle.html_arena.specs.Make.{made_weight};
-ghost use Rattle.html_arena.specs.Siblings.{has};
+ghost use Rattle.html_arena.specs.Siblings.{first_of, has};
 ghost use Rattle.html_arena.specs.Tree.{WellFormed, more, tag_at};
 ghost use Rattle.html_open.specs.Lists.{IsBelow, after_index, last_index};
 ghost use Rattle.html_open.specs.Marking.{charged};
 ghost use Rattle.html_open.specs.Opened.{AreNodes};
 ghost use Rattle.html_open.specs.Placing.{CanPlace, place_of, place_steps};
 ghost use Rattle.html_open.specs.Reopening.{search_steps, with_clone};
-ghost use Rattle.html_open.specs.Reopenings.{IsInserted, IsRefused, end_steps_at, with_reopened};
+ghost use Rattle.html_open.specs.Reopenings.{IsInserted, IsRefused, IsTried, end_steps_at, with_reopened};
 ghost use Rattle.html_open.specs.Searches.{open_or_marker};
 
 use crate::entry::Entry;
@@ -27,15 +27,18 @@ impl FormattingList {
     ghost use Rattle.html_open.specs.declared.entry.Entry.TheVariants.{Marker, Node};
     ghost use Rattle.html_open.specs.Entries.{nodes_of};
     ghost use Rattle.html_open.specs.Opened.{IsOpen, open_at};
-    ghost use Rattle.html_open.specs.Reopening.{IsCause, KeepsClosed, Reopened, clones_of, reopen_steps};
+    ghost use Rattle.html_open.specs.Adopting.{IsFirstFree, MadeClones, Survives};
+    ghost use Rattle.html_open.specs.Leaving.{listed_weight};
+    ghost use Rattle.html_open.specs.Reopening.{ClonedFirst, IsCause, KeepsClosed, Reopened, ReopenedFirst, clones_of, closed, reopen_steps};
     ghost use Rattle.html_open.specs.Rooting.{KeepsParents};
 
     /// Opens anew the elements of the entries after the last one that is a marker or on the stack: for each, in order, a clone is put at
     /// the place for the current node and pushed onto the stack, and takes its entry's place.
     ///
     /// Two steps for each of these entries, and one or two for the one at which the search ends; for each clone the steps of its place,
-    /// and four. After a refusal nothing is said of the stack and the list. Memory is told as refused only where the next clone is within
-    /// both limits.
+    /// and four: at most `l (h + l + 7)`, after a refusal too, with `h` elements on the stack and `l` entries in the list. After a refusal the
+    /// first of these entries are done, the others are as they were, and one clone more may stand at its place, neither on the stack nor in
+    /// the list. Memory is told as refused only where the next clone is within both limits.
     pub fn reopen(
         &mut self,
         stack: &mut OpenStack,
@@ -46,11 +49,22 @@ impl FormattingList {
         requires can_place { CanPlace arena.old stack.old }
         ensures reopened { OnOk result (Reopened foster (open_at stack.old self.old arena.old) (open_at stack.new self.new arena.new)) }
         ensures steps { OnOk result (arena.new.steps ≡ more arena.old.steps (reopen_steps (open_at stack.old self.old arena.old) foster)) }
-        ensures keeps { OnOk result (IsOpen (open_at stack.new self.new arena.new)) }
-        ensures can_place { OnOk result (CanPlace arena.new stack.new) }
+        ensures keeps { IsOpen (open_at stack.new self.new arena.new) }
+        ensures can_place { CanPlace arena.new stack.new }
         ensures clones { OnOk result (arena.new.labels ≡ arena.old.labels ++ clones_of (open_at stack.old self.old arena.old)) }
-        ensures closed { OnOk result (KeepsClosed (open_at stack.old self.old arena.old) arena.new) }
-        ensures parents { OnOk result (KeepsParents arena.old arena.new) }
+        ensures made { MadeClones (open_at stack.old self.old arena.old) arena.new }
+        ensures so_far { ReopenedFirst (open_at stack.old self.old arena.old) (open_at stack.new self.new arena.new) }
+        ensures in_order { ClonedFirst (closed (open_at stack.old self.old arena.old)) arena.old arena.new }
+        ensures survives { Survives (open_at stack.old self.old arena.old) (open_at stack.new self.new arena.new) }
+        ensures nodes { length arena.new.labels ≤ length arena.old.labels + length self.old }
+        ensures held { arena.new.held ≤ arena.old.held + listed_weight arena.old self.old }
+        ensures opened { length stack.new ≤ length stack.old + length self.old }
+        ensures entries { length self.new ≡ length self.old }
+        ensures steps_most { arena.new.steps ≤ arena.old.steps + length self.old * (length stack.old + length self.old + 7) }
+        ensures first { first_of stack.new ≡ first_of stack.old }
+        ensures first_free { IsFirstFree stack.old self.old → IsFirstFree stack.new self.new }
+        ensures closed { KeepsClosed (open_at stack.old self.old arena.old) arena.new }
+        ensures parents { KeepsParents arena.old arena.new }
         ensures well_formed { WellFormed arena.new }
         ensures cause { IfErr result (λ e. IsCause (open_at stack.old self.old arena.old) foster e) }
     {
@@ -99,17 +113,21 @@ impl FormattingList {
         ensures list { OnOk result (self.new ≡ slice_set self.old index (Node (length arena.old.labels))) }
         ensures stack { OnOk result (stack.new ≡ stack.old ++ length arena.old.labels ∷ []) }
         ensures tree { OnOk result (arena.new ≡ with_reopened arena.old stack.old foster node) }
-        ensures keeps { OnOk result (IsOpen (open_at stack.new self.new arena.new)) }
-        ensures can_place { OnOk result (CanPlace arena.new stack.new) }
-        ensures closed { OnOk result (KeepsClosed (open_at stack.old self.old arena.old) arena.new) }
-        ensures parents { OnOk result (KeepsParents arena.old arena.new) }
+        ensures same_list { OnErr result (self.new ≡ self.old) }
+        ensures same_stack { OnErr result (stack.new ≡ stack.old) }
+        ensures tried { OnErr result (IsTried arena.old arena.new node) }
+        ensures steps { OnErr result (arena.new.steps ≤ more arena.old.steps (place_steps arena.old stack.old None foster + 2)) }
+        ensures keeps { IsOpen (open_at stack.new self.new arena.new) }
+        ensures can_place { CanPlace arena.new stack.new }
+        ensures closed { KeepsClosed (open_at stack.old self.old arena.old) arena.new }
+        ensures parents { KeepsParents arena.old arena.new }
         ensures cause { IfErr result (λ e. IsRefused arena.old node e) }
     {
         arena.forest();
         let clone = insert_clone(stack, arena, foster, node)?;
         arena.forest();
-        arena.set_mark(node, Mark::InList, false);
         stack.push(arena, clone)?;
+        arena.set_mark(node, Mark::InList, false);
         arena.set_mark(clone, Mark::InList, true);
         arena.charge(1);
         self.entries[index] = Entry::Node(clone);
@@ -132,6 +150,7 @@ fn insert_clone(
     ensures tree { OnOk result (arena.new ≡ with_clone (charged arena.old (place_steps arena.old stack.now None foster)) stack.now foster node) }
     ensures laws { OnOk result (IsInserted arena.old arena.new (place_of arena.old stack.now None foster) node) }
     ensures room { OnOk result (budget arena.old 1 (made_weight arena.old (CloneOf node)) ≡ Ok tt) }
+    ensures same { OnErr result (arena.new ≡ charged arena.old (place_steps arena.old stack.now None foster)) }
     ensures cause { IfErr result (λ e. IsRefused arena.old node e) }
 {
     let place = place(stack, arena, None, foster);

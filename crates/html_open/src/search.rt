@@ -19,6 +19,8 @@ pub(crate) enum Sought {
     Node(NodeId),
     /// An element of this tag, or an end of the scope.
     InScope(Tag, Scope),
+    /// This element, or an end of the scope.
+    ElementInScope(NodeId, Scope),
     Tag(Tag),
     /// An element whose end tag is not implied, or whose name is the excepted one.
     Staying(Option<Tag>),
@@ -44,6 +46,9 @@ fn is_sought(arena: &Arena, node: NodeId, sought: &Sought) -> bool
         Sought::Node(other) => *other == node,
         Sought::InScope(tag, scope) => {
             arena.is_named(node, *tag) || arena.tag(node).ends_scope(*scope)
+        }
+        Sought::ElementInScope(other, scope) => {
+            *other == node || arena.tag(node).ends_scope(*scope)
         }
         Sought::Tag(tag) => arena.is_named(node, *tag),
         Sought::Staying(except) => stays(arena.tag(node), *except),

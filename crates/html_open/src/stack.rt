@@ -1,13 +1,17 @@
 // The stack of open elements.
-ghost use Rattle.std.specs.Prelude.{◌≡◌, ℕ, ◌+◌, ◌<◌, ◌∷◌, [], ◌++◌, List, eqb, length, slice_index, None, IfErr, OnErr, OnOk, drop, false, take, true, ◌≤◌};
+ghost use Rattle.std.specs.Prelude.{◌≡◌, ◌≢◌, ℕ, ◌+◌, ◌<◌, ◌∷◌, [], ◌++◌, List, eqb, length, slice_index, None, Some, IfErr, IfSome, OnErr, OnOk, drop, false, take, true, ◌≤◌};
 ghost use Rattle.html_arena.specs.declared.marks.Mark.TheVariants.{OnStack};
-ghost use Rattle.html_arena.specs.Siblings.{has, last_of};
+ghost use Rattle.html_arena.specs.Siblings.{first_of, has, last_of};
 ghost use Rattle.html_arena.specs.Tree.{more, named, tag_at, with_marked};
+ghost use Rattle.html_names.specs.declared.sets.Scope.TheVariants.{Default};
+ghost use Rattle.html_open.specs.AdoptFinding.{element_in_scope};
+ghost use Rattle.html_open.specs.Adopting.{IsFirstFree};
 ghost use Rattle.html_open.specs.Entries.{removal_steps};
 ghost use Rattle.html_open.specs.Lists.{above, last_index, looked, up_to, with_last, without_last};
-ghost use Rattle.html_open.specs.Marking.{all_unmarked, charged, unmarked};
+ghost use Rattle.html_open.specs.Marking.{IsSameTree, all_unmarked, charged, unmarked};
 ghost use Rattle.html_open.specs.Opened.{AreNodes, CanPush, IsMarked, IsOpen, open_at};
-ghost use Rattle.html_open.specs.Scopes.{ends, implied_steps, in_scope, match_or_end, stays};
+ghost use Rattle.html_open.specs.Placing.{CanPlace};
+ghost use Rattle.html_open.specs.Scopes.{element_or_end, ends, implied_steps, in_scope, match_or_end, stays};
 
 use crate::error::OpenError;
 use crate::search::{PRESENCE, Sought, after, last_index, removal, steps_to};
@@ -66,6 +70,10 @@ impl OpenStack {
         ensures stack { OnOk result (self.new ≡ self.old ++ node ∷ []) }
         ensures tree { OnOk result (arena.new ≡ charged (with_marked arena.old OnStack node true) 1) }
         ensures keeps { OnOk result ((l : _) → IsOpen (open_at self.old l arena.old) → CanPush (open_at self.old l arena.old) node → IsOpen (open_at self.new l arena.new)) }
+        ensures nodes_in { OnOk result (AreNodes arena.old self.old → AreNodes arena.new self.new) }
+        ensures first { OnOk result (0 < length self.old → first_of self.new ≡ first_of self.old) }
+        ensures can_place { OnOk result (CanPlace arena.old self.old → CanPlace arena.new self.new) }
+        ensures first_free { OnOk result ((l : _) → 0 < length self.old → IsFirstFree self.old l → IsFirstFree self.new l) }
         ensures same_stack { OnErr result (self.new ≡ self.old) }
         ensures same_tree { OnErr result (arena.new ≡ arena.old) }
         ensures cause { IfErr result (λ e. e ≡ OpenError.OutOfMemory) }
@@ -84,8 +92,15 @@ impl OpenStack {
         requires { AreNodes arena.old self.old }
         ensures stack { self.old ≡ with_last self.new result }
         ensures none { result ≡ None → self.old ≡ [] }
+        ensures member { IfSome result (λ x. has x self.old ≡ true) }
         ensures tree { arena.new ≡ charged (unmarked arena.old OnStack result) 1 }
         ensures keeps { (l : _) → IsOpen (open_at self.old l arena.old) → IsOpen (open_at self.new l arena.new) }
+        ensures tree_kept { IsSameTree arena.old arena.new }
+        ensures steps { arena.new.steps ≡ more arena.old.steps 1 }
+        ensures fewer { (x : ℕ) → has x self.old ≡ false → has x self.new ≡ false }
+        ensures first { 0 < length self.new → first_of self.new ≡ first_of self.old }
+        ensures can_place { 0 < length self.new → CanPlace arena.old self.old → CanPlace arena.new self.new }
+        ensures first_free { (l : _) → IsFirstFree self.old l → IsFirstFree self.new l }
     {
         arena.forest();
         let node = self.take_last(arena);
@@ -101,6 +116,12 @@ impl OpenStack {
         ensures stack { self.new ≡ without_last (eqb node) self.old }
         ensures tree { arena.new ≡ charged (with_marked arena.old OnStack node false) (removal_steps (eqb node) self.old) }
         ensures keeps { (l : _) → IsOpen (open_at self.old l arena.old) → IsOpen (open_at self.new l arena.new) }
+        ensures tree_kept { IsSameTree arena.old arena.new }
+        ensures steps { arena.new.steps ≡ more arena.old.steps (removal_steps (eqb node) self.old) }
+        ensures fewer { (x : ℕ) → has x self.old ≡ false → has x self.new ≡ false }
+        ensures first { first_of self.old ≢ Some node → first_of self.new ≡ first_of self.old }
+        ensures can_place { first_of self.old ≢ Some node → CanPlace arena.old self.old → CanPlace arena.new self.new }
+        ensures first_free { (l : _) → first_of self.old ≢ Some node → IsFirstFree self.old l → IsFirstFree self.new l }
     {
         arena.forest();
         let nodes = self.nodes.as_slice();
@@ -116,7 +137,9 @@ impl OpenStack {
     /// The current node. One step.
     pub fn current(&self, arena: &mut Arena) -> Option<NodeId>
         ensures node { result ≡ last_of self.now }
+        ensures member { IfSome result (λ x. has x self.now ≡ true) }
         ensures steps { arena.new ≡ charged arena.old 1 }
+        ensures keeps { (l : _) → IsOpen (open_at self.now l arena.old) → IsOpen (open_at self.now l arena.new) }
     {
         arena.charge(1);
         last_node(self.nodes.as_slice())
@@ -126,7 +149,9 @@ impl OpenStack {
     pub fn at(&self, arena: &mut Arena, index: usize) -> NodeId
         requires { index < length self.now }
         ensures node { result ≡ slice_index self.now index }
+        ensures member { has result self.now ≡ true }
         ensures steps { arena.new ≡ charged arena.old 1 }
+        ensures keeps { (l : _) → IsOpen (open_at self.now l arena.old) → IsOpen (open_at self.now l arena.new) }
     {
         arena.charge(1);
         self.nodes[index]
@@ -136,10 +161,28 @@ impl OpenStack {
     pub fn index_of(&self, arena: &mut Arena, node: NodeId) -> Option<usize>
         requires { AreNodes arena.old self.now }
         ensures index { result ≡ last_index (eqb node) self.now }
+        ensures below { IfSome result (λ i. i < length self.now) }
+        ensures there { IfSome result (λ i. slice_index self.now i ≡ node) }
         ensures steps { arena.new ≡ charged arena.old (looked (eqb node) self.now) }
+        ensures keeps { (l : _) → IsOpen (open_at self.now l arena.old) → IsOpen (open_at self.now l arena.new) }
     {
         let nodes = self.nodes.as_slice();
         let index = last_index(nodes, arena, &Sought::Node(node));
+        arena.charge(steps_to(nodes.len(), index));
+        index
+    }
+
+    /// The index of the last element of this name. One step for each element from the current node down to it; for all where it is absent.
+    pub fn index_named(&self, arena: &mut Arena, name: Tag) -> Option<usize>
+        requires { AreNodes arena.old self.now }
+        ensures index { result ≡ last_index (named arena.old name) self.now }
+        ensures below { IfSome result (λ i. i < length self.now) }
+        ensures there { IfSome result (λ i. named arena.old name (slice_index self.now i) ≡ true) }
+        ensures steps { arena.new ≡ charged arena.old (looked (named arena.old name) self.now) }
+        ensures keeps { (l : _) → IsOpen (open_at self.now l arena.old) → IsOpen (open_at self.now l arena.new) }
+    {
+        let nodes = self.nodes.as_slice();
+        let index = last_index(nodes, arena, &Sought::Tag(name));
         arena.charge(steps_to(nodes.len(), index));
         index
     }
@@ -150,6 +193,7 @@ impl OpenStack {
         requires marked { IsMarked arena.old OnStack self.now }
         ensures answer { result ≡ has node self.now }
         ensures steps { arena.new ≡ charged arena.old 1 }
+        ensures keeps { (l : _) → IsOpen (open_at self.now l arena.old) → IsOpen (open_at self.now l arena.new) }
     {
         arena.charge(PRESENCE);
         arena.marked(node, Mark::OnStack)
@@ -161,6 +205,7 @@ impl OpenStack {
         requires { AreNodes arena.old self.now }
         ensures answer { result ≡ in_scope (named arena.old name) (ends arena.old scope) self.now }
         ensures steps { arena.new ≡ charged arena.old (looked (match_or_end arena.old name scope) self.now) }
+        ensures keeps { (l : _) → IsOpen (open_at self.now l arena.old) → IsOpen (open_at self.now l arena.new) }
     {
         let nodes = self.nodes.as_slice();
         let found = last_index(nodes, arena, &Sought::InScope(name, scope));
@@ -171,6 +216,23 @@ impl OpenStack {
         }
     }
 
+    /// Whether this very element is in the default scope: it is on the stack, and no end of the scope stands after it. One step for each
+    /// element from the current node down to it, or to the first that ends the scope; for all where there is neither.
+    pub fn is_in_scope(&self, arena: &mut Arena, node: NodeId) -> bool
+        requires { AreNodes arena.old self.now }
+        ensures answer { result ≡ element_in_scope arena.old node self.now }
+        ensures steps { arena.new ≡ charged arena.old (looked (element_or_end arena.old node Default) self.now) }
+        ensures keeps { (l : _) → IsOpen (open_at self.now l arena.old) → IsOpen (open_at self.now l arena.new) }
+    {
+        let nodes = self.nodes.as_slice();
+        let found = last_index(nodes, arena, &Sought::ElementInScope(node, Scope::Default));
+        arena.charge(steps_to(nodes.len(), found));
+        match found {
+            None => false,
+            Some(index) => node == nodes[index],
+        }
+    }
+
     /// Pops elements while the end tag of the current node is implied and its name is not the excepted one.
     /// Two steps for each that is popped, and one where an element is left.
     pub fn implied(&mut self, arena: &mut Arena, except: Option<Tag>)
@@ -178,6 +240,12 @@ impl OpenStack {
         ensures stack { self.new ≡ up_to (stays arena.old except) self.old }
         ensures tree { arena.new ≡ charged (all_unmarked arena.old OnStack (above (stays arena.old except) self.old)) (implied_steps arena.old except self.old) }
         ensures keeps { (l : _) → IsOpen (open_at self.old l arena.old) → IsOpen (open_at self.new l arena.new) }
+        ensures tree_kept { IsSameTree arena.old arena.new }
+        ensures steps { arena.new.steps ≡ more arena.old.steps (implied_steps arena.old except self.old) }
+        ensures fewer { (x : ℕ) → has x self.old ≡ false → has x self.new ≡ false }
+        ensures first { 0 < length self.new → first_of self.new ≡ first_of self.old }
+        ensures can_place { 0 < length self.new → CanPlace arena.old self.old → CanPlace arena.new self.new }
+        ensures first_free { (l : _) → IsFirstFree self.old l → IsFirstFree self.new l }
     {
         let nodes = self.nodes.as_slice();
         let found = last_index(nodes, arena, &Sought::Staying(except));
@@ -187,13 +255,19 @@ impl OpenStack {
         self.pop_to(arena, kept);
     }
 
-    /// Takes elements off until there are `len`.
-    pub(crate) fn pop_to(&mut self, arena: &mut Arena, len: usize)
+    /// Takes elements off until there are `len`, without a step.
+    pub fn pop_to(&mut self, arena: &mut Arena, len: usize)
         requires nodes_in { AreNodes arena.old self.old }
         requires len_in { len ≤ length self.old }
         ensures stack { self.new ≡ take len self.old }
         ensures tree { arena.new ≡ all_unmarked arena.old OnStack (drop len self.old) }
         ensures keeps { (l : _) → IsOpen (open_at self.old l arena.old) → IsOpen (open_at self.new l arena.new) }
+        ensures tree_kept { IsSameTree arena.old arena.new }
+        ensures steps { arena.new.steps ≡ arena.old.steps }
+        ensures fewer { (x : ℕ) → has x self.old ≡ false → has x self.new ≡ false }
+        ensures first { 0 < length self.new → first_of self.new ≡ first_of self.old }
+        ensures can_place { 0 < length self.new → CanPlace arena.old self.old → CanPlace arena.new self.new }
+        ensures first_free { (l : _) → IsFirstFree self.old l → IsFirstFree self.new l }
     {
         'popping: while self.len() > len {
             arena.forest();

@@ -1,5 +1,5 @@
 // What stands on the stack and in the list after a round.
-ghost use Rattle.std.specs.Prelude.{◌≡◌, ◌+◌, ◌-◌, ◌<◌, ◌≤◌, ◌^◌, ◌∷◌, ◌++◌, IfOk, OnOk, drop, false, length, map, slice_index, take};
+ghost use Rattle.std.specs.Prelude.{◌≡◌, ◌+◌, ◌-◌, ◌*◌, ◌<◌, ◌≤◌, ◌^◌, [], ◌∷◌, ◌++◌, IfOk, drop, false, length, map, slice_index, take, vec_capacity, vec_len};
 ghost use Rattle.std.specs.List.{flat_map};
 ghost use Rattle.html_arena.specs.declared.marks.Mark.TheVariants.{InList};
 ghost use Rattle.html_arena.specs.Siblings.{first_of, has, is_in};
@@ -83,56 +83,67 @@ pub(crate) fn enter(arena: &mut Arena, first: usize, end: usize)
     }
 }
 
-/// The list after a round, by the marks of the elements that stay.
-pub(crate) fn relisted(
-    alloc: Global,
-    entries: &[Entry],
-    arena: &Arena,
-    plan: &Plan<'_>,
-) -> Result<Vec<Entry>, AllocError>
-    requires nodes_in { AreNodes arena.now (nodes_of entries.now) }
-    requires clones { plan.now.first + length plan.now.originals.now < 2 ^ 64 }
-    ensures { IfOk result (λ v. v.items ≡ flat_map (relisted plan.now.formatting (marked arena.now InList) plan.now.originals.now plan.now.first plan.now.clone) entries.now) }
+/// An empty list with room for what stands for all entries after a round, which is at most two for each.
+pub(crate) fn with_room(alloc: Global, entries: &[Entry]) -> Result<Vec<Entry>, AllocError>
+    ensures empty { IfOk result (λ v. v.items ≡ []) }
+    ensures room { IfOk result (λ v. 2 * length entries.now ≤ vec_capacity v) }
 {
     let mut list = Vec::new(alloc);
-    for entry in entries {
-        match *entry {
-            Entry::Marker => list.push(Entry::Marker)?,
-            Entry::Node(node) => push_relisted(&mut list, node, arena, plan)?,
-        }
-    }
+    list.reserve(2 * entries.len())?;
     Ok(list)
 }
 
+/// The list after a round, by the marks of the elements that stay, in a list that is empty and has room.
+pub(crate) fn relisted(list: &mut Vec<Entry>, entries: &[Entry], arena: &Arena, plan: &Plan<'_>)
+    requires nodes_in { AreNodes arena.now (nodes_of entries.now) }
+    requires clones { plan.now.first + length plan.now.originals.now < 2 ^ 64 }
+    requires empty { list.old.items ≡ [] }
+    requires room { 2 * length entries.now ≤ vec_capacity list.old }
+    ensures { list.new.items ≡ flat_map (relisted plan.now.formatting (marked arena.now InList) plan.now.originals.now plan.now.first plan.now.clone) entries.now }
+{
+    for entry in entries {
+        match *entry {
+            Entry::Marker => push_entry(list, Entry::Marker),
+            Entry::Node(node) => push_relisted(list, node, arena, plan),
+        }
+    }
+}
+
+/// Adds an entry to a list that has room.
+fn push_entry(list: &mut Vec<Entry>, entry: Entry)
+    requires room { vec_len list.old < vec_capacity list.old }
+    ensures list { list.new.items ≡ list.old.items ++ entry ∷ [] }
+    ensures room { vec_capacity list.old ≤ vec_capacity list.new }
+{
+    let _ = list.push(entry);
+}
+
 /// Adds what stands in the list for an element after a round.
-fn push_relisted(
-    list: &mut Vec<Entry>,
-    node: NodeId,
-    arena: &Arena,
-    plan: &Plan<'_>,
-) -> Result<(), AllocError>
+fn push_relisted(list: &mut Vec<Entry>, node: NodeId, arena: &Arena, plan: &Plan<'_>)
     requires node_in { node < length arena.now.labels }
     requires clones { plan.now.first + length plan.now.originals.now < 2 ^ 64 }
-    ensures { OnOk result (list.new.items ≡ list.old.items ++ map Node (heirs plan.now.formatting (marked arena.now InList) plan.now.originals.now plan.now.first plan.now.clone node)) }
+    requires room { vec_len list.old + 2 ≤ vec_capacity list.old }
+    ensures list { list.new.items ≡ list.old.items ++ map Node (heirs plan.now.formatting (marked arena.now InList) plan.now.originals.now plan.now.first plan.now.clone node) }
+    ensures room { vec_capacity list.old ≤ vec_capacity list.new }
+    ensures few { vec_len list.new ≤ vec_len list.old + 2 }
 {
     if node == plan.formatting {
         if plan.originals.is_empty() {
-            list.push(Entry::Node(plan.clone))?;
+            push_entry(list, Entry::Node(plan.clone));
         }
-        return Ok(());
+        return;
     }
     if contains(plan.originals, node) {
         let number = number_of_clone(plan.first, plan.originals, node);
-        list.push(Entry::Node(NodeId::at(number)))?;
+        push_entry(list, Entry::Node(NodeId::at(number)));
         if is_first(plan.originals, node) {
-            list.push(Entry::Node(plan.clone))?;
+            push_entry(list, Entry::Node(plan.clone));
         }
-        return Ok(());
+        return;
     }
     if arena.marked(node, Mark::InList) {
-        list.push(Entry::Node(node))?;
+        push_entry(list, Entry::Node(node));
     }
-    Ok(())
 }
 
 /// Whether an element is one of these.

@@ -1,5 +1,5 @@
 // A round of the adoption agency.
-ghost use Rattle.std.specs.Prelude.{◌≡◌, ℕ, ◌+◌, ◌-◌, ◌*◌, ◌<◌, IfErr, IfOk, OnOk, drop, take, false, length, true};
+ghost use Rattle.std.specs.Prelude.{◌≡◌, ℕ, ◌+◌, ◌-◌, ◌*◌, ◌<◌, IfErr, IfOk, OnErr, OnOk, drop, take, false, length, true};
 ghost use Rattle.html_names.specs.declared.tag.Tag.{Tag};
 ghost use Rattle.html_arena.specs.Siblings.{has};
 ghost use Rattle.html_open.specs.AdoptFinding.{IsBlock};
@@ -13,7 +13,7 @@ ghost use Rattle.html_open.specs.Rooting.{KeepsRoots};
 
 use crate::adoption::chain::hang;
 use crate::adoption::clones::{clone_all, elements_to_clone};
-use crate::adoption::lists::{Plan, enter, leave, relisted, restacked};
+use crate::adoption::lists::{Plan, enter, leave, relisted, restacked, with_room};
 use crate::entry::Entry;
 use crate::error::OpenError;
 use crate::list::FormattingList;
@@ -48,6 +48,8 @@ pub(crate) fn round(
     ensures can_place { OnOk result (CanPlace arena.new stack.new) }
     ensures first_free { OnOk result (IsFirstFree stack.old list.old → IsFirstFree stack.new list.new) }
     ensures roots { OnOk result (KeepsRoots (open_at stack.old list.old arena.old) arena.new) }
+    ensures same_stack { OnErr result (stack.new ≡ stack.old) }
+    ensures same_list { OnErr result (list.new ≡ list.old) }
     ensures cut { IfErr result (λ e. IsCut arena.old arena.new (round_originals (open_at stack.old list.old arena.old) at block_at) e) }
     ensures steps { IsCounted arena.old.steps arena.new.steps (length arena.new.labels - length arena.old.labels) (length arena.new.labels + 2 * length stack.old + length list.old + 11) }
     ensures paid { OnOk result (IsPaid (open_at stack.old list.old arena.old) (open_at stack.new list.new arena.new)) }
@@ -59,6 +61,7 @@ pub(crate) fn round(
     arena.charge((nodes.len() - at) as u128 + entries.len() as u128);
     let target = place(stack, arena, Some(nodes[at - 1]), foster);
     let regrouped = regroup(alloc, nodes, entries, arena, at, block_at, target)?;
+    arena.forest();
     stack.replace(regrouped.nodes);
     list.entries = regrouped.entries;
     Ok(())
@@ -92,6 +95,7 @@ fn regroup(
     let clone = clone_all(arena, originals.as_slice(), nodes[at])?;
     let end = arena.len() as usize;
     let new_nodes = restacked(alloc, nodes, at, block_at, first, clone)?;
+    let mut new_entries = with_room(alloc, entries)?;
     leave(arena, &nodes[at..block_at]);
     let plan = Plan {
         formatting: nodes[at],
@@ -99,7 +103,7 @@ fn regroup(
         first,
         clone,
     };
-    let new_entries = relisted(alloc, entries, arena, &plan)?;
+    relisted(&mut new_entries, entries, arena, &plan);
     enter(arena, first, end);
     hang(arena, nodes[block_at], first, clone, target);
     Ok(Regrouped {

@@ -101,10 +101,12 @@ pub returns-in_err-round-in-Block-clause-stopped : goal.returns-in_err-round-in-
 returns-in_err-round-in-Block-clause-stopped c =
     let p = err_from_is_err_and c.from_residual.result c.from_residual.ensures.1 in
     let d = subst (λ (t : Tree). IsCut t c.round.new.arena (round_originals (open_at c.args.stack.now c.args.list.now t) c.in-Block.at c.in-Block.block_at) c.in_err-round-in-Block.field-0.0) c.find.ensures.tree c.in_err-round-in-Block.ensures.cut in
-    rw p.1 (subst (λ (e : OpenError). IsStopped c.args.name (open_at c.args.stack.now c.args.list.now c.args.arena.now) c.round.new.arena e) (sym p.2) (record {
+    rw p.1 (subst (λ (e : OpenError). IsStopped c.args.name (open_at c.args.stack.now c.args.list.now c.args.arena.now) (open_at c.round.new.stack c.round.new.list c.round.new.arena) e) (sym p.2) (record {
       at = c.in-Block.at;
       b = c.in-Block.block_at;
       block = c.in-Block.ensures.found;
+      stack_is = c.in_err-round-in-Block.ensures.same_stack;
+      list_is = c.in_err-round-in-Block.ensures.same_list;
       cut = cut-rebase c.args.arena.now c.find.new.arena.steps c.round.new.arena (round_originals (open_at c.args.stack.now c.args.list.now c.args.arena.now) c.in-Block.at c.in-Block.block_at) c.in_err-round-in-Block.field-0.0 d;
     }))
 

@@ -7,7 +7,7 @@ use Rattle.std.proofs.lemmas.Result.{err_from_is_err_and}
 use Rattle.html_open.specs.Cloning.{AreCloned, AreFormatting, HaveEntered}
 use Rattle.html_open.proofs.Cutting.{cut-all}
 use Rattle.html_open.specs.Hanging.{Hung, StandAlone}
-use Rattle.html_open.proofs.Counting.{grown-regrouped, regroup-counted, regroup-left}
+use Rattle.html_open.proofs.Counting.{grown-regrouped, regroup-counted}
 use Rattle.html_open.proofs.Numbering.{originals-few}
 use Rattle.std.proofs.Common.{take, drop}
 use Rattle.html_open.proofs.Regrouping.{at-within, clone-in, cs-formatting, cut-after, end-in, entries-in, f-formatting, fresh-clones, front-kept, g-below, g-linkable, index-is, inner-in, left-in, length-is, new-list, new-stack, older, open-after, place-there, regrouped, within}
@@ -78,18 +78,18 @@ hang-requires-clause-older c = λ y h.
     (omega (arith, a, r0), λ q. r.1 (q ∙ (index-is c.args.nodes.now c.args.block_at c.index-nodes-block_at.result (within c.args.nodes.now c.args.entries.now c.args.arena.now c.args.at c.args.block_at c.forest.ensures.well_formed c.requires.«open» c.requires.block.0 c.requires.block.1) c.index-nodes-block_at.is)))
 
 pub returns-clause-kept : goal.returns-clause-kept
-returns-clause-kept c = open-after c.args.nodes.now c.args.entries.now c.args.arena.now c.args.at c.args.block_at c.forest.ensures.well_formed c.requires.«open» c.requires.block.0 c.requires.block.1 c.elements_to_clone-originals.result c.elements_to_clone-originals.ensures c.clone_all.new.arena (subst (λ (x : ℕ). AreCloned c.args.arena.now c.clone_all.new.arena (c.elements_to_clone-originals.result ++ x ∷ [])) (index-is c.args.nodes.now c.args.at c.index-nodes-at.result (at-within c.args.nodes.now c.args.entries.now c.args.arena.now c.args.at c.args.block_at c.forest.ensures.well_formed c.requires.«open» c.requires.block.0 c.requires.block.1) c.index-nodes-at.is) (subst (λ (v : List ℕ). AreCloned c.args.arena.now c.clone_all.new.arena (v ++ c.index-nodes-at.result ∷ [])) c.as_slice.ensures c.in_ok-clone.ensures.cloned)) c.leave.new.arena c.leave.ensures.same c.leave.ensures.marks c.enter.new.arena c.enter.ensures.same (subst (HaveEntered c.leave.new.arena c.enter.new.arena (length c.args.arena.now.labels)) (c.len-end.ensures ∙ length-is c.args.nodes.now c.args.entries.now c.args.arena.now c.args.at c.args.block_at c.forest.ensures.well_formed c.requires.«open» c.requires.block.0 c.requires.block.1 c.elements_to_clone-originals.result c.elements_to_clone-originals.ensures c.clone_all.new.arena (subst (λ (x : ℕ). AreCloned c.args.arena.now c.clone_all.new.arena (c.elements_to_clone-originals.result ++ x ∷ [])) (index-is c.args.nodes.now c.args.at c.index-nodes-at.result (at-within c.args.nodes.now c.args.entries.now c.args.arena.now c.args.at c.args.block_at c.forest.ensures.well_formed c.requires.«open» c.requires.block.0 c.requires.block.1) c.index-nodes-at.is) (subst (λ (v : List ℕ). AreCloned c.args.arena.now c.clone_all.new.arena (v ++ c.index-nodes-at.result ∷ [])) c.as_slice.ensures c.in_ok-clone.ensures.cloned))) (subst (λ (x : ℕ). HaveEntered c.leave.new.arena c.enter.new.arena x c.len-end.result) c.len-first.ensures c.enter.ensures.marks)) c.args.target c.requires.place_in c.requires.way_in c.requires.apart c.hang.new.arena (subst (λ (x : ℕ). Hung c.enter.new.arena c.hang.new.arena x (length c.args.arena.now.labels) (length c.args.arena.now.labels + length c.elements_to_clone-originals.result) c.args.target) (index-is c.args.nodes.now c.args.block_at c.index-nodes-block_at.result (within c.args.nodes.now c.args.entries.now c.args.arena.now c.args.at c.args.block_at c.forest.ensures.well_formed c.requires.«open» c.requires.block.0 c.requires.block.1) c.index-nodes-block_at.is) (subst (λ (x : ℕ). Hung c.enter.new.arena c.hang.new.arena c.index-nodes-block_at.result (length c.args.arena.now.labels) x c.args.target) (c.in_ok-clone.ensures.number ∙ ap (λ (v : List ℕ). length c.args.arena.now.labels + length v) c.as_slice.ensures) (subst (λ (x : ℕ). Hung c.enter.new.arena c.hang.new.arena c.index-nodes-block_at.result x c.in_ok-clone.clone c.args.target) c.len-first.ensures c.hang.ensures.hung))) c.in_ok-new_nodes.new_nodes.items c.in_ok-new_entries.new_entries.items
+returns-clause-kept c = open-after c.args.nodes.now c.args.entries.now c.args.arena.now c.args.at c.args.block_at c.forest.ensures.well_formed c.requires.«open» c.requires.block.0 c.requires.block.1 c.elements_to_clone-originals.result c.elements_to_clone-originals.ensures c.clone_all.new.arena (subst (λ (x : ℕ). AreCloned c.args.arena.now c.clone_all.new.arena (c.elements_to_clone-originals.result ++ x ∷ [])) (index-is c.args.nodes.now c.args.at c.index-nodes-at.result (at-within c.args.nodes.now c.args.entries.now c.args.arena.now c.args.at c.args.block_at c.forest.ensures.well_formed c.requires.«open» c.requires.block.0 c.requires.block.1) c.index-nodes-at.is) (subst (λ (v : List ℕ). AreCloned c.args.arena.now c.clone_all.new.arena (v ++ c.index-nodes-at.result ∷ [])) c.as_slice.ensures c.in_ok-clone.ensures.cloned)) c.leave.new.arena c.leave.ensures.same c.leave.ensures.marks c.enter.new.arena c.enter.ensures.same (subst (HaveEntered c.leave.new.arena c.enter.new.arena (length c.args.arena.now.labels)) (c.len-end.ensures ∙ length-is c.args.nodes.now c.args.entries.now c.args.arena.now c.args.at c.args.block_at c.forest.ensures.well_formed c.requires.«open» c.requires.block.0 c.requires.block.1 c.elements_to_clone-originals.result c.elements_to_clone-originals.ensures c.clone_all.new.arena (subst (λ (x : ℕ). AreCloned c.args.arena.now c.clone_all.new.arena (c.elements_to_clone-originals.result ++ x ∷ [])) (index-is c.args.nodes.now c.args.at c.index-nodes-at.result (at-within c.args.nodes.now c.args.entries.now c.args.arena.now c.args.at c.args.block_at c.forest.ensures.well_formed c.requires.«open» c.requires.block.0 c.requires.block.1) c.index-nodes-at.is) (subst (λ (v : List ℕ). AreCloned c.args.arena.now c.clone_all.new.arena (v ++ c.index-nodes-at.result ∷ [])) c.as_slice.ensures c.in_ok-clone.ensures.cloned))) (subst (λ (x : ℕ). HaveEntered c.leave.new.arena c.enter.new.arena x c.len-end.result) c.len-first.ensures c.enter.ensures.marks)) c.args.target c.requires.place_in c.requires.way_in c.requires.apart c.hang.new.arena (subst (λ (x : ℕ). Hung c.enter.new.arena c.hang.new.arena x (length c.args.arena.now.labels) (length c.args.arena.now.labels + length c.elements_to_clone-originals.result) c.args.target) (index-is c.args.nodes.now c.args.block_at c.index-nodes-block_at.result (within c.args.nodes.now c.args.entries.now c.args.arena.now c.args.at c.args.block_at c.forest.ensures.well_formed c.requires.«open» c.requires.block.0 c.requires.block.1) c.index-nodes-block_at.is) (subst (λ (x : ℕ). Hung c.enter.new.arena c.hang.new.arena c.index-nodes-block_at.result (length c.args.arena.now.labels) x c.args.target) (c.in_ok-clone.ensures.number ∙ ap (λ (v : List ℕ). length c.args.arena.now.labels + length v) c.as_slice.ensures) (subst (λ (x : ℕ). Hung c.enter.new.arena c.hang.new.arena c.index-nodes-block_at.result x c.in_ok-clone.clone c.args.target) c.len-first.ensures c.hang.ensures.hung))) c.in_ok-new_nodes.new_nodes.items c.relisted.new.list.items
     (new-stack c.args.nodes.now c.in_ok-new_nodes.new_nodes.items c.args.at c.args.block_at c.len-first.result c.in_ok-clone.clone (length c.args.arena.now.labels) (length c.elements_to_clone-originals.result) c.len-first.ensures (c.in_ok-clone.ensures.number ∙ ap (λ (v : List ℕ). length c.args.arena.now.labels + length v) c.as_slice.ensures) c.in_ok-new_nodes.ensures)
-    (c.in_ok-new_entries.ensures ∙ new-list c.index-nodes-at-2.result (marked c.leave.new.arena InList) c.as_slice-2.result.now c.elements_to_clone-originals.result c.len-first.result c.in_ok-clone.clone (length c.args.arena.now.labels) (length c.args.arena.now.labels + length c.elements_to_clone-originals.result) _ c.args.entries.now (index-is c.args.nodes.now c.args.at c.index-nodes-at-2.result (at-within c.args.nodes.now c.args.entries.now c.args.arena.now c.args.at c.args.block_at c.forest.ensures.well_formed c.requires.«open» c.requires.block.0 c.requires.block.1) c.index-nodes-at-2.is) c.as_slice-2.ensures c.len-first.ensures (c.in_ok-clone.ensures.number ∙ ap (λ (v : List ℕ). length c.args.arena.now.labels + length v) c.as_slice.ensures))
+    (c.relisted.ensures ∙ new-list c.index-nodes-at-2.result (marked c.leave.new.arena InList) c.as_slice-2.result.now c.elements_to_clone-originals.result c.len-first.result c.in_ok-clone.clone (length c.args.arena.now.labels) (length c.args.arena.now.labels + length c.elements_to_clone-originals.result) _ c.args.entries.now (index-is c.args.nodes.now c.args.at c.index-nodes-at-2.result (at-within c.args.nodes.now c.args.entries.now c.args.arena.now c.args.at c.args.block_at c.forest.ensures.well_formed c.requires.«open» c.requires.block.0 c.requires.block.1) c.index-nodes-at-2.is) c.as_slice-2.ensures c.len-first.ensures (c.in_ok-clone.ensures.number ∙ ap (λ (v : List ℕ). length c.args.arena.now.labels + length v) c.as_slice.ensures))
 
 pub returns-clause-front : goal.returns-clause-front
-returns-clause-front c = front-kept c.args.nodes.now c.args.entries.now c.args.arena.now c.args.at c.args.block_at c.forest.ensures.well_formed c.requires.«open» c.requires.block.0 c.requires.block.1 c.elements_to_clone-originals.result c.elements_to_clone-originals.ensures c.clone_all.new.arena (subst (λ (x : ℕ). AreCloned c.args.arena.now c.clone_all.new.arena (c.elements_to_clone-originals.result ++ x ∷ [])) (index-is c.args.nodes.now c.args.at c.index-nodes-at.result (at-within c.args.nodes.now c.args.entries.now c.args.arena.now c.args.at c.args.block_at c.forest.ensures.well_formed c.requires.«open» c.requires.block.0 c.requires.block.1) c.index-nodes-at.is) (subst (λ (v : List ℕ). AreCloned c.args.arena.now c.clone_all.new.arena (v ++ c.index-nodes-at.result ∷ [])) c.as_slice.ensures c.in_ok-clone.ensures.cloned)) c.leave.new.arena c.leave.ensures.same c.leave.ensures.marks c.enter.new.arena c.enter.ensures.same (subst (HaveEntered c.leave.new.arena c.enter.new.arena (length c.args.arena.now.labels)) (c.len-end.ensures ∙ length-is c.args.nodes.now c.args.entries.now c.args.arena.now c.args.at c.args.block_at c.forest.ensures.well_formed c.requires.«open» c.requires.block.0 c.requires.block.1 c.elements_to_clone-originals.result c.elements_to_clone-originals.ensures c.clone_all.new.arena (subst (λ (x : ℕ). AreCloned c.args.arena.now c.clone_all.new.arena (c.elements_to_clone-originals.result ++ x ∷ [])) (index-is c.args.nodes.now c.args.at c.index-nodes-at.result (at-within c.args.nodes.now c.args.entries.now c.args.arena.now c.args.at c.args.block_at c.forest.ensures.well_formed c.requires.«open» c.requires.block.0 c.requires.block.1) c.index-nodes-at.is) (subst (λ (v : List ℕ). AreCloned c.args.arena.now c.clone_all.new.arena (v ++ c.index-nodes-at.result ∷ [])) c.as_slice.ensures c.in_ok-clone.ensures.cloned))) (subst (λ (x : ℕ). HaveEntered c.leave.new.arena c.enter.new.arena x c.len-end.result) c.len-first.ensures c.enter.ensures.marks)) c.args.target c.requires.place_in c.requires.way_in c.requires.apart c.hang.new.arena (subst (λ (x : ℕ). Hung c.enter.new.arena c.hang.new.arena x (length c.args.arena.now.labels) (length c.args.arena.now.labels + length c.elements_to_clone-originals.result) c.args.target) (index-is c.args.nodes.now c.args.block_at c.index-nodes-block_at.result (within c.args.nodes.now c.args.entries.now c.args.arena.now c.args.at c.args.block_at c.forest.ensures.well_formed c.requires.«open» c.requires.block.0 c.requires.block.1) c.index-nodes-block_at.is) (subst (λ (x : ℕ). Hung c.enter.new.arena c.hang.new.arena c.index-nodes-block_at.result (length c.args.arena.now.labels) x c.args.target) (c.in_ok-clone.ensures.number ∙ ap (λ (v : List ℕ). length c.args.arena.now.labels + length v) c.as_slice.ensures) (subst (λ (x : ℕ). Hung c.enter.new.arena c.hang.new.arena c.index-nodes-block_at.result x c.in_ok-clone.clone c.args.target) c.len-first.ensures c.hang.ensures.hung))) c.in_ok-new_entries.new_entries.items
-    (c.in_ok-new_entries.ensures ∙ new-list c.index-nodes-at-2.result (marked c.leave.new.arena InList) c.as_slice-2.result.now c.elements_to_clone-originals.result c.len-first.result c.in_ok-clone.clone (length c.args.arena.now.labels) (length c.args.arena.now.labels + length c.elements_to_clone-originals.result) _ c.args.entries.now (index-is c.args.nodes.now c.args.at c.index-nodes-at-2.result (at-within c.args.nodes.now c.args.entries.now c.args.arena.now c.args.at c.args.block_at c.forest.ensures.well_formed c.requires.«open» c.requires.block.0 c.requires.block.1) c.index-nodes-at-2.is) c.as_slice-2.ensures c.len-first.ensures (c.in_ok-clone.ensures.number ∙ ap (λ (v : List ℕ). length c.args.arena.now.labels + length v) c.as_slice.ensures))
+returns-clause-front c = front-kept c.args.nodes.now c.args.entries.now c.args.arena.now c.args.at c.args.block_at c.forest.ensures.well_formed c.requires.«open» c.requires.block.0 c.requires.block.1 c.elements_to_clone-originals.result c.elements_to_clone-originals.ensures c.clone_all.new.arena (subst (λ (x : ℕ). AreCloned c.args.arena.now c.clone_all.new.arena (c.elements_to_clone-originals.result ++ x ∷ [])) (index-is c.args.nodes.now c.args.at c.index-nodes-at.result (at-within c.args.nodes.now c.args.entries.now c.args.arena.now c.args.at c.args.block_at c.forest.ensures.well_formed c.requires.«open» c.requires.block.0 c.requires.block.1) c.index-nodes-at.is) (subst (λ (v : List ℕ). AreCloned c.args.arena.now c.clone_all.new.arena (v ++ c.index-nodes-at.result ∷ [])) c.as_slice.ensures c.in_ok-clone.ensures.cloned)) c.leave.new.arena c.leave.ensures.same c.leave.ensures.marks c.enter.new.arena c.enter.ensures.same (subst (HaveEntered c.leave.new.arena c.enter.new.arena (length c.args.arena.now.labels)) (c.len-end.ensures ∙ length-is c.args.nodes.now c.args.entries.now c.args.arena.now c.args.at c.args.block_at c.forest.ensures.well_formed c.requires.«open» c.requires.block.0 c.requires.block.1 c.elements_to_clone-originals.result c.elements_to_clone-originals.ensures c.clone_all.new.arena (subst (λ (x : ℕ). AreCloned c.args.arena.now c.clone_all.new.arena (c.elements_to_clone-originals.result ++ x ∷ [])) (index-is c.args.nodes.now c.args.at c.index-nodes-at.result (at-within c.args.nodes.now c.args.entries.now c.args.arena.now c.args.at c.args.block_at c.forest.ensures.well_formed c.requires.«open» c.requires.block.0 c.requires.block.1) c.index-nodes-at.is) (subst (λ (v : List ℕ). AreCloned c.args.arena.now c.clone_all.new.arena (v ++ c.index-nodes-at.result ∷ [])) c.as_slice.ensures c.in_ok-clone.ensures.cloned))) (subst (λ (x : ℕ). HaveEntered c.leave.new.arena c.enter.new.arena x c.len-end.result) c.len-first.ensures c.enter.ensures.marks)) c.args.target c.requires.place_in c.requires.way_in c.requires.apart c.hang.new.arena (subst (λ (x : ℕ). Hung c.enter.new.arena c.hang.new.arena x (length c.args.arena.now.labels) (length c.args.arena.now.labels + length c.elements_to_clone-originals.result) c.args.target) (index-is c.args.nodes.now c.args.block_at c.index-nodes-block_at.result (within c.args.nodes.now c.args.entries.now c.args.arena.now c.args.at c.args.block_at c.forest.ensures.well_formed c.requires.«open» c.requires.block.0 c.requires.block.1) c.index-nodes-block_at.is) (subst (λ (x : ℕ). Hung c.enter.new.arena c.hang.new.arena c.index-nodes-block_at.result (length c.args.arena.now.labels) x c.args.target) (c.in_ok-clone.ensures.number ∙ ap (λ (v : List ℕ). length c.args.arena.now.labels + length v) c.as_slice.ensures) (subst (λ (x : ℕ). Hung c.enter.new.arena c.hang.new.arena c.index-nodes-block_at.result x c.in_ok-clone.clone c.args.target) c.len-first.ensures c.hang.ensures.hung))) c.relisted.new.list.items
+    (c.relisted.ensures ∙ new-list c.index-nodes-at-2.result (marked c.leave.new.arena InList) c.as_slice-2.result.now c.elements_to_clone-originals.result c.len-first.result c.in_ok-clone.clone (length c.args.arena.now.labels) (length c.args.arena.now.labels + length c.elements_to_clone-originals.result) _ c.args.entries.now (index-is c.args.nodes.now c.args.at c.index-nodes-at-2.result (at-within c.args.nodes.now c.args.entries.now c.args.arena.now c.args.at c.args.block_at c.forest.ensures.well_formed c.requires.«open» c.requires.block.0 c.requires.block.1) c.index-nodes-at-2.is) c.as_slice-2.ensures c.len-first.ensures (c.in_ok-clone.ensures.number ∙ ap (λ (v : List ℕ). length c.args.arena.now.labels + length v) c.as_slice.ensures))
 
 pub returns-clause-regrouped : goal.returns-clause-regrouped
-returns-clause-regrouped c = regrouped c.args.nodes.now c.args.entries.now c.args.arena.now c.args.at c.args.block_at c.forest.ensures.well_formed c.requires.«open» c.requires.block.0 c.requires.block.1 c.elements_to_clone-originals.result c.elements_to_clone-originals.ensures c.clone_all.new.arena (subst (λ (x : ℕ). AreCloned c.args.arena.now c.clone_all.new.arena (c.elements_to_clone-originals.result ++ x ∷ [])) (index-is c.args.nodes.now c.args.at c.index-nodes-at.result (at-within c.args.nodes.now c.args.entries.now c.args.arena.now c.args.at c.args.block_at c.forest.ensures.well_formed c.requires.«open» c.requires.block.0 c.requires.block.1) c.index-nodes-at.is) (subst (λ (v : List ℕ). AreCloned c.args.arena.now c.clone_all.new.arena (v ++ c.index-nodes-at.result ∷ [])) c.as_slice.ensures c.in_ok-clone.ensures.cloned)) c.leave.new.arena c.leave.ensures.same c.leave.ensures.marks c.enter.new.arena c.enter.ensures.same (subst (HaveEntered c.leave.new.arena c.enter.new.arena (length c.args.arena.now.labels)) (c.len-end.ensures ∙ length-is c.args.nodes.now c.args.entries.now c.args.arena.now c.args.at c.args.block_at c.forest.ensures.well_formed c.requires.«open» c.requires.block.0 c.requires.block.1 c.elements_to_clone-originals.result c.elements_to_clone-originals.ensures c.clone_all.new.arena (subst (λ (x : ℕ). AreCloned c.args.arena.now c.clone_all.new.arena (c.elements_to_clone-originals.result ++ x ∷ [])) (index-is c.args.nodes.now c.args.at c.index-nodes-at.result (at-within c.args.nodes.now c.args.entries.now c.args.arena.now c.args.at c.args.block_at c.forest.ensures.well_formed c.requires.«open» c.requires.block.0 c.requires.block.1) c.index-nodes-at.is) (subst (λ (v : List ℕ). AreCloned c.args.arena.now c.clone_all.new.arena (v ++ c.index-nodes-at.result ∷ [])) c.as_slice.ensures c.in_ok-clone.ensures.cloned))) (subst (λ (x : ℕ). HaveEntered c.leave.new.arena c.enter.new.arena x c.len-end.result) c.len-first.ensures c.enter.ensures.marks)) c.args.target c.requires.place_in c.requires.way_in c.requires.apart c.hang.new.arena (subst (λ (x : ℕ). Hung c.enter.new.arena c.hang.new.arena x (length c.args.arena.now.labels) (length c.args.arena.now.labels + length c.elements_to_clone-originals.result) c.args.target) (index-is c.args.nodes.now c.args.block_at c.index-nodes-block_at.result (within c.args.nodes.now c.args.entries.now c.args.arena.now c.args.at c.args.block_at c.forest.ensures.well_formed c.requires.«open» c.requires.block.0 c.requires.block.1) c.index-nodes-block_at.is) (subst (λ (x : ℕ). Hung c.enter.new.arena c.hang.new.arena c.index-nodes-block_at.result (length c.args.arena.now.labels) x c.args.target) (c.in_ok-clone.ensures.number ∙ ap (λ (v : List ℕ). length c.args.arena.now.labels + length v) c.as_slice.ensures) (subst (λ (x : ℕ). Hung c.enter.new.arena c.hang.new.arena c.index-nodes-block_at.result x c.in_ok-clone.clone c.args.target) c.len-first.ensures c.hang.ensures.hung))) c.in_ok-new_nodes.new_nodes.items c.in_ok-new_entries.new_entries.items
+returns-clause-regrouped c = regrouped c.args.nodes.now c.args.entries.now c.args.arena.now c.args.at c.args.block_at c.forest.ensures.well_formed c.requires.«open» c.requires.block.0 c.requires.block.1 c.elements_to_clone-originals.result c.elements_to_clone-originals.ensures c.clone_all.new.arena (subst (λ (x : ℕ). AreCloned c.args.arena.now c.clone_all.new.arena (c.elements_to_clone-originals.result ++ x ∷ [])) (index-is c.args.nodes.now c.args.at c.index-nodes-at.result (at-within c.args.nodes.now c.args.entries.now c.args.arena.now c.args.at c.args.block_at c.forest.ensures.well_formed c.requires.«open» c.requires.block.0 c.requires.block.1) c.index-nodes-at.is) (subst (λ (v : List ℕ). AreCloned c.args.arena.now c.clone_all.new.arena (v ++ c.index-nodes-at.result ∷ [])) c.as_slice.ensures c.in_ok-clone.ensures.cloned)) c.leave.new.arena c.leave.ensures.same c.leave.ensures.marks c.enter.new.arena c.enter.ensures.same (subst (HaveEntered c.leave.new.arena c.enter.new.arena (length c.args.arena.now.labels)) (c.len-end.ensures ∙ length-is c.args.nodes.now c.args.entries.now c.args.arena.now c.args.at c.args.block_at c.forest.ensures.well_formed c.requires.«open» c.requires.block.0 c.requires.block.1 c.elements_to_clone-originals.result c.elements_to_clone-originals.ensures c.clone_all.new.arena (subst (λ (x : ℕ). AreCloned c.args.arena.now c.clone_all.new.arena (c.elements_to_clone-originals.result ++ x ∷ [])) (index-is c.args.nodes.now c.args.at c.index-nodes-at.result (at-within c.args.nodes.now c.args.entries.now c.args.arena.now c.args.at c.args.block_at c.forest.ensures.well_formed c.requires.«open» c.requires.block.0 c.requires.block.1) c.index-nodes-at.is) (subst (λ (v : List ℕ). AreCloned c.args.arena.now c.clone_all.new.arena (v ++ c.index-nodes-at.result ∷ [])) c.as_slice.ensures c.in_ok-clone.ensures.cloned))) (subst (λ (x : ℕ). HaveEntered c.leave.new.arena c.enter.new.arena x c.len-end.result) c.len-first.ensures c.enter.ensures.marks)) c.args.target c.requires.place_in c.requires.way_in c.requires.apart c.hang.new.arena (subst (λ (x : ℕ). Hung c.enter.new.arena c.hang.new.arena x (length c.args.arena.now.labels) (length c.args.arena.now.labels + length c.elements_to_clone-originals.result) c.args.target) (index-is c.args.nodes.now c.args.block_at c.index-nodes-block_at.result (within c.args.nodes.now c.args.entries.now c.args.arena.now c.args.at c.args.block_at c.forest.ensures.well_formed c.requires.«open» c.requires.block.0 c.requires.block.1) c.index-nodes-block_at.is) (subst (λ (x : ℕ). Hung c.enter.new.arena c.hang.new.arena c.index-nodes-block_at.result (length c.args.arena.now.labels) x c.args.target) (c.in_ok-clone.ensures.number ∙ ap (λ (v : List ℕ). length c.args.arena.now.labels + length v) c.as_slice.ensures) (subst (λ (x : ℕ). Hung c.enter.new.arena c.hang.new.arena c.index-nodes-block_at.result x c.in_ok-clone.clone c.args.target) c.len-first.ensures c.hang.ensures.hung))) c.in_ok-new_nodes.new_nodes.items c.relisted.new.list.items
     (new-stack c.args.nodes.now c.in_ok-new_nodes.new_nodes.items c.args.at c.args.block_at c.len-first.result c.in_ok-clone.clone (length c.args.arena.now.labels) (length c.elements_to_clone-originals.result) c.len-first.ensures (c.in_ok-clone.ensures.number ∙ ap (λ (v : List ℕ). length c.args.arena.now.labels + length v) c.as_slice.ensures) c.in_ok-new_nodes.ensures)
-    (c.in_ok-new_entries.ensures ∙ new-list c.index-nodes-at-2.result (marked c.leave.new.arena InList) c.as_slice-2.result.now c.elements_to_clone-originals.result c.len-first.result c.in_ok-clone.clone (length c.args.arena.now.labels) (length c.args.arena.now.labels + length c.elements_to_clone-originals.result) _ c.args.entries.now (index-is c.args.nodes.now c.args.at c.index-nodes-at-2.result (at-within c.args.nodes.now c.args.entries.now c.args.arena.now c.args.at c.args.block_at c.forest.ensures.well_formed c.requires.«open» c.requires.block.0 c.requires.block.1) c.index-nodes-at-2.is) c.as_slice-2.ensures c.len-first.ensures (c.in_ok-clone.ensures.number ∙ ap (λ (v : List ℕ). length c.args.arena.now.labels + length v) c.as_slice.ensures))
+    (c.relisted.ensures ∙ new-list c.index-nodes-at-2.result (marked c.leave.new.arena InList) c.as_slice-2.result.now c.elements_to_clone-originals.result c.len-first.result c.in_ok-clone.clone (length c.args.arena.now.labels) (length c.args.arena.now.labels + length c.elements_to_clone-originals.result) _ c.args.entries.now (index-is c.args.nodes.now c.args.at c.index-nodes-at-2.result (at-within c.args.nodes.now c.args.entries.now c.args.arena.now c.args.at c.args.block_at c.forest.ensures.well_formed c.requires.«open» c.requires.block.0 c.requires.block.1) c.index-nodes-at-2.is) c.as_slice-2.ensures c.len-first.ensures (c.in_ok-clone.ensures.number ∙ ap (λ (v : List ℕ). length c.args.arena.now.labels + length v) c.as_slice.ensures))
 
 pub returns-in_err-new_nodes-clause-cut : goal.returns-in_err-new_nodes-clause-cut
 returns-in_err-new_nodes-clause-cut c =
@@ -101,7 +101,7 @@ pub returns-in_err-new_entries-clause-cut : goal.returns-in_err-new_entries-clau
 returns-in_err-new_entries-clause-cut c =
     let p = err_from_is_err_and c.from_residual-in_err-new_entries.result c.from_residual-in_err-new_entries.ensures.1 in
     rw p.1 (cut-after c.args.nodes.now c.args.entries.now c.args.arena.now c.args.at c.args.block_at c.forest.ensures.well_formed c.requires.«open» c.requires.block.0 c.requires.block.1 c.elements_to_clone-originals.result c.elements_to_clone-originals.ensures c.elements_to_clone-originals.result (get_or c.args.nodes.now c.args.at 0) _ _ refl refl
-    (cut-all c.args.arena.now c.clone_all.new.arena _ (c.elements_to_clone-originals.result ++ (get_or c.args.nodes.now c.args.at 0) ∷ []) _ p.2 (subst (λ (x : ℕ). AreCloned c.args.arena.now c.clone_all.new.arena (c.elements_to_clone-originals.result ++ x ∷ [])) (index-is c.args.nodes.now c.args.at c.index-nodes-at.result (at-within c.args.nodes.now c.args.entries.now c.args.arena.now c.args.at c.args.block_at c.forest.ensures.well_formed c.requires.«open» c.requires.block.0 c.requires.block.1) c.index-nodes-at.is) (subst (λ (v : List ℕ). AreCloned c.args.arena.now c.clone_all.new.arena (v ++ c.index-nodes-at.result ∷ [])) c.as_slice.ensures c.in_ok-clone.ensures.cloned)) c.leave.ensures.same))
+    (cut-all c.args.arena.now c.clone_all.new.arena _ (c.elements_to_clone-originals.result ++ (get_or c.args.nodes.now c.args.at 0) ∷ []) _ p.2 (subst (λ (x : ℕ). AreCloned c.args.arena.now c.clone_all.new.arena (c.elements_to_clone-originals.result ++ x ∷ [])) (index-is c.args.nodes.now c.args.at c.index-nodes-at.result (at-within c.args.nodes.now c.args.entries.now c.args.arena.now c.args.at c.args.block_at c.forest.ensures.well_formed c.requires.«open» c.requires.block.0 c.requires.block.1) c.index-nodes-at.is) (subst (λ (v : List ℕ). AreCloned c.args.arena.now c.clone_all.new.arena (v ++ c.index-nodes-at.result ∷ [])) c.as_slice.ensures c.in_ok-clone.ensures.cloned)) refl))
 
 pub returns-clause-steps : goal.returns-clause-steps
 returns-clause-steps c =
@@ -116,4 +116,4 @@ pub returns-in_err-new_nodes-clause-steps : goal.returns-in_err-new_nodes-clause
 returns-in_err-new_nodes-clause-steps c = grown-regrouped c.args.arena.now c.clone_all.new.arena c.clone_all.ensures.steps
 
 pub returns-in_err-new_entries-clause-steps : goal.returns-in_err-new_entries-clause-steps
-returns-in_err-new_entries-clause-steps c = regroup-left c.args.arena.now c.clone_all.new.arena c.leave.new.arena c.clone_all.ensures.steps c.leave.ensures.same
+returns-in_err-new_entries-clause-steps c = grown-regrouped c.args.arena.now c.clone_all.new.arena c.clone_all.ensures.steps

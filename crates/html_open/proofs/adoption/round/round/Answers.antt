@@ -65,7 +65,8 @@ returns-clause-round c = λ s k.
     (round-is c.args.stack.now c.args.list.now c.args.arena.now c.args.at c.args.block_at c.forest.ensures.well_formed c.requires.«open» s k c.requires.inside c.args.foster (open_at c.in_ok-regrouped.regrouped.nodes.items c.in_ok-regrouped.regrouped.entries.items c.regroup.new.arena) c.place-target.new.arena.steps c.place-target.result (c.place-target.ensures.place ∙ ap (λ (v : Tree). place_of v c.args.stack.now (Some c.index-nodes-at.result) c.args.foster) c.charge.ensures ∙ ap (λ (x : ℕ). place_at c.args.arena.now c.args.stack.now x c.args.foster) (c.index-nodes-at.is ∙ before-is c.as_slice-nodes.result.now c.args.stack.now c.as_slice-nodes.ensures (c.args.at - 1) c.index-nodes-at.result (at-less c.args.stack.now c.args.list.now c.args.arena.now c.args.at c.args.block_at c.forest.ensures.well_formed c.requires.«open» c.requires.block.0 c.requires.block.1 c.requires.inside c.args.foster)))
     (subst (λ (t : Tree). IsRegrouped c.args.at c.args.block_at c.place-target.result (open_at c.args.stack.now c.args.list.now t) (open_at c.in_ok-regrouped.regrouped.nodes.items c.in_ok-regrouped.regrouped.entries.items c.regroup.new.arena)) (steps-then c.args.arena.now c.charge.new.self c.place-target.new.arena (c.charge.ensures ∙ sym (ap (λ (v : Tree). stepped c.args.arena.now v.steps) c.charge.ensures)) (c.place-target.ensures.steps ∙ sym (ap (λ (v : Tree). stepped c.charge.new.self v.steps) c.place-target.ensures.steps)))
     (subst (λ (v : List Entry). IsRegrouped c.args.at c.args.block_at c.place-target.result (open_at c.args.stack.now v c.place-target.new.arena) (open_at c.in_ok-regrouped.regrouped.nodes.items c.in_ok-regrouped.regrouped.entries.items c.regroup.new.arena)) (c.as_slice-entries.ensures.value ∙ c.list.view_is)
-    (subst (λ (v : List ℕ). IsRegrouped c.args.at c.args.block_at c.place-target.result (open_at v c.as_slice-entries.result.now c.place-target.new.arena) (open_at c.in_ok-regrouped.regrouped.nodes.items c.in_ok-regrouped.regrouped.entries.items c.regroup.new.arena)) c.as_slice-nodes.ensures c.in_ok-regrouped.ensures.regrouped))))
+    (subst (λ (v : List ℕ). IsRegrouped c.args.at c.args.block_at c.place-target.result (open_at v c.as_slice-entries.result.now c.place-target.new.arena) (open_at c.in_ok-regrouped.regrouped.nodes.items c.in_ok-regrouped.regrouped.entries.items c.regroup.new.arena)) c.as_slice-nodes.ensures c.in_ok-regrouped.ensures.regrouped)))
+    c.forest-2.ensures.well_formed c.in_ok-regrouped.ensures.kept)
 
 pub returns-clause-kept : goal.returns-clause-kept
 returns-clause-kept c = subst (λ (v : List ℕ). IsOpen (open_at v c.in_ok-regrouped.regrouped.entries.items c.regroup.new.arena)) (sym c.replace.ensures) c.in_ok-regrouped.ensures.kept

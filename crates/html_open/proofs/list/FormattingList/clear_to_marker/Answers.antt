@@ -1,12 +1,13 @@
 use Rattle.std.proofs.Common.{ℕ, ◌-◌, ◌*◌, ◌∙◌, ap, drop, take, length, List, refl}
 use Rattle.html_arena.specs.declared.marks.Mark.TheVariants.{InList}
 use Rattle.html_arena.specs.Tree.{Tree}
-use Rattle.html_open.specs.Entries.{cleared, is_marker, nodes_of}
-use Rattle.html_open.specs.Lists.{last_index}
+use Rattle.html_open.specs.Entries.{cleared, has_node, is_marker, nodes_of}
+use Rattle.html_open.specs.Lists.{last_index, looked}
 use Rattle.html_open.specs.Marking.{all_unmarked, charged}
 use Rattle.html_open.proofs.Clearing.{cleared-is, kept-is, twice-looked}
 use Rattle.html_open.proofs.Keeps.{moved_list, open-charged}
 use Rattle.html_open.proofs.Popping.{all_unmarked-charged}
+use Rattle.html_open.proofs.Lasting.{all-steps, entries-below, fewer-free, same-all}
 use Rattle.html_open.proofs.list.FormattingList.clear_to_marker.Goals as goal
 
 pub returns-clause-list : goal.returns-clause-list
@@ -31,3 +32,15 @@ returns-clause-keeps c = λ s k.
     c.take_to.ensures.keeps s
     (moved_list s c.args.self.now c.args.self.now (charged c.args.arena.now (2 * (length c.as_slice-entries.result.now - c.index_or_first-kept.result))) c.charge.new.self refl c.charge.ensures
     (open-charged s c.args.self.now c.args.arena.now (2 * (length c.as_slice-entries.result.now - c.index_or_first-kept.result)) k))
+
+pub returns-clause-tree_kept : goal.returns-clause-tree_kept
+returns-clause-tree_kept c = same-all c.args.arena.now c.take_to.new.arena InList (cleared c.args.self.now) (2 * looked is_marker c.args.self.now) (returns-clause-tree c)
+
+pub returns-clause-steps : goal.returns-clause-steps
+returns-clause-steps c = all-steps c.args.arena.now c.take_to.new.arena InList (cleared c.args.self.now) (2 * looked is_marker c.args.self.now) (returns-clause-tree c)
+
+pub returns-clause-fewer : goal.returns-clause-fewer
+returns-clause-fewer c = λ x h. ap (has_node x) (returns-clause-list c) ∙ entries-below c.args.self.now x h
+
+pub returns-clause-first_free : goal.returns-clause-first_free
+returns-clause-first_free c = λ s h. fewer-free s c.args.self.now c.take_to.new.self (returns-clause-fewer c) h

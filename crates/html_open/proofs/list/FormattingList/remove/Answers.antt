@@ -1,11 +1,12 @@
 use Rattle.std.proofs.Common.{arith, sym, ◌∙◌, ap, length, refl, false}
 use Rattle.html_arena.specs.declared.marks.Mark.TheVariants.{InList}
 use Rattle.html_arena.specs.Tree.{Tree, with_marked}
-use Rattle.html_open.specs.Entries.{is_node, removal_steps}
+use Rattle.html_open.specs.Entries.{has_node, is_node, removal_steps}
 use Rattle.html_open.specs.Lists.{last_index, without_last}
-use Rattle.html_open.specs.Marking.{charged}
+use Rattle.html_open.specs.Marking.{bare, charged}
 use Rattle.html_open.proofs.Lists.{removal-is, without_last-some, without_last-none, looked-some}
 use Rattle.html_open.proofs.Keeps.{remove_list-keeps}
+use Rattle.html_open.proofs.Lasting.{entries-without, fewer-free}
 use Rattle.html_open.proofs.list.FormattingList.remove.Goals as goal
 
 pub remove-requires : goal.remove-requires
@@ -59,3 +60,27 @@ pub returns-in_default-clause-keeps : goal.returns-in_default-clause-keeps
 returns-in_default-clause-keeps c = λ l k.
     remove_list-keeps l c.args.self.now c.args.self.now c.args.arena.now c.charge.new.self c.args.node (removal_steps (is_node c.args.node) c.args.self.now) c.forest.ensures.well_formed.as_many_marks
     (stack_default c) (tree_default c) k
+
+pub returns-in-Some-clause-tree_kept : goal.returns-in-Some-clause-tree_kept
+returns-in-Some-clause-tree_kept c = ap bare (tree_is c)
+
+pub returns-in-Some-clause-steps : goal.returns-in-Some-clause-steps
+returns-in-Some-clause-steps c = ap (λ (u : Tree). u.steps) (tree_is c)
+
+pub returns-in-Some-clause-fewer : goal.returns-in-Some-clause-fewer
+returns-in-Some-clause-fewer c = λ x h. ap (has_node x) (stack_is c) ∙ entries-without (is_node c.args.node) c.args.self.now x h
+
+pub returns-in-Some-clause-first_free : goal.returns-in-Some-clause-first_free
+returns-in-Some-clause-first_free c = λ s h. fewer-free s c.args.self.now c.remove.new.self.items (returns-in-Some-clause-fewer c) h
+
+pub returns-in_default-clause-tree_kept : goal.returns-in_default-clause-tree_kept
+returns-in_default-clause-tree_kept c = ap bare (tree_default c)
+
+pub returns-in_default-clause-steps : goal.returns-in_default-clause-steps
+returns-in_default-clause-steps c = ap (λ (u : Tree). u.steps) (tree_default c)
+
+pub returns-in_default-clause-fewer : goal.returns-in_default-clause-fewer
+returns-in_default-clause-fewer c = λ x h. ap (has_node x) (stack_default c) ∙ entries-without (is_node c.args.node) c.args.self.now x h
+
+pub returns-in_default-clause-first_free : goal.returns-in_default-clause-first_free
+returns-in_default-clause-first_free c = λ s h. fewer-free s c.args.self.now c.args.self.now (returns-in_default-clause-fewer c) h

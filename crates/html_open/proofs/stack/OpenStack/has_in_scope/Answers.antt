@@ -5,6 +5,7 @@ use Rattle.html_open.specs.Lists.{looked}
 use Rattle.html_open.specs.Scopes.{match_or_end, in_scope, ends}
 use Rattle.html_open.specs.Marking.{charged}
 use Rattle.html_open.proofs.Lists.{steps_index, in_scope-at, looked-some, has-at, get_or-default}
+use Rattle.html_open.proofs.Keeps.{charged_keeps}
 use Rattle.html_open.proofs.stack.OpenStack.has_in_scope.Goals as goal
 
 pub is_named-requires : goal.is_named-requires
@@ -46,3 +47,9 @@ returns-in-Some-clause-steps c =
     (c.steps_to.ensures
     ∙ steps_index (match_or_end c.args.arena.now c.args.name c.args.scope) c.as_slice-nodes.result.now c.last_index-found.result (length c.as_slice-nodes.result.now) refl c.last_index-found.ensures.index
     ∙ ap (looked (match_or_end c.args.arena.now c.args.name c.args.scope)) (c.as_slice-nodes.ensures.value ∙ c.self.view_is))
+
+pub returns-in-None-clause-keeps : goal.returns-in-None-clause-keeps
+returns-in-None-clause-keeps c = λ l. charged_keeps c.args.self.now l c.args.arena.now c.charge.new.self _ c.charge.ensures
+
+pub returns-in-Some-clause-keeps : goal.returns-in-Some-clause-keeps
+returns-in-Some-clause-keeps c = λ l. charged_keeps c.args.self.now l c.args.arena.now c.charge.new.self _ c.charge.ensures

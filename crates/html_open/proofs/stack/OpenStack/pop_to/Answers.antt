@@ -1,5 +1,12 @@
-use Rattle.std.proofs.Common.{arith}
+use Rattle.std.proofs.Common.{ℕ, ◌<◌, List, drop, length, ◌∙◌, ap, subst, arith}
+use Rattle.html_arena.specs.declared.marks.Mark.TheVariants.{OnStack}
+use Rattle.html_arena.specs.Siblings.{first_of, has}
+use Rattle.html_arena.specs.Tree.{Tree}
+use Rattle.html_open.specs.Marking.{bare}
 use Rattle.html_open.proofs.Popping.{popping-begin, popping-step, popping-end}
+use Rattle.html_open.proofs.Closing.{bare-all}
+use Rattle.html_open.proofs.Counting.{all_unmarked-steps}
+use Rattle.html_open.proofs.Lasting.{first-free, first-taken, lasting-place, not-taken}
 use Rattle.html_open.proofs.stack.OpenStack.pop_to.Goals as goal
 
 pub popping-init : goal.popping-init
@@ -22,3 +29,21 @@ returns-clause-tree c = (popping-end c.args.len c.args.self.now c.args.arena.now
 
 pub returns-clause-keeps : goal.returns-clause-keeps
 returns-clause-keeps c = c.popping.invariant.keeps
+
+pub returns-clause-tree_kept : goal.returns-clause-tree_kept
+returns-clause-tree_kept c = ap bare (returns-clause-tree c) ∙ bare-all c.args.arena.now OnStack (drop c.args.len c.args.self.now)
+
+pub returns-clause-steps : goal.returns-clause-steps
+returns-clause-steps c = ap (λ (u : Tree). u.steps) (returns-clause-tree c) ∙ all_unmarked-steps c.args.arena.now OnStack (drop c.args.len c.args.self.now)
+
+pub returns-clause-fewer : goal.returns-clause-fewer
+returns-clause-fewer c = λ x h. ap (has x) (returns-clause-stack c) ∙ not-taken x c.args.len c.args.self.now h
+
+pub returns-clause-first : goal.returns-clause-first
+returns-clause-first c = λ b. ap first_of (returns-clause-stack c) ∙ first-taken c.args.len c.args.self.now (subst (λ (v : List ℕ). 0 < length v) (returns-clause-stack c) b)
+
+pub returns-clause-can_place : goal.returns-clause-can_place
+returns-clause-can_place c = λ b h. lasting-place c.args.self.now c.popping.self c.args.arena.now c.popping.arena (returns-clause-tree_kept c) (returns-clause-first c b) h
+
+pub returns-clause-first_free : goal.returns-clause-first_free
+returns-clause-first_free c = λ l h. first-free c.args.self.now c.popping.self l (returns-clause-first c) h

@@ -1,11 +1,13 @@
 use Rattle.std.proofs.Common.{arith, eqb, sym, ◌∙◌, ap, length, refl, false}
 use Rattle.html_arena.specs.declared.marks.Mark.TheVariants.{OnStack}
+use Rattle.html_arena.specs.Siblings.{first_of, has}
 use Rattle.html_arena.specs.Tree.{Tree, with_marked}
 use Rattle.html_open.specs.Entries.{removal_steps}
 use Rattle.html_open.specs.Lists.{last_index, without_last}
-use Rattle.html_open.specs.Marking.{charged}
+use Rattle.html_open.specs.Marking.{bare, charged}
 use Rattle.html_open.proofs.Lists.{removal-is, without_last-some, without_last-none, looked-some}
 use Rattle.html_open.proofs.Keeps.{remove-keeps}
+use Rattle.html_open.proofs.Lasting.{first-free, first-removed, lasting-place, not-removed}
 use Rattle.html_open.proofs.stack.OpenStack.remove.Goals as goal
 
 pub remove-requires : goal.remove-requires
@@ -59,3 +61,39 @@ pub returns-in_default-clause-keeps : goal.returns-in_default-clause-keeps
 returns-in_default-clause-keeps c = λ l k.
     remove-keeps c.args.self.now c.args.self.now l c.args.arena.now c.charge.new.self c.args.node (removal_steps (eqb c.args.node) c.args.self.now) c.forest.ensures.well_formed.as_many_marks
     (stack_default c) (tree_default c) k
+
+pub returns-in-Some-clause-tree_kept : goal.returns-in-Some-clause-tree_kept
+returns-in-Some-clause-tree_kept c = ap bare (tree_is c)
+
+pub returns-in-Some-clause-steps : goal.returns-in-Some-clause-steps
+returns-in-Some-clause-steps c = ap (λ (u : Tree). u.steps) (tree_is c)
+
+pub returns-in-Some-clause-fewer : goal.returns-in-Some-clause-fewer
+returns-in-Some-clause-fewer c = λ x h. ap (has x) (stack_is c) ∙ not-removed c.args.node x c.args.self.now h
+
+pub returns-in-Some-clause-first : goal.returns-in-Some-clause-first
+returns-in-Some-clause-first c = λ n. ap first_of (stack_is c) ∙ first-removed c.args.node c.args.self.now n
+
+pub returns-in-Some-clause-can_place : goal.returns-in-Some-clause-can_place
+returns-in-Some-clause-can_place c = λ n h. lasting-place c.args.self.now c.remove.new.self.items c.args.arena.now c.charge.new.self (ap bare (tree_is c)) (returns-in-Some-clause-first c n) h
+
+pub returns-in-Some-clause-first_free : goal.returns-in-Some-clause-first_free
+returns-in-Some-clause-first_free c = λ l n h. first-free c.args.self.now c.remove.new.self.items l (λ b. returns-in-Some-clause-first c n) h
+
+pub returns-in_default-clause-tree_kept : goal.returns-in_default-clause-tree_kept
+returns-in_default-clause-tree_kept c = ap bare (tree_default c)
+
+pub returns-in_default-clause-steps : goal.returns-in_default-clause-steps
+returns-in_default-clause-steps c = ap (λ (u : Tree). u.steps) (tree_default c)
+
+pub returns-in_default-clause-fewer : goal.returns-in_default-clause-fewer
+returns-in_default-clause-fewer c = λ x h. ap (has x) (stack_default c) ∙ not-removed c.args.node x c.args.self.now h
+
+pub returns-in_default-clause-first : goal.returns-in_default-clause-first
+returns-in_default-clause-first c = λ n. ap first_of (stack_default c) ∙ first-removed c.args.node c.args.self.now n
+
+pub returns-in_default-clause-can_place : goal.returns-in_default-clause-can_place
+returns-in_default-clause-can_place c = λ n h. lasting-place c.args.self.now c.args.self.now c.args.arena.now c.charge.new.self (ap bare (tree_default c)) (returns-in_default-clause-first c n) h
+
+pub returns-in_default-clause-first_free : goal.returns-in_default-clause-first_free
+returns-in_default-clause-first_free c = λ l n h. first-free c.args.self.now c.args.self.now l (λ b. returns-in_default-clause-first c n) h

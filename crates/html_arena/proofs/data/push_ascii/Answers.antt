@@ -1,0 +1,12 @@
+use Rattle.std.proofs.Common.{◌≡◌, ◌++◌, List, ℕ, string_bytes, if◌then◌else◌, is_ok, subst}
+use Rattle.std.proofs.lemmas.Str.{IsUtf8-from_ascii, IsUtf8-string_bytes}
+use Rattle.html_arena.proofs.Ascii.{chars-ascii}
+use Rattle.html_arena.proofs.data.push_ascii.Goals as goal
+
+pub from_utf8_unchecked-requires : goal.from_utf8_unchecked-requires
+from_utf8_unchecked-requires c = IsUtf8-from_ascii c.args.ascii.now c.requires
+
+pub returns-clause-ok : goal.returns-clause-ok
+returns-clause-ok c =
+    chars-ascii c.push_str.result (string_bytes c.args.text.now) (string_bytes c.push_str.new.self) c.args.ascii.now (IsUtf8-string_bytes c.args.text.now) c.requires
+    (subst (λ (v : List ℕ). string_bytes c.push_str.new.self ≡ (if is_ok c.push_str.result then string_bytes c.args.text.now ++ v else string_bytes c.args.text.now)) c.from_utf8_unchecked.ensures c.push_str.ensures.bytes)
