@@ -52,18 +52,22 @@ class Watch(threading.Thread):
 
     def __init__(self):
         super().__init__(daemon=True)
-        self.spans, self.used, self.loads, self.ended = {}, {}, [], threading.Event()
+        self.took, self.used, self.loads, self.ended = {}, {}, [], threading.Event()
 
     def run(self):
         while not self.ended.wait(1):
-            now = time.clock_gettime(time.CLOCK_BOOTTIME)
             self.loads.append(os.getloadavg()[0])
-            for pid, it in processes_below(os.getpid()).items():
-                check = check_of(it)
-                if check:
-                    first = self.spans.get(check, (it.began, now))[0]
-                    self.spans[check] = min(first, it.began), now
-                    self.used[pid, it.began] = check[0], it.used
+            self.look(processes_below(os.getpid()))
+
+    def look(self, below):
+        now = time.clock_gettime(time.CLOCK_BOOTTIME)
+        for pid, it in below.items():
+            check = check_of(it)
+            if check:
+                self.used[pid, it.began] = check, it.used
+            # what a check has forked to go side by side takes no time of its own
+            if check and not (it.parent in below and check_of(below[it.parent])):
+                self.took[pid, it.began] = check, now - it.began
 
     def stop(self):
         self.ended.set()
@@ -73,10 +77,10 @@ class Watch(threading.Thread):
         return f"load {sum(self.loads) / max(1, len(self.loads)):.1f} on average"
 
     def table(self, crates):
-        """Returns a line for each crate: the seconds from the first check to the last, and processor seconds."""
+        """Returns a line for each crate: the seconds of its checks, and their processor seconds."""
         lines = [f"{'seconds':<16}" + "".join(f"{it:>10}" for it in (*KINDS, "processor"))]
         for crate in crates:
-            spans = [self.spans.get((crate, it), (0, 0)) for it in KINDS]
-            used = sum(seconds for name, seconds in self.used.values() if name == crate)
-            lines.append(f"{crate:<16}" + "".join(f"{end - start:>10.0f}" for start, end in spans) + f"{used:>10.0f}")
+            columns = [sum(took for check, took in self.took.values() if check == (crate, it)) for it in KINDS]
+            columns.append(sum(used for check, used in self.used.values() if check[0] == crate))
+            lines.append(f"{crate:<16}" + "".join(f"{it:>10.0f}" for it in columns))
         return "\n".join(lines)
