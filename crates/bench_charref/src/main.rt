@@ -96,10 +96,15 @@ fn answer_rows(rt: &HostRuntime) -> Result<()> {
     let first = lines.next().context("no table")??;
     let table = EntityTable::read(rt.alloc(), first.as_bytes())?;
     for line in lines {
-        let mut out = String::new(rt.alloc());
-        rows::answer(rt.alloc(), &table, line?.as_str(), &mut out)?;
-        println!(rt; "{out}")?;
+        answer_row(rt, &table, line?.as_str())?;
     }
+    Ok(())
+}
+
+fn answer_row(rt: &HostRuntime, table: &EntityTable, row: &str) -> Result<()> {
+    let mut out = String::new(rt.alloc());
+    rows::answer(rt.alloc(), table, row, &mut out)?;
+    println!(rt; "{out}")?;
     Ok(())
 }
 

@@ -1,7 +1,7 @@
 //! Rows of calls, and what they answer.
 
 use anyhow::{Context, Result, bail};
-use html_charref::{Base, EntityTable, RefText, Step, Walk, add_digit, numeric};
+use html_charref::{Base, EntityError, EntityTable, RefText, Step, Walk, add_digit, numeric};
 use std::alloc::Global;
 
 /// Writes what a row answers: what is asked, a space, and what it is asked of. Code points are told in hexadecimal digits.
@@ -69,24 +69,32 @@ fn push_step(walk: &mut Walk<'_>, c: char, out: &mut String) -> Result<()> {
 /// The core table's longest name, and the longest of its names that begins a text.
 fn push_core(alloc: Global, of: &str, out: &mut String) -> Result<()> {
     let core = EntityTable::core(alloc)?;
-    let longest_name = core.longest_name();
-    write!(out, "{longest_name} ")?;
+    push_longest_name(&core, out)?;
     push_longest(alloc, &core, of, out)
+}
+
+fn push_longest_name(table: &EntityTable, out: &mut String) -> Result<()> {
+    let longest_name = table.longest_name();
+    write!(out, "{longest_name} ")?;
+    Ok(())
 }
 
 /// A table's longest name, and the first step of a walk at an ampersand; or why it was refused.
 fn push_read(alloc: Global, of: &str, out: &mut String) -> Result<()> {
     match EntityTable::read(alloc, of.as_bytes()) {
-        Ok(table) => {
-            let longest_name = table.longest_name();
-            write!(out, "{longest_name} ")?;
-            push_walk(&table, "&", out)
-        }
-        Err(error) => {
-            write!(out, "{error}")?;
-            Ok(())
-        }
+        Ok(table) => push_first_step(&table, out),
+        Err(error) => push_error(&error, out),
     }
+}
+
+fn push_first_step(table: &EntityTable, out: &mut String) -> Result<()> {
+    push_longest_name(table, out)?;
+    push_walk(table, "&", out)
+}
+
+fn push_error(error: &EntityError, out: &mut String) -> Result<()> {
+    write!(out, "{error}")?;
+    Ok(())
 }
 
 /// What stands for a number in hexadecimal digits, and its fault.
