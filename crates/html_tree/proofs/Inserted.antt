@@ -63,7 +63,7 @@ target-free s l t n h f d target.Document p w c x i none = λ e. (let k : 0 ≡ 
     first-in (y ∷ xs) x i = (let k : y ≡ x = cc in subst (λ v. has v (y ∷ xs) ≡ true) k (rw (eqb-self y) refl))
 
 -- the labels of a tree with a new node
-made-labels : (t : Tree) (new : NewNode) → (made t new).labels ≡ t.labels ++ label_for t new ∷ rest_of (length t.labels) (has_contents new)
+pub made-labels : (t : Tree) (new : NewNode) → (made t new).labels ≡ t.labels ++ label_for t new ∷ rest_of (length t.labels) (has_contents new)
 made-labels t new = by (has_contents new) refl
   where
     by : (b : Bool) → has_contents new ≡ b → (made t new).labels ≡ t.labels ++ label_for t new ∷ rest_of (length t.labels) (has_contents new)
@@ -83,7 +83,7 @@ no-token h true zero i e = absurd (let k = e in cc)
 no-token h true (suc y) i e = absurd (let k = e in cc)
 no-token h false y i e = absurd (let k = e in cc)
 
-beyond : (h : ℕ) (b : Bool) (d : NodeData) (xs : List NodeData) (y i : ℕ) → length xs < y → origin_in (get_or (xs ++ d ∷ rest_of h b) y node.Document) ≡ Token i → ⊥
+pub beyond : (h : ℕ) (b : Bool) (d : NodeData) (xs : List NodeData) (y i : ℕ) → length xs < y → origin_in (get_or (xs ++ d ∷ rest_of h b) y node.Document) ≡ Token i → ⊥
 beyond h b d [] zero i l e = absurd (omega arith)
 beyond h b d [] (suc y) i l e = no-token h b y i e
 beyond h b d (x ∷ xs) zero i l e = absurd (omega arith)
