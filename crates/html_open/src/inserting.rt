@@ -1,5 +1,5 @@
 // A new node, at its place.
-ghost use Rattle.std.specs.Prelude.{◌≡◌, ℕ, ◌+◌, ◌∷◌, [], ◌++◌, IfErr, IfOk, List, OnErr, OnOk, length, true};
+ghost use Rattle.std.specs.Prelude.{◌≡◌, ℕ, ◌+◌, ◌∷◌, [], ◌++◌, IfErr, IfOk, List, Ok, OnErr, OnOk, length, true};
 ghost use Rattle.html_names.specs.Sets.{is_formatting};
 ghost use Rattle.html_arena.specs.Budget.{RefusedBy, budget};
 ghost use Rattle.html_arena.specs.Data.{IsElement, tag_in};
@@ -22,6 +22,7 @@ pub fn insert(arena: &mut Arena, place: Place, new: NewNode) -> Result<NodeId, A
     requires can_make { CanMake arena.old new }
     requires child { makes_child new ≡ true }
     ensures id { IfOk result (λ id. id ≡ length arena.old.labels) }
+    ensures within { OnOk result (budget arena.old (nodes_made new) (made_weight arena.old new) ≡ Ok tt) }
     ensures tree { OnOk result (arena.new ≡ put (made arena.old new) place (length arena.old.labels)) }
     ensures bare_tree { OnOk result (bare arena.new ≡ bare (put (made (bare arena.old) new) place (length arena.old.labels))) }
     ensures nodes { OnOk result (length arena.new.labels ≡ length arena.old.labels + nodes_made new) }

@@ -58,7 +58,7 @@ impl OpenStack {
     }
 
     /// The elements, the current node last.
-    pub(crate) fn as_slice(&self) -> &[NodeId]
+    pub fn as_slice(&self) -> &[NodeId]
         ensures { result.now ≡ self.now }
     {
         self.nodes.as_slice()

@@ -1,0 +1,12 @@
+pub mod Kept
+pub mod Inserted
+pub mod Searches
+pub mod Relisting
+pub mod Closings
+pub mod Spelled
+pub mod Listed
+pub mod Merged
+pub mod Texted
+pub mod Clones
+pub mod Adopted
+pub mod Roots

@@ -1,0 +1,40 @@
+use Rattle.std.proofs.Common.{◌≡◌, ℕ, ◌<◌, ◌≤◌, ◌+◌, ◌*◌, length, refl, subst, sym, ap, ◌∙◌, arith, OnOk, IfOk}
+use Rattle.html_open.specs.Leaving.{listed_weight as open_weight}
+use Rattle.html_tree.specs.Listing.{IsAdopted, listed_weight}
+use Rattle.html_tree.specs.Since.{Grown, Keeps}
+use Rattle.html_tree.specs.States.{State, state_of}
+use Rattle.html_tree.proofs.Adopted.{adopted-keeps, adopted-under_way, always, first-equal, first-free, if-ok}
+use Rattle.html_tree.proofs.Clones.{clones-grown}
+use Rattle.html_tree.proofs.Inserted.{on-ok, under-way-place}
+use Rattle.html_tree.proofs.tree.OpenTree.adopt.Goals as goal
+
+pub adopt-end-requires-clause-can_place : goal.adopt-end-requires-clause-can_place
+adopt-end-requires-clause-can_place c = under-way-place c.self.inside.stack c.self.inside.list c.self.inside.arena c.self.inside.tokens c.self.inside.head c.self.inside.form c.self.inside.detached c.self.invariant (subst (λ (a : State). 0 < length a.stack) (sym c.self.view_is) c.requires.opened)
+
+pub adopt-end-requires-clause-first_free : goal.adopt-end-requires-clause-first_free
+adopt-end-requires-clause-first_free c = first-free c.self.inside.stack c.self.inside.list c.self.inside.arena c.self.inside.tokens c.self.inside.head c.self.inside.form c.self.inside.detached c.self.invariant
+
+pub invariant_of-self : goal.invariant_of-self
+invariant_of-self c = adopted-under_way c.self.inside.stack c.self.inside.list c.self.inside.arena c.self.inside.tokens c.self.inside.head c.self.inside.form c.self.inside.detached c.self.invariant c.args.name c.requires.formatting c.adopt-end.new.stack c.adopt-end.new.list c.adopt-end.new.arena c.adopt-end.ensures.first (subst (λ (a : State). 0 < length a.stack) (sym c.self.view_is) c.requires.opened) c.adopt-end.ensures.kept c.adopt-end.ensures.made
+
+pub returns-clause-exact : goal.returns-clause-exact
+returns-clause-exact c =
+    if-ok c.adopt-end.result c.adopt-end.ensures.adopted
+    (λ end r. subst (λ (a : State). IsAdopted c.args.name c.args.foster end a (state_of c.adopt-end.new.stack c.adopt-end.new.list c.adopt-end.new.arena c.self.inside.tokens c.self.inside.head c.self.inside.form c.self.inside.detached)) c.self.view_is
+    (record { old = c.self.inside.arena; new = c.adopt-end.new.arena; old_is = refl; new_is = refl; adopted = r }))
+
+pub returns-clause-keeps : goal.returns-clause-keeps
+returns-clause-keeps c =
+    on-ok c.adopt-end.result c.adopt-end.ensures.roots
+    (λ r. adopted-keeps c.self.inside.stack c.self.inside.list c.self.inside.arena c.self.inside.tokens c.self.inside.head c.self.inside.form c.self.inside.detached c.self.invariant c.args.name c.requires.formatting c.adopt-end.new.stack c.adopt-end.new.list c.adopt-end.new.arena c.adopt-end.ensures.first c.args.self.now c.self.view_is c.forest.ensures.well_formed c.adopt-end.ensures.made c.adopt-end.ensures.closed r c.adopt-end.ensures.survives)
+
+pub returns-clause-steps : goal.returns-clause-steps
+returns-clause-steps c =
+    subst (λ (a : State). c.adopt-end.new.arena.steps ≤ a.steps + (32 * ((length a.stack + length a.list + 4) * (length a.stack + length a.list + 4)) + 8 * length c.adopt-end.new.arena.labels)) c.self.view_is c.adopt-end.ensures.steps.most
+
+pub returns-clause-grown : goal.returns-clause-grown
+returns-clause-grown c =
+    always c.adopt-end.result
+    (subst (λ (a : State). Grown 32 0 0 (32 * listed_weight a) c.args.self.now (state_of c.adopt-end.new.stack c.adopt-end.new.list c.adopt-end.new.arena c.self.inside.tokens c.self.inside.head c.self.inside.form c.self.inside.detached)) c.self.view_is
+    (clones-grown c.self.inside.stack c.adopt-end.new.stack c.self.inside.list c.adopt-end.new.list c.self.inside.arena c.adopt-end.new.arena c.self.inside.tokens c.self.inside.head c.self.inside.form c.self.inside.detached c.adopt-end.ensures.made c.args.self.now 32 0 0 (32 * open_weight c.self.inside.arena c.self.inside.list) c.self.view_is (first-equal c.self.inside.stack c.self.inside.list c.self.inside.arena c.self.inside.tokens c.self.inside.head c.self.inside.form c.self.inside.detached c.self.invariant c.args.name c.requires.formatting c.adopt-end.new.stack c.adopt-end.new.list c.adopt-end.new.arena c.adopt-end.ensures.first (subst (λ (a : State). 0 < length a.stack) (sym c.self.view_is) c.requires.opened)) c.adopt-end.ensures.clones
+    (let e = c.adopt-end.ensures.no_more_open in omega (arith, e)) (let e = c.adopt-end.ensures.no_more_listed in omega (arith, e)) c.adopt-end.ensures.held))

@@ -1,0 +1,25 @@
+use Rattle.std.proofs.Common.{◌≡◌, ◌≤◌, ◌+◌, ℕ, length, Ok, ap, ◌∙◌, subst, sym, refl, arith}
+use Rattle.std.proofs.lemmas.Result.{err_from_is_err_and}
+use Rattle.html_arena.specs.declared.data.NewNode.TheVariants.{Element}
+use Rattle.html_arena.specs.declared.data.Origin.TheVariants.{Token}
+use Rattle.html_arena.specs.Budget.{budget}
+use Rattle.html_open.specs.Entries.{push_steps, pushed}
+use Rattle.html_open.specs.declared.error.OpenError.TheVariants.{OutOfMemory}
+use Rattle.html_tree.specs.Inserting.{IsLack, IsRefused, with_new, with_open}
+use Rattle.html_tree.specs.declared.groups.Target.TheVariants as target
+use Rattle.html_tree.specs.Targets.{place_for}
+use Rattle.html_tree.proofs.Listed.{enlisted-exact, enlisted-steps}
+use Rattle.html_tree.proofs.tree.OpenTree.insert_listed.Goals as goal
+
+pub returns-in_err-enlist-clause-cause : goal.returns-in_err-enlist-clause-cause
+returns-in_err-enlist-clause-cause c =
+    let p = err_from_is_err_and c.from_residual-in_err-enlist.result c.from_residual-in_err-enlist.ensures.1 in
+    rw p.1 (subst (λ e. IsRefused c.args.self.now (Element c.args.name c.args.attrs (Token c.args.token)) e) (sym (p.2 ∙ c.in_err-enlist.ensures.cause)) (subst (λ r. IsLack r OutOfMemory) (sym c.in_ok-node.ensures.within) refl))
+
+pub returns-clause-exact : goal.returns-clause-exact
+returns-clause-exact c = enlisted-exact c.args.self.now c.open_new.new.self c.enlist.new.self c.in_ok-node.node (length c.args.self.now.tree.labels) (with_open c.args.self.now) (with_new c.args.self.now.tree (place_for c.args.self.now (target.Current c.args.foster)) (Element c.args.name c.args.attrs (Token c.args.token))) (c.args.token + 1) c.in_ok-node.ensures.exact c.in_ok-node.ensures.id c.in_ok-enlist.ensures.exact
+
+pub returns-clause-steps : goal.returns-clause-steps
+returns-clause-steps c =
+    let s = enlisted-steps c.args.self.now c.open_new.new.self c.enlist.new.self c.in_ok-node.node (length c.args.self.now.tree.labels) (with_open c.args.self.now) (with_new c.args.self.now.tree (place_for c.args.self.now (target.Current c.args.foster)) (Element c.args.name c.args.attrs (Token c.args.token))) (c.args.token + 1) c.in_ok-node.ensures.exact c.in_ok-node.ensures.id (length c.args.self.now.stack + 4) c.in_ok-enlist.ensures.steps (let g = c.in_ok-node.ensures.steps in omega (arith, g)) in
+    omega (arith, s)

@@ -1,0 +1,22 @@
+use Rattle.std.proofs.Common.{◌≡◌, ◌≤◌, ◌+◌, length, subst}
+use Rattle.html_tree.specs.States.{State}
+use Rattle.html_tree.proofs.Kept.{charged-steps, charged-under_way, looked-most, read-grown, read-keeps, read-rest}
+use Rattle.html_tree.proofs.tree.OpenTree.is_in_scope.Goals as goal
+
+pub invariant_of-self : goal.invariant_of-self
+invariant_of-self c =
+    charged-under_way c.self.inside.stack c.self.inside.list c.self.inside.arena c.is_in_scope.new.arena c.self.inside.tokens _ c.self.inside.head c.self.inside.form c.self.inside.detached c.is_in_scope.ensures.steps (c.is_in_scope.ensures.keeps c.self.inside.list c.self.invariant.is_open) c.self.invariant
+
+pub returns-clause-rest : goal.returns-clause-rest
+returns-clause-rest c = read-rest c.args.self.now c.self.inside.stack c.self.inside.list c.self.inside.arena c.is_in_scope.new.arena c.self.inside.tokens _ c.self.inside.head c.self.inside.form c.self.inside.detached c.self.view_is c.is_in_scope.ensures.steps
+
+pub returns-clause-steps : goal.returns-clause-steps
+returns-clause-steps c =
+    subst (λ (a : State). c.is_in_scope.new.arena.steps ≤ a.steps + length a.stack) c.self.view_is
+    (charged-steps c.self.inside.arena c.is_in_scope.new.arena _ (length c.self.inside.stack) c.is_in_scope.ensures.steps (looked-most _ c.self.inside.stack))
+
+pub returns-clause-keeps : goal.returns-clause-keeps
+returns-clause-keeps c = read-keeps c.args.self.now c.self.inside.stack c.self.inside.list c.self.inside.arena c.is_in_scope.new.arena c.self.inside.tokens _ c.self.inside.head c.self.inside.form c.self.inside.detached c.self.view_is c.is_in_scope.ensures.steps
+
+pub returns-clause-grown : goal.returns-clause-grown
+returns-clause-grown c = read-grown c.args.self.now c.self.inside.stack c.self.inside.list c.self.inside.arena c.is_in_scope.new.arena c.self.inside.tokens _ c.self.inside.head c.self.inside.form c.self.inside.detached c.self.view_is c.is_in_scope.ensures.steps

@@ -1,0 +1,26 @@
+use Rattle.std.proofs.Common.{◌≡◌, ◌≤◌, ◌+◌, length, subst, ap, ◌∙◌}
+use Rattle.html_open.specs.Entries.{last_named}
+use Rattle.html_tree.specs.States.{State}
+use Rattle.html_tree.proofs.Kept.{charged-steps, charged-under_way, looked-most, read-grown, read-keeps, read-rest}
+use Rattle.html_tree.proofs.tree.OpenTree.last_listed.Goals as goal
+
+pub invariant_of-self : goal.invariant_of-self
+invariant_of-self c =
+    charged-under_way c.self.inside.stack c.self.inside.list c.self.inside.arena c.last_named.new.arena c.self.inside.tokens _ c.self.inside.head c.self.inside.form c.self.inside.detached c.last_named.ensures.steps (c.last_named.ensures.keeps c.self.inside.stack c.self.invariant.is_open) c.self.invariant
+
+pub returns-clause-rest : goal.returns-clause-rest
+returns-clause-rest c = read-rest c.args.self.now c.self.inside.stack c.self.inside.list c.self.inside.arena c.last_named.new.arena c.self.inside.tokens _ c.self.inside.head c.self.inside.form c.self.inside.detached c.self.view_is c.last_named.ensures.steps
+
+pub returns-clause-steps : goal.returns-clause-steps
+returns-clause-steps c =
+    subst (λ (a : State). c.last_named.new.arena.steps ≤ a.steps + length a.list) c.self.view_is
+    (charged-steps c.self.inside.arena c.last_named.new.arena _ (length c.self.inside.list) c.last_named.ensures.steps (looked-most _ c.self.inside.list))
+
+pub returns-clause-keeps : goal.returns-clause-keeps
+returns-clause-keeps c = read-keeps c.args.self.now c.self.inside.stack c.self.inside.list c.self.inside.arena c.last_named.new.arena c.self.inside.tokens _ c.self.inside.head c.self.inside.form c.self.inside.detached c.self.view_is c.last_named.ensures.steps
+
+pub returns-clause-grown : goal.returns-clause-grown
+returns-clause-grown c = read-grown c.args.self.now c.self.inside.stack c.self.inside.list c.self.inside.arena c.last_named.new.arena c.self.inside.tokens _ c.self.inside.head c.self.inside.form c.self.inside.detached c.self.view_is c.last_named.ensures.steps
+
+pub returns-clause-node : goal.returns-clause-node
+returns-clause-node c = c.last_named.ensures.node ∙ ap (λ (a : State). last_named a.tree c.args.name a.list) c.self.view_is

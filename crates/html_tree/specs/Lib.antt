@@ -1,0 +1,9 @@
+pub mod States
+pub mod Since
+pub mod Groups
+pub mod Searching
+pub mod Closing
+pub mod Targets
+pub mod Inserting
+pub mod Listing
+pub mod Texts

@@ -1,0 +1,33 @@
+-- Reopening (13.2.4.3) and adoption (13.2.6.4.7) of a tree under construction.
+use Rattle.std.specs.Prelude.{◌≡◌, ℕ, Bool}
+use Rattle.std.specs.List.{sum_by}
+use Rattle.html_names.specs.declared.tag.Tag.{Tag}
+use Rattle.html_arena.specs.Tree.{Tree, label_of}
+use Rattle.html_arena.specs.Weight.{weight}
+use Rattle.html_open.specs.declared.adoption.AdoptEnd.{AdoptEnd}
+use Rattle.html_open.specs.Adopting.{Adopted}
+use Rattle.html_open.specs.Entries.{nodes_of}
+use Rattle.html_open.specs.Marking.{bare}
+use Rattle.html_open.specs.Opened.{open_at}
+use Rattle.html_open.specs.Reopening.{Reopened}
+use Rattle.html_tree.specs.States.{State}
+
+-- the code points that the listed elements hold, each counted once
+abbrev pub listed_weight : State → ℕ
+listed_weight a = sum_by (λ x. weight (label_of a.tree x)) (nodes_of a.list)
+
+-- the listed elements that were not open were opened anew, whatever the marks and steps
+pub record IsReopened (foster : Bool) (a b : State) : Type 0 where
+  pub old : Tree
+  pub new : Tree
+  pub old_is : bare old ≡ a.tree
+  pub new_is : bare new ≡ b.tree
+  pub reopened : Reopened foster (open_at a.stack a.list old) (open_at b.stack b.list new)
+
+-- the end tag of a formatting name was followed, whatever the marks and steps
+pub record IsAdopted (name : Tag) (foster : Bool) (end : AdoptEnd) (a b : State) : Type 0 where
+  pub old : Tree
+  pub new : Tree
+  pub old_is : bare old ≡ a.tree
+  pub new_is : bare new ≡ b.tree
+  pub adopted : Adopted name foster end (open_at a.stack a.list old) (open_at b.stack b.list new)

@@ -1,0 +1,12 @@
+//! The tree under construction: its nodes, the stack of open elements, the list of active formatting elements and the element pointers
+//! (13.2.4), with every operation of tree construction that gives no token its fate.
+#![tactic(auto)]
+
+mod groups;
+mod search;
+mod target;
+mod tree;
+
+pub use groups::{Group, Stop, TableContext, Target};
+pub use html_open::{AdoptEnd, OpenError, Scope};
+pub use tree::OpenTree;

@@ -1,0 +1,135 @@
+// Elements that are closed. The first element never is.
+ghost use Rattle.std.specs.Prelude.{◌≡◌, ℕ, ◌+◌, ◌*◌, ◌<◌, ◌≤◌, is_some, length};
+ghost use Rattle.html_open.specs.Lists.{up_to};
+ghost use Rattle.html_open.specs.Scopes.{stays};
+ghost use Rattle.html_arena.specs.Siblings.{first_of, is_in};
+ghost use Rattle.html_tree.specs.Closing.{cleared_to, context_end, closed_through, first_few, kept_to, popped, remaining};
+ghost use Rattle.html_tree.specs.Searching.{found};
+ghost use Rattle.html_tree.specs.Since.{Grown, Keeps};
+
+use super::OpenTree;
+use crate::groups::{Group, Stop, TableContext};
+use crate::search::{Sought, after, last_index, steps_down};
+use html_arena::NodeId;
+use html_names::Tag;
+
+impl OpenTree {
+    /// Closes elements until there are `len`, but never the first. One step for each.
+    pub fn pop_to(&mut self, len: usize)
+        ensures exact { self.new ≡ record self.old { stack = first_few len self.old.stack; steps = self.new.steps } }
+        ensures steps { self.new.steps ≤ self.old.steps + length self.old.stack }
+        ensures keeps { Keeps self.old self.new }
+        ensures grown { Grown 0 0 0 0 self.old self.new }
+    {
+        let count = self.stack.len();
+        let kept = kept_to(count, len);
+        self.arena.charge((count - kept) as u128);
+        self.stack.pop_to(&mut self.arena, kept);
+    }
+
+    /// Closes the current node, unless it is the first element. One step.
+    pub fn pop(&mut self)
+        ensures exact { self.new ≡ record self.old { stack = popped self.old.stack; steps = self.new.steps } }
+        ensures steps { self.new.steps ≤ self.old.steps + length self.old.stack }
+        ensures keeps { Keeps self.old self.new }
+        ensures grown { Grown 0 0 0 0 self.old self.new }
+    {
+        let count = self.stack.len();
+        self.pop_to(count.saturating_sub(1));
+    }
+
+    /// Closes elements through the last one of a group, unless one that ends the search stands after it, and says whether there is one.
+    /// At most two steps for each open element.
+    pub fn close(&mut self, group: Group, stop: Stop) -> bool
+        ensures answer { result ≡ is_some (found self.old group stop) }
+        ensures exact { self.new ≡ record self.old { stack = closed_through self.old group stop; steps = self.new.steps } }
+        ensures steps { self.new.steps ≤ self.old.steps + 2 * length self.old.stack }
+        ensures keeps { Keeps self.old self.new }
+        ensures grown { Grown 0 0 0 0 self.old self.new }
+    {
+        match self.find(group, stop) {
+            None => false,
+            Some(index) => {
+                self.pop_to(index);
+                true
+            }
+        }
+    }
+
+    /// Closes elements back to the last one of a table context. At most two steps for each open element.
+    pub fn clear_to(&mut self, context: TableContext)
+        ensures exact { self.new ≡ record self.old { stack = cleared_to self.old context; steps = self.new.steps } }
+        ensures steps { self.new.steps ≤ self.old.steps + 2 * length self.old.stack }
+        ensures keeps { Keeps self.old self.new }
+        ensures grown { Grown 0 0 0 0 self.old self.new }
+    {
+        let len = self.context_end(context);
+        self.pop_to(len);
+    }
+
+    /// The index after that of the last element of a table context.
+    fn context_end(&mut self, context: TableContext) -> usize
+        ensures index { result ≡ context_end self.old context }
+        ensures rest { self.new ≡ record self.old { steps = self.new.steps } }
+        ensures steps { self.new.steps ≤ self.old.steps + length self.old.stack }
+        ensures keeps { Keeps self.old self.new }
+        ensures grown { Grown 0 0 0 0 self.old self.new }
+    {
+        let nodes = self.stack.as_slice();
+        let at = last_index(nodes, &self.arena, Sought::Context(context));
+        let end = after(nodes.len(), at);
+        let steps = steps_down(nodes.len(), at);
+        self.charge(steps);
+        end
+    }
+
+    /// Closes elements while the end tag of the current node is implied and its name is not the excepted one. Two steps for each that is
+    /// closed, and one.
+    pub fn implied(&mut self, except: Option<Tag>)
+        ensures exact { self.new ≡ record self.old { stack = up_to (stays self.old.tree except) self.old.stack; steps = self.new.steps } }
+        ensures steps { self.new.steps ≤ self.old.steps + 2 * length self.old.stack + 1 }
+        ensures keeps { Keeps self.old self.new }
+        ensures grown { Grown 0 0 0 0 self.old self.new }
+    {
+        let nodes = self.stack.as_slice();
+        let at = last_index(nodes, &self.arena, Sought::Staying(except));
+        let end = after(nodes.len(), at);
+        let steps = steps_down(nodes.len(), at);
+        self.charge(steps);
+        self.pop_to(end);
+    }
+
+    /// Closes an element, wherever it stands, unless it is the first. At most two steps for each open element, and one.
+    pub fn remove_open(&mut self, node: NodeId)
+        requires { node < length self.old.tree.labels }
+        ensures exact { self.new ≡ record self.old { stack = remaining node self.old.stack; steps = self.new.steps } }
+        ensures steps { self.new.steps ≤ self.old.steps + 2 * length self.old.stack + 1 }
+        ensures keeps { Keeps self.old self.new }
+        ensures grown { Grown 0 0 0 0 self.old self.new }
+    {
+        if !is_first(self.stack.as_slice(), node) {
+            self.stack.remove(&mut self.arena, node);
+        }
+    }
+}
+
+/// Whether an element is the first.
+fn is_first(nodes: &[NodeId], node: NodeId) -> bool
+    ensures { result ≡ is_in node (first_of nodes.now) }
+{
+    !nodes.is_empty() && nodes[0] == node
+}
+
+/// How many elements stay of so many that are open.
+fn kept_to(count: usize, len: usize) -> usize
+    ensures value { result ≡ kept_to count len }
+    ensures most { result ≤ count }
+{
+    if count <= len || count <= 1 {
+        count
+    } else if len == 0 {
+        1
+    } else {
+        len
+    }
+}

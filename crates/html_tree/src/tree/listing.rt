@@ -1,0 +1,123 @@
+// The list of active formatting elements, reopening and adoption.
+ghost use Rattle.std.specs.Prelude.{◌≡◌, ℕ, ◌+◌, ◌-◌, ◌*◌, ◌<◌, ◌≤◌, [], ◌∷◌, ◌++◌, IfErr, IfOk, IfSome, OnOk, length, true};
+ghost use Rattle.html_names.specs.Sets.{is_formatting};
+ghost use Rattle.html_open.specs.Entries.{is_marker, last_named, push_steps, pushed, without_node};
+ghost use Rattle.html_open.specs.Opened.{CanList, open_at};
+ghost use Rattle.html_open.specs.Lists.{below};
+ghost use Rattle.html_tree.specs.Listing.{IsAdopted, IsReopened, listed_weight};
+ghost use Rattle.html_tree.specs.Since.{Grown, Keeps};
+
+use super::OpenTree;
+use html_arena::NodeId;
+use html_names::Tag;
+use html_open::{AdoptEnd, OpenError, adopt};
+
+impl OpenTree {
+    ghost use Rattle.html_open.specs.declared.entry.Entry.TheVariants.{Marker};
+
+    /// Adds a marker to the list. One step.
+    ///
+    /// # Errors
+    ///
+    /// `OutOfMemory`.
+    pub fn add_marker(&mut self) -> Result<(), OpenError>
+        ensures exact { OnOk result (self.new ≡ record self.old { list = self.old.list ++ Marker ∷ []; steps = self.new.steps }) }
+        ensures steps { OnOk result (self.new.steps ≤ self.old.steps + 1) }
+        ensures keeps { OnOk result (Keeps self.old self.new) }
+        ensures grown { OnOk result (Grown 0 0 1 0 self.old self.new) }
+        ensures cause { IfErr result (λ e. e ≡ OpenError.OutOfMemory) }
+    {
+        self.list.marker(&mut self.arena)?;
+        Ok(())
+    }
+
+    /// Adds an open formatting element to the list; where three entries after the last marker have its name and its set of attributes, the
+    /// earliest of them goes (the Noah's Ark clause).
+    pub(super) fn enlist(&mut self, node: NodeId) -> Result<(), OpenError>
+        requires { CanList (open_at self.old.stack self.old.list self.old.tree) node }
+        ensures exact { OnOk result (self.new ≡ record self.old { list = pushed self.old.tree node self.old.list; steps = self.new.steps }) }
+        ensures steps { OnOk result (self.new.steps ≤ self.old.steps + push_steps self.old.tree node self.old.list) }
+        ensures keeps { OnOk result (Keeps self.old self.new) }
+        ensures grown { OnOk result (Grown 0 0 1 0 self.old self.new) }
+        ensures cause { IfErr result (λ e. e ≡ OpenError.OutOfMemory) }
+    {
+        self.list.push(&mut self.arena, node)?;
+        Ok(())
+    }
+
+    /// Takes entries off the list up to the last marker, that included, or all where there is none. Two steps for each.
+    pub fn clear_to_marker(&mut self)
+        ensures exact { self.new ≡ record self.old { list = below is_marker self.old.list; steps = self.new.steps } }
+        ensures steps { self.new.steps ≤ self.old.steps + 2 * length self.old.list }
+        ensures keeps { Keeps self.old self.new }
+        ensures grown { Grown 0 0 0 0 self.old self.new }
+    {
+        self.list.clear_to_marker(&mut self.arena);
+    }
+
+    /// The last listed element of a name after the last marker. One step for each entry looked at.
+    pub fn last_listed(&mut self, name: Tag) -> Option<NodeId>
+        ensures node { result ≡ last_named self.old.tree name self.old.list }
+        ensures node_in { IfSome result (λ x. x < length self.old.tree.labels) }
+        ensures rest { self.new ≡ record self.old { steps = self.new.steps } }
+        ensures steps { self.new.steps ≤ self.old.steps + length self.old.list }
+        ensures keeps { Keeps self.old self.new }
+        ensures grown { Grown 0 0 0 0 self.old self.new }
+    {
+        self.list.last_named(&mut self.arena, name)
+    }
+
+    /// Takes an element out of the list, if it is there. At most two steps for each entry, and one.
+    pub fn unlist(&mut self, node: NodeId)
+        requires { node < length self.old.tree.labels }
+        ensures exact { self.new ≡ record self.old { list = without_node node self.old.list; steps = self.new.steps } }
+        ensures steps { self.new.steps ≤ self.old.steps + 2 * length self.old.list + 1 }
+        ensures keeps { Keeps self.old self.new }
+        ensures grown { Grown 0 0 0 0 self.old self.new }
+    {
+        self.list.remove(&mut self.arena, node);
+    }
+
+    /// Opens anew the listed elements that are not open (13.2.4.3).
+    ///
+    /// # Errors
+    ///
+    /// `NodeBudget` and `HeldBudget` where the next clone would pass that limit; else `OutOfMemory`.
+    pub fn reopen(&mut self, foster: bool) -> Result<(), OpenError>
+        requires { 0 < length self.old.stack }
+        ensures exact { OnOk result (IsReopened foster self.old self.new) }
+        ensures steps { self.new.steps ≤ self.old.steps + length self.old.list * (length self.old.stack + length self.old.list + 7) }
+        ensures keeps { OnOk result (Keeps self.old self.new) }
+        ensures grown { OnOk result (Grown (length self.old.list) (length self.old.list) 0 (listed_weight self.old) self.old self.new) }
+    {
+        self.arena.forest();
+        let reopened = self.list.reopen(&mut self.stack, &mut self.arena, foster);
+        self.arena.forest();
+        reopened
+    }
+
+    /// Follows an end tag of a formatting name (13.2.6.4.7, the adoption agency).
+    ///
+    /// # Errors
+    ///
+    /// `NodeBudget` and `HeldBudget` where the next clone would pass that limit; else `OutOfMemory`.
+    pub fn adopt(&mut self, name: Tag, foster: bool) -> Result<AdoptEnd, OpenError>
+        requires opened { 0 < length self.old.stack }
+        requires formatting { is_formatting name ≡ true }
+        ensures exact { IfOk result (λ end. IsAdopted name foster end self.old self.new) }
+        ensures steps { self.new.steps ≤ self.old.steps + (32 * ((length self.old.stack + length self.old.list + 4) * (length self.old.stack + length self.old.list + 4)) + 8 * length self.new.tree.labels) }
+        ensures keeps { OnOk result (Keeps self.old self.new) }
+        ensures grown { OnOk result (Grown 32 0 0 (32 * listed_weight self.old) self.old self.new) }
+    {
+        self.arena.forest();
+        let end = adopt(
+            &mut self.stack,
+            &mut self.list,
+            &mut self.arena,
+            name,
+            foster,
+        );
+        self.arena.forest();
+        end
+    }
+}

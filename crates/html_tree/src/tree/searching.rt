@@ -1,0 +1,101 @@
+// Questions about the open elements.
+ghost use Rattle.std.specs.Prelude.{◌≡◌, ℕ, ◌+◌, ◌<◌, ◌≤◌, IfSome, is_some, length, slice_index};
+ghost use Rattle.std.specs.Str.{chars};
+ghost use Rattle.html_arena.specs.Tree.{tag_at};
+ghost use Rattle.html_open.specs.AdoptFinding.{element_in_scope};
+ghost use Rattle.html_tree.specs.Searching.{current_tag, found, found_name};
+ghost use Rattle.html_tree.specs.Since.{Grown, Keeps};
+
+use super::OpenTree;
+use crate::groups::{Group, Stop};
+use crate::search::{Sought, last_index, last_node, member_at, name_index, named_at, steps_down};
+use html_arena::NodeId;
+use html_names::Tag;
+
+impl OpenTree {
+    /// The tag of the current node, if an element is open. One step.
+    pub fn current_tag(&mut self) -> Option<Tag>
+        ensures tag { result ≡ current_tag self.old }
+        ensures rest { self.new ≡ record self.old { steps = self.new.steps } }
+        ensures steps { self.new.steps ≤ self.old.steps + 1 }
+        ensures keeps { Keeps self.old self.new }
+        ensures grown { Grown 0 0 0 0 self.old self.new }
+    {
+        self.charge(1);
+        match last_node(self.stack.as_slice()) {
+            Some(node) => Some(self.arena.tag(node)),
+            None => None,
+        }
+    }
+
+    /// The tag of the open element at an index; that of the first element is 0. One step.
+    pub fn tag_at(&mut self, index: usize) -> Tag
+        requires { index < length self.old.stack }
+        ensures tag { result ≡ tag_at self.old.tree (slice_index self.old.stack index) }
+        ensures rest { self.new ≡ record self.old { steps = self.new.steps } }
+        ensures steps { self.new.steps ≤ self.old.steps + 1 }
+        ensures keeps { Keeps self.old self.new }
+        ensures grown { Grown 0 0 0 0 self.old self.new }
+    {
+        self.charge(1);
+        let nodes = self.stack.as_slice();
+        self.arena.tag(nodes[index])
+    }
+
+    /// The index of the last open element of a group, unless one that ends the search stands after it. One step for each element from the
+    /// current node down to the one where the search stops.
+    pub fn find(&mut self, group: Group, stop: Stop) -> Option<usize>
+        ensures index { result ≡ found self.old group stop }
+        ensures below { IfSome result (λ i. i < length self.old.stack) }
+        ensures rest { self.new ≡ record self.old { steps = self.new.steps } }
+        ensures steps { self.new.steps ≤ self.old.steps + length self.old.stack }
+        ensures keeps { Keeps self.old self.new }
+        ensures grown { Grown 0 0 0 0 self.old self.new }
+    {
+        let nodes = self.stack.as_slice();
+        let at = last_index(nodes, &self.arena, Sought::Member(group, stop));
+        let index = member_at(nodes, &self.arena, group, stop, at);
+        let steps = steps_down(nodes.len(), at);
+        self.charge(steps);
+        index
+    }
+
+    /// Whether an element of a group is open, and none that ends the search stands after the last such. Steps as those of `find`.
+    pub fn has(&mut self, group: Group, stop: Stop) -> bool
+        ensures answer { result ≡ is_some (found self.old group stop) }
+        ensures rest { self.new ≡ record self.old { steps = self.new.steps } }
+        ensures steps { self.new.steps ≤ self.old.steps + length self.old.stack }
+        ensures keeps { Keeps self.old self.new }
+        ensures grown { Grown 0 0 0 0 self.old self.new }
+    {
+        self.find(group, stop).is_some()
+    }
+
+    /// The index of the last open element of a name, unless a special one stands after it. Steps as those of `find`.
+    pub fn find_name(&mut self, name: &str) -> Option<usize>
+        ensures index { result ≡ found_name self.old (chars name.now) }
+        ensures below { IfSome result (λ i. i < length self.old.stack) }
+        ensures rest { self.new ≡ record self.old { steps = self.new.steps } }
+        ensures steps { self.new.steps ≤ self.old.steps + length self.old.stack }
+        ensures keeps { Keeps self.old self.new }
+        ensures grown { Grown 0 0 0 0 self.old self.new }
+    {
+        let nodes = self.stack.as_slice();
+        let at = name_index(nodes, &self.arena, name);
+        let index = named_at(nodes, &self.arena, name, at);
+        let steps = steps_down(nodes.len(), at);
+        self.charge(steps);
+        index
+    }
+
+    /// Whether this very element is in the default scope (13.2.4.2). Steps as those of `find`.
+    pub fn is_in_scope(&mut self, node: NodeId) -> bool
+        ensures answer { result ≡ element_in_scope self.old.tree node self.old.stack }
+        ensures rest { self.new ≡ record self.old { steps = self.new.steps } }
+        ensures steps { self.new.steps ≤ self.old.steps + length self.old.stack }
+        ensures keeps { Keeps self.old self.new }
+        ensures grown { Grown 0 0 0 0 self.old self.new }
+    {
+        self.stack.is_in_scope(&mut self.arena, node)
+    }
+}

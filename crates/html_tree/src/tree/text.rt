@@ -1,0 +1,119 @@
+// Text.
+ghost use Rattle.std.specs.Prelude.{◌≡◌, ℕ, ◌+◌, ◌*◌, ◌<◌, ◌≤◌, Err, IfErr, IfOk, IfSome, OnErr, OnOk, length, take};
+ghost use Rattle.html_arena.specs.declared.arena.ArenaError.TheVariants as arena;
+ghost use Rattle.html_arena.specs.Budget.{budget};
+ghost use Rattle.html_arena.specs.Data.{IsText};
+ghost use Rattle.html_arena.specs.Tree.{label_of, texted_run};
+ghost use Rattle.html_open.specs.Marking.{bare};
+ghost use Rattle.html_arena.specs.declared.data.NewNode.TheVariants.{Text};
+ghost use Rattle.html_tree.specs.Inserting.{IsLack, IsRefused, with_new};
+ghost use Rattle.html_tree.specs.Since.{Grown, Keeps};
+ghost use Rattle.html_tree.specs.Texts.{IsFree, IsNewTextRefused, IsTextRefused, place_here, text_before, text_node, with_text, with_text_node};
+
+use super::OpenTree;
+use crate::groups::Target;
+use crate::target::{put_new, text_before};
+use html_arena::{NewNode, NodeId};
+use html_open::{OpenError, kept_by_edits, place};
+
+impl OpenTree {
+    /// Adds the longest front of a run of code points that the limit on held code points takes to the text that stands just before the
+    /// place for the current node, or to a new one there (13.2.6.1, insert a character), and answers the text and how many were added.
+    /// One step a code point besides those of the place, and two for a new text.
+    ///
+    /// # Errors
+    ///
+    /// `NodeBudget` where there is no such text and a new one would pass that limit; `HeldBudget` where the first code point would pass
+    /// that limit; else `OutOfMemory`.
+    pub fn append_run(&mut self, run: &[char], foster: bool) -> Result<(NodeId, usize), OpenError>
+        requires opened { 0 < length self.old.stack }
+        requires some { 0 < length run.now }
+        ensures count { IfOk result (λ r. (0 < r.1) × (r.1 ≤ length run.now)) }
+        ensures node { IfOk result (λ r. r.0 ≡ text_node self.old foster) }
+        ensures exact { IfOk result (λ r. self.new ≡ record self.old { tree = with_text self.old foster (take r.1 run.now); steps = self.new.steps }) }
+        ensures longest { IfOk result (λ r. r.1 < length run.now → budget self.new.tree 0 1 ≡ Err arena.HeldBudget) }
+        ensures steps { IfOk result (λ r. self.new.steps ≤ self.old.steps + 2 * length self.old.stack + 4 + r.1) }
+        ensures keeps { OnOk result (Keeps self.old self.new) }
+        ensures grown { IfOk result (λ r. Grown 1 0 0 r.1 self.old self.new) }
+        ensures cause { IfErr result (λ e. IsTextRefused self.old foster e) }
+    {
+        let node = self.text_at(foster)?;
+        let count = self.append_to(node, run)?;
+        Ok((node, count))
+    }
+
+    /// The text that stands just before the place for the current node, or a new one there.
+    fn text_at(&mut self, foster: bool) -> Result<NodeId, OpenError>
+        requires opened { 0 < length self.old.stack }
+        ensures node { IfOk result (λ x. x ≡ text_node self.old foster) }
+        ensures text { IfOk result (λ x. (x < length self.new.tree.labels) × IsText (label_of self.new.tree x)) }
+        ensures free { IfOk result (λ x. IsFree self.new x) }
+        ensures exact { OnOk result (self.new ≡ record self.old { tree = with_text_node self.old foster; steps = self.new.steps }) }
+        ensures steps { OnOk result (self.new.steps ≤ self.old.steps + 2 * length self.old.stack + 4) }
+        ensures keeps { OnOk result (Keeps self.old self.new) }
+        ensures grown { OnOk result (Grown 1 0 0 0 self.old self.new) }
+        ensures cause { IfErr result (λ e. IsNewTextRefused self.old foster e) }
+    {
+        match self.text_here(foster) {
+            Some(node) => Ok(node),
+            None => self.insert_text(foster),
+        }
+    }
+
+    /// The text that stands just before the place for the current node. The steps of the place.
+    fn text_here(&mut self, foster: bool) -> Option<NodeId>
+        requires opened { 0 < length self.old.stack }
+        ensures text { result ≡ text_before self.old.tree (place_here self.old foster) }
+        ensures node { IfSome result (λ x. (x < length self.old.tree.labels) × IsText (label_of self.old.tree x)) }
+        ensures free { IfSome result (λ x. IsFree self.old x) }
+        ensures rest { self.new ≡ record self.old { steps = self.new.steps } }
+        ensures steps { self.new.steps ≤ self.old.steps + length self.old.stack + 1 }
+        ensures keeps { Keeps self.old self.new }
+        ensures grown { Grown 0 0 0 0 self.old self.new }
+    {
+        self.arena.forest();
+        let place = place(&self.stack, &mut self.arena, None, foster);
+        text_before(&self.arena, &place)
+    }
+
+    /// A new text, without code points, at the place for the current node.
+    fn insert_text(&mut self, foster: bool) -> Result<NodeId, OpenError>
+        requires opened { 0 < length self.old.stack }
+        ensures id { IfOk result (λ id. id ≡ length self.old.tree.labels) }
+        ensures text { IfOk result (λ x. (x < length self.new.tree.labels) × IsText (label_of self.new.tree x)) }
+        ensures free { IfOk result (λ x. IsFree self.new x) }
+        ensures exact { OnOk result (self.new ≡ record self.old { tree = with_new self.old.tree (place_here self.old foster) Text; steps = self.new.steps }) }
+        ensures steps { OnOk result (self.new.steps ≤ self.old.steps + length self.old.stack + 3) }
+        ensures keeps { OnOk result (Keeps self.old self.new) }
+        ensures grown { OnOk result (Grown 1 0 0 0 self.old self.new) }
+        ensures cause { IfErr result (λ e. IsRefused self.old Text e) }
+    {
+        let target = Target::Current(foster);
+        let new = NewNode::Text;
+        let node = put_new(&self.stack, &mut self.arena, self.head, target, new)?;
+        self.arena.forest();
+        Ok(node)
+    }
+
+    /// Adds the longest front of a run that the limit on held code points takes to a text, and answers its length.
+    fn append_to(&mut self, node: NodeId, run: &[char]) -> Result<usize, OpenError>
+        requires node_in { node < length self.old.tree.labels }
+        requires is_text { IsText (label_of self.old.tree node) }
+        requires free { IsFree self.old node }
+        requires some { 0 < length run.now }
+        ensures count { IfOk result (λ n. (0 < n) × (n ≤ length run.now)) }
+        ensures exact { IfOk result (λ n. self.new ≡ record self.old { tree = bare (texted_run self.old.tree node (take n run.now)); steps = self.new.steps }) }
+        ensures longest { IfOk result (λ n. n < length run.now → budget self.new.tree 0 1 ≡ Err arena.HeldBudget) }
+        ensures steps { IfOk result (λ n. self.new.steps ≤ self.old.steps + n) }
+        ensures keeps { OnOk result (Keeps self.old self.new) }
+        ensures grown { IfOk result (λ n. Grown 0 0 0 n self.old self.new) }
+        ensures cause { IfErr result (λ e. IsLack (budget self.old.tree 0 1) e) }
+    {
+        kept_by_edits();
+        let count = self.arena.append_run(node, run)?;
+        if count == 0 {
+            return Err(OpenError::HeldBudget);
+        }
+        Ok(count)
+    }
+}
