@@ -1,0 +1,161 @@
+//! The calls that words name.
+
+use crate::page::Page;
+use crate::refusal::Refusal;
+use crate::shown::{push_bool, push_end, push_index, push_node, push_tag};
+use crate::words::{Word, number};
+use html_arena::{Limits, NodeId};
+use html_charref::Str;
+use html_tokens::{Attr, Attrs};
+use html_tree::OpenError;
+use std::alloc::Global;
+
+/// Makes the call that a word names, and writes its answer.
+pub(crate) fn make_call(
+    page: &mut Page,
+    alloc: Global,
+    word: Word<'_>,
+    out: &mut String,
+) -> Result<(), Refusal> {
+    match word.name {
+        "within" => within(page, alloc, word),
+        "root"
+        | "implied-root"
+        | "head"
+        | "form"
+        | "start"
+        | "void"
+        | "listed"
+        | "implied"
+        | "implied-void"
+        | "comment"
+        | "doctype" => {
+            let node = insert(page, alloc, word)?;
+            push_node(out, Some(node))
+        }
+        "text" => append(page, alloc, word, out),
+        "merge" => page.merge(number(word.first)?, attributes(alloc, word.second)?),
+        "detach-body" => page.detach_body(),
+        "marker" => page.add_marker(),
+        "reopen" => page.reopen(word.first == "foster"),
+        "adopt" => push_end(out, page.adopt(word.tag(), word.fosters())?),
+        "pop"
+        | "pop-to"
+        | "close"
+        | "clear-to"
+        | "imply"
+        | "clear"
+        | "unlist"
+        | "remove"
+        | "no-form" => close(page, word, out),
+        _ => ask(page, word, out),
+    }
+}
+
+/// A document that keeps to limits takes the place of the page.
+fn within(page: &mut Page, alloc: Global, word: Word<'_>) -> Result<(), Refusal> {
+    let limits = Limits {
+        nodes: number(word.first)? as u64,
+        held: number(word.second)? as u64,
+        code_points: 0,
+    };
+    *page = Page::within(alloc, limits)?;
+    Ok(())
+}
+
+/// Calls that make nodes. Elements that are not listed have no attributes.
+fn insert(page: &mut Page, alloc: Global, word: Word<'_>) -> Result<NodeId, Refusal> {
+    match word.name {
+        "root" => page.insert_root(attributes(alloc, word.first)?),
+        "implied-root" => page.insert_implied_root(),
+        "head" => page.insert_head(),
+        "implied" => page.insert_implied(word.tag(), word.fosters()),
+        "implied-void" => page.insert_implied_void(word.tag(), word.fosters()),
+        _ => insert_named(page, alloc, word),
+    }
+}
+
+/// Calls that make nodes of a text: a name, or a comment.
+fn insert_named(page: &mut Page, alloc: Global, word: Word<'_>) -> Result<NodeId, Refusal> {
+    let text = Str::of(alloc, word.first)?;
+    let attrs = Attrs::new(alloc);
+    match word.name {
+        "form" => page.insert_form(text, attrs),
+        "start" => page.insert(text, attrs, word.target()?),
+        "void" => page.insert_void(text, attrs, word.target()?),
+        "listed" => page.insert_listed(text, attrs, word.fosters()),
+        "doctype" => page.insert_doctype(text),
+        "comment" if word.second == "document" => page.insert_document_comment(text),
+        _ => page.insert_comment(text, word.target()?),
+    }
+}
+
+/// One attribute of this name and no value, or none.
+fn attributes(alloc: Global, name: &str) -> Result<Attrs, Refusal> {
+    let mut attrs = Attrs::new(alloc);
+    if name != "" {
+        let name = Str::of(alloc, name)?;
+        let value = Str::new(alloc);
+        attrs.push(Attr { name, value })?;
+    }
+    Ok(attrs)
+}
+
+/// Adds a run: the text, and how many code points it took.
+fn append(page: &mut Page, alloc: Global, word: Word<'_>, out: &mut String) -> Result<(), Refusal> {
+    let mut run: Vec<char> = Vec::new(alloc);
+    for c in word.first.chars() {
+        if run.push(c).is_err() {
+            return Err(Refusal::Open(OpenError::OutOfMemory));
+        }
+    }
+    let (node, count) = page.append_run(run.as_slice(), word.fosters())?;
+    push_node(out, Some(node))?;
+    write!(out, "+{count}")?;
+    Ok(())
+}
+
+/// Calls that take elements off the stack or the list, and pointers.
+fn close(page: &mut Page, word: Word<'_>, out: &mut String) -> Result<(), Refusal> {
+    match word.name {
+        "pop" => page.pop(),
+        "pop-to" => page.pop_to(number(word.first)?),
+        "clear-to" => page.clear_to(word.context()?),
+        "imply" => page.implied(word.tag_if_named()),
+        "clear" => page.clear_to_marker(),
+        "no-form" => page.forget_form(),
+        "close" => {
+            let is_found = page.close(word.group(), word.stop()?);
+            push_bool(out, is_found)?;
+        }
+        "unlist" => {
+            let node = page.unlist_last(word.tag());
+            push_node(out, node)?;
+        }
+        _ => {
+            let node = page.remove_last(word.tag());
+            push_node(out, node)?;
+        }
+    }
+    Ok(())
+}
+
+/// Calls that only read.
+fn ask(page: &mut Page, word: Word<'_>, out: &mut String) -> Result<(), Refusal> {
+    match word.name {
+        "find" => push_index(out, page.find(word.group(), word.stop()?)),
+        "has" => push_bool(out, page.has(word.group(), word.stop()?)),
+        "find-name" => push_index(out, page.find_name(word.first)),
+        "in-scope" => push_bool(out, page.is_in_scope(word.node()?)),
+        "last" => push_node(out, page.last_listed(word.tag())),
+        "the-head" => push_node(out, page.head()),
+        "the-form" => push_node(out, page.form()),
+        "depth" => push_index(out, Some(page.depth())),
+        "current" => push_tag(out, page.current_tag()),
+        "at" => {
+            let tag = page.tag_at(number(word.first)?)?;
+            push_tag(out, Some(tag))
+        }
+        _ => Err(Refusal::NoCall),
+    }
+}
