@@ -179,8 +179,11 @@ module _ (s s' : List ℕ) (l l' : List Entry) (t u v : Tree) (at : Place) (new 
           | inl q ↦ inr (inr (q, sym (w.same_parents x q) ∙ (sym (ap (λ ps. get_or ps x None) vp) ∙ p)))
           | inr q ↦ elim q [
             | inl r ↦ absurd (place-parent t at e.place_in (sym w.parent_is ∙ (sym (ap (λ ps. get_or ps (length t.labels) None) vp) ∙ subst (λ y. parent_of v y ≡ None) r p)))
-            | inr r ↦ inl (length t.labels, ap (λ ds. host_in (label_in ds x)) (vl ∙ e.labels_are)
-                ∙ beyond-contents (length t.labels) (has_contents new) (label_for t new) t.labels x r (subst (λ ds. x < length ds) (vl ∙ e.labels_are) b))
+            | inr r ↦ inl (
+              length t.labels,
+              ap (λ ds. host_in (label_in ds x)) (vl ∙ e.labels_are)
+                  ∙ beyond-contents (length t.labels) (has_contents new) (label_for t new) t.labels x r (subst (λ ds. x < length ds) (vl ∙ e.labels_are) b),
+            )
           ]
         ];
         root = λ p. ap (λ ps. get_or ps 0 None) vp ∙ w.same_parents 0 some ∙ p;
