@@ -1,5 +1,5 @@
 -- What is known of a page under way.
-use Rattle.std.specs.Prelude.{◌≡◌, ℕ, ◌≤◌, Bool, true, Option, Some, None}
+use Rattle.std.specs.Prelude.{◌≡◌, ℕ, ◌≤◌, Bool, true, None}
 use Rattle.html_tree.specs.States.{State}
 
 -- where the last call says so: the next token is n, and no body gave way to a frameset if it is still there

@@ -1,5 +1,5 @@
 // A page under way: each call on its tree with a test of what the call asks for.
-ghost use Rattle.std.specs.Prelude.{◌≡◌, ℕ, ◌<◌, length, true};
+ghost use Rattle.std.specs.Prelude.{◌≡◌, ℕ, ◌<◌, IfOk, length, true};
 ghost use Rattle.html_tree.specs.Targets.{CanTarget};
 
 use crate::refusal::Refusal;
@@ -61,14 +61,6 @@ impl Page {
         self.tree.depth()
     }
 
-    /// The next token's number, where it is known.
-    fn token(&self) -> Result<u64, Refusal> {
-        if !self.known || self.next == u64::MAX {
-            return Err(Refusal::Condition);
-        }
-        Ok(self.next)
-    }
-
     /// Whether an element can go to a target.
     fn takes(&self, target: Target) -> bool
         ensures opened { result ≡ true → 0 < length self.now.stack }
@@ -92,7 +84,7 @@ impl Page {
         attrs: Attrs,
         target: Target,
     ) -> Result<NodeId, Refusal> {
-        let token = self.token()?;
+        let token = next_token(self.next, self.known)?;
         if !self.takes(target) {
             return Err(Refusal::Condition);
         }
@@ -110,7 +102,7 @@ impl Page {
         attrs: Attrs,
         target: Target,
     ) -> Result<NodeId, Refusal> {
-        let token = self.token()?;
+        let token = next_token(self.next, self.known)?;
         if !self.takes(target) {
             return Err(Refusal::Condition);
         }
@@ -128,7 +120,7 @@ impl Page {
         attrs: Attrs,
         foster: bool,
     ) -> Result<NodeId, Refusal> {
-        let token = self.token()?;
+        let token = next_token(self.next, self.known)?;
         if self.tree.depth() == 0 || !Tag::of(name.as_str()).is_formatting() {
             return Err(Refusal::Condition);
         }
@@ -169,7 +161,7 @@ impl Page {
 
     /// The html element of the next token, opened.
     pub(crate) fn insert_root(&mut self, attrs: Attrs) -> Result<NodeId, Refusal> {
-        let token = self.token()?;
+        let token = next_token(self.next, self.known)?;
         self.known = false;
         let node = self.tree.insert_root(attrs, token)?;
         self.next = token + 1;
@@ -201,7 +193,7 @@ impl Page {
 
     /// The form of the next token, opened and pointed to.
     pub(crate) fn insert_form(&mut self, name: Str, attrs: Attrs) -> Result<NodeId, Refusal> {
-        let token = self.token()?;
+        let token = next_token(self.next, self.known)?;
         let target = Target::Current(false);
         if !self.takes(target) {
             return Err(Refusal::Condition);
@@ -228,7 +220,7 @@ impl Page {
 
     /// The comment of the next token.
     pub(crate) fn insert_comment(&mut self, text: Str, target: Target) -> Result<NodeId, Refusal> {
-        let token = self.token()?;
+        let token = next_token(self.next, self.known)?;
         if !self.takes(target) {
             return Err(Refusal::Condition);
         }
@@ -241,7 +233,7 @@ impl Page {
 
     /// The comment of the next token, last in the document.
     pub(crate) fn insert_document_comment(&mut self, text: Str) -> Result<NodeId, Refusal> {
-        let token = self.token()?;
+        let token = next_token(self.next, self.known)?;
         self.known = false;
         let node = self.tree.insert_comment(text, token, Target::Document)?;
         self.next = token + 1;
@@ -251,7 +243,7 @@ impl Page {
 
     /// The doctype of the next token.
     pub(crate) fn insert_doctype(&mut self, name: Str) -> Result<NodeId, Refusal> {
-        let token = self.token()?;
+        let token = next_token(self.next, self.known)?;
         self.known = false;
         let node = self.tree.insert_doctype(Some(name), None, None, token)?;
         self.next = token + 1;
@@ -405,4 +397,16 @@ impl Page {
         }
         Ok(self.tree.tag_at(index))
     }
+}
+
+/// The next token's number, where it is known.
+fn next_token(next: u64, known: bool) -> Result<u64, Refusal>
+    ensures same { IfOk result (λ n. n ≡ next) }
+    ensures known { IfOk result (λ n. known ≡ true) }
+    ensures room { IfOk result (λ n. n < 18446744073709551615) }
+{
+    if !known || next == u64::MAX {
+        return Err(Refusal::Condition);
+    }
+    Ok(next)
 }
