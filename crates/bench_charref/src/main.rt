@@ -1,6 +1,11 @@
-//! How fast named references are found. Without an argument a short text is read with the core table, and no time is
-//! printed; with the name of an entities file, that file's table is read, and a long text full of references.
+//! Rows of references, and how fast they are found.
+//!
+//! Without an argument standard input has a table in its first line, as JSON, and then rows: what is asked, a space, and
+//! what it is asked of. After the rows a short text is read with the core table, and no time is printed. With the name of
+//! an entities file, that file's table is read, and a long text full of references.
 #![tactic(auto)]
+
+mod rows;
 
 use anyhow::{Context, Result};
 use html_charref::{EntityTable, Step};
@@ -86,8 +91,26 @@ fn timed_run(rt: &(impl Print + CpuClock), alloc: Global, file: &[u8]) -> Result
     Ok(())
 }
 
+fn answer_rows(rt: &HostRuntime) -> Result<()> {
+    let mut lines = rt.lines(rt.alloc());
+    let first = lines.next().context("no table")??;
+    let table = EntityTable::read(rt.alloc(), first.as_bytes())?;
+    for line in lines {
+        answer_row(rt, &table, line?.as_str())?;
+    }
+    Ok(())
+}
+
+fn answer_row(rt: &HostRuntime, table: &EntityTable, row: &str) -> Result<()> {
+    let mut out = String::new(rt.alloc());
+    rows::answer(rt.alloc(), table, row, &mut out)?;
+    println!(rt; "{out}")?;
+    Ok(())
+}
+
 fn main(rt: HostRuntime) -> Result<()> {
     let Some(path) = env::args(&rt)?.nth(1) else {
+        answer_rows(&rt)?;
         return short_run(&rt, rt.alloc());
     };
     let mut bytes = Vec::new(rt.alloc());

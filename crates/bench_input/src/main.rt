@@ -1,6 +1,10 @@
 //! How fast bytes are decoded: a table of four inputs. Without an argument each is a small run, and no time is printed;
-//! with one, 64 MiB are decoded of each.
+//! with one, 64 MiB are decoded of each. The decoder's tests stand here, and not in html_input, since a crate with tests is
+//! proved twice.
 #![tactic(auto)]
+
+#[cfg(test)]
+mod tests;
 
 use html_input::{Decoder, InputError};
 use std::alloc::{AllocError, Global};

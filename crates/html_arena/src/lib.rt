@@ -7,8 +7,6 @@ mod data;
 mod links;
 mod marks;
 mod room;
-#[cfg(test)]
-mod tests;
 mod walk;
 
 pub use arena::{Arena, ArenaError, Limits, Meter};

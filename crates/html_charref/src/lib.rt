@@ -5,8 +5,6 @@ mod number;
 mod ranges;
 mod read;
 mod table;
-#[cfg(test)]
-mod tests;
 mod text;
 mod walk;
 

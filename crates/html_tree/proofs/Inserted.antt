@@ -63,7 +63,7 @@ target-free s l t n h f d target.Document p w c x i none = λ e. (let k : 0 ≡ 
     first-in (y ∷ xs) x i = (let k : y ≡ x = cc in subst (λ v. has v (y ∷ xs) ≡ true) k (rw (eqb-self y) refl))
 
 -- the labels of a tree with a new node
-made-labels : (t : Tree) (new : NewNode) → (made t new).labels ≡ t.labels ++ label_for t new ∷ rest_of (length t.labels) (has_contents new)
+pub made-labels : (t : Tree) (new : NewNode) → (made t new).labels ≡ t.labels ++ label_for t new ∷ rest_of (length t.labels) (has_contents new)
 made-labels t new = by (has_contents new) refl
   where
     by : (b : Bool) → has_contents new ≡ b → (made t new).labels ≡ t.labels ++ label_for t new ∷ rest_of (length t.labels) (has_contents new)
@@ -83,7 +83,7 @@ no-token h true zero i e = absurd (let k = e in cc)
 no-token h true (suc y) i e = absurd (let k = e in cc)
 no-token h false y i e = absurd (let k = e in cc)
 
-beyond : (h : ℕ) (b : Bool) (d : NodeData) (xs : List NodeData) (y i : ℕ) → length xs < y → origin_in (get_or (xs ++ d ∷ rest_of h b) y node.Document) ≡ Token i → ⊥
+pub beyond : (h : ℕ) (b : Bool) (d : NodeData) (xs : List NodeData) (y i : ℕ) → length xs < y → origin_in (get_or (xs ++ d ∷ rest_of h b) y node.Document) ≡ Token i → ⊥
 beyond h b d [] zero i l e = absurd (omega arith)
 beyond h b d [] (suc y) i l e = no-token h b y i e
 beyond h b d (x ∷ xs) zero i l e = absurd (omega arith)
@@ -179,8 +179,11 @@ module _ (s s' : List ℕ) (l l' : List Entry) (t u v : Tree) (at : Place) (new 
           | inl q ↦ inr (inr (q, sym (w.same_parents x q) ∙ (sym (ap (λ ps. get_or ps x None) vp) ∙ p)))
           | inr q ↦ elim q [
             | inl r ↦ absurd (place-parent t at e.place_in (sym w.parent_is ∙ (sym (ap (λ ps. get_or ps (length t.labels) None) vp) ∙ subst (λ y. parent_of v y ≡ None) r p)))
-            | inr r ↦ inl (length t.labels, ap (λ ds. host_in (label_in ds x)) (vl ∙ e.labels_are)
-                ∙ beyond-contents (length t.labels) (has_contents new) (label_for t new) t.labels x r (subst (λ ds. x < length ds) (vl ∙ e.labels_are) b))
+            | inr r ↦ inl (
+              length t.labels,
+              ap (λ ds. host_in (label_in ds x)) (vl ∙ e.labels_are)
+                  ∙ beyond-contents (length t.labels) (has_contents new) (label_for t new) t.labels x r (subst (λ ds. x < length ds) (vl ∙ e.labels_are) b),
+            )
           ]
         ];
         root = λ p. ap (λ ps. get_or ps 0 None) vp ∙ w.same_parents 0 some ∙ p;

@@ -9,3 +9,4 @@ pub mod Merged
 pub mod Texted
 pub mod Clones
 pub mod Adopted
+pub mod Roots

@@ -86,7 +86,7 @@ module _ (s : List ℕ) (l : List Entry) (t u : Tree) (n x : ℕ) (h f d : Optio
         head = g.head;
         form = g.form;
         detached = λ y k. (let z : x ≡ y = (let c : Some x ≡ Some y = k in cc) in
-          (subst (λ v. v < length u.labels) z (omega arith), subst (λ v. named u tag.Body v ≡ true) z (ap (λ ls. is_same (tag_in (label_in ls x)) tag.Body) r.same_labels ∙ b)));
+            (subst (λ v. v < length u.labels) z (omega arith), subst (λ v. named u tag.Body v ≡ true) z (ap (λ ls. is_same (tag_in (label_in ls x)) tag.Body) r.same_labels ∙ b)));
       })
 
   pub detached-since : IsElement (label_of t x) → d ≡ None → Since (state_of s l t n h f d) (state_of s l u n h f (Some x))

@@ -6,8 +6,10 @@ use Rattle.html_names.specs.Tags.{is_same}
 use Rattle.html_arena.specs.declared.arena.ArenaError.{ArenaError}
 use Rattle.html_arena.specs.declared.arena.ArenaError.TheVariants as arena
 use Rattle.html_arena.specs.declared.data.Origin.{Origin}
-use Rattle.html_arena.specs.declared.data.Origin.TheVariants.{Token}
+use Rattle.html_arena.specs.declared.data.Origin.TheVariants.{Implied, Token}
 use Rattle.html_arena.specs.declared.data.NewNode.{NewNode}
+use Rattle.html_arena.specs.declared.data.NewNode.TheVariants.{Element}
+use Rattle.html_names.specs.Names.{name_of}
 use Rattle.html_arena.specs.declared.data.NodeData.{NodeData}
 use Rattle.html_arena.specs.declared.data.NodeData.TheVariants.{Contents}
 use Rattle.html_arena.specs.Budget.{budget}
@@ -59,6 +61,10 @@ abbrev pub IsBudget : Result (Unit {0}) ArenaError → OpenError → Type 0
 IsBudget r OutOfMemory = Unit {0}
 IsBudget r NodeBudget = r ≡ Err arena.NodeBudget
 IsBudget r HeldBudget = r ≡ Err arena.HeldBudget
+
+-- what the budget answers to the root of a fragment
+abbrev pub root_budget : Tree → Result (Unit {0}) ArenaError
+root_budget t = budget t (nodes_made (Element (name_of tag.Html) [] Implied)) (made_weight t (Element (name_of tag.Html) [] Implied))
 
 -- the same of a new node for which memory may have been wanted before
 abbrev pub IsTold : State → NewNode → OpenError → Type 0

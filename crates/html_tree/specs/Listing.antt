@@ -5,11 +5,12 @@ use Rattle.html_names.specs.declared.tag.Tag.{Tag}
 use Rattle.html_arena.specs.Tree.{Tree, label_of}
 use Rattle.html_arena.specs.Weight.{weight}
 use Rattle.html_open.specs.declared.adoption.AdoptEnd.{AdoptEnd}
-use Rattle.html_open.specs.Adopting.{Adopted}
+use Rattle.html_open.specs.declared.error.OpenError.{OpenError}
+use Rattle.html_open.specs.Adopting.{Adopted, IsRefusal}
 use Rattle.html_open.specs.Entries.{nodes_of}
 use Rattle.html_open.specs.Marking.{bare}
 use Rattle.html_open.specs.Opened.{open_at}
-use Rattle.html_open.specs.Reopening.{Reopened}
+use Rattle.html_open.specs.Reopening.{IsCause, Reopened}
 use Rattle.html_tree.specs.States.{State}
 
 -- the code points that the listed elements hold, each counted once
@@ -31,3 +32,17 @@ pub record IsAdopted (name : Tag) (foster : Bool) (end : AdoptEnd) (a b : State)
   pub old_is : bare old ≡ a.tree
   pub new_is : bare new ≡ b.tree
   pub adopted : Adopted name foster end (open_at a.stack a.list old) (open_at b.stack b.list new)
+
+-- why a reopening was refused: a budget where the next clone would pass it, and want of memory where it would not
+pub record IsReopenRefused (foster : Bool) (a : State) (e : OpenError) : Type 0 where
+  pub old : Tree
+  pub old_is : bare old ≡ a.tree
+  pub cause : IsCause (open_at a.stack a.list old) foster e
+
+-- why an adoption was refused, and after how many rounds
+pub record IsAdoptRefused (name : Tag) (foster : Bool) (a b : State) (e : OpenError) : Type 0 where
+  pub old : Tree
+  pub new : Tree
+  pub old_is : bare old ≡ a.tree
+  pub new_is : bare new ≡ b.tree
+  pub refusal : IsRefusal name foster (open_at a.stack a.list old) (open_at b.stack b.list new) e

@@ -1,19 +1,23 @@
 // The tree under construction.
-ghost use Rattle.std.specs.Prelude.{◌≡◌, ℕ, ◌+◌, ◌<◌, ◌≤◌, [], Bool, IfErr, IfOk, None, Option, Some, length, slice_index, true};
+ghost use Rattle.std.specs.Prelude.{◌≡◌, ℕ, ◌+◌, ◌<◌, ◌≤◌, [], ◌∷◌, IfErr, IfOk, None, OnOk, Option, Some, length, true};
 ghost use Rattle.html_names.specs.declared.tag.Tag.TheVariants as tag;
-ghost use Rattle.html_arena.specs.declared.data.NewNode.TheVariants.{Document};
+ghost use Rattle.html_names.specs.Names.{name_of};
+ghost use Rattle.html_arena.specs.declared.data.NewNode.TheVariants.{Element};
+ghost use Rattle.html_arena.specs.declared.data.Origin.TheVariants.{Implied};
 ghost use Rattle.html_arena.specs.declared.arena.Limits.{Limits};
 ghost use Rattle.html_arena.specs.Budget.{budget};
 ghost use Rattle.html_arena.specs.Make.{made};
-ghost use Rattle.html_arena.specs.Tree.{empty_tree, named, tag_at};
+ghost use Rattle.html_arena.specs.Tree.{empty_tree, named};
 ghost use Rattle.html_open.specs.Marking.{bare};
-ghost use Rattle.html_open.specs.Placing.{fosters};
-ghost use Rattle.html_tree.specs.Inserting.{IsLack};
+ghost use Rattle.html_tree.specs.Inserting.{IsBudget, IsLack, root_budget};
+ghost use Rattle.html_tree.specs.States.{IsUnderWay};
 ghost use Rattle.html_tree.specs.Since.{Grown, Keeps};
 
-use html_arena::{Arena, Limits, NewNode, NodeId};
+use html_arena::{Arena, Limits, NewNode, NodeId, Origin};
+use html_charref::Str;
 use html_names::Tag;
-use html_open::{FormattingList, OpenError, OpenStack};
+use html_open::{FormattingList, OpenError, OpenStack, kept_by_edits};
+use html_tokens::Attrs;
 use std::alloc::Global;
 use std::marker::Model;
 
@@ -50,7 +54,7 @@ impl Model for OpenTree {
 }
 
 impl OpenTree {
-    ghost use Rattle.html_tree.specs.States.{IsNode, document_state};
+    ghost use Rattle.html_tree.specs.States.{IsNode, IsSound, document_state, fragment_state};
 
     /// A document in which nothing is open.
     ///
@@ -97,6 +101,61 @@ impl OpenTree {
             detached: None,
             alloc,
         })
+    }
+
+    /// The root of a fragment: an html element that no token asked for, without a parent, opened (13.4).
+    ///
+    /// # Errors
+    ///
+    /// `OutOfMemory`.
+    pub fn fragment(alloc: Global) -> Result<OpenTree, OpenError>
+        ensures state { IfOk result (λ p. p ≡ fragment_state None p.steps) }
+        ensures steps { IfOk result (λ p. p.steps ≤ 2) }
+        ensures cause { IfErr result (λ e. e ≡ OpenError.OutOfMemory) }
+    {
+        OpenTree::over_root(alloc, Arena::new(alloc))
+    }
+
+    /// The root of a fragment whose tree keeps to limits.
+    ///
+    /// # Errors
+    ///
+    /// `NodeBudget` and `HeldBudget` where not even the root is within them; `OutOfMemory`, which may be told first.
+    pub fn fragment_within(alloc: Global, limits: Limits) -> Result<OpenTree, OpenError>
+        ensures state { IfOk result (λ p. p ≡ fragment_state (Some limits) p.steps) }
+        ensures steps { IfOk result (λ p. p.steps ≤ 2) }
+        ensures cause { IfErr result (λ e. IsBudget (root_budget (empty_tree (Some limits))) e) }
+    {
+        OpenTree::over_root(alloc, Arena::within(alloc, limits))
+    }
+
+    /// The root of a fragment in an arena without nodes.
+    fn over_root(alloc: Global, arena: Arena) -> Result<OpenTree, OpenError>
+        requires { (l : Option Limits) × (arena ≡ empty_tree l) }
+        ensures state { (l : Option Limits) → arena ≡ empty_tree l → IfOk result (λ p. p ≡ fragment_state l p.steps) }
+        ensures steps { (l : Option Limits) → arena ≡ empty_tree l → IfOk result (λ p. p.steps ≤ 2) }
+        ensures cause { (l : Option Limits) → arena ≡ empty_tree l → IfErr result (λ e. IsBudget (root_budget (empty_tree l)) e) }
+    {
+        let mut arena = arena;
+        let mut stack = OpenStack::new(alloc);
+        push_root(&mut stack, &mut arena, alloc)?;
+        Ok(OpenTree {
+            arena,
+            stack,
+            list: FormattingList::new(alloc),
+            tokens: 0,
+            head: None,
+            form: None,
+            detached: None,
+            alloc,
+        })
+    }
+
+    /// What is always true of a tree under construction: a law.
+    pub fn laws(&self)
+        ensures sound { IsSound self.now }
+    {
+        let _ = &self.arena;
     }
 
     /// The number of open elements.
@@ -150,4 +209,25 @@ impl OpenTree {
     {
         self.form = node;
     }
+}
+
+/// Makes an html element that no token asked for, the first node, and opens it.
+fn push_root(stack: &mut OpenStack, arena: &mut Arena, alloc: Global) -> Result<(), OpenError>
+    requires none { stack.old ≡ [] }
+    requires empty { (l : Option Limits) × (arena.old ≡ empty_tree l) }
+    ensures under_way { OnOk result (IsUnderWay stack.new [] arena.new 0 None None None) }
+    ensures stack { OnOk result (stack.new ≡ 0 ∷ []) }
+    ensures tree { OnOk result (bare arena.new ≡ bare (made arena.old (Element (name_of tag.Html) [] Implied))) }
+    ensures steps { OnOk result (arena.new.steps ≤ arena.old.steps + 2) }
+    ensures cause { IfErr result (λ e. IsBudget (root_budget arena.old) e) }
+{
+    kept_by_edits();
+    let name = Str::of(alloc, Tag::Html.name())?;
+    let root = arena.make(NewNode::Element {
+        name,
+        attrs: Attrs::new(alloc),
+        origin: Origin::Implied,
+    })?;
+    stack.push(arena, root)?;
+    Ok(())
 }

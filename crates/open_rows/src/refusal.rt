@@ -14,6 +14,17 @@ pub(crate) enum Refusal {
     /// What the call asks for does not hold.
     #[error("a condition of the call does not hold")]
     Condition,
+    #[error("a word names no call")]
+    NoCall,
+    #[error("a word has no number where one is to stand")]
+    NoNumber,
+}
+
+impl Refusal {
+    pub(crate) fn is_out_of_memory(self) -> bool {
+        self == Refusal::Arena(ArenaError::OutOfMemory)
+            || self == Refusal::Open(OpenError::OutOfMemory)
+    }
 }
 
 impl From<ArenaError> for Refusal {

@@ -30,7 +30,13 @@ impl OpenTree {
     /// # Errors
     ///
     /// `NodeBudget` and `HeldBudget` where the node would pass that limit; else `OutOfMemory`.
-    pub fn insert(&mut self, name: Str, attrs: Attrs, token: u64, target: Target) -> Result<NodeId, OpenError>
+    pub fn insert(
+        &mut self,
+        name: Str,
+        attrs: Attrs,
+        token: u64,
+        target: Target,
+    ) -> Result<NodeId, OpenError>
         requires target { CanTarget self.old.stack target }
         requires opened { 0 < length self.old.stack }
         requires token { self.old.tokens ≤ token }
@@ -55,7 +61,13 @@ impl OpenTree {
     /// # Errors
     ///
     /// `NodeBudget` and `HeldBudget` where the node would pass that limit; else `OutOfMemory`.
-    pub fn insert_void(&mut self, name: Str, attrs: Attrs, token: u64, target: Target) -> Result<NodeId, OpenError>
+    pub fn insert_void(
+        &mut self,
+        name: Str,
+        attrs: Attrs,
+        token: u64,
+        target: Target,
+    ) -> Result<NodeId, OpenError>
         requires target { CanTarget self.old.stack target }
         requires token { self.old.tokens ≤ token }
         ensures id { IfOk result (λ id. id ≡ length self.old.tree.labels) }
@@ -125,7 +137,12 @@ impl OpenTree {
     /// # Errors
     ///
     /// `NodeBudget` and `HeldBudget` where the node would pass that limit; else `OutOfMemory`.
-    pub fn insert_comment(&mut self, text: Str, token: u64, target: Target) -> Result<NodeId, OpenError>
+    pub fn insert_comment(
+        &mut self,
+        text: Str,
+        token: u64,
+        target: Target,
+    ) -> Result<NodeId, OpenError>
         requires target { CanTarget self.old.stack target }
         requires token { self.old.tokens ≤ token }
         ensures id { IfOk result (λ id. id ≡ length self.old.tree.labels) }
@@ -150,7 +167,13 @@ impl OpenTree {
     /// # Errors
     ///
     /// `NodeBudget` and `HeldBudget` where the node would pass that limit; else `OutOfMemory`.
-    pub fn insert_doctype(&mut self, name: Option<Str>, public: Option<Str>, system: Option<Str>, token: u64) -> Result<NodeId, OpenError>
+    pub fn insert_doctype(
+        &mut self,
+        name: Option<Str>,
+        public: Option<Str>,
+        system: Option<Str>,
+        token: u64,
+    ) -> Result<NodeId, OpenError>
         requires token { self.old.tokens ≤ token }
         ensures id { IfOk result (λ id. id ≡ length self.old.tree.labels) }
         ensures exact { OnOk result (self.new ≡ record self.old {
@@ -163,7 +186,12 @@ impl OpenTree {
         ensures grown { OnOk result (Grown 2 0 0 (weight (label_for self.old.tree (Doctype name public system token))) self.old self.new) }
         ensures cause { IfErr result (λ e. IsRefused self.old (Doctype name public system token) e) }
     {
-        let new = NewNode::Doctype { name, public, system, token };
+        let new = NewNode::Doctype {
+            name,
+            public,
+            system,
+            token,
+        };
         let target = Target::Document;
         let node = put_new(&self.stack, &mut self.arena, self.head, target, new)?;
         self.tokens = token as u128 + 1;
@@ -193,7 +221,13 @@ impl OpenTree {
         ensures cause { IfErr result (λ e. IsTold self.old (Element (name_of tag.Html) attrs (Token token)) e) }
     {
         let next = token as u128 + 1;
-        self.open_named(Tag::Html, attrs, Origin::Token(token), next, Target::Document)
+        self.open_named(
+            Tag::Html,
+            attrs,
+            Origin::Token(token),
+            next,
+            Target::Document,
+        )
     }
 
     /// Makes an html element that no token asked for, puts it last in the document, and opens it.
@@ -224,7 +258,13 @@ impl OpenTree {
     /// # Errors
     ///
     /// `NodeBudget` and `HeldBudget` where the node would pass that limit; else `OutOfMemory`.
-    pub fn insert_listed(&mut self, name: Str, attrs: Attrs, token: u64, foster: bool) -> Result<NodeId, OpenError>
+    pub fn insert_listed(
+        &mut self,
+        name: Str,
+        attrs: Attrs,
+        token: u64,
+        foster: bool,
+    ) -> Result<NodeId, OpenError>
         requires opened { 0 < length self.old.stack }
         requires token { self.old.tokens ≤ token }
         requires formatting { is_formatting (tag_of name) ≡ true }

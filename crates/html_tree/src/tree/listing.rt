@@ -4,7 +4,7 @@ ghost use Rattle.html_names.specs.Sets.{is_formatting};
 ghost use Rattle.html_open.specs.Entries.{is_marker, last_named, push_steps, pushed, without_node};
 ghost use Rattle.html_open.specs.Opened.{CanList, open_at};
 ghost use Rattle.html_open.specs.Lists.{below};
-ghost use Rattle.html_tree.specs.Listing.{IsAdopted, IsReopened, listed_weight};
+ghost use Rattle.html_tree.specs.Listing.{IsAdoptRefused, IsAdopted, IsReopenRefused, IsReopened, listed_weight};
 ghost use Rattle.html_tree.specs.Since.{Grown, Keeps};
 
 use super::OpenTree;
@@ -89,6 +89,7 @@ impl OpenTree {
         ensures steps { self.new.steps ≤ self.old.steps + length self.old.list * (length self.old.stack + length self.old.list + 7) }
         ensures keeps { OnOk result (Keeps self.old self.new) }
         ensures grown { OnOk result (Grown (length self.old.list) (length self.old.list) 0 (listed_weight self.old) self.old self.new) }
+        ensures cause { IfErr result (λ e. IsReopenRefused foster self.old e) }
     {
         self.arena.forest();
         let reopened = self.list.reopen(&mut self.stack, &mut self.arena, foster);
@@ -108,6 +109,7 @@ impl OpenTree {
         ensures steps { self.new.steps ≤ self.old.steps + (32 * ((length self.old.stack + length self.old.list + 4) * (length self.old.stack + length self.old.list + 4)) + 8 * length self.new.tree.labels) }
         ensures keeps { OnOk result (Keeps self.old self.new) }
         ensures grown { OnOk result (Grown 32 0 0 (32 * listed_weight self.old) self.old self.new) }
+        ensures cause { IfErr result (λ e. IsAdoptRefused name foster self.old self.new e) }
     {
         self.arena.forest();
         let end = adopt(

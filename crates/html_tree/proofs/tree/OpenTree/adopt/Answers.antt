@@ -1,11 +1,12 @@
 use Rattle.std.proofs.Common.{◌≡◌, ℕ, ◌<◌, ◌≤◌, ◌+◌, ◌*◌, length, refl, subst, sym, ap, ◌∙◌, arith, OnOk, IfOk}
 use Rattle.html_open.specs.Leaving.{listed_weight as open_weight}
-use Rattle.html_tree.specs.Listing.{IsAdopted, listed_weight}
+use Rattle.html_tree.specs.Listing.{IsAdoptRefused, IsAdopted, listed_weight}
 use Rattle.html_tree.specs.Since.{Grown, Keeps}
 use Rattle.html_tree.specs.States.{State, state_of}
 use Rattle.html_tree.proofs.Adopted.{adopted-keeps, adopted-under_way, always, first-equal, first-free, if-ok}
 use Rattle.html_tree.proofs.Clones.{clones-grown}
 use Rattle.html_tree.proofs.Inserted.{on-ok, under-way-place}
+use Rattle.html_tree.proofs.Spelled.{if-err}
 use Rattle.html_tree.proofs.tree.OpenTree.adopt.Goals as goal
 
 pub adopt-end-requires-clause-can_place : goal.adopt-end-requires-clause-can_place
@@ -38,3 +39,9 @@ returns-clause-grown c =
     (subst (λ (a : State). Grown 32 0 0 (32 * listed_weight a) c.args.self.now (state_of c.adopt-end.new.stack c.adopt-end.new.list c.adopt-end.new.arena c.self.inside.tokens c.self.inside.head c.self.inside.form c.self.inside.detached)) c.self.view_is
     (clones-grown c.self.inside.stack c.adopt-end.new.stack c.self.inside.list c.adopt-end.new.list c.self.inside.arena c.adopt-end.new.arena c.self.inside.tokens c.self.inside.head c.self.inside.form c.self.inside.detached c.adopt-end.ensures.made c.args.self.now 32 0 0 (32 * open_weight c.self.inside.arena c.self.inside.list) c.self.view_is (first-equal c.self.inside.stack c.self.inside.list c.self.inside.arena c.self.inside.tokens c.self.inside.head c.self.inside.form c.self.inside.detached c.self.invariant c.args.name c.requires.formatting c.adopt-end.new.stack c.adopt-end.new.list c.adopt-end.new.arena c.adopt-end.ensures.first (subst (λ (a : State). 0 < length a.stack) (sym c.self.view_is) c.requires.opened)) c.adopt-end.ensures.clones
     (let e = c.adopt-end.ensures.no_more_open in omega (arith, e)) (let e = c.adopt-end.ensures.no_more_listed in omega (arith, e)) c.adopt-end.ensures.held))
+
+pub returns-clause-cause : goal.returns-clause-cause
+returns-clause-cause c =
+    if-err c.adopt-end.result c.adopt-end.ensures.cause
+    (λ e r. subst (λ (a : State). IsAdoptRefused c.args.name c.args.foster a (state_of c.adopt-end.new.stack c.adopt-end.new.list c.adopt-end.new.arena c.self.inside.tokens c.self.inside.head c.self.inside.form c.self.inside.detached) e) c.self.view_is
+    (record { old = c.self.inside.arena; new = c.adopt-end.new.arena; old_is = refl; new_is = refl; refusal = r }))

@@ -41,6 +41,7 @@ returns-clause-grown c =
 pub returns-clause-tag : goal.returns-clause-tag
 returns-clause-tag c =
     let longer = c.in_ok-node.ensures.new.laws.longer in
-    let id = c.in_ok-node.ensures.id in
-    (omega (arith, longer, id),
-    ap (λ x. tag_at c.put_new.new.arena x) id ∙ ap tag_in c.in_ok-node.ensures.new.laws.label_is ∙ element-tag c.self.inside.arena c.args.name c.args.attrs c.args.origin)
+    let id = c.in_ok-node.ensures.id in (
+      omega (arith, longer, id),
+      ap (λ x. tag_at c.put_new.new.arena x) id ∙ ap tag_in c.in_ok-node.ensures.new.laws.label_is ∙ element-tag c.self.inside.arena c.args.name c.args.attrs c.args.origin,
+    )

@@ -55,10 +55,11 @@ pub returns-clause-tag : goal.returns-clause-tag
 returns-clause-tag c =
     let longer = c.in_ok-node.ensures.new.laws.longer in
     let id = c.in_ok-node.ensures.id in
-    let e : length c.push.new.arena.labels ≡ length c.put_new.new.arena.labels = ap (λ (v : Tree). length v.labels) c.in_ok-push.ensures.tree in
-    (omega (arith, longer, id, e),
-    ap (λ (v : Tree). tag_at v c.in_ok-node.node) c.in_ok-push.ensures.tree ∙ ap (λ x. tag_at c.put_new.new.arena x) id
-    ∙ ap tag_in c.in_ok-node.ensures.new.laws.label_is ∙ element-tag c.self.inside.arena c.args.name c.args.attrs c.args.origin)
+    let e : length c.push.new.arena.labels ≡ length c.put_new.new.arena.labels = ap (λ (v : Tree). length v.labels) c.in_ok-push.ensures.tree in (
+      omega (arith, longer, id, e),
+      ap (λ (v : Tree). tag_at v c.in_ok-node.node) c.in_ok-push.ensures.tree ∙ ap (λ x. tag_at c.put_new.new.arena x) id
+          ∙ ap tag_in c.in_ok-node.ensures.new.laws.label_is ∙ element-tag c.self.inside.arena c.args.name c.args.attrs c.args.origin,
+    )
 
 pub returns-clause-steps : goal.returns-clause-steps
 returns-clause-steps c = opened-steps c.args.self.now c.self.inside.stack c.push.new.self c.self.inside.list c.self.inside.arena c.put_new.new.arena c.push.new.arena c.args.target (Element c.args.name c.args.attrs c.args.origin) (length c.self.inside.stack + 3) c.self.inside.tokens c.args.next c.in_ok-node.node c.self.inside.head c.self.inside.form c.self.inside.detached c.self.view_is c.in_ok-node.ensures.new c.in_ok-push.ensures.stack c.in_ok-node.ensures.id c.in_ok-push.ensures.tree (omega arith)

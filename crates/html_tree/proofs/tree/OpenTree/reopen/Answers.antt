@@ -1,12 +1,13 @@
 use Rattle.std.proofs.Common.{◌≡◌, ℕ, ◌<◌, ◌≤◌, ◌+◌, ◌*◌, length, refl, subst, sym, ap, ◌∙◌, arith, OnOk}
 use Rattle.html_arena.specs.Tree.{Tree}
 use Rattle.html_open.specs.Leaving.{listed_weight as open_weight}
-use Rattle.html_tree.specs.Listing.{IsReopened, listed_weight}
+use Rattle.html_tree.specs.Listing.{IsReopenRefused, IsReopened, listed_weight}
 use Rattle.html_tree.specs.Since.{Grown, Keeps}
 use Rattle.html_tree.specs.States.{State, state_of}
 use Rattle.html_tree.proofs.Adopted.{always, off, parents-linked}
 use Rattle.html_tree.proofs.Clones.{clones-grown, clones-since, clones-under_way}
 use Rattle.html_tree.proofs.Inserted.{on-ok, under-way-place}
+use Rattle.html_tree.proofs.Spelled.{if-err}
 use Rattle.html_tree.proofs.Kept.{keeps-since}
 use Rattle.html_tree.proofs.tree.OpenTree.reopen.Goals as goal
 
@@ -41,3 +42,8 @@ returns-clause-grown c =
     (subst (λ (a : State). Grown (length a.list) (length a.list) 0 (listed_weight a) c.args.self.now (state_of c.reopen-reopened.new.stack c.reopen-reopened.new.self c.reopen-reopened.new.arena c.self.inside.tokens c.self.inside.head c.self.inside.form c.self.inside.detached)) c.self.view_is
     (clones-grown c.self.inside.stack c.reopen-reopened.new.stack c.self.inside.list c.reopen-reopened.new.self c.self.inside.arena c.reopen-reopened.new.arena c.self.inside.tokens c.self.inside.head c.self.inside.form c.self.inside.detached c.reopen-reopened.ensures.made c.args.self.now (length c.self.inside.list) (length c.self.inside.list) 0 (open_weight c.self.inside.arena c.self.inside.list) c.self.view_is c.reopen-reopened.ensures.first c.reopen-reopened.ensures.nodes c.reopen-reopened.ensures.opened
     (let e = c.reopen-reopened.ensures.entries in omega (arith, e)) c.reopen-reopened.ensures.held))
+
+pub returns-clause-cause : goal.returns-clause-cause
+returns-clause-cause c =
+    if-err c.reopen-reopened.result c.reopen-reopened.ensures.cause
+    (λ e r. subst (λ (a : State). IsReopenRefused c.args.foster a e) c.self.view_is (record { old = c.self.inside.arena; old_is = refl; cause = r }))

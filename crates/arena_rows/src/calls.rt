@@ -1,0 +1,237 @@
+//! The calls that words name, on nodes by their numbers.
+ghost use Rattle.std.specs.Prelude.{◌≡◌, ◌<◌, length, true};
+ghost use Rattle.html_arena.specs.Data.{IsElement, IsText};
+ghost use Rattle.html_arena.specs.Tree.{label_of};
+
+use crate::refusal::Refusal;
+use crate::word::Word;
+use html_arena::{Arena, NewNode, NodeData, NodeId, Origin};
+use html_charref::Str;
+use html_tokens::{Attr, Attrs};
+use std::alloc::{AllocError, Global};
+
+/// Makes the call that a word names, and writes its answer, where it has one.
+pub(crate) fn make_call(
+    arena: &mut Arena,
+    alloc: Global,
+    word: Word<'_>,
+    out: &mut String,
+) -> Result<(), Refusal> {
+    match word.name {
+        "document" | "text" | "comment" | "doctype" | "element" | "named" => {
+            make(arena, alloc, word)
+        }
+        "clone" => make_clone(arena, word.node()?),
+        "char" => push(arena, word.node()?, word.second),
+        "run" => push_run(arena, alloc, word, out),
+        "append" => append(arena, word.node()?, word.other()?),
+        "before" => put_before(arena, word.node()?, word.other()?),
+        "detach" => detach(arena, word.node()?),
+        "move" => shift(arena, word.node()?, word.other()?),
+        "merge" => merge(arena, alloc, word.node()?),
+        "mark" => mark(arena, word),
+        "charge" => {
+            arena.charge(u128::MAX - 1);
+            Ok(())
+        }
+        _ => Err(Refusal::NoCall),
+    }
+}
+
+/// Makes a node; an element `named` has the attribute `id="one"`.
+fn make(arena: &mut Arena, alloc: Global, word: Word<'_>) -> Result<(), Refusal> {
+    match word.name {
+        "document" => {
+            arena.make(NewNode::Document)?;
+        }
+        "text" => {
+            arena.make(NewNode::Text)?;
+        }
+        "comment" => {
+            let text = Str::of(alloc, word.first)?;
+            arena.make(NewNode::Comment { text, token: 3 })?;
+        }
+        "doctype" => make_doctype(arena, alloc, word.first)?,
+        _ => make_element(arena, alloc, word.first, word.name == "named")?,
+    }
+    Ok(())
+}
+
+fn make_doctype(arena: &mut Arena, alloc: Global, name: &str) -> Result<(), Refusal> {
+    let name = Some(Str::of(alloc, name)?);
+    arena.make(NewNode::Doctype {
+        name,
+        public: None,
+        system: None,
+        token: 4,
+    })?;
+    Ok(())
+}
+
+fn pair(alloc: Global, name: &str, value: &str) -> Result<Attr, AllocError> {
+    let name = Str::of(alloc, name)?;
+    let value = Str::of(alloc, value)?;
+    Ok(Attr { name, value })
+}
+
+fn make_element(
+    arena: &mut Arena,
+    alloc: Global,
+    name: &str,
+    with_id: bool,
+) -> Result<(), Refusal> {
+    let mut attrs = Attrs::new(alloc);
+    if with_id {
+        attrs.push(pair(alloc, "id", "one")?)?;
+    }
+    let name = Str::of(alloc, name)?;
+    let origin = Origin::Token(7);
+    arena.make(NewNode::Element {
+        name,
+        attrs,
+        origin,
+    })?;
+    Ok(())
+}
+
+pub(crate) fn is_node(arena: &Arena, node: NodeId) -> bool
+    ensures { result ≡ true → node < length arena.now.labels }
+{
+    (node.index() as u64) < arena.len()
+}
+
+fn is_text(arena: &Arena, node: NodeId) -> bool
+    requires { node < length arena.now.labels }
+    ensures { result ≡ true → IsText (label_of arena.now node) }
+{
+    match arena.node(node) {
+        NodeData::Text { .. } => true,
+        _ => false,
+    }
+}
+
+fn is_element(arena: &Arena, node: NodeId) -> bool
+    requires { node < length arena.now.labels }
+    ensures { result ≡ true → IsElement (label_of arena.now node) }
+{
+    match arena.node(node) {
+        NodeData::Element(_) => true,
+        _ => false,
+    }
+}
+
+fn make_clone(arena: &mut Arena, node: NodeId) -> Result<(), Refusal> {
+    if !is_node(arena, node) {
+        return Err(Refusal::Condition);
+    }
+    if !arena.tag(node).is_formatting() {
+        return Err(Refusal::Condition);
+    }
+    arena.make(NewNode::CloneOf(node))?;
+    Ok(())
+}
+
+/// Adds the first code point of a text.
+fn push(arena: &mut Arena, node: NodeId, text: &str) -> Result<(), Refusal> {
+    if !is_node(arena, node) {
+        return Err(Refusal::Condition);
+    }
+    if !is_text(arena, node) {
+        return Err(Refusal::Condition);
+    }
+    match text.chars().next() {
+        Some(c) => Ok(arena.append_text(node, c)?),
+        None => Err(Refusal::NoCall),
+    }
+}
+
+/// Adds the longest front of a run that the budget takes, and writes how many code points it has.
+fn push_run(
+    arena: &mut Arena,
+    alloc: Global,
+    word: Word<'_>,
+    out: &mut String,
+) -> Result<(), Refusal> {
+    let node = word.node()?;
+    let run: Vec<char> = word.second.chars().collect(alloc)?;
+    if !is_node(arena, node) {
+        return Err(Refusal::Condition);
+    }
+    if !is_text(arena, node) {
+        return Err(Refusal::Condition);
+    }
+    let taken = arena.append_run(node, run.as_slice())?;
+    write!(out, "{taken} ")?;
+    Ok(())
+}
+
+/// Merges `class="two" id="other"`.
+fn merge(arena: &mut Arena, alloc: Global, node: NodeId) -> Result<(), Refusal> {
+    if !is_node(arena, node) {
+        return Err(Refusal::Condition);
+    }
+    if !is_element(arena, node) {
+        return Err(Refusal::Condition);
+    }
+    let mut attrs = Attrs::new(alloc);
+    attrs.push(pair(alloc, "class", "two")?)?;
+    attrs.push(pair(alloc, "id", "other")?)?;
+    arena.merge_attrs(node, attrs)?;
+    Ok(())
+}
+
+fn append(arena: &mut Arena, parent: NodeId, child: NodeId) -> Result<(), Refusal> {
+    if !is_node(arena, parent) || !is_node(arena, child) {
+        return Err(Refusal::Condition);
+    }
+    if !arena.is_linkable(child) || arena.parent(child).is_some() {
+        return Err(Refusal::Condition);
+    }
+    if child == parent || arena.is_ancestor(child, parent) {
+        return Err(Refusal::Condition);
+    }
+    arena.append(parent, child);
+    Ok(())
+}
+
+fn put_before(arena: &mut Arena, child: NodeId, next: NodeId) -> Result<(), Refusal> {
+    if !is_node(arena, next) || !is_node(arena, child) {
+        return Err(Refusal::Condition);
+    }
+    if !arena.is_linkable(child) || arena.parent(child).is_some() || arena.parent(next).is_none() {
+        return Err(Refusal::Condition);
+    }
+    if child == next || arena.is_ancestor(child, next) {
+        return Err(Refusal::Condition);
+    }
+    arena.insert_before(child, next);
+    Ok(())
+}
+
+fn detach(arena: &mut Arena, node: NodeId) -> Result<(), Refusal> {
+    if !is_node(arena, node) {
+        return Err(Refusal::Condition);
+    }
+    arena.detach(node);
+    Ok(())
+}
+
+fn shift(arena: &mut Arena, from: NodeId, to: NodeId) -> Result<(), Refusal> {
+    if !is_node(arena, from) || !is_node(arena, to) {
+        return Err(Refusal::Condition);
+    }
+    if from == to || arena.is_ancestor(from, to) {
+        return Err(Refusal::Condition);
+    }
+    arena.move_children(from, to);
+    Ok(())
+}
+
+fn mark(arena: &mut Arena, word: Word<'_>) -> Result<(), Refusal> {
+    let node = word.node()?;
+    if !is_node(arena, node) {
+        return Err(Refusal::Condition);
+    }
+    arena.set_mark(node, word.mark(), true);
+    Ok(())
+}

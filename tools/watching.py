@@ -1,0 +1,86 @@
+"""What the checks below this process take, by crate, as seen once a second."""
+import os
+import threading
+import time
+from pathlib import Path
+from typing import NamedTuple
+
+TICKS = os.sysconf("SC_CLK_TCK")
+KINDS = ("proof", "tests", "edits")
+
+
+class Process(NamedTuple):
+    parent: int
+    began: float  # seconds since the machine's start
+    used: float  # processor seconds
+    words: list
+    folder: str
+
+
+def process(pid):
+    """Reads what a process is, or returns None where it has ended."""
+    try:
+        fields = Path(f"/proc/{pid}/stat").read_text().rpartition(")")[2].split()
+        words = Path(f"/proc/{pid}/cmdline").read_text(errors="replace").split("\0")
+        folder = os.readlink(f"/proc/{pid}/cwd")
+    except OSError:
+        return None
+    return Process(int(fields[1]), int(fields[19]) / TICKS, (int(fields[11]) + int(fields[12])) / TICKS, words, folder)
+
+
+def processes_below(top):
+    """Returns the processes that this one has started, and that those have, by number."""
+    every = {int(it): process(it) for it in os.listdir("/proc") if it.isdigit()}
+    below, more = {}, [top]
+    while more:
+        more = [pid for pid, it in every.items() if it and it.parent in more]
+        below.update((pid, every[pid]) for pid in more)
+    return below
+
+
+def check_of(it):
+    """Returns the crate that a process checks and whether it is for the proof, the tests or an edit, or None."""
+    if os.path.basename(it.words[0]) != "rattle" or "--crate-name" not in it.words:
+        return None
+    crate = it.words[it.words.index("--crate-name") + 1]
+    is_edit = os.path.basename(it.folder).startswith("rt-edit-")
+    return crate, "edits" if is_edit else "tests" if "--test" in it.words else "proof"
+
+
+class Watch(threading.Thread):
+    """Looks once a second."""
+
+    def __init__(self):
+        super().__init__(daemon=True)
+        self.took, self.used, self.loads, self.ended = {}, {}, [], threading.Event()
+
+    def run(self):
+        while not self.ended.wait(1):
+            self.loads.append(os.getloadavg()[0])
+            self.look(processes_below(os.getpid()))
+
+    def look(self, below):
+        now = time.clock_gettime(time.CLOCK_BOOTTIME)
+        for pid, it in below.items():
+            check = check_of(it)
+            if check:
+                self.used[pid, it.began] = check, it.used
+            # what a check has forked to go side by side takes no time of its own
+            if check and not (it.parent in below and check_of(below[it.parent])):
+                self.took[pid, it.began] = check, now - it.began
+
+    def stop(self):
+        self.ended.set()
+        self.join()
+
+    def load(self):
+        return f"load {sum(self.loads) / max(1, len(self.loads)):.1f} on average"
+
+    def table(self, crates):
+        """Returns a line for each crate: the seconds of its checks, and their processor seconds."""
+        lines = [f"{'seconds':<16}" + "".join(f"{it:>10}" for it in (*KINDS, "processor"))]
+        for crate in crates:
+            columns = [sum(took for check, took in self.took.values() if check == (crate, it)) for it in KINDS]
+            columns.append(sum(used for check, used in self.used.values() if check[0] == crate))
+            lines.append(f"{crate:<16}" + "".join(f"{it:>10.0f}" for it in columns))
+        return "\n".join(lines)
