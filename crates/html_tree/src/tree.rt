@@ -7,7 +7,7 @@ ghost use Rattle.html_arena.specs.declared.data.Origin.TheVariants.{Implied};
 ghost use Rattle.html_arena.specs.declared.arena.Limits.{Limits};
 ghost use Rattle.html_arena.specs.Budget.{budget};
 ghost use Rattle.html_arena.specs.Make.{made};
-ghost use Rattle.html_arena.specs.Tree.{empty_tree, named};
+ghost use Rattle.html_arena.specs.Tree.{empty_tree, more, named};
 ghost use Rattle.html_open.specs.Marking.{bare};
 ghost use Rattle.html_tree.specs.Inserting.{IsBudget, IsLack, root_budget};
 ghost use Rattle.html_tree.specs.States.{IsUnderWay};
@@ -165,9 +165,10 @@ impl OpenTree {
         self.stack.len()
     }
 
-    /// Counts steps.
+    /// Counts steps, up to the greatest number of 128 bits.
     pub fn charge(&mut self, steps: u128)
         ensures rest { self.new ≡ record self.old { steps = self.new.steps } }
+        ensures counted { self.new.steps ≡ more self.old.steps steps }
         ensures steps { self.new.steps ≤ self.old.steps + steps }
         ensures keeps { Keeps self.old self.new }
         ensures grown { Grown 0 0 0 0 self.old self.new }

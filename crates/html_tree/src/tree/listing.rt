@@ -85,6 +85,7 @@ impl OpenTree {
     /// `NodeBudget` and `HeldBudget` where the next clone would pass that limit; else `OutOfMemory`.
     pub fn reopen(&mut self, foster: bool) -> Result<(), OpenError>
         requires { 0 < length self.old.stack }
+        ensures rest { self.new ≡ record self.old { stack = self.new.stack; list = self.new.list; tree = self.new.tree; steps = self.new.steps } }
         ensures exact { OnOk result (IsReopened foster self.old self.new) }
         ensures steps { self.new.steps ≤ self.old.steps + length self.old.list * (length self.old.stack + length self.old.list + 7) }
         ensures keeps { OnOk result (Keeps self.old self.new) }
@@ -105,6 +106,7 @@ impl OpenTree {
     pub fn adopt(&mut self, name: Tag, foster: bool) -> Result<AdoptEnd, OpenError>
         requires opened { 0 < length self.old.stack }
         requires formatting { is_formatting name ≡ true }
+        ensures rest { self.new ≡ record self.old { stack = self.new.stack; list = self.new.list; tree = self.new.tree; steps = self.new.steps } }
         ensures exact { IfOk result (λ end. IsAdopted name foster end self.old self.new) }
         ensures steps { self.new.steps ≤ self.old.steps + (32 * ((length self.old.stack + length self.old.list + 4) * (length self.old.stack + length self.old.list + 4)) + 8 * length self.new.tree.labels) }
         ensures keeps { OnOk result (Keeps self.old self.new) }

@@ -1,4 +1,5 @@
-use Rattle.std.proofs.Common.{◌≡◌, ◌≤◌, ◌+◌, subst, arith}
+use Rattle.std.proofs.Common.{◌≡◌, ◌≤◌, ◌+◌, ap, subst, arith}
+use Rattle.html_arena.specs.Tree.{Tree, more}
 use Rattle.html_open.proofs.Keeps.{charged_keeps}
 use Rattle.html_tree.specs.States.{State}
 use Rattle.html_tree.proofs.Kept.{charged-steps, charged-under_way, read-grown, read-keeps, read-rest}
@@ -22,3 +23,7 @@ returns-clause-keeps c = read-keeps c.args.self.now c.self.inside.stack c.self.i
 
 pub returns-clause-grown : goal.returns-clause-grown
 returns-clause-grown c = read-grown c.args.self.now c.self.inside.stack c.self.inside.list c.self.inside.arena c.charge.new.self c.self.inside.tokens _ c.self.inside.head c.self.inside.form c.self.inside.detached c.self.view_is c.charge.ensures
+
+pub returns-clause-counted : goal.returns-clause-counted
+returns-clause-counted c =
+    subst (λ (a : State). c.charge.new.self.steps ≡ more a.steps c.args.steps) c.self.view_is (ap (λ (v : Tree). v.steps) c.charge.ensures)
