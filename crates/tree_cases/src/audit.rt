@@ -2,7 +2,7 @@
 
 use crate::page::Page;
 use html_arena::NodeId;
-use html_modes::{Cause, Fate};
+use html_ledger::{Cause, Fate};
 use html_tokens::TokenKind;
 use std::alloc::{AllocError, Global};
 

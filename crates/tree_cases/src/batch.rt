@@ -1,7 +1,7 @@
 // Pages one after another, each with its tree and its ledger.
 
 use crate::audit::{audit_text, counts_text};
-use crate::page::{Page, PageFault, page_of, page_with};
+use crate::page::{Page, PageFault, Reading, page_of, page_with};
 use crate::tree::tree_text;
 use anyhow::Result;
 use html_arena::NodeId;
@@ -10,7 +10,7 @@ use html_modes::{BuildError, Builder, Context};
 use std::alloc::Global;
 
 /// Prints for each page its tree and its ledger.
-pub fn run(rt: &HostRuntime, table: &EntityTable, bytes: &[u8]) -> Result<()> {
+pub fn run(rt: &HostRuntime, table: &EntityTable, reading: Reading, bytes: &[u8]) -> Result<()> {
     let mut rest = bytes;
     while !rest.is_empty() {
         let Some(end) = rest.iter().position(|byte| *byte == b'\n') else {
@@ -22,7 +22,7 @@ pub fn run(rt: &HostRuntime, table: &EntityTable, bytes: &[u8]) -> Result<()> {
         };
         let length = length.parse::<usize>()?;
         let page = &rest[end + 1..end + 1 + length];
-        print_page(rt, table, name, page)?;
+        print_page(rt, table, reading, name, page)?;
         rest = &rest[end + 1 + length..];
     }
     Ok(())
@@ -30,7 +30,7 @@ pub fn run(rt: &HostRuntime, table: &EntityTable, bytes: &[u8]) -> Result<()> {
 
 /// Prints the counts of a page.
 pub fn counts(rt: &HostRuntime, table: &EntityTable, bytes: &[u8]) -> Result<()> {
-    match page_of(rt.alloc(), table, None, bytes) {
+    match page_of(rt.alloc(), table, Reading::Runs, None, bytes) {
         Ok(page) => {
             let counts = counts_text(rt.alloc(), &page)?;
             print!(rt; "{counts}")?;
@@ -40,9 +40,15 @@ pub fn counts(rt: &HostRuntime, table: &EntityTable, bytes: &[u8]) -> Result<()>
     Ok(())
 }
 
-fn print_page(rt: &HostRuntime, table: &EntityTable, name: &str, bytes: &[u8]) -> Result<()> {
+fn print_page(
+    rt: &HostRuntime,
+    table: &EntityTable,
+    reading: Reading,
+    name: &str,
+    bytes: &[u8],
+) -> Result<()> {
     println!(rt; "== page")?;
-    match page_named(rt.alloc(), table, name, bytes) {
+    match page_named(rt.alloc(), table, reading, name, bytes) {
         Ok(page) => {
             let tree = tree_text(rt.alloc(), &page.arena, NodeId::at(0))?;
             let audit = audit_text(rt.alloc(), &page)?;
@@ -60,11 +66,12 @@ fn print_page(rt: &HostRuntime, table: &EntityTable, name: &str, bytes: &[u8]) -
 fn page_named(
     alloc: Global,
     table: &EntityTable,
+    reading: Reading,
     name: &str,
     bytes: &[u8],
 ) -> Result<Page, PageFault> {
     if name == "-" {
-        return page_of(alloc, table, None, bytes);
+        return page_of(alloc, table, reading, None, bytes);
     }
     let context = Context {
         name: Str::of(alloc, name.trim_end_matches('?').trim_end_matches('!'))?,
@@ -72,5 +79,5 @@ fn page_named(
         quirks: name.contains('?'),
     };
     let builder = Builder::fragment(alloc, &context).map_err(PageFault::Build)?;
-    page_with(alloc, table, builder, context.text_mode(), bytes)
+    page_with(alloc, table, reading, builder, context.text_mode(), bytes)
 }

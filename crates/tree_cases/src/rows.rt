@@ -2,7 +2,7 @@
 
 use crate::audit::audit_text;
 use crate::brackets::brackets_text;
-use crate::page::{Page, PageFault, page_with};
+use crate::page::{Page, PageFault, Reading, page_with};
 use anyhow::{Result, bail};
 use html_arena::{Limits, NodeId};
 use html_charref::{EntityTable, Str};
@@ -129,7 +129,7 @@ fn is_count(line: &str) -> bool {
 fn page(alloc: Global, table: &EntityTable, ask: Ask<'_>, input: &[u8]) -> Result<Page, PageFault> {
     let Some(name) = ask.context else {
         let builder = document(alloc, ask.limits).map_err(PageFault::Build)?;
-        return page_with(alloc, table, builder, TextMode::Data, input);
+        return page_with(alloc, table, Reading::Runs, builder, TextMode::Data, input);
     };
     let name = unescaped(alloc, name)?;
     let context = Context {
@@ -138,7 +138,7 @@ fn page(alloc: Global, table: &EntityTable, ask: Ask<'_>, input: &[u8]) -> Resul
         quirks: ask.quirks,
     };
     let builder = fragment(alloc, &context, ask.limits).map_err(PageFault::Build)?;
-    page_with(alloc, table, builder, context.text_mode(), input)
+    page_with(alloc, table, Reading::Runs, builder, context.text_mode(), input)
 }
 
 fn document(alloc: Global, limits: Option<Limits>) -> Result<Builder, BuildError> {

@@ -1,7 +1,7 @@
 // A file of cases, run and counted.
 
 use crate::dat::{Case, cases_of};
-use crate::page::{PageFault, page_of};
+use crate::page::{PageFault, Reading, page_of};
 use crate::tree::tree_text;
 use anyhow::Result;
 use html_arena::NodeId;
@@ -17,14 +17,20 @@ enum Outcome {
 }
 
 /// Runs the cases of a file, and prints which failed and how many.
-pub fn run(rt: &HostRuntime, table: &EntityTable, bytes: &[u8], shows: bool) -> Result<()> {
+pub fn run(
+    rt: &HostRuntime,
+    table: &EntityTable,
+    reading: Reading,
+    bytes: &[u8],
+    shows: bool,
+) -> Result<()> {
     let cases = cases_of(rt.alloc(), bytes)?;
     let mut passed: u64 = 0;
     let mut failed: u64 = 0;
     let mut skipped: u64 = 0;
     for (index, case) in cases.iter().enumerate() {
         let number = index + 1;
-        match run_case(rt, table, case, number, shows)? {
+        match run_case(rt, table, reading, case, number, shows)? {
             Outcome::Passed => passed += 1,
             Outcome::Failed => failed += 1,
             Outcome::Skipped => skipped += 1,
@@ -37,6 +43,7 @@ pub fn run(rt: &HostRuntime, table: &EntityTable, bytes: &[u8], shows: bool) -> 
 fn run_case(
     rt: &HostRuntime,
     table: &EntityTable,
+    reading: Reading,
     case: &Case<'_>,
     number: usize,
     shows: bool,
@@ -51,7 +58,7 @@ fn run_case(
     if case.script_on || is_foreign(context) {
         return Ok(Outcome::Skipped);
     }
-    let tree = match page_of(rt.alloc(), table, context, case.input) {
+    let tree = match page_of(rt.alloc(), table, reading, context, case.input) {
         Ok(page) => tree_text(rt.alloc(), &page.arena, NodeId::at(0))?,
         Err(PageFault::Build(BuildError::ForeignContent { .. })) => return Ok(Outcome::Skipped),
         Err(fault) => {
