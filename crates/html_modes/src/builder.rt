@@ -101,7 +101,11 @@ impl Builder {
         }
     }
 
-    fn of_fragment(alloc: Global, tree: OpenTree, context: &Context) -> Result<Builder, BuildError> {
+    fn of_fragment(
+        alloc: Global,
+        tree: OpenTree,
+        context: &Context,
+    ) -> Result<Builder, BuildError> {
         let mut builder = Builder {
             tree,
             ledger: Ledger::new(alloc, context.setting()),

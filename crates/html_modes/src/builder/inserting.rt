@@ -16,7 +16,11 @@ impl Builder {
     }
 
     /// Makes the element of a start tag, puts it at a target and opens it.
-    pub(crate) fn insert_at(&mut self, input: Input<'_>, target: Target) -> Result<NodeId, Refusal> {
+    pub(crate) fn insert_at(
+        &mut self,
+        input: Input<'_>,
+        target: Target,
+    ) -> Result<NodeId, Refusal> {
         let name = input.name(self.alloc())?;
         let attrs = input.attrs(self.alloc())?;
         let token = self.give_made(input.symbol)?;

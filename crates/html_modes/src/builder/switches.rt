@@ -68,7 +68,10 @@ impl Builder {
 
     /// Adds to the stack of template insertion modes.
     pub(crate) fn push_template_mode(&mut self, mode: Mode) -> Result<(), Refusal> {
-        self.registers.template_modes.push(mode).map_err(AllocError::from)?;
+        self.registers
+            .template_modes
+            .push(mode)
+            .map_err(AllocError::from)?;
         Ok(())
     }
 

@@ -1,20 +1,24 @@
 // The end tags of the mode in body (13.2.6.4.7).
 
 use crate::builder::Builder;
-use html_tree::Group;
 use crate::error::Refusal;
+use crate::input::Input;
 use crate::mode::Mode;
 use crate::process::Outcome;
-use crate::input::Input;
 use html_names::{Scope, Tag};
 use html_tokens::TokenKind;
+use html_tree::Group;
 
 impl Builder {
     /// An end tag.
     pub(crate) fn body_end(&mut self, input: Input<'_>, tag: Tag) -> Result<Outcome, Refusal> {
         match tag {
+            // An end tag whose tag name is "html".
             Tag::Html => return self.html_end(input),
+            // An end tag whose tag name is "template": process the token using the rules for the "in head" insertion
+            // mode.
             Tag::Template => self.template_end(input)?,
+            // An end tag whose tag name is "body".
             Tag::Body => {
                 let _ = self.close_body();
                 self.end(input.symbol)?;
@@ -48,19 +52,29 @@ impl Builder {
     /// What the end tag of an element in the body closes or makes.
     fn element_end(&mut self, input: Input<'_>, tag: Tag) -> Result<(), Refusal> {
         match tag {
+            // An end tag whose tag name is "form".
             Tag::Form => self.form_end(),
+            // An end tag whose tag name is "p".
             Tag::P => self.paragraph_end()?,
+            // An end tag whose tag name is "br": act as if this was a start tag token without attributes.
             Tag::Br => self.break_end()?,
+            // An end tag whose tag name is "li".
             Tag::Li => {
                 let _ = self.close_in_scope(Tag::Li, Scope::ListItem);
             }
+            // An end tag whose tag name is one of: "dd", "dt"; "button".
             Tag::Dd | Tag::Dt | Tag::Button => self.block_end(tag),
+            // An end tag whose tag name is one of: "address", "article", "aside", .., "listing", .., "pre", .., "ul".
             _ if tag.is_block() || tag.is_preformatted() => self.block_end(tag),
+            // An end tag whose tag name is one of: "h1", "h2", "h3", "h4", "h5", "h6".
             _ if tag.is_heading() => {
                 let _ = self.close_group_in_scope(Group::Heading, Scope::Default);
             }
+            // An end tag whose tag name is one of: "applet", "marquee", "object".
             _ if tag.takes_marker() => self.marker_end(tag),
+            // An end tag whose tag name is one of: "a", "b", "big", .., "tt", "u".
             _ if tag.is_formatting() => self.formatting_end(tag)?,
+            // Any other end tag.
             _ => self.other_end(input.kind),
         }
         Ok(())

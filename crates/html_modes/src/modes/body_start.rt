@@ -1,26 +1,31 @@
 // The mode in body (13.2.6.4.7), but for end tags.
 
 use crate::builder::Builder;
-use html_tree::Group;
 use crate::error::{Foreign, Refusal};
-use html_ledger::Cause;
+use crate::input::Input;
 use crate::mode::Mode;
 use crate::process::Outcome;
 use crate::quirks::is_same;
-use crate::input::Input;
-use html_ledger::{Symbol, is_space};
+use html_ledger::{Cause, Symbol, is_space};
 use html_names::{Scope, Tag};
 use html_tokens::{Attr, TokenKind};
+use html_tree::Group;
 
 impl Builder {
     /// The rules of the mode in body, which other modes share.
     pub(crate) fn in_body(&mut self, input: Input<'_>) -> Result<Outcome, Refusal> {
         match input.symbol {
+            // A character token.
             Symbol::Char(c) => self.body_char(c)?,
+            // A comment token: insert a comment.
             Symbol::Comment => self.insert_comment(input)?,
+            // A DOCTYPE token: ignore the token.
             Symbol::Doctype => self.doctype(input)?,
+            // A start tag.
             Symbol::Start(tag) => self.body_start(input, tag)?,
+            // An end tag.
             Symbol::End(tag) => return self.body_end(input, tag),
+            // An end-of-file token.
             Symbol::Eof => return self.body_eof(input),
         }
         Ok(Outcome::Done)
@@ -61,17 +66,30 @@ impl Builder {
     /// A start tag: the parts of a page, and blocks.
     fn body_start(&mut self, input: Input<'_>, tag: Tag) -> Result<(), Refusal> {
         match tag {
+            // A start tag whose tag name is "html".
             Tag::Html => self.html_start(input),
+            // A start tag whose tag name is "body".
             Tag::Body => self.second_body_start(input),
+            // A start tag whose tag name is "frameset".
             Tag::Frameset => self.late_frameset_start(input),
+            // A start tag whose tag name is "p", or "plaintext".
             Tag::P | Tag::Plaintext => self.block_start(input),
+            // A start tag whose tag name is "form".
             Tag::Form => self.form_start(input),
+            // A start tag whose tag name is "li", or one of: "dd", "dt".
             Tag::Li | Tag::Dd | Tag::Dt => self.item_start(input, tag),
+            // A start tag whose tag name is "table".
             Tag::Table => self.table_start(input),
+            // A start tag whose tag name is "hr".
             Tag::Hr => self.rule_start(input),
+            // A start tag whose tag name is one of: "base", "basefont", "bgsound", "link", "meta", "noframes",
+            // "script", "style", "template", "title".
             _ if tag.is_headish() => self.head_start(input, tag),
+            // A start tag whose tag name is one of: "address", "article", "aside", .., "ul".
             _ if tag.is_block() => self.block_start(input),
+            // A start tag whose tag name is one of: "h1", "h2", "h3", "h4", "h5", "h6".
             _ if tag.is_heading() => self.heading_start(input),
+            // A start tag whose tag name is one of: "pre", "listing".
             _ if tag.is_preformatted() => self.preformatted_start(input),
             _ => self.phrase_start(input, tag),
         }
@@ -80,16 +98,27 @@ impl Builder {
     /// A start tag: what stands among text.
     fn phrase_start(&mut self, input: Input<'_>, tag: Tag) -> Result<(), Refusal> {
         match tag {
+            // A start tag whose tag name is "a".
             Tag::A => self.link_start(input),
+            // A start tag whose tag name is "nobr".
             Tag::Nobr => self.nobr_start(input),
+            // A start tag whose tag name is "button".
             Tag::Button => self.button_start(input),
+            // A start tag whose tag name is "input".
             Tag::Input => self.input_start(input),
+            // A start tag whose tag name is "image": change the token's tag name to "img" and reprocess it.
             Tag::Image => self.void_start(input),
+            // A start tag whose tag name is one of: "rb", "rtc".
             Tag::Rb | Tag::Rtc => self.ruby_start(input, None),
+            // A start tag whose tag name is one of: "rp", "rt".
             Tag::Rp | Tag::Rt => self.ruby_start(input, Some(Tag::Rtc)),
+            // A start tag whose tag name is one of: "b", "big", "code", .., "tt", "u".
             _ if tag.is_formatting() => self.formatting_start(input),
+            // A start tag whose tag name is one of: "applet", "marquee", "object".
             _ if tag.takes_marker() => self.marker_start(input),
+            // A start tag whose tag name is one of: "area", "br", "embed", "img", "keygen", "wbr".
             _ if tag.is_void_phrase() => self.void_start(input),
+            // A start tag whose tag name is one of: "param", "source", "track".
             _ if tag.is_void_part() => {
                 self.insert_void(input)?;
                 Ok(())
@@ -101,15 +130,25 @@ impl Builder {
     /// A start tag: elements of text alone, selects, what is refused or ignored, and all others.
     fn other_start(&mut self, input: Input<'_>, tag: Tag) -> Result<(), Refusal> {
         match tag {
+            // A start tag whose tag name is "textarea".
             Tag::Textarea => self.textarea_start(input),
+            // A start tag whose tag name is "xmp".
             Tag::Xmp => self.xmp_start(input),
+            // A start tag whose tag name is "iframe".
             Tag::Iframe => self.iframe_start(input),
+            // A start tag whose tag name is "noembed".
             Tag::Noembed => self.text_start(input),
+            // A start tag whose tag name is "select".
             Tag::Select => self.select_start(input),
+            // A start tag whose tag name is one of: "optgroup", "option".
             Tag::Optgroup | Tag::Option => self.option_start(input),
+            // A start tag whose tag name is "svg", or "math": foreign content is refused.
             Tag::Svg => Err(Refusal::Foreign(Foreign::Svg)),
             Tag::Math => Err(Refusal::Foreign(Foreign::Math)),
+            // A start tag whose tag name is one of: "caption", "col", "colgroup", "frame", "head", "tbody", "td",
+            // "tfoot", "th", "thead", "tr": ignore the token.
             _ if tag.is_placed() => self.drop_token(input.symbol, Cause::Misplaced),
+            // Any other start tag.
             _ => self.plain_start(input),
         }
     }

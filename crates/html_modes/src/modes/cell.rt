@@ -1,14 +1,13 @@
 // The mode in cell (13.2.6.4.15).
 
 use crate::builder::Builder;
-use html_tree::{Group, TableContext};
 use crate::error::Refusal;
-use html_ledger::Cause;
+use crate::input::Input;
 use crate::mode::Mode;
 use crate::process::Outcome;
-use crate::input::Input;
-use html_ledger::Symbol;
+use html_ledger::{Cause, Symbol};
 use html_names::{Scope, Tag};
+use html_tree::{Group, TableContext};
 
 impl Builder {
     /// A cell in a row.
@@ -20,25 +19,32 @@ impl Builder {
         Ok(())
     }
 
+    /// The rules for the "in cell" insertion mode (13.2.6.4.15).
     pub(crate) fn in_cell(&mut self, input: Input<'_>) -> Result<Outcome, Refusal> {
         match input.symbol {
+            // A start tag whose tag name is one of: "caption", "col", "colgroup", "tbody", "td", "tfoot", "th",
+            // "thead", "tr".
             Symbol::Start(tag) if tag.is_table_piece() => {
                 if self.close_cell() {
                     return Ok(Outcome::Reprocess);
                 }
                 self.drop_token(input.symbol, Cause::Misplaced)?;
             }
+            // An end tag whose tag name is one of: "td", "th".
             Symbol::End(tag) if tag.is_cell() => {
                 let _ = self.close_cell_of(tag);
                 self.end(input.symbol)?;
             }
+            // An end tag whose tag name is one of: "table", "tbody", "tfoot", "thead", "tr".
             Symbol::End(tag) if tag.ends_cell() => {
                 if self.has_in_scope(tag, Scope::Table) && self.close_cell() {
                     return Ok(Outcome::Reprocess);
                 }
                 self.end(input.symbol)?;
             }
+            // An end tag whose tag name is one of: "body", "caption", "col", "colgroup", "html": ignore the token.
             Symbol::End(tag) if tag.is_ignored_in_table() => self.end(input.symbol)?,
+            // Anything else: process the token using the rules for the "in body" insertion mode.
             Symbol::Start(_)
             | Symbol::End(_)
             | Symbol::Char(_)

@@ -2,34 +2,48 @@
 
 use crate::builder::Builder;
 use crate::error::Refusal;
-use html_ledger::Cause;
+use crate::input::Input;
 use crate::mode::Mode;
 use crate::process::Outcome;
-use crate::input::Input;
-use html_ledger::{Symbol, is_space};
+use html_ledger::{Cause, Symbol, is_space};
 use html_names::Tag;
 use html_tree::Target;
 
 impl Builder {
+    /// The rules for the "in head" insertion mode (13.2.6.4.4).
     pub(crate) fn in_head(&mut self, input: Input<'_>) -> Result<Outcome, Refusal> {
         match input.symbol {
+            // A character token that is one of U+0009 TAB, U+000A LF, U+000C FF, U+000D CR, or U+0020 SPACE: insert
+            // the character.
             Symbol::Char(c) if is_space(c) => self.insert_char(c)?,
+            // A comment token: insert a comment.
             Symbol::Comment => self.insert_comment(input)?,
+            // A DOCTYPE token: ignore the token.
             Symbol::Doctype => self.doctype(input)?,
+            // A start tag whose tag name is "html": process the token using the rules for the "in body" insertion
+            // mode.
             Symbol::Start(Tag::Html) => self.html_start(input)?,
+            // A start tag whose tag name is "noscript", if the scripting flag is disabled: insert an HTML element.
             Symbol::Start(Tag::Noscript) => {
                 self.insert(input)?;
                 self.set_mode(Mode::InHeadNoscript);
             }
+            // A start tag whose tag name is "head": ignore the token.
             Symbol::Start(Tag::Head) => self.drop_token(input.symbol, Cause::Misplaced)?,
+            // A start tag whose tag name is one of: "base", "basefont", "bgsound", "link", "meta", "title",
+            // "noframes", "style", "script", "template".
             Symbol::Start(tag) if tag.is_headish() => self.head_start(input, tag)?,
+            // An end tag whose tag name is "head": pop the current node, switch the insertion mode to "after head".
             Symbol::End(Tag::Head) => {
                 self.pop();
                 self.set_mode(Mode::AfterHead);
                 self.end(input.symbol)?;
             }
+            // An end tag whose tag name is "template".
             Symbol::End(Tag::Template) => self.template_end(input)?,
+            // Any other end tag than one of "body", "html", "br": ignore the token.
             Symbol::End(tag) if !tag.is_page_part() => self.end(input.symbol)?,
+            // Anything else: pop the current node, switch the insertion mode to "after head", reprocess.
             Symbol::Start(_) | Symbol::End(_) | Symbol::Char(_) | Symbol::Eof => {
                 self.pop();
                 self.set_mode(Mode::AfterHead);
@@ -57,23 +71,35 @@ impl Builder {
         }
     }
 
+    /// The rules for the "in head noscript" insertion mode (13.2.6.4.5).
     pub(crate) fn in_head_noscript(&mut self, input: Input<'_>) -> Result<Outcome, Refusal> {
         match input.symbol {
+            // A character token that is one of U+0009 TAB, U+000A LF, U+000C FF, U+000D CR, or U+0020 SPACE: insert
+            // the character.
             Symbol::Char(c) if is_space(c) => self.insert_char(c)?,
+            // A comment token: insert a comment.
             Symbol::Comment => self.insert_comment(input)?,
+            // A DOCTYPE token: ignore the token.
             Symbol::Doctype => self.doctype(input)?,
+            // A start tag whose tag name is "html": process the token using the rules for the "in body" insertion
+            // mode.
             Symbol::Start(Tag::Html) => self.html_start(input)?,
+            // A start tag whose tag name is one of: "head", "noscript": ignore the token.
             Symbol::Start(Tag::Head) => self.drop_token(input.symbol, Cause::Misplaced)?,
             Symbol::Start(Tag::Noscript) if self.has_noscript() => {
                 self.drop_token(input.symbol, Cause::Misplaced)?;
             }
+            // A start tag whose tag name is one of: "basefont", "bgsound", "link", "meta", "noframes", "style".
             Symbol::Start(tag) if tag.is_noscript_part() => self.head_start(input, tag)?,
+            // An end tag whose tag name is "noscript": pop the current node, switch the insertion mode to "in head".
             Symbol::End(Tag::Noscript) => {
                 self.pop();
                 self.set_mode(Mode::InHead);
                 self.end(input.symbol)?;
             }
+            // Any other end tag than "br": ignore the token.
             Symbol::End(tag) if !tag.is(Tag::Br) => self.end(input.symbol)?,
+            // Anything else: pop the current node, switch the insertion mode to "in head", reprocess.
             Symbol::Start(_) | Symbol::End(_) | Symbol::Char(_) | Symbol::Eof => {
                 self.pop();
                 self.set_mode(Mode::InHead);
@@ -83,27 +109,43 @@ impl Builder {
         Ok(Outcome::Done)
     }
 
+    /// The rules for the "after head" insertion mode (13.2.6.4.6).
     pub(crate) fn after_head(&mut self, input: Input<'_>) -> Result<Outcome, Refusal> {
         match input.symbol {
+            // A character token that is one of U+0009 TAB, U+000A LF, U+000C FF, U+000D CR, or U+0020 SPACE: insert
+            // the character.
             Symbol::Char(c) if is_space(c) => self.insert_char(c)?,
+            // A comment token: insert a comment.
             Symbol::Comment => self.insert_comment(input)?,
+            // A DOCTYPE token: ignore the token.
             Symbol::Doctype => self.doctype(input)?,
+            // A start tag whose tag name is "html": process the token using the rules for the "in body" insertion
+            // mode.
             Symbol::Start(Tag::Html) => self.html_start(input)?,
+            // A start tag whose tag name is "body": insert an HTML element, set the frameset-ok flag to "not ok".
             Symbol::Start(Tag::Body) => {
                 self.insert(input)?;
                 self.frameset_off();
                 self.set_mode(Mode::InBody);
             }
+            // A start tag whose tag name is "frameset": insert an HTML element.
             Symbol::Start(Tag::Frameset) => {
                 self.insert(input)?;
                 self.set_mode(Mode::InFrameset);
             }
+            // A start tag whose tag name is "head": ignore the token.
             Symbol::Start(Tag::Head) => self.drop_token(input.symbol, Cause::Misplaced)?,
+            // A start tag whose tag name is one of: "base", "basefont", "bgsound", "link", "meta", "noframes",
+            // "script", "style", "template", "title".
             Symbol::Start(tag) if tag.is_headish() => self.late_head_start(input, tag)?,
+            // An end tag whose tag name is "template": process the token using the rules for the "in head" insertion
+            // mode.
             Symbol::End(Tag::Template) => self.template_end(input)?,
+            // Any other end tag than one of "body", "html", "br": ignore the token.
             Symbol::End(tag) if tag.is(Tag::Head) || !tag.is_page_part() => {
                 self.end(input.symbol)?;
             }
+            // Anything else: insert an HTML element for a "body" start tag token with no attributes, reprocess.
             Symbol::Start(_) | Symbol::End(_) | Symbol::Char(_) | Symbol::Eof => {
                 self.insert_implied(Tag::Body)?;
                 self.set_mode(Mode::InBody);

@@ -2,22 +2,29 @@
 
 use crate::builder::Builder;
 use crate::error::Refusal;
-use html_ledger::Cause;
-use crate::process::Outcome;
 use crate::input::Input;
-use html_ledger::Symbol;
+use crate::process::Outcome;
+use html_ledger::{Cause, Symbol};
 use html_names::{Scope, Tag};
 use html_tree::Group;
 
 impl Builder {
+    /// The rules for the "in select" insertion mode (13.2.6.4.16).
     pub(crate) fn in_select(&mut self, input: Input<'_>) -> Result<Outcome, Refusal> {
         match input.symbol {
+            // A character token that is U+0000 NULL: ignore the token.
             Symbol::Char('\0') => self.drop_token(input.symbol, Cause::Null)?,
+            // Any other character token: insert the token's character.
             Symbol::Char(c) => self.insert_char(c)?,
+            // A comment token: insert a comment.
             Symbol::Comment => self.insert_comment(input)?,
+            // A DOCTYPE token: ignore the token.
             Symbol::Doctype => self.doctype(input)?,
+            // A start tag.
             Symbol::Start(tag) => return self.select_start_tag(input, tag),
+            // An end tag.
             Symbol::End(tag) => self.select_end_tag(input, tag)?,
+            // An end-of-file token: process the token using the rules for the "in body" insertion mode.
             Symbol::Eof => return self.in_body(input),
         }
         Ok(Outcome::Done)
@@ -25,25 +32,35 @@ impl Builder {
 
     fn select_start_tag(&mut self, input: Input<'_>, tag: Tag) -> Result<Outcome, Refusal> {
         match tag {
+            // A start tag whose tag name is "html": process the token using the rules for the "in body" insertion
+            // mode.
             Tag::Html => self.html_start(input)?,
+            // A start tag whose tag name is "option".
             Tag::Option => {
                 let _ = self.pop_if(Group::Named(Tag::Option));
                 self.insert(input)?;
             }
+            // A start tag whose tag name is "optgroup".
             Tag::Optgroup => {
                 self.close_options();
                 self.insert(input)?;
             }
+            // A start tag whose tag name is "hr".
             Tag::Hr => {
                 self.close_options();
                 self.insert_void(input)?;
             }
+            // A start tag whose tag name is one of: "script", "template": process the token using the rules for the
+            // "in head" insertion mode.
             Tag::Script | Tag::Template => self.head_start(input, tag)?,
+            // A start tag whose tag name is "select": it gets treated like an end tag.
             Tag::Select => {
                 let _ = self.close_select();
                 self.drop_token(input.symbol, Cause::InSelect)?;
             }
+            // A start tag whose tag name is one of: "input", "keygen", "textarea".
             _ if tag.ends_select() => return self.leave_select(input),
+            // Anything else: ignore the token.
             _ => self.drop_token(input.symbol, Cause::InSelect)?,
         }
         Ok(Outcome::Done)
@@ -51,14 +68,20 @@ impl Builder {
 
     fn select_end_tag(&mut self, input: Input<'_>, tag: Tag) -> Result<(), Refusal> {
         match tag {
+            // An end tag whose tag name is "template": process the token using the rules for the "in head" insertion
+            // mode.
             Tag::Template => return self.template_end(input),
+            // An end tag whose tag name is "option".
             Tag::Option => {
                 let _ = self.pop_if(Group::Named(Tag::Option));
             }
+            // An end tag whose tag name is "optgroup".
             Tag::Optgroup => self.close_group(),
+            // An end tag whose tag name is "select".
             Tag::Select => {
                 let _ = self.close_select();
             }
+            // Anything else: ignore the token.
             _ => {}
         }
         self.end(input.symbol)
@@ -96,9 +119,12 @@ impl Builder {
         true
     }
 
+    /// The rules for the "in select in table" insertion mode (13.2.6.4.17).
     pub(crate) fn in_select_in_table(&mut self, input: Input<'_>) -> Result<Outcome, Refusal> {
         match input.symbol {
+            // A start tag whose tag name is one of: "caption", "table", "tbody", "tfoot", "thead", "tr", "td", "th".
             Symbol::Start(tag) if tag.ends_select_in_table() => self.leave_select(input),
+            // An end tag whose tag name is one of: "caption", "table", "tbody", "tfoot", "thead", "tr", "td", "th".
             Symbol::End(tag) if tag.ends_select_in_table() => {
                 if self.has_in_scope(tag, Scope::Table) && self.close_select() {
                     return Ok(Outcome::Reprocess);
@@ -106,6 +132,7 @@ impl Builder {
                 self.end(input.symbol)?;
                 Ok(Outcome::Done)
             }
+            // Anything else: process the token using the rules for the "in select" insertion mode.
             Symbol::Start(_)
             | Symbol::End(_)
             | Symbol::Char(_)

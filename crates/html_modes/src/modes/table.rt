@@ -1,36 +1,43 @@
 // The mode in table (13.2.6.4.9).
 
-use crate::modes::body_start::is_hidden;
 use crate::builder::Builder;
-use html_tree::TableContext;
 use crate::error::Refusal;
-use html_ledger::Cause;
-use crate::mode::Mode;
-use crate::process::Outcome;
 use crate::input::Input;
-use html_ledger::Symbol;
+use crate::mode::Mode;
+use crate::modes::body_start::is_hidden;
+use crate::process::Outcome;
+use html_ledger::{Cause, Symbol};
 use html_names::{Scope, Tag};
+use html_tree::TableContext;
 
 impl Builder {
+    /// The rules for the "in table" insertion mode (13.2.6.4.9).
     pub(crate) fn in_table(&mut self, input: Input<'_>) -> Result<Outcome, Refusal> {
         match input.symbol {
+            // A start tag whose tag name is "caption".
             Symbol::Start(Tag::Caption) => self.caption_start(input)?,
+            // A start tag whose tag name is "colgroup": clear the stack back to a table context.
             Symbol::Start(Tag::Colgroup) => {
                 self.clear_to(TableContext::Table);
                 self.insert(input)?;
                 self.set_mode(Mode::InColumnGroup);
             }
+            // A start tag whose tag name is "col": insert an HTML element for a "colgroup" start tag token with no
+            // attributes, reprocess.
             Symbol::Start(Tag::Col) => {
                 self.clear_to(TableContext::Table);
                 self.insert_implied(Tag::Colgroup)?;
                 self.set_mode(Mode::InColumnGroup);
                 return Ok(Outcome::Reprocess);
             }
+            // A start tag whose tag name is one of: "tbody", "tfoot", "thead".
             Symbol::Start(tag) if tag.is_section() => {
                 self.clear_to(TableContext::Table);
                 self.insert(input)?;
                 self.set_mode(Mode::InTableBody);
             }
+            // A start tag whose tag name is one of: "td", "th", "tr": insert an HTML element for a "tbody" start tag
+            // token with no attributes, reprocess.
             Symbol::Start(tag) if tag.is_cell() || tag.is(Tag::Tr) => {
                 self.clear_to(TableContext::Table);
                 self.insert_implied(Tag::Tbody)?;
@@ -58,11 +65,17 @@ impl Builder {
     /// The rules of the mode in table that the modes in table body and in row share.
     pub(crate) fn table_rules(&mut self, input: Input<'_>) -> Result<Outcome, Refusal> {
         match input.symbol {
+            // A character token.
             Symbol::Char(_) => return self.table_rules_char(input),
+            // A comment token: insert a comment.
             Symbol::Comment => self.insert_comment(input)?,
+            // A DOCTYPE token: ignore the token.
             Symbol::Doctype => self.doctype(input)?,
+            // A start tag.
             Symbol::Start(tag) => return self.table_rules_start(input, tag),
+            // An end tag.
             Symbol::End(tag) => return self.table_rules_end(input, tag),
+            // An end-of-file token: process the token using the rules for the "in body" insertion mode.
             Symbol::Eof => return self.in_body(input),
         }
         Ok(Outcome::Done)
@@ -84,12 +97,19 @@ impl Builder {
 
     fn table_rules_start(&mut self, input: Input<'_>, tag: Tag) -> Result<Outcome, Refusal> {
         match tag {
+            // A start tag whose tag name is "table".
             Tag::Table => return self.table_in_table(input),
+            // A start tag whose tag name is "input", with a type attribute "hidden": insert an HTML element.
             Tag::Input if is_hidden(input.kind) => {
                 self.insert_void(input)?;
             }
+            // A start tag whose tag name is "form".
             Tag::Form => self.form_in_table(input)?,
+            // A start tag whose tag name is one of: "style", "script", "template": process the token using the rules
+            // for the "in head" insertion mode.
             _ if tag.is_table_head() => self.head_start(input, tag)?,
+            // Anything else: enable foster parenting, process the token using the rules for the "in body" insertion
+            // mode.
             _ => return self.foster_rules(input),
         }
         Ok(Outcome::Done)
@@ -97,12 +117,19 @@ impl Builder {
 
     fn table_rules_end(&mut self, input: Input<'_>, tag: Tag) -> Result<Outcome, Refusal> {
         match tag {
+            // An end tag whose tag name is "table".
             Tag::Table => {
                 let _ = self.close_table();
                 self.end(input.symbol)?;
             }
+            // An end tag whose tag name is "template": process the token using the rules for the "in head" insertion
+            // mode.
             Tag::Template => self.template_end(input)?,
+            // An end tag whose tag name is one of: "body", "caption", "col", "colgroup", "html", "tbody", "td",
+            // "tfoot", "th", "thead", "tr": ignore the token.
             _ if tag.is_ignored_in_table() => self.end(input.symbol)?,
+            // Anything else: enable foster parenting, process the token using the rules for the "in body" insertion
+            // mode.
             _ => return self.foster_rules(input),
         }
         Ok(Outcome::Done)

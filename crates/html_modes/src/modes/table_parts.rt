@@ -1,35 +1,42 @@
 // The modes in caption, in column group, in table body and in row (13.2.6.4.11 to 13.2.6.4.14).
 
 use crate::builder::Builder;
-use html_tree::{Group, TableContext};
 use crate::error::Refusal;
-use html_ledger::Cause;
+use crate::input::Input;
 use crate::mode::Mode;
 use crate::process::Outcome;
-use crate::input::Input;
-use html_ledger::{Symbol, is_space};
+use html_ledger::{Cause, Symbol, is_space};
 use html_names::{Scope, Tag};
+use html_tree::{Group, TableContext};
 
 impl Builder {
+    /// The rules for the "in caption" insertion mode (13.2.6.4.11).
     pub(crate) fn in_caption(&mut self, input: Input<'_>) -> Result<Outcome, Refusal> {
         match input.symbol {
+            // A start tag whose tag name is one of: "caption", "col", "colgroup", "tbody", "td", "tfoot", "th",
+            // "thead", "tr".
             Symbol::Start(tag) if tag.is_table_piece() => {
                 if self.close_caption() {
                     return Ok(Outcome::Reprocess);
                 }
                 self.drop_token(input.symbol, Cause::Misplaced)?;
             }
+            // An end tag whose tag name is "caption".
             Symbol::End(Tag::Caption) => {
                 let _ = self.close_caption();
                 self.end(input.symbol)?;
             }
+            // An end tag whose tag name is "table".
             Symbol::End(Tag::Table) => {
                 if self.close_caption() {
                     return Ok(Outcome::Reprocess);
                 }
                 self.end(input.symbol)?;
             }
+            // An end tag whose tag name is one of: "body", "col", "colgroup", "html", "tbody", "td", "tfoot", "th",
+            // "thead", "tr": ignore the token.
             Symbol::End(tag) if tag.is_ignored_in_table() => self.end(input.symbol)?,
+            // Anything else: process the token using the rules for the "in body" insertion mode.
             Symbol::Start(_)
             | Symbol::End(_)
             | Symbol::Char(_)
@@ -50,23 +57,40 @@ impl Builder {
         true
     }
 
+    /// The rules for the "in column group" insertion mode (13.2.6.4.12).
     pub(crate) fn in_column_group(&mut self, input: Input<'_>) -> Result<Outcome, Refusal> {
         match input.symbol {
+            // A character token that is one of U+0009 TAB, U+000A LF, U+000C FF, U+000D CR, or U+0020 SPACE: insert
+            // the character.
             Symbol::Char(c) if is_space(c) => self.insert_char(c)?,
+            // A comment token: insert a comment.
             Symbol::Comment => self.insert_comment(input)?,
+            // A DOCTYPE token: ignore the token.
             Symbol::Doctype => self.doctype(input)?,
+            // A start tag whose tag name is "html": process the token using the rules for the "in body" insertion
+            // mode.
             Symbol::Start(Tag::Html) => self.html_start(input)?,
+            // A start tag whose tag name is "col": insert an HTML element.
             Symbol::Start(Tag::Col) => {
                 self.insert_void(input)?;
             }
+            // A start tag whose tag name is "template": process the token using the rules for the "in head" insertion
+            // mode.
             Symbol::Start(Tag::Template) => self.template_start(input)?,
+            // An end tag whose tag name is "template": process the token using the rules for the "in head" insertion
+            // mode.
             Symbol::End(Tag::Template) => self.template_end(input)?,
+            // An end tag whose tag name is "col": ignore the token.
             Symbol::End(Tag::Col) => self.end(input.symbol)?,
+            // An end tag whose tag name is "colgroup".
             Symbol::End(Tag::Colgroup) => {
                 let _ = self.close_column_group();
                 self.end(input.symbol)?;
             }
+            // An end-of-file token: process the token using the rules for the "in body" insertion mode.
             Symbol::Eof => return self.in_body(input),
+            // Anything else: if the current node is not a colgroup element, ignore the token; else pop it, switch the
+            // insertion mode to "in table", reprocess.
             Symbol::End(_) => {
                 if self.close_column_group() {
                     return Ok(Outcome::Reprocess);

@@ -2,19 +2,21 @@
 
 use crate::builder::Builder;
 use crate::error::Refusal;
-use html_ledger::Cause;
-use crate::process::Outcome;
 use crate::input::Input;
-use html_ledger::{Symbol, is_space};
+use crate::process::Outcome;
+use html_ledger::{Cause, Symbol, is_space};
 
 impl Builder {
     /// Keeps code points until another token comes.
     pub(crate) fn in_table_text(&mut self, input: Input<'_>) -> Result<Outcome, Refusal> {
         match input.symbol {
+            // A character token: append the character token to the pending table character tokens list.
             Symbol::Char(c) => {
                 self.keep(c)?;
                 Ok(Outcome::Done)
             }
+            // Anything else: settle the pending table character tokens, switch the insertion mode to the original
+            // insertion mode, reprocess.
             Symbol::Start(_) | Symbol::End(_) | Symbol::Comment | Symbol::Doctype | Symbol::Eof => {
                 self.flush()?;
                 self.begin_own_part();

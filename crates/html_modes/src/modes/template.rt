@@ -2,9 +2,9 @@
 
 use crate::builder::Builder;
 use crate::error::Refusal;
+use crate::input::Input;
 use crate::mode::Mode;
 use crate::process::Outcome;
-use crate::input::Input;
 use html_ledger::Symbol;
 use html_names::Tag;
 use html_tree::Target;
@@ -47,18 +47,29 @@ impl Builder {
         true
     }
 
+    /// The rules for the "in template" insertion mode (13.2.6.4.18).
     pub(crate) fn in_template(&mut self, input: Input<'_>) -> Result<Outcome, Refusal> {
         match input.symbol {
+            // A character token, a comment token, a DOCTYPE token: process the token using the rules for the "in
+            // body" insertion mode.
             Symbol::Char(_) | Symbol::Comment | Symbol::Doctype => return self.in_body(input),
+            // A start tag whose tag name is one of: "base", "basefont", "bgsound", "link", "meta", "noframes",
+            // "script", "style", "template", "title".
             Symbol::Start(tag) if tag.is_headish() => self.head_start(input, tag)?,
+            // Any other start tag: switch the current template insertion mode and the insertion mode to those for the
+            // tag, reprocess.
             Symbol::Start(tag) => {
                 let mode = mode_in_template(tag);
                 self.replace_template_mode(mode)?;
                 self.set_mode(mode);
                 return Ok(Outcome::Reprocess);
             }
+            // An end tag whose tag name is "template": process the token using the rules for the "in head" insertion
+            // mode.
             Symbol::End(Tag::Template) => self.template_end(input)?,
+            // Any other end tag: ignore the token.
             Symbol::End(_) => self.end(input.symbol)?,
+            // An end-of-file token.
             Symbol::Eof => return self.template_eof(input),
         }
         Ok(Outcome::Done)
