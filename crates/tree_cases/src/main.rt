@@ -4,7 +4,8 @@
 //! that fails, and the totals; `tree_cases differences [ENTITIES]` prints besides what was wanted and what came. `tree_cases batch
 //! [ENTITIES]` reads pages, each after a line `CONTEXT LENGTH` (`-` for a document, `!` after a name in a form, `?` after one in quirks mode), and prints for each its tree, its ledger, its errors
 //! and its counts. `tree_cases counts [ENTITIES]` reads one
-//! page and prints its counts. `cases-runs` and `batch-runs` do the same as `cases` and `batch` with text handed on in runs. `tree_cases rows` reads a table of references in its first line, as JSON, and then rows `NAME | WORDS | PAGE`, and prints
+//! page and prints its counts. `compare` reads pages, each after a line
+//! `CONTEXT LENGTH WANTED` and before so many bytes of what `batch` is to print for it, and prints which differ. `cases-runs` and `batch-runs` do the same as `cases` and `batch` with text handed on in runs. `tree_cases rows` reads a table of references in its first line, as JSON, and then rows `NAME | WORDS | PAGE`, and prints
 //! the tree of each in one line, with its counts. ENTITIES is a file with the table of named character references; without it the five core names are known.
 #![tactic(auto)]
 
@@ -47,6 +48,7 @@ fn main(rt: HostRuntime) -> Result<()> {
         "counts" => batch::counts(&rt, &table, bytes.as_slice()),
         "rows" => rows::run(&rt, bytes.as_slice()),
         "batch" => batch::run(&rt, &table, Reading::Tokens, bytes.as_slice()),
+        "compare" => batch::compare(&rt, &table, bytes.as_slice()),
         "batch-runs" => batch::run(&rt, &table, Reading::Runs, bytes.as_slice()),
         _ => bail!("no such command"),
     }

@@ -174,9 +174,7 @@ fn hand_run(
             end: start + 1,
         };
         let kind = TokenKind::Char(*c);
-        tokens
-            .push(Token { kind, span })
-            .map_err(AllocError::from)?;
+        tokens.push(Token { kind, span }).map_err(AllocError::from)?;
     }
     Ok(())
 }

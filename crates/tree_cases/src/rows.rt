@@ -138,7 +138,14 @@ fn page(alloc: Global, table: &EntityTable, ask: Ask<'_>, input: &[u8]) -> Resul
         quirks: ask.quirks,
     };
     let builder = fragment(alloc, &context, ask.limits).map_err(PageFault::Build)?;
-    page_with(alloc, table, Reading::Runs, builder, context.text_mode(), input)
+    page_with(
+        alloc,
+        table,
+        Reading::Runs,
+        builder,
+        context.text_mode(),
+        input,
+    )
 }
 
 fn document(alloc: Global, limits: Option<Limits>) -> Result<Builder, BuildError> {

@@ -15,8 +15,7 @@ impl Builder {
         match tag {
             // An end tag whose tag name is "html".
             Tag::Html => return self.html_end(input),
-            // An end tag whose tag name is "template": process the token using the rules for the "in head" insertion
-            // mode.
+            // An end tag whose tag name is "template": process the token using the rules for "in head".
             Tag::Template => self.template_end(input)?,
             // An end tag whose tag name is "body".
             Tag::Body => {

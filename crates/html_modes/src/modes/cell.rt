@@ -44,7 +44,7 @@ impl Builder {
             }
             // An end tag whose tag name is one of: "body", "caption", "col", "colgroup", "html": ignore the token.
             Symbol::End(tag) if tag.is_ignored_in_table() => self.end(input.symbol)?,
-            // Anything else: process the token using the rules for the "in body" insertion mode.
+            // Anything else: process the token using the rules for "in body".
             Symbol::Start(_)
             | Symbol::End(_)
             | Symbol::Char(_)

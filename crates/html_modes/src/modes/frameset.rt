@@ -13,15 +13,13 @@ impl Builder {
     /// The rules for the "in frameset" insertion mode (13.2.6.4.20).
     pub(crate) fn in_frameset(&mut self, input: Input<'_>) -> Result<Outcome, Refusal> {
         match input.symbol {
-            // A character token that is one of U+0009 TAB, U+000A LF, U+000C FF, U+000D CR, or U+0020 SPACE: insert
-            // the character.
+            // A character token that is one of U+0009, U+000A, U+000C, U+000D, U+0020: insert the character.
             Symbol::Char(c) if is_space(c) => self.insert_char(c)?,
             // A comment token: insert a comment.
             Symbol::Comment => self.insert_comment(input)?,
             // A DOCTYPE token: ignore the token.
             Symbol::Doctype => self.doctype(input)?,
-            // A start tag whose tag name is "html": process the token using the rules for the "in body" insertion
-            // mode.
+            // A start tag whose tag name is "html": process the token using the rules for "in body".
             Symbol::Start(Tag::Html) => self.html_start(input)?,
             // A start tag whose tag name is "frameset": insert an HTML element.
             Symbol::Start(Tag::Frameset) => {
@@ -31,8 +29,7 @@ impl Builder {
             Symbol::Start(Tag::Frame) => {
                 self.insert_void(input)?;
             }
-            // A start tag whose tag name is "noframes": process the token using the rules for the "in head" insertion
-            // mode.
+            // A start tag whose tag name is "noframes": process the token using the rules for "in head".
             Symbol::Start(Tag::Noframes) => self.text_start(input)?,
             // An end tag whose tag name is "frameset": pop the current node, unless it is the root html element.
             Symbol::End(Tag::Frameset) => {
@@ -63,18 +60,15 @@ impl Builder {
     /// The rules for the "after frameset" insertion mode (13.2.6.4.21).
     pub(crate) fn after_frameset(&mut self, input: Input<'_>) -> Result<Outcome, Refusal> {
         match input.symbol {
-            // A character token that is one of U+0009 TAB, U+000A LF, U+000C FF, U+000D CR, or U+0020 SPACE: insert
-            // the character.
+            // A character token that is one of U+0009, U+000A, U+000C, U+000D, U+0020: insert the character.
             Symbol::Char(c) if is_space(c) => self.insert_char(c)?,
             // A comment token: insert a comment.
             Symbol::Comment => self.insert_comment(input)?,
             // A DOCTYPE token: ignore the token.
             Symbol::Doctype => self.doctype(input)?,
-            // A start tag whose tag name is "html": process the token using the rules for the "in body" insertion
-            // mode.
+            // A start tag whose tag name is "html": process the token using the rules for "in body".
             Symbol::Start(Tag::Html) => self.html_start(input)?,
-            // A start tag whose tag name is "noframes": process the token using the rules for the "in head" insertion
-            // mode.
+            // A start tag whose tag name is "noframes": process the token using the rules for "in head".
             Symbol::Start(Tag::Noframes) => self.text_start(input)?,
             // An end tag whose tag name is "html": switch the insertion mode to "after after frameset".
             Symbol::End(Tag::Html) => {
@@ -94,18 +88,15 @@ impl Builder {
     /// The rules for the "after after frameset" insertion mode (13.2.6.4.23).
     pub(crate) fn after_after_frameset(&mut self, input: Input<'_>) -> Result<Outcome, Refusal> {
         match input.symbol {
-            // A character token that is one of U+0009 TAB, U+000A LF, U+000C FF, U+000D CR, or U+0020 SPACE: process
-            // the token using the rules for the "in body" insertion mode.
+            // A character token that is one of U+0009, U+000A, U+000C, U+000D, U+0020: process the token using the rules for "in body".
             Symbol::Char(c) if is_space(c) => self.body_char(c)?,
             // A comment token: insert a comment as the last child of the Document object.
             Symbol::Comment => self.insert_comment_at(input, Target::Document)?,
             // A DOCTYPE token: ignore the token.
             Symbol::Doctype => self.doctype(input)?,
-            // A start tag whose tag name is "html": process the token using the rules for the "in body" insertion
-            // mode.
+            // A start tag whose tag name is "html": process the token using the rules for "in body".
             Symbol::Start(Tag::Html) => self.html_start(input)?,
-            // A start tag whose tag name is "noframes": process the token using the rules for the "in head" insertion
-            // mode.
+            // A start tag whose tag name is "noframes": process the token using the rules for "in head".
             Symbol::Start(Tag::Noframes) => self.text_start(input)?,
             // An end tag: ignore the token. An end-of-file token: stop parsing.
             Symbol::End(_) | Symbol::Eof => self.end(input.symbol)?,

@@ -13,15 +13,13 @@ impl Builder {
     /// The rules for the "in head" insertion mode (13.2.6.4.4).
     pub(crate) fn in_head(&mut self, input: Input<'_>) -> Result<Outcome, Refusal> {
         match input.symbol {
-            // A character token that is one of U+0009 TAB, U+000A LF, U+000C FF, U+000D CR, or U+0020 SPACE: insert
-            // the character.
+            // A character token that is one of U+0009, U+000A, U+000C, U+000D, U+0020: insert the character.
             Symbol::Char(c) if is_space(c) => self.insert_char(c)?,
             // A comment token: insert a comment.
             Symbol::Comment => self.insert_comment(input)?,
             // A DOCTYPE token: ignore the token.
             Symbol::Doctype => self.doctype(input)?,
-            // A start tag whose tag name is "html": process the token using the rules for the "in body" insertion
-            // mode.
+            // A start tag whose tag name is "html": process the token using the rules for "in body".
             Symbol::Start(Tag::Html) => self.html_start(input)?,
             // A start tag whose tag name is "noscript", if the scripting flag is disabled: insert an HTML element.
             Symbol::Start(Tag::Noscript) => {
@@ -74,15 +72,13 @@ impl Builder {
     /// The rules for the "in head noscript" insertion mode (13.2.6.4.5).
     pub(crate) fn in_head_noscript(&mut self, input: Input<'_>) -> Result<Outcome, Refusal> {
         match input.symbol {
-            // A character token that is one of U+0009 TAB, U+000A LF, U+000C FF, U+000D CR, or U+0020 SPACE: insert
-            // the character.
+            // A character token that is one of U+0009, U+000A, U+000C, U+000D, U+0020: insert the character.
             Symbol::Char(c) if is_space(c) => self.insert_char(c)?,
             // A comment token: insert a comment.
             Symbol::Comment => self.insert_comment(input)?,
             // A DOCTYPE token: ignore the token.
             Symbol::Doctype => self.doctype(input)?,
-            // A start tag whose tag name is "html": process the token using the rules for the "in body" insertion
-            // mode.
+            // A start tag whose tag name is "html": process the token using the rules for "in body".
             Symbol::Start(Tag::Html) => self.html_start(input)?,
             // A start tag whose tag name is one of: "head", "noscript": ignore the token.
             Symbol::Start(Tag::Head) => self.drop_token(input.symbol, Cause::Misplaced)?,
@@ -112,22 +108,16 @@ impl Builder {
     /// The rules for the "after head" insertion mode (13.2.6.4.6).
     pub(crate) fn after_head(&mut self, input: Input<'_>) -> Result<Outcome, Refusal> {
         match input.symbol {
-            // A character token that is one of U+0009 TAB, U+000A LF, U+000C FF, U+000D CR, or U+0020 SPACE: insert
-            // the character.
+            // A character token that is one of U+0009, U+000A, U+000C, U+000D, U+0020: insert the character.
             Symbol::Char(c) if is_space(c) => self.insert_char(c)?,
             // A comment token: insert a comment.
             Symbol::Comment => self.insert_comment(input)?,
             // A DOCTYPE token: ignore the token.
             Symbol::Doctype => self.doctype(input)?,
-            // A start tag whose tag name is "html": process the token using the rules for the "in body" insertion
-            // mode.
+            // A start tag whose tag name is "html": process the token using the rules for "in body".
             Symbol::Start(Tag::Html) => self.html_start(input)?,
             // A start tag whose tag name is "body": insert an HTML element, set the frameset-ok flag to "not ok".
-            Symbol::Start(Tag::Body) => {
-                self.insert(input)?;
-                self.frameset_off();
-                self.set_mode(Mode::InBody);
-            }
+            Symbol::Start(Tag::Body) => self.first_body_start(input)?,
             // A start tag whose tag name is "frameset": insert an HTML element.
             Symbol::Start(Tag::Frameset) => {
                 self.insert(input)?;
@@ -135,11 +125,9 @@ impl Builder {
             }
             // A start tag whose tag name is "head": ignore the token.
             Symbol::Start(Tag::Head) => self.drop_token(input.symbol, Cause::Misplaced)?,
-            // A start tag whose tag name is one of: "base", "basefont", "bgsound", "link", "meta", "noframes",
-            // "script", "style", "template", "title".
+            // A start tag whose tag name is one of: "base", "basefont", "bgsound", .., "title".
             Symbol::Start(tag) if tag.is_headish() => self.late_head_start(input, tag)?,
-            // An end tag whose tag name is "template": process the token using the rules for the "in head" insertion
-            // mode.
+            // An end tag whose tag name is "template": process the token using the rules for "in head".
             Symbol::End(Tag::Template) => self.template_end(input)?,
             // Any other end tag than one of "body", "html", "br": ignore the token.
             Symbol::End(tag) if tag.is(Tag::Head) || !tag.is_page_part() => {
@@ -155,7 +143,15 @@ impl Builder {
         Ok(Outcome::Done)
     }
 
-    /// A start tag that belongs into the head, after its end: the head is open for it once more.
+    /// A body, which is the second open element.
+    fn first_body_start(&mut self, input: Input<'_>) -> Result<(), Refusal> {
+        self.insert(input)?;
+        self.frameset_off();
+        self.set_mode(Mode::InBody);
+        Ok(())
+    }
+
+    /// A start tag that belongs into the head, after its end: its element goes last into the head, as if that were open.
     fn late_head_start(&mut self, input: Input<'_>, tag: Tag) -> Result<(), Refusal> {
         self.head_start_at(input, tag, Target::Head)
     }

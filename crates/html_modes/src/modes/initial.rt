@@ -63,8 +63,7 @@ impl Builder {
             Symbol::Comment => self.insert_comment(input)?,
             // A DOCTYPE token: ignore the token.
             Symbol::Doctype => self.doctype(input)?,
-            // A start tag whose tag name is "html": process the token using the rules for the "in body" insertion
-            // mode.
+            // A start tag whose tag name is "html": process the token using the rules for "in body".
             Symbol::Start(Tag::Html) => self.html_start(input)?,
             // A start tag whose tag name is "head": insert an HTML element, set the head element pointer.
             Symbol::Start(Tag::Head) => {

@@ -24,7 +24,7 @@ impl Builder {
             Symbol::Start(tag) => return self.select_start_tag(input, tag),
             // An end tag.
             Symbol::End(tag) => self.select_end_tag(input, tag)?,
-            // An end-of-file token: process the token using the rules for the "in body" insertion mode.
+            // An end-of-file token: process the token using the rules for "in body".
             Symbol::Eof => return self.in_body(input),
         }
         Ok(Outcome::Done)
@@ -32,8 +32,7 @@ impl Builder {
 
     fn select_start_tag(&mut self, input: Input<'_>, tag: Tag) -> Result<Outcome, Refusal> {
         match tag {
-            // A start tag whose tag name is "html": process the token using the rules for the "in body" insertion
-            // mode.
+            // A start tag whose tag name is "html": process the token using the rules for "in body".
             Tag::Html => self.html_start(input)?,
             // A start tag whose tag name is "option".
             Tag::Option => {
@@ -50,8 +49,7 @@ impl Builder {
                 self.close_options();
                 self.insert_void(input)?;
             }
-            // A start tag whose tag name is one of: "script", "template": process the token using the rules for the
-            // "in head" insertion mode.
+            // A start tag whose tag name is one of: "script", "template": process the token using the rules for "in head".
             Tag::Script | Tag::Template => self.head_start(input, tag)?,
             // A start tag whose tag name is "select": it gets treated like an end tag.
             Tag::Select => {
@@ -68,8 +66,7 @@ impl Builder {
 
     fn select_end_tag(&mut self, input: Input<'_>, tag: Tag) -> Result<(), Refusal> {
         match tag {
-            // An end tag whose tag name is "template": process the token using the rules for the "in head" insertion
-            // mode.
+            // An end tag whose tag name is "template": process the token using the rules for "in head".
             Tag::Template => return self.template_end(input),
             // An end tag whose tag name is "option".
             Tag::Option => {
@@ -132,7 +129,7 @@ impl Builder {
                 self.end(input.symbol)?;
                 Ok(Outcome::Done)
             }
-            // Anything else: process the token using the rules for the "in select" insertion mode.
+            // Anything else: process the token using the rules for "in select".
             Symbol::Start(_)
             | Symbol::End(_)
             | Symbol::Char(_)

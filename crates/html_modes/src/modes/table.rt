@@ -22,8 +22,7 @@ impl Builder {
                 self.insert(input)?;
                 self.set_mode(Mode::InColumnGroup);
             }
-            // A start tag whose tag name is "col": insert an HTML element for a "colgroup" start tag token with no
-            // attributes, reprocess.
+            // A start tag whose tag name is "col": insert a "colgroup" without attributes, reprocess.
             Symbol::Start(Tag::Col) => {
                 self.clear_to(TableContext::Table);
                 self.insert_implied(Tag::Colgroup)?;
@@ -36,8 +35,7 @@ impl Builder {
                 self.insert(input)?;
                 self.set_mode(Mode::InTableBody);
             }
-            // A start tag whose tag name is one of: "td", "th", "tr": insert an HTML element for a "tbody" start tag
-            // token with no attributes, reprocess.
+            // A start tag whose tag name is one of: "td", "th", "tr": insert a "tbody" without attributes, reprocess.
             Symbol::Start(tag) if tag.is_cell() || tag.is(Tag::Tr) => {
                 self.clear_to(TableContext::Table);
                 self.insert_implied(Tag::Tbody)?;
@@ -75,7 +73,7 @@ impl Builder {
             Symbol::Start(tag) => return self.table_rules_start(input, tag),
             // An end tag.
             Symbol::End(tag) => return self.table_rules_end(input, tag),
-            // An end-of-file token: process the token using the rules for the "in body" insertion mode.
+            // An end-of-file token: process the token using the rules for "in body".
             Symbol::Eof => return self.in_body(input),
         }
         Ok(Outcome::Done)
@@ -105,11 +103,9 @@ impl Builder {
             }
             // A start tag whose tag name is "form".
             Tag::Form => self.form_in_table(input)?,
-            // A start tag whose tag name is one of: "style", "script", "template": process the token using the rules
-            // for the "in head" insertion mode.
+            // A start tag whose tag name is one of: "style", "script", "template": process the token using the rules for "in head".
             _ if tag.is_table_head() => self.head_start(input, tag)?,
-            // Anything else: enable foster parenting, process the token using the rules for the "in body" insertion
-            // mode.
+            // Anything else: enable foster parenting, process the token using the rules for "in body".
             _ => return self.foster_rules(input),
         }
         Ok(Outcome::Done)
@@ -122,14 +118,12 @@ impl Builder {
                 let _ = self.close_table();
                 self.end(input.symbol)?;
             }
-            // An end tag whose tag name is "template": process the token using the rules for the "in head" insertion
-            // mode.
+            // An end tag whose tag name is "template": process the token using the rules for "in head".
             Tag::Template => self.template_end(input)?,
             // An end tag whose tag name is one of: "body", "caption", "col", "colgroup", "html", "tbody", "td",
             // "tfoot", "th", "thead", "tr": ignore the token.
             _ if tag.is_ignored_in_table() => self.end(input.symbol)?,
-            // Anything else: enable foster parenting, process the token using the rules for the "in body" insertion
-            // mode.
+            // Anything else: enable foster parenting, process the token using the rules for "in body".
             _ => return self.foster_rules(input),
         }
         Ok(Outcome::Done)

@@ -36,7 +36,7 @@ impl Builder {
             // An end tag whose tag name is one of: "body", "col", "colgroup", "html", "tbody", "td", "tfoot", "th",
             // "thead", "tr": ignore the token.
             Symbol::End(tag) if tag.is_ignored_in_table() => self.end(input.symbol)?,
-            // Anything else: process the token using the rules for the "in body" insertion mode.
+            // Anything else: process the token using the rules for "in body".
             Symbol::Start(_)
             | Symbol::End(_)
             | Symbol::Char(_)
@@ -60,25 +60,21 @@ impl Builder {
     /// The rules for the "in column group" insertion mode (13.2.6.4.12).
     pub(crate) fn in_column_group(&mut self, input: Input<'_>) -> Result<Outcome, Refusal> {
         match input.symbol {
-            // A character token that is one of U+0009 TAB, U+000A LF, U+000C FF, U+000D CR, or U+0020 SPACE: insert
-            // the character.
+            // A character token that is one of U+0009, U+000A, U+000C, U+000D, U+0020: insert the character.
             Symbol::Char(c) if is_space(c) => self.insert_char(c)?,
             // A comment token: insert a comment.
             Symbol::Comment => self.insert_comment(input)?,
             // A DOCTYPE token: ignore the token.
             Symbol::Doctype => self.doctype(input)?,
-            // A start tag whose tag name is "html": process the token using the rules for the "in body" insertion
-            // mode.
+            // A start tag whose tag name is "html": process the token using the rules for "in body".
             Symbol::Start(Tag::Html) => self.html_start(input)?,
             // A start tag whose tag name is "col": insert an HTML element.
             Symbol::Start(Tag::Col) => {
                 self.insert_void(input)?;
             }
-            // A start tag whose tag name is "template": process the token using the rules for the "in head" insertion
-            // mode.
+            // A start tag whose tag name is "template": process the token using the rules for "in head".
             Symbol::Start(Tag::Template) => self.template_start(input)?,
-            // An end tag whose tag name is "template": process the token using the rules for the "in head" insertion
-            // mode.
+            // An end tag whose tag name is "template": process the token using the rules for "in head".
             Symbol::End(Tag::Template) => self.template_end(input)?,
             // An end tag whose tag name is "col": ignore the token.
             Symbol::End(Tag::Col) => self.end(input.symbol)?,
@@ -87,10 +83,9 @@ impl Builder {
                 let _ = self.close_column_group();
                 self.end(input.symbol)?;
             }
-            // An end-of-file token: process the token using the rules for the "in body" insertion mode.
+            // An end-of-file token: process the token using the rules for "in body".
             Symbol::Eof => return self.in_body(input),
-            // Anything else: if the current node is not a colgroup element, ignore the token; else pop it, switch the
-            // insertion mode to "in table", reprocess.
+            // Anything else: ignore the token, or pop a current colgroup and reprocess in "in table".
             Symbol::End(_) => {
                 if self.close_column_group() {
                     return Ok(Outcome::Reprocess);

@@ -36,7 +36,7 @@ impl Builder {
             }
             // An end tag.
             Symbol::End(tag) => return self.table_body_end(input, tag),
-            // Anything else: process the token using the rules for the "in table" insertion mode.
+            // Anything else: process the token using the rules for "in table".
             Symbol::Start(_) | Symbol::Char(_) | Symbol::Comment | Symbol::Doctype | Symbol::Eof =>
                 return self.table_rules(input),
         }
@@ -62,7 +62,7 @@ impl Builder {
             // An end tag whose tag name is one of: "body", "caption", "col", "colgroup", "html", "td", "th", "tr":
             // ignore the token.
             _ if tag.is_ignored_in_table() => self.end(input.symbol)?,
-            // Anything else: process the token using the rules for the "in table" insertion mode.
+            // Anything else: process the token using the rules for "in table".
             _ => return self.table_rules(input),
         }
         Ok(Outcome::Done)
@@ -95,7 +95,7 @@ impl Builder {
             }
             // An end tag.
             Symbol::End(tag) => return self.row_end(input, tag),
-            // Anything else: process the token using the rules for the "in table" insertion mode.
+            // Anything else: process the token using the rules for "in table".
             Symbol::Start(_) | Symbol::Char(_) | Symbol::Comment | Symbol::Doctype | Symbol::Eof =>
                 return self.table_rules(input),
         }
@@ -126,7 +126,7 @@ impl Builder {
             // An end tag whose tag name is one of: "body", "caption", "col", "colgroup", "html", "td", "th": ignore
             // the token.
             _ if tag.is_ignored_in_table() => self.end(input.symbol)?,
-            // Anything else: process the token using the rules for the "in table" insertion mode.
+            // Anything else: process the token using the rules for "in table".
             _ => return self.table_rules(input),
         }
         Ok(Outcome::Done)

@@ -64,8 +64,7 @@ impl Builder {
                 self.set_mode(mode);
                 return Ok(Outcome::Reprocess);
             }
-            // An end tag whose tag name is "template": process the token using the rules for the "in head" insertion
-            // mode.
+            // An end tag whose tag name is "template": process the token using the rules for "in head".
             Symbol::End(Tag::Template) => self.template_end(input)?,
             // Any other end tag: ignore the token.
             Symbol::End(_) => self.end(input.symbol)?,

@@ -1,0 +1,8 @@
+use Rattle.std.proofs.Common.{None, Some}
+use Rattle.html_tree.proofs.tree.OpenTree.document.Goals as goal
+
+pub returns-clause-steps : goal.returns-clause-steps
+returns-clause-steps c = c.over.ensures.steps None c.new.ensures
+
+pub returns-clause-cause : goal.returns-clause-cause
+returns-clause-cause c = c.over.ensures.cause None c.new.ensures
