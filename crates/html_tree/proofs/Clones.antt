@@ -1,29 +1,19 @@
 -- Reopening and adoption: the nodes that are made are clones.
-use Rattle.std.proofs.Common.{◌≡◌, ◌≢◌, ℕ, zero, suc, ◌+◌, ◌*◌, ◌<◌, ◌≤◌, Bool, true, false, cond, eqb, List, [], ◌∷◌, ◌++◌, length, map, get_or, Option, Some, None, ◌⊎◌, inl, inr, refl, sym, ◌∙◌, ap, subst, arith, length-append}
-use Rattle.std.specs.List.{list_any, range_with_len, sum_by}
-use Rattle.html_names.specs.Tags.{is_same}
-use Rattle.html_names.specs.declared.tag.Tag.TheVariants as tag
+use Rattle.std.proofs.Common.{◌≡◌, ℕ, zero, suc, ◌+◌, ◌<◌, ◌≤◌, false, List, [], ◌∷◌, ◌++◌, length, map, get_or, Option, Some, None, inr, sym, ◌∙◌, ap, subst, arith, length-append}
 use Rattle.html_arena.specs.declared.data.NodeData.{NodeData}
 use Rattle.html_arena.specs.declared.data.NodeData.TheVariants as node
 use Rattle.html_arena.specs.declared.data.Origin.TheVariants.{Nothing, Token}
-use Rattle.html_arena.specs.declared.marks.Mark.TheVariants.{InList}
-use Rattle.html_arena.specs.Data.{IsElement, cloned, label_in, origin_in, tag_in}
+use Rattle.html_arena.specs.Data.{cloned, label_in, origin_in}
 use Rattle.html_arena.specs.Siblings.{first_of, has}
-use Rattle.html_arena.specs.Tree.{Tree, WellFormed, children_of, label_of, more, named, parent_of}
-use Rattle.html_arena.specs.Weight.{capped, weight}
+use Rattle.html_arena.specs.Tree.{Tree, WellFormed, label_of, parent_of}
 use Rattle.html_open.specs.declared.entry.Entry.{Entry}
-use Rattle.html_open.specs.declared.entry.Entry.TheVariants.{Marker, Node}
 use Rattle.html_open.specs.Adopting.{MadeClones}
-use Rattle.html_open.specs.Entries.{nodes_of}
-use Rattle.html_open.specs.Lists.{above, up_to}
-use Rattle.html_open.specs.Marking.{bare}
-use Rattle.html_open.specs.Opened.{IsOpen, open_at, origin_at}
-use Rattle.html_open.specs.Reopening.{HoldsNoElement, KeepsClosed, Reopened, clone_steps, closed, clones_of, end_steps, fresh, reopen_steps, search_steps, stands, with_clone}
+use Rattle.html_open.specs.Opened.{IsOpen, open_at}
+use Rattle.html_open.specs.Reopening.{KeepsClosed}
 use Rattle.html_open.proofs.Inserted.{cloned-origin, get-before}
-use Rattle.html_open.proofs.Keeps.{cases_bool, cases_eqb, has-append}
-use Rattle.html_tree.specs.Since.{Grown, IsClosed, Keeps, Since, essence}
+use Rattle.html_tree.specs.Since.{Grown, Since, essence}
 use Rattle.html_tree.specs.States.{State, IsUnderWay, state_of}
-use Rattle.html_tree.proofs.Kept.{keeps-since, same-first-under_way, some-first}
+use Rattle.html_tree.proofs.Kept.{same-first-under_way, some-first}
 
 -- what holds of two lists holds of one after the other
 both : (P : NodeData → Type 0) (d : NodeData) (xs ys : List NodeData) → ((y : ℕ) → P (get_or xs y d)) → ((y : ℕ) → P (get_or ys y d)) → (y : ℕ) → P (get_or (xs ++ ys) y d)

@@ -1,6 +1,5 @@
 -- Elements that are closed: those whose end tags are implied, and one wherever it stands.
-use Rattle.std.proofs.Common.{◌≡◌, ◌≢◌, ℕ, zero, suc, ◌+◌, ◌*◌, ◌<◌, ◌≤◌, Bool, true, false, ◌||◌, cond, eqb, List, [], ◌∷◌, ◌++◌, length, take, min, max, Option, Some, None, inl, inr, refl, sym, ◌∙◌, ap, subst, arith, length-append}
-use Rattle.std.proofs.lemmas.Bool.{false≢true}
+use Rattle.std.proofs.Common.{◌≡◌, ℕ, zero, suc, ◌+◌, ◌*◌, ◌≤◌, Bool, true, false, ◌||◌, eqb, List, [], ◌∷◌, ◌++◌, length, take, Option, Some, None, inl, inr, refl, sym, ◌∙◌, ap, subst, arith}
 use Rattle.std.specs.List.{list_any}
 use Rattle.html_names.specs.Tags.{is_same}
 use Rattle.html_names.specs.declared.tag.Tag.{Tag}
@@ -15,7 +14,7 @@ use Rattle.html_open.specs.Lists.{above, after_index, below, last_index, up_to, 
 use Rattle.html_open.specs.Marking.{bare, charged}
 use Rattle.html_open.specs.Opened.{IsOpen, open_at}
 use Rattle.html_open.specs.Scopes.{stays, tag_stays}
-use Rattle.html_open.proofs.Keeps.{cases_bool, has-append, has-tail, split-last}
+use Rattle.html_open.proofs.Keeps.{cases_bool, has-tail, split-last}
 use Rattle.html_open.proofs.Lists.{after-up_to, looked-some}
 use Rattle.html_open.proofs.SafePlaces.{same-tag}
 use Rattle.html_tree.specs.Closing.{first_few, kept_to, remaining}

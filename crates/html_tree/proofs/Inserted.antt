@@ -1,8 +1,7 @@
 -- A new node at a target.
-use Rattle.std.proofs.Common.{◌≡◌, ◌≢◌, ℕ, zero, suc, ◌+◌, ◌<◌, ◌≤◌, Bool, true, false, cond, eqb, List, [], ◌∷◌, ◌++◌, length, get_or, slice_set, Option, Some, None, Result, Ok, Err, OnOk, ◌⊎◌, inl, inr, refl, sym, ◌∙◌, ap, subst, arith, length-append}
+use Rattle.std.proofs.Common.{◌≡◌, ◌≢◌, ℕ, zero, suc, ◌+◌, ◌<◌, ◌≤◌, Bool, true, false, List, [], ◌∷◌, ◌++◌, length, get_or, Option, Some, None, Result, Ok, Err, OnOk, ◌⊎◌, inl, inr, refl, sym, ◌∙◌, ap, subst, arith, length-append}
 use Rattle.std.proofs.lemmas.Bool.{false≢true}
 use Rattle.html_names.specs.Tags.{is_same}
-use Rattle.html_names.specs.declared.tag.Tag.{Tag}
 use Rattle.html_names.specs.declared.tag.Tag.TheVariants as tag
 use Rattle.html_arena.specs.declared.data.NodeData.{NodeData}
 use Rattle.html_arena.specs.declared.data.NodeData.TheVariants as node
@@ -13,11 +12,11 @@ use Rattle.html_arena.specs.declared.marks.Mark.TheVariants.{OnStack}
 use Rattle.html_tokens.specs.declared.attributes.Attr.{Attr}
 use Rattle.html_names.specs.Names.{tag_of}
 use Rattle.html_names.specs.Sets.{is_formatting, is_template}
-use Rattle.html_arena.specs.declared.data.Origin.TheVariants.{Nothing, Token}
+use Rattle.html_arena.specs.declared.data.Origin.TheVariants.{Token}
 use Rattle.html_arena.specs.Data.{IsElement, host_in, label_in, origin_in, tag_in}
-use Rattle.html_arena.specs.Make.{has_contents, label_for, made, made_weight}
+use Rattle.html_arena.specs.Make.{has_contents, label_for, made}
 use Rattle.html_arena.specs.Siblings.{first_of, has}
-use Rattle.html_arena.specs.Tree.{Tree, WellFormed, children_of, label_of, inserted, more, named, parent_of, with_marked}
+use Rattle.html_arena.specs.Tree.{Tree, WellFormed, label_of, inserted, more, named, parent_of, with_marked}
 use Rattle.html_arena.specs.Weight.{weight}
 use Rattle.html_open.specs.declared.entry.Entry.{Entry}
 use Rattle.html_open.specs.declared.places.Place.{Place}
@@ -27,16 +26,16 @@ use Rattle.html_open.specs.Marking.{bare, charged}
 use Rattle.html_open.specs.Opened.{CanList, CanPush, IsOpen, IsUnseen, open_at, origin_at}
 use Rattle.html_open.specs.Placing.{CanPlace, IsPlace, fosters, parent_at, place_of, place_steps, put, table, target_of}
 use Rattle.html_open.specs.Reopening.{HoldsNoElement}
-use Rattle.html_open.proofs.Keeps.{cases_bool, cases_eqb, charged_keeps, eqb-self, has-append}
+use Rattle.html_open.proofs.Keeps.{cases_bool, cases_eqb, eqb-self, has-append}
 use Rattle.html_open.proofs.SafePlaces.{same-tag}
 use Rattle.html_open.proofs.Standing.{not-parent, place-by}
 use Rattle.html_tree.specs.declared.groups.Target.{Target}
 use Rattle.html_tree.specs.declared.groups.Target.TheVariants as target
 use Rattle.html_tree.specs.Inserting.{CanBeFirst, IsFor, IsNew, rest_of, with_new, with_open}
 use Rattle.html_tree.specs.Since.{Grown, IsClosed, Keeps, Since, essence}
-use Rattle.html_tree.specs.States.{IsNamed, State, IsUnderWay, state_of}
+use Rattle.html_tree.specs.States.{State, IsUnderWay, state_of}
 use Rattle.html_tree.specs.Targets.{CanTarget, place_at, place_for, target_steps}
-use Rattle.html_tree.proofs.Kept.{charged-under_way, keeps-since, same-element, later-under_way, looked-most, more-most, same-first-under_way, same-state, same-under_way, since-since}
+use Rattle.html_tree.proofs.Kept.{keeps-since, same-element, later-under_way, looked-most, more-most, same-first-under_way, same-state}
 
 -- the first element is an html, so it can take what has no better place
 pub under-way-place : (s : List ℕ) (l : List Entry) (t : Tree) (n : ℕ) (h f d : Option ℕ) → IsUnderWay s l t n h f d → 0 < length s → CanPlace t s

@@ -1,5 +1,5 @@
 -- What is always true of a tree under construction is kept, and so is what was so before.
-use Rattle.std.proofs.Common.{◌≡◌, ◌≢◌, ℕ, zero, suc, ◌+◌, ◌<◌, ◌≤◌, Bool, true, false, cond, eqb, List, [], ◌∷◌, ◌++◌, length, take, drop, min, max, Option, Some, None, ◌⊎◌, inl, inr, refl, sym, ◌∙◌, ap, subst, arith, length-append, length-take}
+use Rattle.std.proofs.Common.{◌≡◌, ℕ, zero, suc, ◌+◌, ◌<◌, ◌≤◌, Bool, true, false, List, [], ◌∷◌, length, take, min, Option, Some, inl, inr, refl, sym, ◌∙◌, ap, subst, arith, length-append, length-take}
 use Rattle.std.specs.List.{list_any}
 use Rattle.html_names.specs.Tags.{is_same}
 use Rattle.html_names.specs.declared.tag.Tag.{Tag}
@@ -10,7 +10,7 @@ use Rattle.html_arena.specs.declared.data.Origin.TheVariants.{Token}
 use Rattle.html_arena.specs.declared.marks.Mark.{Mark}
 use Rattle.html_arena.specs.Data.{IsElement, host_in, label_in, origin_in, tag_in}
 use Rattle.html_arena.specs.Siblings.{first_of, has}
-use Rattle.html_arena.specs.Tree.{Tree, children_of, host_at, label_of, more, named, parent_of}
+use Rattle.html_arena.specs.Tree.{Tree, children_of, label_of, more, parent_of}
 use Rattle.html_open.specs.declared.entry.Entry.{Entry}
 use Rattle.html_open.specs.Lists.{above, below, looked}
 use Rattle.html_open.specs.Marking.{all_unmarked, bare, charged}
@@ -18,8 +18,8 @@ use Rattle.html_open.specs.Opened.{IsOpen, open_at, origin_at}
 use Rattle.html_open.specs.Reopening.{HoldsNoElement}
 use Rattle.html_open.proofs.Keeps.{cases_bool, has-tail, split-last}
 use Rattle.html_tree.specs.Closing.{first_few, kept_to}
-use Rattle.html_tree.specs.Since.{Grown, IsClosed, IsContents, Keeps, Since, essence}
-use Rattle.html_tree.specs.States.{IsNamed, IsNode, IsUnderWay, State, state_of}
+use Rattle.html_tree.specs.Since.{Grown, IsClosed, Keeps, Since, essence}
+use Rattle.html_tree.specs.States.{IsNamed, IsUnderWay, State, state_of}
 
 -- what stays of a node tells its kind, its tag, its token and its template
 tag-essence : (d : NodeData) → tag_in (essence d) ≡ tag_in d

@@ -1,4 +1,5 @@
 pub mod Kept
+pub mod OpenTags
 pub mod Inserted
 pub mod Searches
 pub mod Relisting

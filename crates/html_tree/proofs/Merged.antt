@@ -1,26 +1,24 @@
 -- Attributes that are merged, text that is added, and a body that leaves the tree.
-use Rattle.std.proofs.Common.{◌≡◌, ◌≢◌, ℕ, zero, suc, ◌+◌, ◌*◌, ◌<◌, ◌≤◌, Bool, true, false, cond, eqb, List, [], ◌∷◌, ◌++◌, length, get_or, Option, Some, None, ◌⊎◌, inl, inr, refl, sym, ◌∙◌, ap, subst, arith}
+use Rattle.std.proofs.Common.{◌≡◌, ℕ, ◌<◌, true, false, List, [], length, get_or, Option, Some, None, inl, inr, refl, sym, ◌∙◌, ap, subst, arith}
 use Rattle.std.proofs.lemmas.Bool.{false≢true}
 use Rattle.html_names.specs.Tags.{is_same}
 use Rattle.html_names.specs.declared.tag.Tag.TheVariants as tag
 use Rattle.html_arena.specs.declared.data.NodeData.{NodeData}
 use Rattle.html_arena.specs.declared.data.NodeData.TheVariants as node
-use Rattle.html_arena.specs.declared.data.Origin.TheVariants.{Token}
-use Rattle.html_arena.specs.Data.{IsElement, IsText, label_in, origin_in, tag_in, with_attrs, with_run}
+use Rattle.html_arena.specs.Data.{IsElement, label_in, origin_in, tag_in, with_attrs, with_run}
 use Rattle.html_arena.specs.Laws.{IsRelabelled, IsUnlinked}
-use Rattle.html_arena.specs.Siblings.{first_of, has, without}
-use Rattle.html_arena.specs.Tree.{Tree, WellFormed, children_of, label_of, named, parent_of}
+use Rattle.html_arena.specs.Siblings.{has}
+use Rattle.html_arena.specs.Tree.{Tree, children_of, label_of, named, parent_of}
 use Rattle.html_arena.proofs.Laws.{without-none}
 use Rattle.html_tokens.specs.declared.attributes.Attr.{Attr}
 use Rattle.html_open.specs.declared.entry.Entry.{Entry}
 use Rattle.html_open.specs.Marking.{charged}
-use Rattle.html_open.specs.Opened.{IsOpen, open_at, origin_at}
+use Rattle.html_open.specs.Opened.{IsOpen, open_at}
 use Rattle.html_open.specs.Reopening.{HoldsNoElement}
-use Rattle.html_open.proofs.Keeps.{cases_bool, cases_eqb, eqb-self}
+use Rattle.html_open.proofs.Keeps.{cases_bool, cases_eqb}
 use Rattle.html_tree.specs.Since.{IsClosed, Keeps, Since, essence}
 use Rattle.html_tree.specs.States.{IsUnderWay, State, state_of}
-use Rattle.html_tree.specs.Texts.{IsFree}
-use Rattle.html_tree.proofs.Kept.{charged-under_way, keeps-since, read-keeps, same-first-under_way, same-origin_in}
+use Rattle.html_tree.proofs.Kept.{keeps-since, read-keeps, same-first-under_way, same-origin_in}
 
 -- a node has another label of the same essence
 module _ (s : List ℕ) (l : List Entry) (t u : Tree) (n x : ℕ) (h f d : Option ℕ) (e : NodeData) (r : IsRelabelled t u x e) (i : essence e ≡ essence (label_of t x)) where

@@ -1,11 +1,10 @@
 -- Another list over the same tree.
-use Rattle.std.proofs.Common.{◌≡◌, ℕ, zero, suc, ◌+◌, ◌*◌, ◌<◌, ◌≤◌, Bool, true, false, cond, eqb, List, [], ◌∷◌, ◌++◌, length, Option, inl, inr, refl, sym, ◌∙◌, ap, subst, arith, length-append}
+use Rattle.std.proofs.Common.{◌≡◌, ℕ, suc, ◌+◌, ◌*◌, ◌≤◌, Bool, List, [], ◌∷◌, ◌++◌, length, Option, inl, inr, refl, ◌∙◌, ap, subst, arith, length-append}
 use Rattle.std.specs.List.{list_any}
-use Rattle.html_arena.specs.Siblings.{first_of, has}
-use Rattle.html_arena.specs.Tree.{Tree, more}
+use Rattle.html_arena.specs.Tree.{Tree}
 use Rattle.html_open.specs.declared.entry.Entry.{Entry}
-use Rattle.html_open.specs.Entries.{is_node, removal_steps}
-use Rattle.html_open.specs.Lists.{above, below, looked, without_last}
+use Rattle.html_open.specs.Entries.{removal_steps}
+use Rattle.html_open.specs.Lists.{above, below, without_last}
 use Rattle.html_open.specs.Marking.{bare}
 use Rattle.html_open.specs.Opened.{IsOpen, open_at}
 use Rattle.html_open.proofs.Keeps.{cases_bool, split-last}

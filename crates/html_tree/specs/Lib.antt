@@ -3,6 +3,7 @@ pub mod Since
 pub mod Groups
 pub mod Searching
 pub mod Closing
+pub mod OpenTags
 pub mod Targets
 pub mod Inserting
 pub mod Listing

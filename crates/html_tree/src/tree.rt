@@ -11,6 +11,7 @@ ghost use Rattle.html_arena.specs.Tree.{empty_tree, more, named};
 ghost use Rattle.html_open.specs.Marking.{bare};
 ghost use Rattle.html_tree.specs.Inserting.{IsBudget, IsLack, root_budget};
 ghost use Rattle.html_tree.specs.States.{IsUnderWay};
+ghost use Rattle.html_tree.specs.OpenTags.{open_tags};
 ghost use Rattle.html_tree.specs.Since.{Grown, Keeps};
 
 use html_arena::{Arena, Limits, NewNode, NodeId, Origin};
@@ -154,6 +155,7 @@ impl OpenTree {
     /// What is always true of a tree under construction: a law.
     pub fn laws(&self)
         ensures sound { IsSound self.now }
+        ensures depth { length (open_tags self.now) ≡ length self.now.stack }
     {
         let _ = &self.arena;
     }
@@ -172,6 +174,7 @@ impl OpenTree {
         ensures steps { self.new.steps ≤ self.old.steps + steps }
         ensures keeps { Keeps self.old self.new }
         ensures grown { Grown 0 0 0 0 self.old self.new }
+        ensures tags { open_tags self.new ≡ open_tags self.old }
     {
         self.arena.charge(steps);
     }
@@ -190,6 +193,7 @@ impl OpenTree {
         ensures exact { self.new ≡ record self.old { head = Some node } }
         ensures keeps { Keeps self.old self.new }
         ensures grown { Grown 0 0 0 0 self.old self.new }
+        ensures tags { open_tags self.new ≡ open_tags self.old }
     {
         self.head = Some(node);
     }
@@ -207,6 +211,7 @@ impl OpenTree {
         ensures exact { self.new ≡ record self.old { form = node } }
         ensures keeps { Keeps self.old self.new }
         ensures grown { Grown 0 0 0 0 self.old self.new }
+        ensures tags { open_tags self.new ≡ open_tags self.old }
     {
         self.form = node;
     }

@@ -1,9 +1,12 @@
 // Elements that are closed. The first element never is.
-ghost use Rattle.std.specs.Prelude.{◌≡◌, ℕ, ◌+◌, ◌*◌, ◌<◌, ◌≤◌, is_some, length};
+ghost use Rattle.std.specs.Prelude.{◌≡◌, ℕ, ◌+◌, ◌*◌, ◌<◌, ◌≤◌, drop, false, is_some, length, true};
+ghost use Rattle.html_names.specs.declared.tag.Tag.TheVariants as tag;
 ghost use Rattle.html_open.specs.Lists.{up_to};
 ghost use Rattle.html_open.specs.Scopes.{stays};
 ghost use Rattle.html_arena.specs.Siblings.{first_of, is_in};
 ghost use Rattle.html_tree.specs.Closing.{cleared_to, context_end, closed_through, first_few, kept_to, popped, remaining};
+ghost use Rattle.html_tree.specs.Groups.{in_group};
+ghost use Rattle.html_tree.specs.OpenTags.{HasClosed, HasContext, HasFewer, IsLighter, open_tags};
 ghost use Rattle.html_tree.specs.Searching.{found};
 ghost use Rattle.html_tree.specs.Since.{Grown, Keeps};
 
@@ -20,6 +23,8 @@ impl OpenTree {
         ensures steps { self.new.steps ≤ self.old.steps + length self.old.stack }
         ensures keeps { Keeps self.old self.new }
         ensures grown { Grown 0 0 0 0 self.old self.new }
+        ensures few { HasFewer self.old self.new }
+        ensures lighter { IsLighter self.old self.new }
     {
         let count = self.stack.len();
         let kept = kept_to(count, len);
@@ -33,6 +38,9 @@ impl OpenTree {
         ensures steps { self.new.steps ≤ self.old.steps + length self.old.stack }
         ensures keeps { Keeps self.old self.new }
         ensures grown { Grown 0 0 0 0 self.old self.new }
+        ensures tags { 1 < length self.old.stack → open_tags self.new ≡ drop 1 (open_tags self.old) }
+        ensures few { HasFewer self.old self.new }
+        ensures lighter { IsLighter self.old self.new }
     {
         let count = self.stack.len();
         self.pop_to(count.saturating_sub(1));
@@ -46,7 +54,11 @@ impl OpenTree {
         ensures steps { self.new.steps ≤ self.old.steps + 2 * length self.old.stack }
         ensures keeps { Keeps self.old self.new }
         ensures grown { Grown 0 0 0 0 self.old self.new }
+        ensures few { HasFewer self.old self.new }
+        ensures lighter { IsLighter self.old self.new }
+        ensures found { result ≡ true → in_group group tag.Html ≡ false → HasClosed group self.old self.new }
     {
+        self.laws();
         match self.find(group, stop) {
             None => false,
             Some(index) => {
@@ -62,6 +74,9 @@ impl OpenTree {
         ensures steps { self.new.steps ≤ self.old.steps + 2 * length self.old.stack }
         ensures keeps { Keeps self.old self.new }
         ensures grown { Grown 0 0 0 0 self.old self.new }
+        ensures few { HasFewer self.old self.new }
+        ensures lighter { IsLighter self.old self.new }
+        ensures context { HasContext context self.new }
     {
         let len = self.context_end(context);
         self.pop_to(len);
@@ -74,6 +89,7 @@ impl OpenTree {
         ensures steps { self.new.steps ≤ self.old.steps + length self.old.stack }
         ensures keeps { Keeps self.old self.new }
         ensures grown { Grown 0 0 0 0 self.old self.new }
+        ensures tags { open_tags self.new ≡ open_tags self.old }
     {
         let nodes = self.stack.as_slice();
         let at = last_index(nodes, &self.arena, Sought::Context(context));
@@ -90,6 +106,8 @@ impl OpenTree {
         ensures steps { self.new.steps ≤ self.old.steps + 2 * length self.old.stack + 1 }
         ensures keeps { Keeps self.old self.new }
         ensures grown { Grown 0 0 0 0 self.old self.new }
+        ensures few { HasFewer self.old self.new }
+        ensures lighter { IsLighter self.old self.new }
     {
         let nodes = self.stack.as_slice();
         let at = last_index(nodes, &self.arena, Sought::Staying(except));
@@ -106,6 +124,7 @@ impl OpenTree {
         ensures steps { self.new.steps ≤ self.old.steps + 2 * length self.old.stack + 1 }
         ensures keeps { Keeps self.old self.new }
         ensures grown { Grown 0 0 0 0 self.old self.new }
+        ensures lighter { IsLighter self.old self.new }
     {
         if !is_first(self.stack.as_slice(), node) {
             self.stack.remove(&mut self.arena, node);

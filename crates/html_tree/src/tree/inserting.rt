@@ -1,5 +1,5 @@
 // Nodes that are made of tokens, or implied by them.
-ghost use Rattle.std.specs.Prelude.{◌≡◌, ℕ, ◌+◌, ◌<◌, ◌≤◌, [], IfErr, IfOk, None, Ok, OnOk, Option, Some, length, true};
+ghost use Rattle.std.specs.Prelude.{◌≡◌, ℕ, ◌+◌, ◌<◌, ◌≤◌, [], ◌∷◌, IfErr, IfOk, None, Ok, OnOk, Option, Some, length, true};
 ghost use Rattle.html_names.specs.declared.tag.Tag.TheVariants as tag;
 ghost use Rattle.html_names.specs.Names.{name_of, tag_of};
 ghost use Rattle.html_names.specs.Sets.{is_formatting};
@@ -12,6 +12,7 @@ ghost use Rattle.html_arena.specs.Weight.{weight};
 ghost use Rattle.html_open.specs.Entries.{push_steps, pushed};
 ghost use Rattle.html_open.specs.Opened.{CanList, open_at};
 ghost use Rattle.html_tree.specs.Inserting.{CanBeFirst, IsFor, IsRefused, IsTold, with_new, with_open};
+ghost use Rattle.html_tree.specs.OpenTags.{open_tags};
 ghost use Rattle.html_tree.specs.Since.{Grown, Keeps};
 ghost use Rattle.html_tree.specs.Targets.{CanTarget, place_for};
 
@@ -51,6 +52,7 @@ impl OpenTree {
         ensures steps { OnOk result (self.new.steps ≤ self.old.steps + length self.old.stack + 4) }
         ensures keeps { OnOk result (Keeps self.old self.new) }
         ensures grown { OnOk result (Grown 2 1 0 (weight (label_for self.old.tree (Element name attrs (Token token)))) self.old self.new) }
+        ensures tags { OnOk result (open_tags self.new ≡ tag_of name ∷ open_tags self.old) }
         ensures cause { IfErr result (λ e. IsRefused self.old (Element name attrs (Token token)) e) }
     {
         self.open_new(name, attrs, Origin::Token(token), token as u128 + 1, target)
@@ -80,6 +82,7 @@ impl OpenTree {
         ensures steps { OnOk result (self.new.steps ≤ self.old.steps + length self.old.stack + 3) }
         ensures keeps { OnOk result (Keeps self.old self.new) }
         ensures grown { OnOk result (Grown 2 0 0 (weight (label_for self.old.tree (Element name attrs (Token token)))) self.old self.new) }
+        ensures tags { OnOk result (open_tags self.new ≡ open_tags self.old) }
         ensures cause { IfErr result (λ e. IsRefused self.old (Element name attrs (Token token)) e) }
     {
         self.closed_new(name, attrs, Origin::Token(token), token as u128 + 1, target)
@@ -102,6 +105,7 @@ impl OpenTree {
         ensures steps { OnOk result (self.new.steps ≤ self.old.steps + length self.old.stack + 4) }
         ensures keeps { OnOk result (Keeps self.old self.new) }
         ensures grown { OnOk result (Grown 2 1 0 (weight (label_for self.old.tree (Element (name_of tag) [] Implied))) self.old self.new) }
+        ensures tags { OnOk result (open_tags self.new ≡ tag ∷ open_tags self.old) }
         ensures cause { IfErr result (λ e. IsTold self.old (Element (name_of tag) [] Implied) e) }
     {
         let attrs = Attrs::new(self.alloc);
@@ -125,6 +129,7 @@ impl OpenTree {
         ensures steps { OnOk result (self.new.steps ≤ self.old.steps + length self.old.stack + 3) }
         ensures keeps { OnOk result (Keeps self.old self.new) }
         ensures grown { OnOk result (Grown 2 0 0 (weight (label_for self.old.tree (Element (name_of tag) [] Implied))) self.old self.new) }
+        ensures tags { OnOk result (open_tags self.new ≡ open_tags self.old) }
         ensures cause { IfErr result (λ e. IsTold self.old (Element (name_of tag) [] Implied) e) }
     {
         let attrs = Attrs::new(self.alloc);
@@ -154,6 +159,7 @@ impl OpenTree {
         ensures steps { OnOk result (self.new.steps ≤ self.old.steps + length self.old.stack + 3) }
         ensures keeps { OnOk result (Keeps self.old self.new) }
         ensures grown { OnOk result (Grown 2 0 0 (weight (label_for self.old.tree (Comment text token))) self.old self.new) }
+        ensures tags { OnOk result (open_tags self.new ≡ open_tags self.old) }
         ensures cause { IfErr result (λ e. IsRefused self.old (Comment text token) e) }
     {
         let new = NewNode::Comment { text, token };
@@ -184,6 +190,7 @@ impl OpenTree {
         ensures steps { OnOk result (self.new.steps ≤ self.old.steps + length self.old.stack + 3) }
         ensures keeps { OnOk result (Keeps self.old self.new) }
         ensures grown { OnOk result (Grown 2 0 0 (weight (label_for self.old.tree (Doctype name public system token))) self.old self.new) }
+        ensures tags { OnOk result (open_tags self.new ≡ open_tags self.old) }
         ensures cause { IfErr result (λ e. IsRefused self.old (Doctype name public system token) e) }
     {
         let new = NewNode::Doctype {
@@ -218,6 +225,7 @@ impl OpenTree {
         ensures steps { OnOk result (self.new.steps ≤ self.old.steps + length self.old.stack + 4) }
         ensures keeps { OnOk result (Keeps self.old self.new) }
         ensures grown { OnOk result (Grown 2 1 0 (weight (label_for self.old.tree (Element (name_of tag.Html) attrs (Token token)))) self.old self.new) }
+        ensures tags { OnOk result (open_tags self.new ≡ tag.Html ∷ open_tags self.old) }
         ensures cause { IfErr result (λ e. IsTold self.old (Element (name_of tag.Html) attrs (Token token)) e) }
     {
         let next = token as u128 + 1;
@@ -246,6 +254,7 @@ impl OpenTree {
         ensures steps { OnOk result (self.new.steps ≤ self.old.steps + length self.old.stack + 4) }
         ensures keeps { OnOk result (Keeps self.old self.new) }
         ensures grown { OnOk result (Grown 2 1 0 (weight (label_for self.old.tree (Element (name_of tag.Html) [] Implied))) self.old self.new) }
+        ensures tags { OnOk result (open_tags self.new ≡ tag.Html ∷ open_tags self.old) }
         ensures cause { IfErr result (λ e. IsTold self.old (Element (name_of tag.Html) [] Implied) e) }
     {
         let attrs = Attrs::new(self.alloc);
@@ -279,6 +288,7 @@ impl OpenTree {
         ensures steps { OnOk result (self.new.steps ≤ self.old.steps + length self.old.stack + 4 + push_steps (with_new self.old.tree (place_for self.old (Target.Current foster)) (Element name attrs (Token token))) (length self.old.tree.labels) self.old.list) }
         ensures keeps { OnOk result (Keeps self.old self.new) }
         ensures grown { OnOk result (Grown 2 1 1 (weight (label_for self.old.tree (Element name attrs (Token token)))) self.old self.new) }
+        ensures tags { OnOk result (open_tags self.new ≡ tag_of name ∷ open_tags self.old) }
         ensures cause { IfErr result (λ e. IsRefused self.old (Element name attrs (Token token)) e) }
     {
         let next = token as u128 + 1;
@@ -314,6 +324,7 @@ impl OpenTree {
         ensures steps { OnOk result (self.new.steps ≤ self.old.steps + length self.old.stack + 4) }
         ensures keeps { OnOk result (Keeps self.old self.new) }
         ensures grown { OnOk result (Grown 2 1 0 (weight (label_for self.old.tree (Element (name_of tag) attrs origin))) self.old self.new) }
+        ensures tags { OnOk result (open_tags self.new ≡ tag ∷ open_tags self.old) }
         ensures cause { IfErr result (λ e. IsTold self.old (Element (name_of tag) attrs origin) e) }
     {
         let name = Str::of(self.alloc, tag.name())?;
@@ -342,6 +353,7 @@ impl OpenTree {
         ensures steps { OnOk result (self.new.steps ≤ self.old.steps + length self.old.stack + 3) }
         ensures keeps { OnOk result (Keeps self.old self.new) }
         ensures grown { OnOk result (Grown 2 0 0 (weight (label_for self.old.tree (Element (name_of tag) attrs origin))) self.old self.new) }
+        ensures tags { OnOk result (open_tags self.new ≡ open_tags self.old) }
         ensures cause { IfErr result (λ e. IsTold self.old (Element (name_of tag) attrs origin) e) }
     {
         let name = Str::of(self.alloc, tag.name())?;
@@ -376,6 +388,7 @@ impl OpenTree {
         ensures steps { OnOk result (self.new.steps ≤ self.old.steps + length self.old.stack + 4) }
         ensures keeps { OnOk result (Keeps self.old self.new) }
         ensures grown { OnOk result (Grown 2 1 0 (weight (label_for self.old.tree (Element name attrs origin))) self.old self.new) }
+        ensures tags { OnOk result (open_tags self.new ≡ tag_of name ∷ open_tags self.old) }
         ensures cause { IfErr result (λ e. IsRefused self.old (Element name attrs origin) e) }
     {
         let new = NewNode::Element {
@@ -411,6 +424,7 @@ impl OpenTree {
         ensures steps { OnOk result (self.new.steps ≤ self.old.steps + length self.old.stack + 3) }
         ensures keeps { OnOk result (Keeps self.old self.new) }
         ensures grown { OnOk result (Grown 2 0 0 (weight (label_for self.old.tree (Element name attrs origin))) self.old self.new) }
+        ensures tags { OnOk result (open_tags self.new ≡ open_tags self.old) }
         ensures cause { IfErr result (λ e. IsRefused self.old (Element name attrs origin) e) }
     {
         let new = NewNode::Element {

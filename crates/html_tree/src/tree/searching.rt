@@ -1,9 +1,10 @@
 // Questions about the open elements.
-ghost use Rattle.std.specs.Prelude.{◌≡◌, ℕ, ◌+◌, ◌<◌, ◌≤◌, IfSome, is_some, length, slice_index};
+ghost use Rattle.std.specs.Prelude.{◌≡◌, ℕ, ◌+◌, ◌<◌, ◌≤◌, IfSome, Some, is_some, length, reverse, slice_get, slice_index};
 ghost use Rattle.std.specs.Str.{chars};
 ghost use Rattle.html_arena.specs.Tree.{tag_at};
 ghost use Rattle.html_open.specs.AdoptFinding.{element_in_scope};
 ghost use Rattle.html_tree.specs.Searching.{current_tag, found, found_name};
+ghost use Rattle.html_tree.specs.OpenTags.{open_tags};
 ghost use Rattle.html_tree.specs.Since.{Grown, Keeps};
 
 use super::OpenTree;
@@ -20,6 +21,8 @@ impl OpenTree {
         ensures steps { self.new.steps ≤ self.old.steps + 1 }
         ensures keeps { Keeps self.old self.new }
         ensures grown { Grown 0 0 0 0 self.old self.new }
+        ensures first { result ≡ slice_get (open_tags self.old) 0 }
+        ensures tags { open_tags self.new ≡ open_tags self.old }
     {
         self.charge(1);
         match last_node(self.stack.as_slice()) {
@@ -36,6 +39,8 @@ impl OpenTree {
         ensures steps { self.new.steps ≤ self.old.steps + 1 }
         ensures keeps { Keeps self.old self.new }
         ensures grown { Grown 0 0 0 0 self.old self.new }
+        ensures at { slice_get (reverse (open_tags self.old)) index ≡ Some result }
+        ensures tags { open_tags self.new ≡ open_tags self.old }
     {
         self.charge(1);
         let nodes = self.stack.as_slice();
@@ -51,6 +56,7 @@ impl OpenTree {
         ensures steps { self.new.steps ≤ self.old.steps + length self.old.stack }
         ensures keeps { Keeps self.old self.new }
         ensures grown { Grown 0 0 0 0 self.old self.new }
+        ensures tags { open_tags self.new ≡ open_tags self.old }
     {
         let nodes = self.stack.as_slice();
         let at = last_index(nodes, &self.arena, Sought::Member(group, stop));
@@ -67,6 +73,7 @@ impl OpenTree {
         ensures steps { self.new.steps ≤ self.old.steps + length self.old.stack }
         ensures keeps { Keeps self.old self.new }
         ensures grown { Grown 0 0 0 0 self.old self.new }
+        ensures tags { open_tags self.new ≡ open_tags self.old }
     {
         self.find(group, stop).is_some()
     }
@@ -79,6 +86,7 @@ impl OpenTree {
         ensures steps { self.new.steps ≤ self.old.steps + length self.old.stack }
         ensures keeps { Keeps self.old self.new }
         ensures grown { Grown 0 0 0 0 self.old self.new }
+        ensures tags { open_tags self.new ≡ open_tags self.old }
     {
         let nodes = self.stack.as_slice();
         let at = name_index(nodes, &self.arena, name);
@@ -95,6 +103,7 @@ impl OpenTree {
         ensures steps { self.new.steps ≤ self.old.steps + length self.old.stack }
         ensures keeps { Keeps self.old self.new }
         ensures grown { Grown 0 0 0 0 self.old self.new }
+        ensures tags { open_tags self.new ≡ open_tags self.old }
     {
         self.stack.is_in_scope(&mut self.arena, node)
     }

@@ -1,12 +1,14 @@
-use Rattle.std.proofs.Common.{◌≡◌, ℕ, ◌<◌, ◌≤◌, ◌+◌, ◌*◌, length, refl, subst, sym, ap, ◌∙◌, arith, OnOk, IfOk}
+use Rattle.std.proofs.Common.{◌<◌, ◌≤◌, ◌+◌, ◌*◌, length, refl, subst, sym, arith}
 use Rattle.html_open.specs.Leaving.{listed_weight as open_weight}
 use Rattle.html_tree.specs.Listing.{IsAdoptRefused, IsAdopted, listed_weight}
-use Rattle.html_tree.specs.Since.{Grown, Keeps}
+use Rattle.html_tree.specs.Since.{Grown}
 use Rattle.html_tree.specs.States.{State, state_of}
-use Rattle.html_tree.proofs.Adopted.{adopted-keeps, adopted-under_way, always, first-equal, first-free, if-ok}
+use Rattle.html_tree.proofs.Adopted.{adopted-keeps, adopted-under_way, always, first-equal, first-free, if-ok, formatting-plain}
 use Rattle.html_tree.proofs.Clones.{clones-grown}
 use Rattle.html_tree.proofs.Inserted.{on-ok, under-way-place}
 use Rattle.html_tree.proofs.Spelled.{if-err}
+use Rattle.html_tree.proofs.OpenTags.{adopted-lighter}
+use Rattle.html_tree.specs.OpenTags.{IsLighterBesides}
 use Rattle.html_tree.proofs.tree.OpenTree.adopt.Goals as goal
 
 pub adopt-end-requires-clause-can_place : goal.adopt-end-requires-clause-can_place
@@ -45,3 +47,8 @@ returns-clause-cause c =
     if-err c.adopt-end.result c.adopt-end.ensures.cause
     (λ e r. subst (λ (a : State). IsAdoptRefused c.args.name c.args.foster a (state_of c.adopt-end.new.stack c.adopt-end.new.list c.adopt-end.new.arena c.self.inside.tokens c.self.inside.head c.self.inside.form c.self.inside.detached) e) c.self.view_is
     (record { old = c.self.inside.arena; new = c.adopt-end.new.arena; old_is = refl; new_is = refl; refusal = r }))
+
+pub returns-clause-lighter : goal.returns-clause-lighter
+returns-clause-lighter c =
+    subst (λ (a : State). IsLighterBesides a (state_of c.adopt-end.new.stack c.adopt-end.new.list c.adopt-end.new.arena c.self.inside.tokens c.self.inside.head c.self.inside.form c.self.inside.detached)) c.self.view_is
+    (adopted-lighter c.self.inside.stack c.adopt-end.new.stack c.self.inside.list c.adopt-end.new.list c.self.inside.arena c.adopt-end.new.arena c.self.inside.tokens c.self.inside.head c.self.inside.form c.self.inside.detached c.adopt-end.ensures.made c.self.invariant.is_open c.adopt-end.ensures.kept.stack_in c.adopt-end.ensures.kept.stack_once (c.adopt-end.ensures.survives (formatting-plain c.args.name c.requires.formatting)))

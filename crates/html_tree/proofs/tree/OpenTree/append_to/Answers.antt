@@ -1,4 +1,4 @@
-use Rattle.std.proofs.Common.{take, subst, sym}
+use Rattle.std.proofs.Common.{take, subst, sym, refl}
 use Rattle.html_arena.specs.Data.{with_run}
 use Rattle.html_arena.specs.Tree.{label_of}
 use Rattle.html_tree.specs.Since.{Keeps}
@@ -6,6 +6,7 @@ use Rattle.html_tree.specs.States.{State, state_of}
 use Rattle.html_tree.specs.Texts.{IsFree}
 use Rattle.html_tree.proofs.Kept.{keeps-since, same-element, same-origin_in, same-tag_in}
 use Rattle.html_tree.proofs.Merged.{relabelled-since, relabelled-under_way, run-essence}
+use Rattle.html_tree.proofs.OpenTags.{kept-tags}
 use Rattle.html_tree.proofs.tree.OpenTree.append_to.Goals as goal
 
 pub invariant_of-self-2 : goal.invariant_of-self-2
@@ -21,3 +22,6 @@ returns-clause-keeps c =
     (keeps-since (state_of c.self.inside.stack c.self.inside.list c.self.inside.arena c.self.inside.tokens c.self.inside.head c.self.inside.form c.self.inside.detached) (state_of c.self.inside.stack c.self.inside.list c.append_run.new.self c.self.inside.tokens c.self.inside.head c.self.inside.form c.self.inside.detached)
     (relabelled-since c.self.inside.stack c.self.inside.list c.self.inside.arena c.append_run.new.self c.self.inside.tokens c.args.node c.self.inside.head c.self.inside.form c.self.inside.detached (with_run (label_of c.self.inside.arena c.args.node) (take c.in_ok-count.count c.args.run.now)) c.in_ok-count.ensures.relabelled (run-essence (label_of c.self.inside.arena c.args.node) (take c.in_ok-count.count c.args.run.now))
     (subst (λ (a : State). IsFree a c.args.node) (sym c.self.view_is) c.requires.free)))
+
+pub returns-clause-tags : goal.returns-clause-tags
+returns-clause-tags c = kept-tags c.args.self.now _ c.self.inside.stack c.self.inside.list c.self.inside.arena c.self.inside.tokens c.self.inside.head c.self.inside.form c.self.inside.detached c.self.view_is c.self.invariant (returns-clause-keeps c) refl

@@ -1,4 +1,4 @@
-use Rattle.std.proofs.Common.{◌≡◌, ℕ, ◌+◌, ◌<◌, ◌≤◌, length, ap, subst, refl, sym, ◌∙◌, arith}
+use Rattle.std.proofs.Common.{◌+◌, ◌≤◌, length, ap, subst, refl, sym, ◌∙◌, arith}
 use Rattle.html_arena.specs.Data.{tag_in}
 use Rattle.html_arena.specs.Make.{label_for}
 use Rattle.html_arena.specs.Tree.{Tree, tag_at}
@@ -8,8 +8,9 @@ use Rattle.html_tree.specs.Inserting.{IsFor}
 use Rattle.html_tree.specs.Since.{Grown}
 use Rattle.html_tree.specs.States.{State, state_of}
 use Rattle.html_tree.specs.Targets.{CanTarget, place_at}
-use Rattle.html_tree.proofs.Inserted.{comment-own, doctype-own, element-tag, new-under_way, own-most, placed-exact, placed-grown, placed-keeps, placed-steps}
+use Rattle.html_tree.proofs.Inserted.{element-tag, new-under_way, own-most, placed-exact, placed-grown, placed-keeps, placed-steps}
 use Rattle.html_tree.proofs.Kept.{same-under_way}
+use Rattle.html_tree.proofs.OpenTags.{kept-tags}
 use Rattle.html_tree.proofs.tree.OpenTree.closed_new.Goals as goal
 
 pub put_new-requires-clause-head_in : goal.put_new-requires-clause-head_in
@@ -45,3 +46,6 @@ returns-clause-tag c =
       omega (arith, longer, id),
       ap (λ x. tag_at c.put_new.new.arena x) id ∙ ap tag_in c.in_ok-node.ensures.new.laws.label_is ∙ element-tag c.self.inside.arena c.args.name c.args.attrs c.args.origin,
     )
+
+pub returns-clause-tags : goal.returns-clause-tags
+returns-clause-tags c = kept-tags c.args.self.now _ c.self.inside.stack c.self.inside.list c.self.inside.arena c.self.inside.tokens c.self.inside.head c.self.inside.form c.self.inside.detached c.self.view_is c.self.invariant (returns-clause-keeps c) refl

@@ -5,6 +5,7 @@ use Rattle.std.specs.Prelude.{Some, slice_index}
 use Rattle.html_tree.specs.States.{State, state_of}
 use Rattle.html_tree.proofs.Kept.{charged-under_way}
 use Rattle.html_tree.proofs.Merged.{detached-since, detached-under_way, keeps-charged}
+use Rattle.html_tree.proofs.OpenTags.{kept-tags}
 use Rattle.html_tree.proofs.tree.OpenTree.detach_body.Goals as goal
 
 pub invariant_of-self : goal.invariant_of-self
@@ -22,3 +23,6 @@ returns-clause-keeps c =
     (detached-since c.self.inside.stack c.self.inside.list c.at-body.new.arena c.detach.new.self c.self.inside.tokens c.at-body.result c.self.inside.head c.self.inside.form c.self.inside.detached c.detach.ensures.unlinked
     ((c.at-body.ensures.keeps c.self.inside.list c.self.invariant.is_open).elements c.at-body.result c.at-body.ensures.member)
     (ap (λ (a : State). a.detached) c.self.view_is ∙ c.requires.once))
+
+pub returns-clause-tags : goal.returns-clause-tags
+returns-clause-tags c = kept-tags c.args.self.now _ c.self.inside.stack c.self.inside.list c.self.inside.arena c.self.inside.tokens c.self.inside.head c.self.inside.form c.self.inside.detached c.self.view_is c.self.invariant (returns-clause-keeps c) refl

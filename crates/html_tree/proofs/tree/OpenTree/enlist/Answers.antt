@@ -1,6 +1,6 @@
-use Rattle.std.proofs.Common.{◌≡◌, ◌≤◌, ◌+◌, length, ap, ◌∙◌, subst, sym, refl, arith, true}
+use Rattle.std.proofs.Common.{◌≡◌, ◌≤◌, ◌+◌, length, ap, ◌∙◌, subst, sym, refl, arith}
 use Rattle.html_arena.specs.declared.marks.Mark.TheVariants.{InList}
-use Rattle.html_arena.specs.Tree.{Tree, more, with_marked}
+use Rattle.html_arena.specs.Tree.{Tree, more}
 use Rattle.html_open.specs.Entries.{displaced, push_steps, pushed}
 use Rattle.html_open.specs.Marking.{bare, unmarked}
 use Rattle.html_open.specs.Opened.{CanList, open_at}
@@ -8,6 +8,7 @@ use Rattle.html_tree.specs.States.{State}
 use Rattle.html_tree.proofs.Kept.{more-most}
 use Rattle.html_tree.proofs.Listed.{bare-unmarked, full-listed, push_steps-same, pushed-most, pushed-same, unmarked-steps}
 use Rattle.html_tree.proofs.Relisting.{relisted-exact, relisted-grown, relisted-keeps, relisted-under_way}
+use Rattle.html_tree.proofs.OpenTags.{kept-tags}
 use Rattle.html_tree.proofs.tree.OpenTree.enlist.Goals as goal
 
 same-tree : (c : goal.In_ok-push) → bare c.push.new.arena ≡ bare c.self.inside.arena
@@ -34,3 +35,6 @@ returns-clause-steps c =
     let u = unmarked-steps c.self.inside.arena InList (displaced c.self.inside.arena c.args.node c.self.inside.list) in
     let y = more-most (unmarked c.self.inside.arena InList (displaced c.self.inside.arena c.args.node c.self.inside.list)).steps (push_steps c.self.inside.arena c.args.node c.self.inside.list) in
     let z = push_steps-same c.self.inside.arena (bare c.self.inside.arena) c.args.node c.self.inside.list refl in omega (arith, x, u, y, z))
+
+pub returns-clause-tags : goal.returns-clause-tags
+returns-clause-tags c = kept-tags c.args.self.now _ c.self.inside.stack c.self.inside.list c.self.inside.arena c.self.inside.tokens c.self.inside.head c.self.inside.form c.self.inside.detached c.self.view_is c.self.invariant (returns-clause-keeps c) refl

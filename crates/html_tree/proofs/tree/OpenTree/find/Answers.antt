@@ -1,4 +1,4 @@
-use Rattle.std.proofs.Common.{◌≡◌, ◌≤◌, ◌+◌, ℕ, List, length, ◌∙◌, ap, subst}
+use Rattle.std.proofs.Common.{◌∙◌, ap}
 use Rattle.html_tree.specs.Searching.{found, index_before, is_member, stops}
 use Rattle.html_tree.specs.States.{State}
 use Rattle.html_tree.proofs.tree.OpenTree.find.Goals as goal

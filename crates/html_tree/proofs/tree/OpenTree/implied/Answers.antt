@@ -1,4 +1,4 @@
-use Rattle.std.proofs.Common.{◌≡◌, ℕ, List, ◌∙◌, ap, subst}
+use Rattle.std.proofs.Common.{◌≡◌, ◌∙◌, ap, subst}
 use Rattle.html_open.specs.Lists.{after_index, last_index, up_to}
 use Rattle.html_open.specs.Scopes.{stays}
 use Rattle.html_tree.specs.Closing.{first_few}

@@ -1,15 +1,15 @@
-use Rattle.std.proofs.Common.{◌≡◌, ℕ, ◌+◌, ◌<◌, ◌≤◌, length, ap, subst, refl, sym, ◌∙◌, arith}
-use Rattle.html_arena.specs.Data.{tag_in}
+use Rattle.std.proofs.Common.{◌+◌, ◌≤◌, length, ap, subst, refl, sym, arith}
 use Rattle.html_arena.specs.Make.{label_for}
-use Rattle.html_arena.specs.Tree.{Tree, tag_at}
+use Rattle.html_arena.specs.Tree.{Tree}
 use Rattle.html_arena.specs.Weight.{weight}
 use Rattle.html_arena.specs.declared.data.NewNode.TheVariants.{Doctype}
 use Rattle.html_tree.specs.declared.groups.Target.TheVariants as target
 use Rattle.html_tree.specs.Since.{Grown}
 use Rattle.html_tree.specs.States.{State, state_of}
-use Rattle.html_tree.specs.Targets.{CanTarget, place_at}
-use Rattle.html_tree.proofs.Inserted.{comment-own, doctype-own, element-tag, new-under_way, own-most, placed-exact, placed-grown, placed-keeps, placed-steps}
+use Rattle.html_tree.specs.Targets.{place_at}
+use Rattle.html_tree.proofs.Inserted.{doctype-own, new-under_way, placed-exact, placed-grown, placed-keeps, placed-steps}
 use Rattle.html_tree.proofs.Kept.{same-under_way}
+use Rattle.html_tree.proofs.OpenTags.{kept-tags}
 use Rattle.html_tree.proofs.tree.OpenTree.insert_doctype.Goals as goal
 
 pub put_new-requires-clause-head_in : goal.put_new-requires-clause-head_in
@@ -37,3 +37,6 @@ returns-clause-keeps c = placed-keeps c.args.self.now c.self.inside.stack c.self
 pub returns-clause-grown : goal.returns-clause-grown
 returns-clause-grown c =
     subst (λ (a : State). Grown 2 0 0 (weight (label_for a.tree (Doctype c.args.name c.args.public c.args.system c.args.token))) c.args.self.now (state_of c.self.inside.stack c.self.inside.list c.put_new.new.arena ((c.args.token + 1)) c.self.inside.head c.self.inside.form c.self.inside.detached)) c.self.view_is (placed-grown c.args.self.now c.self.inside.stack c.self.inside.list c.self.inside.arena c.put_new.new.arena target.Document (Doctype c.args.name c.args.public c.args.system c.args.token) (length c.self.inside.stack + 3) c.self.inside.tokens (c.args.token + 1) c.self.inside.head c.self.inside.form c.self.inside.detached c.self.view_is c.in_ok-node.ensures.new)
+
+pub returns-clause-tags : goal.returns-clause-tags
+returns-clause-tags c = kept-tags c.args.self.now _ c.self.inside.stack c.self.inside.list c.self.inside.arena c.self.inside.tokens c.self.inside.head c.self.inside.form c.self.inside.detached c.self.view_is c.self.invariant (returns-clause-keeps c) refl

@@ -1,9 +1,7 @@
-use Rattle.std.proofs.Common.{◌≡◌, ◌≤◌, ◌+◌, ℕ, length, Ok, ap, ◌∙◌, subst, sym, refl, arith}
+use Rattle.std.proofs.Common.{◌+◌, length, ◌∙◌, subst, sym, refl, arith}
 use Rattle.std.proofs.lemmas.Result.{err_from_is_err_and}
 use Rattle.html_arena.specs.declared.data.NewNode.TheVariants.{Element}
 use Rattle.html_arena.specs.declared.data.Origin.TheVariants.{Token}
-use Rattle.html_arena.specs.Budget.{budget}
-use Rattle.html_open.specs.Entries.{push_steps, pushed}
 use Rattle.html_open.specs.declared.error.OpenError.TheVariants.{OutOfMemory}
 use Rattle.html_tree.specs.Inserting.{IsLack, IsRefused, with_new, with_open}
 use Rattle.html_tree.specs.declared.groups.Target.TheVariants as target

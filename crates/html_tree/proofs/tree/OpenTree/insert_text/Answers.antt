@@ -1,17 +1,14 @@
-use Rattle.std.proofs.Common.{◌≡◌, ℕ, ◌+◌, ◌<◌, ◌≤◌, length, ap, subst, refl, sym, ◌∙◌, arith}
-use Rattle.html_arena.specs.Data.{tag_in}
-use Rattle.html_arena.specs.Make.{label_for}
-use Rattle.html_arena.specs.Tree.{Tree, tag_at}
-use Rattle.html_arena.specs.Weight.{weight}
+use Rattle.std.proofs.Common.{◌+◌, ◌<◌, length, ap, subst, refl, sym, arith}
+use Rattle.html_arena.specs.Tree.{Tree}
 use Rattle.html_arena.specs.declared.data.NewNode.TheVariants.{Text}
 use Rattle.html_tree.specs.declared.groups.Target.TheVariants as target
-use Rattle.html_tree.specs.Since.{Grown}
 use Rattle.html_tree.specs.States.{State, state_of}
-use Rattle.html_tree.specs.Targets.{CanTarget, place_at}
-use Rattle.html_tree.proofs.Inserted.{comment-own, doctype-own, element-tag, new-under_way, own-most, placed-same, placed-grown, placed-keeps, placed-steps}
+use Rattle.html_tree.specs.Targets.{place_at}
+use Rattle.html_tree.proofs.Inserted.{new-under_way, placed-same, placed-keeps, placed-steps}
 use Rattle.html_tree.specs.Texts.{IsFree}
 use Rattle.html_tree.proofs.Texted.{new-free, text-own}
 use Rattle.html_tree.proofs.Kept.{same-under_way}
+use Rattle.html_tree.proofs.OpenTags.{kept-tags}
 use Rattle.html_tree.proofs.tree.OpenTree.insert_text.Goals as goal
 
 pub put_new-requires-clause-head_in : goal.put_new-requires-clause-head_in
@@ -40,3 +37,6 @@ pub returns-clause-free : goal.returns-clause-free
 returns-clause-free c =
     subst (λ x. IsFree (state_of c.self.inside.stack c.self.inside.list c.put_new.new.arena c.self.inside.tokens c.self.inside.head c.self.inside.form c.self.inside.detached) x) (sym c.in_ok-node.ensures.id)
     (new-free c.self.inside.stack c.self.inside.list c.self.inside.arena c.put_new.new.arena c.self.inside.tokens (length c.self.inside.stack + 3) c.self.inside.head c.self.inside.form c.self.inside.detached c.args.foster c.self.invariant c.forest.ensures.well_formed (subst (λ (a : State). 0 < length a.stack) (sym c.self.view_is) c.requires.opened) c.in_ok-node.ensures.new)
+
+pub returns-clause-tags : goal.returns-clause-tags
+returns-clause-tags c = kept-tags c.args.self.now _ c.self.inside.stack c.self.inside.list c.self.inside.arena c.self.inside.tokens c.self.inside.head c.self.inside.form c.self.inside.detached c.self.view_is c.self.invariant (returns-clause-keeps c) refl

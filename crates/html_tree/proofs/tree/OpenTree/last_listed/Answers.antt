@@ -1,7 +1,8 @@
-use Rattle.std.proofs.Common.{◌≡◌, ◌≤◌, ◌+◌, length, subst, ap, ◌∙◌}
+use Rattle.std.proofs.Common.{◌≤◌, ◌+◌, length, subst, ap, ◌∙◌, refl}
 use Rattle.html_open.specs.Entries.{last_named}
 use Rattle.html_tree.specs.States.{State}
 use Rattle.html_tree.proofs.Kept.{charged-steps, charged-under_way, looked-most, read-grown, read-keeps, read-rest}
+use Rattle.html_tree.proofs.OpenTags.{kept-tags}
 use Rattle.html_tree.proofs.tree.OpenTree.last_listed.Goals as goal
 
 pub invariant_of-self : goal.invariant_of-self
@@ -24,3 +25,6 @@ returns-clause-grown c = read-grown c.args.self.now c.self.inside.stack c.self.i
 
 pub returns-clause-node : goal.returns-clause-node
 returns-clause-node c = c.last_named.ensures.node ∙ ap (λ (a : State). last_named a.tree c.args.name a.list) c.self.view_is
+
+pub returns-clause-tags : goal.returns-clause-tags
+returns-clause-tags c = kept-tags c.args.self.now _ c.self.inside.stack c.self.inside.list c.self.inside.arena c.self.inside.tokens c.self.inside.head c.self.inside.form c.self.inside.detached c.self.view_is c.self.invariant (returns-clause-keeps c) refl

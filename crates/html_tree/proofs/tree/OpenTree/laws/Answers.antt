@@ -1,9 +1,11 @@
 use Rattle.std.proofs.Common.{subst}
 use Rattle.html_tree.specs.States.{IsSound, State}
+use Rattle.html_tree.proofs.OpenTags.{length-tags}
 use Rattle.html_tree.proofs.Roots.{sound}
 use Rattle.html_tree.proofs.tree.OpenTree.laws.Goals as goal
 
 pub returns : goal.returns
 returns c = record {
   sound = subst (λ (a : State). IsSound a) c.self.view_is (sound c.self.inside.stack c.self.inside.list c.self.inside.arena c.self.inside.tokens c.self.inside.head c.self.inside.form c.self.inside.detached c.self.invariant);
+  depth = length-tags c.args.self.now.tree c.args.self.now.stack;
 }

@@ -1,4 +1,4 @@
-use Rattle.std.proofs.Common.{◌≡◌, ◌≤◌, ◌+◌, ◌*◌, ◌∙◌, ap, sym, subst, refl, arith, length, ℕ}
+use Rattle.std.proofs.Common.{◌≡◌, ◌∙◌, ap, sym, subst, refl, arith, length, ℕ}
 use Rattle.std.specs.Prelude.{slice_index}
 use Rattle.html_arena.specs.Data.{attrs_in, with_attrs}
 use Rattle.html_arena.specs.Merge.{lacking, merged}
@@ -9,6 +9,7 @@ use Rattle.html_tree.specs.Since.{Grown}
 use Rattle.html_tree.specs.States.{State, state_of}
 use Rattle.html_tree.proofs.Kept.{charged-under_way, same-under_way, more-most, same-element, same-origin_in, same-tag_in}
 use Rattle.html_tree.proofs.Merged.{element-free, keeps-charged, merged-essence, relabelled-since, relabelled-under_way}
+use Rattle.html_tree.proofs.OpenTags.{kept-tags}
 use Rattle.html_tree.proofs.tree.OpenTree.merge.Goals as goal
 
 pub invariant_of-self : goal.invariant_of-self
@@ -41,3 +42,6 @@ returns-clause-grown c =
     let v : attrs_weight (lacking (attrs_in (label_of c.at-node.new.arena c.at-node.result)) c.args.attrs) ≡ attrs_weight (lacking (attrs_in (label_of c.self.inside.arena (slice_index c.self.inside.stack c.args.index))) c.args.attrs) = ap (λ b. attrs_weight (lacking b c.args.attrs)) y in
     subst (λ (a : State). Grown 0 0 0 (attrs_weight (lacking (attrs_in (label_of a.tree (slice_index a.stack c.args.index))) c.args.attrs)) a (state_of c.self.inside.stack c.self.inside.list c.merge_attrs.new.self c.self.inside.tokens c.self.inside.head c.self.inside.form c.self.inside.detached)) c.self.view_is
     (record { nodes_least = omega (arith, q, r); nodes_most = omega (arith, q, r); open_most = omega arith; entries_most = omega arith; held_most = omega (arith, k, z, m, v); open_least = omega arith })
+
+pub returns-clause-tags : goal.returns-clause-tags
+returns-clause-tags c = kept-tags c.args.self.now _ c.self.inside.stack c.self.inside.list c.self.inside.arena c.self.inside.tokens c.self.inside.head c.self.inside.form c.self.inside.detached c.self.view_is c.self.invariant (returns-clause-keeps c) refl

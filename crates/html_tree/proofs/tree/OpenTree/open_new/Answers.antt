@@ -1,11 +1,11 @@
-use Rattle.std.proofs.Common.{◌≡◌, ℕ, ◌+◌, ◌<◌, ◌≤◌, ◌++◌, ◌∷◌, [], length, Ok, ap, subst, refl, sym, ◌∙◌, arith}
+use Rattle.std.proofs.Common.{◌≡◌, ◌+◌, ◌≤◌, ◌++◌, ◌∷◌, [], length, Ok, ap, subst, refl, sym, ◌∙◌, arith}
 use Rattle.html_names.specs.Names.{tag_of}
 use Rattle.html_arena.specs.declared.data.NewNode.TheVariants.{Element}
-use Rattle.html_arena.specs.Data.{IsElement, tag_in}
+use Rattle.html_arena.specs.Data.{tag_in}
 use Rattle.html_arena.specs.Budget.{budget}
 use Rattle.html_arena.specs.Make.{label_for, made_weight, nodes_made}
 use Rattle.html_arena.specs.Siblings.{first_of}
-use Rattle.html_arena.specs.Tree.{Tree, label_of, tag_at}
+use Rattle.html_arena.specs.Tree.{Tree, tag_at}
 use Rattle.html_open.specs.Opened.{CanList, CanPush, IsOpen, open_at}
 use Rattle.html_tree.specs.Inserting.{CanBeFirst, IsFor}
 use Rattle.html_arena.specs.Weight.{weight}
@@ -16,6 +16,7 @@ use Rattle.html_tree.proofs.Inserted.{element-element, element-tag, made-under_w
 use Rattle.html_tree.proofs.Listed.{bare-listed}
 use Rattle.html_names.specs.Sets.{is_formatting}
 use Rattle.html_tree.proofs.Kept.{same-under_way}
+use Rattle.html_tree.proofs.OpenTags.{opened-tags}
 use Rattle.html_tree.proofs.tree.OpenTree.open_new.Goals as goal
 
 pub put_new-requires-clause-head_in : goal.put_new-requires-clause-head_in
@@ -85,3 +86,6 @@ returns-clause-can_list c = λ formatting.
 pub returns-clause-within : goal.returns-clause-within
 returns-clause-within c =
     subst (λ (a : State). budget a.tree (nodes_made (Element c.args.name c.args.attrs c.args.origin)) (made_weight a.tree (Element c.args.name c.args.attrs c.args.origin)) ≡ Ok tt) c.self.view_is c.in_ok-node.ensures.within
+
+pub returns-clause-tags : goal.returns-clause-tags
+returns-clause-tags c = opened-tags c.args.self.now _ c.self.inside.stack c.self.inside.list c.self.inside.arena c.self.inside.tokens c.self.inside.head c.self.inside.form c.self.inside.detached c.self.view_is c.self.invariant c.in_ok-node.node _ (returns-clause-keeps c) c.in_ok-push.ensures.stack (returns-clause-tag c).1

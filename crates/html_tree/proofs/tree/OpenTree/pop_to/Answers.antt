@@ -1,4 +1,4 @@
-use Rattle.std.proofs.Common.{◌≡◌, ℕ, ◌≤◌, ◌+◌, ◌-◌, List, length, take, drop, ◌∙◌, ap, subst, sym, refl, arith}
+use Rattle.std.proofs.Common.{◌≡◌, ◌≤◌, ◌+◌, ◌-◌, length, take, drop, ◌∙◌, ap, subst, refl, arith}
 use Rattle.html_arena.specs.declared.marks.Mark.TheVariants.{OnStack}
 use Rattle.html_arena.specs.Siblings.{first_of}
 use Rattle.html_arena.specs.Tree.{Tree, more}
@@ -8,6 +8,7 @@ use Rattle.html_open.proofs.Keeps.{charged_keeps}
 use Rattle.html_tree.specs.Closing.{first_few, kept_to}
 use Rattle.html_tree.specs.States.{State, state_of}
 use Rattle.html_tree.proofs.Kept.{all_unmarked-steps, first-few, more-most, popped-grown, popped-keeps, same-state, same-under_way}
+use Rattle.html_tree.proofs.OpenTags.{few-tags, few-weigh-less}
 use Rattle.html_tree.proofs.tree.OpenTree.pop_to.Goals as goal
 
 pub invariant_of-self : goal.invariant_of-self
@@ -42,3 +43,9 @@ returns-clause-keeps c = popped-keeps c.args.self.now _ c.args.len (returns-clau
 
 pub returns-clause-grown : goal.returns-clause-grown
 returns-clause-grown c = popped-grown c.args.self.now _ c.args.len (returns-clause-exact c)
+
+pub returns-clause-few : goal.returns-clause-few
+returns-clause-few c = few-tags c.args.self.now _ c.args.len (returns-clause-exact c)
+
+pub returns-clause-lighter : goal.returns-clause-lighter
+returns-clause-lighter c = few-weigh-less c.args.self.now _ c.args.len (returns-clause-exact c)

@@ -1,6 +1,7 @@
-use Rattle.std.proofs.Common.{◌≡◌, ℕ, List, false, ◌∙◌, ap, sym, subst}
+use Rattle.std.proofs.Common.{◌≡◌, false, ◌∙◌, ap, sym}
 use Rattle.html_arena.specs.Siblings.{first_of, is_in}
 use Rattle.html_tree.proofs.Closings.{removed-exact, removed-grown, removed-keeps, removed-steps, removed-under_way}
+use Rattle.html_tree.proofs.OpenTags.{removed-lighter}
 use Rattle.html_tree.proofs.tree.OpenTree.remove_open.Goals as goal
 
 off : (c : goal.After-remove) → is_in c.args.node (first_of c.self.inside.stack) ≡ false
@@ -20,3 +21,6 @@ returns-then-not-is_first-clause-keeps c = removed-keeps c.args.self.now c.self.
 
 pub returns-then-not-is_first-clause-grown : goal.returns-then-not-is_first-clause-grown
 returns-then-not-is_first-clause-grown c = removed-grown c.args.self.now c.self.inside.stack c.remove.new.self c.self.inside.list c.self.inside.arena c.remove.new.arena c.self.inside.tokens c.args.node c.self.inside.head c.self.inside.form c.self.inside.detached c.self.view_is c.remove.ensures.stack c.remove.ensures.tree (off c)
+
+pub returns-then-not-is_first-clause-lighter : goal.returns-then-not-is_first-clause-lighter
+returns-then-not-is_first-clause-lighter c = removed-lighter c.args.self.now _ c.args.node (returns-then-not-is_first-clause-exact c)

@@ -1,5 +1,4 @@
-use Rattle.std.proofs.Common.{◌≡◌, ℕ, ◌<◌, ◌≤◌, ◌+◌, ◌*◌, length, refl, subst, sym, ap, ◌∙◌, arith, OnOk}
-use Rattle.html_arena.specs.Tree.{Tree}
+use Rattle.std.proofs.Common.{◌<◌, ◌≤◌, ◌+◌, ◌*◌, length, refl, subst, sym, ◌∙◌, arith}
 use Rattle.html_open.specs.Leaving.{listed_weight as open_weight}
 use Rattle.html_tree.specs.Listing.{IsReopenRefused, IsReopened, listed_weight}
 use Rattle.html_tree.specs.Since.{Grown, Keeps}
@@ -9,6 +8,8 @@ use Rattle.html_tree.proofs.Clones.{clones-grown, clones-since, clones-under_way
 use Rattle.html_tree.proofs.Inserted.{on-ok, under-way-place}
 use Rattle.html_tree.proofs.Spelled.{if-err}
 use Rattle.html_tree.proofs.Kept.{keeps-since}
+use Rattle.html_tree.proofs.OpenTags.{reopened-tags}
+use Rattle.html_tree.specs.OpenTags.{HasReopened}
 use Rattle.html_tree.proofs.tree.OpenTree.reopen.Goals as goal
 
 pub reopen-reopened-requires-clause-can_place : goal.reopen-reopened-requires-clause-can_place
@@ -47,3 +48,8 @@ pub returns-clause-cause : goal.returns-clause-cause
 returns-clause-cause c =
     if-err c.reopen-reopened.result c.reopen-reopened.ensures.cause
     (λ e r. subst (λ (a : State). IsReopenRefused c.args.foster a e) c.self.view_is (record { old = c.self.inside.arena; old_is = refl; cause = r }))
+
+pub returns-clause-opened : goal.returns-clause-opened
+returns-clause-opened c =
+    subst (λ (a : State). HasReopened a (state_of c.reopen-reopened.new.stack c.reopen-reopened.new.self c.reopen-reopened.new.arena c.self.inside.tokens c.self.inside.head c.self.inside.form c.self.inside.detached)) c.self.view_is
+    (reopened-tags c.self.inside.stack c.reopen-reopened.new.stack c.self.inside.list c.reopen-reopened.new.self c.self.inside.arena c.reopen-reopened.new.arena c.self.inside.tokens c.self.inside.head c.self.inside.form c.self.inside.detached c.reopen-reopened.ensures.made c.self.invariant.is_open c.reopen-reopened.ensures.keeps.stack_in (length c.reopen-reopened.ensures.so_far.done) c.reopen-reopened.ensures.so_far.stack_is)

@@ -1,4 +1,4 @@
-use Rattle.std.proofs.Common.{Some, refl, subst}
+use Rattle.std.proofs.Common.{refl, subst}
 use Rattle.html_tree.specs.Since.{Keeps}
 use Rattle.html_tree.specs.States.{State, state_of}
 use Rattle.html_tree.proofs.Kept.{fewer-since, keeps-since}

@@ -1,12 +1,13 @@
-use Rattle.std.proofs.Common.{◌≡◌, ◌≤◌, ◌+◌, ◌<◌, length, subst, ap, sym, ◌∙◌, None, arith}
+use Rattle.std.proofs.Common.{◌≤◌, ◌+◌, ◌<◌, length, subst, ap, sym, ◌∙◌, None, arith, refl}
 use Rattle.html_arena.specs.Tree.{Tree, parent_of}
-use Rattle.html_open.specs.Marking.{bare, charged}
-use Rattle.html_open.specs.Placing.{parent_at, place_of, place_steps}
-use Rattle.html_tree.specs.States.{State, state_of}
+use Rattle.html_open.specs.Marking.{bare}
+use Rattle.html_open.specs.Placing.{parent_at, place_steps}
+use Rattle.html_tree.specs.States.{State}
 use Rattle.html_tree.specs.Texts.{IsFree, place_here, text_before}
 use Rattle.html_tree.proofs.Inserted.{parent-charged, place-most}
 use Rattle.html_tree.proofs.Kept.{charged-steps, charged-under_way, read-grown, read-keeps, read-rest}
 use Rattle.html_tree.proofs.Texted.{free-here, if-some, text-same}
+use Rattle.html_tree.proofs.OpenTags.{kept-tags}
 use Rattle.html_tree.proofs.tree.OpenTree.text_here.Goals as goal
 
 pub invariant_of-self : goal.invariant_of-self
@@ -37,3 +38,6 @@ returns-clause-keeps c = read-keeps c.args.self.now c.self.inside.stack c.self.i
 
 pub returns-clause-grown : goal.returns-clause-grown
 returns-clause-grown c = read-grown c.args.self.now c.self.inside.stack c.self.inside.list c.self.inside.arena c.place-place.new.arena c.self.inside.tokens _ c.self.inside.head c.self.inside.form c.self.inside.detached c.self.view_is c.place-place.ensures.steps
+
+pub returns-clause-tags : goal.returns-clause-tags
+returns-clause-tags c = kept-tags c.args.self.now _ c.self.inside.stack c.self.inside.list c.self.inside.arena c.self.inside.tokens c.self.inside.head c.self.inside.form c.self.inside.detached c.self.view_is c.self.invariant (returns-clause-keeps c) refl
