@@ -53,6 +53,8 @@ impl OpenTree {
         ensures keeps { OnOk result (Keeps self.old self.new) }
         ensures grown { OnOk result (Grown 2 1 0 (weight (label_for self.old.tree (Element name attrs (Token token)))) self.old self.new) }
         ensures tags { OnOk result (open_tags self.new ≡ tag_of name ∷ open_tags self.old) }
+        ensures rest { self.new ≡ record self.old { stack = self.new.stack; tree = self.new.tree; steps = self.new.steps; tokens = self.new.tokens } }
+        ensures tokens_most { self.new.tokens ≤ token + 1 }
         ensures cause { IfErr result (λ e. IsRefused self.old (Element name attrs (Token token)) e) }
     {
         self.open_new(name, attrs, Origin::Token(token), token as u128 + 1, target)
@@ -83,6 +85,8 @@ impl OpenTree {
         ensures keeps { OnOk result (Keeps self.old self.new) }
         ensures grown { OnOk result (Grown 2 0 0 (weight (label_for self.old.tree (Element name attrs (Token token)))) self.old self.new) }
         ensures tags { OnOk result (open_tags self.new ≡ open_tags self.old) }
+        ensures rest { self.new ≡ record self.old { tree = self.new.tree; steps = self.new.steps; tokens = self.new.tokens } }
+        ensures tokens_most { self.new.tokens ≤ token + 1 }
         ensures cause { IfErr result (λ e. IsRefused self.old (Element name attrs (Token token)) e) }
     {
         self.closed_new(name, attrs, Origin::Token(token), token as u128 + 1, target)
@@ -106,6 +110,8 @@ impl OpenTree {
         ensures keeps { OnOk result (Keeps self.old self.new) }
         ensures grown { OnOk result (Grown 2 1 0 (weight (label_for self.old.tree (Element (name_of tag) [] Implied))) self.old self.new) }
         ensures tags { OnOk result (open_tags self.new ≡ tag ∷ open_tags self.old) }
+        ensures rest { self.new ≡ record self.old { stack = self.new.stack; tree = self.new.tree; steps = self.new.steps } }
+        ensures tokens { self.new.tokens ≡ self.old.tokens }
         ensures cause { IfErr result (λ e. IsTold self.old (Element (name_of tag) [] Implied) e) }
     {
         let attrs = Attrs::new(self.alloc);
@@ -130,6 +136,8 @@ impl OpenTree {
         ensures keeps { OnOk result (Keeps self.old self.new) }
         ensures grown { OnOk result (Grown 2 0 0 (weight (label_for self.old.tree (Element (name_of tag) [] Implied))) self.old self.new) }
         ensures tags { OnOk result (open_tags self.new ≡ open_tags self.old) }
+        ensures rest { self.new ≡ record self.old { tree = self.new.tree; steps = self.new.steps } }
+        ensures tokens { self.new.tokens ≡ self.old.tokens }
         ensures cause { IfErr result (λ e. IsTold self.old (Element (name_of tag) [] Implied) e) }
     {
         let attrs = Attrs::new(self.alloc);
@@ -160,6 +168,8 @@ impl OpenTree {
         ensures keeps { OnOk result (Keeps self.old self.new) }
         ensures grown { OnOk result (Grown 2 0 0 (weight (label_for self.old.tree (Comment text token))) self.old self.new) }
         ensures tags { OnOk result (open_tags self.new ≡ open_tags self.old) }
+        ensures rest { self.new ≡ record self.old { tree = self.new.tree; steps = self.new.steps; tokens = self.new.tokens } }
+        ensures tokens_most { self.new.tokens ≤ token + 1 }
         ensures cause { IfErr result (λ e. IsRefused self.old (Comment text token) e) }
     {
         let new = NewNode::Comment { text, token };
@@ -191,6 +201,8 @@ impl OpenTree {
         ensures keeps { OnOk result (Keeps self.old self.new) }
         ensures grown { OnOk result (Grown 2 0 0 (weight (label_for self.old.tree (Doctype name public system token))) self.old self.new) }
         ensures tags { OnOk result (open_tags self.new ≡ open_tags self.old) }
+        ensures rest { self.new ≡ record self.old { tree = self.new.tree; steps = self.new.steps; tokens = self.new.tokens } }
+        ensures tokens_most { self.new.tokens ≤ token + 1 }
         ensures cause { IfErr result (λ e. IsRefused self.old (Doctype name public system token) e) }
     {
         let new = NewNode::Doctype {
@@ -226,6 +238,8 @@ impl OpenTree {
         ensures keeps { OnOk result (Keeps self.old self.new) }
         ensures grown { OnOk result (Grown 2 1 0 (weight (label_for self.old.tree (Element (name_of tag.Html) attrs (Token token)))) self.old self.new) }
         ensures tags { OnOk result (open_tags self.new ≡ tag.Html ∷ open_tags self.old) }
+        ensures rest { self.new ≡ record self.old { stack = self.new.stack; tree = self.new.tree; steps = self.new.steps; tokens = self.new.tokens } }
+        ensures tokens_most { self.new.tokens ≤ token + 1 }
         ensures cause { IfErr result (λ e. IsTold self.old (Element (name_of tag.Html) attrs (Token token)) e) }
     {
         let next = token as u128 + 1;
@@ -255,6 +269,8 @@ impl OpenTree {
         ensures keeps { OnOk result (Keeps self.old self.new) }
         ensures grown { OnOk result (Grown 2 1 0 (weight (label_for self.old.tree (Element (name_of tag.Html) [] Implied))) self.old self.new) }
         ensures tags { OnOk result (open_tags self.new ≡ tag.Html ∷ open_tags self.old) }
+        ensures rest { self.new ≡ record self.old { stack = self.new.stack; tree = self.new.tree; steps = self.new.steps } }
+        ensures tokens { self.new.tokens ≡ self.old.tokens }
         ensures cause { IfErr result (λ e. IsTold self.old (Element (name_of tag.Html) [] Implied) e) }
     {
         let attrs = Attrs::new(self.alloc);
@@ -289,6 +305,8 @@ impl OpenTree {
         ensures keeps { OnOk result (Keeps self.old self.new) }
         ensures grown { OnOk result (Grown 2 1 1 (weight (label_for self.old.tree (Element name attrs (Token token)))) self.old self.new) }
         ensures tags { OnOk result (open_tags self.new ≡ tag_of name ∷ open_tags self.old) }
+        ensures rest { self.new ≡ record self.old { stack = self.new.stack; list = self.new.list; tree = self.new.tree; steps = self.new.steps; tokens = self.new.tokens } }
+        ensures tokens_most { self.new.tokens ≤ token + 1 }
         ensures cause { IfErr result (λ e. IsRefused self.old (Element name attrs (Token token)) e) }
     {
         let next = token as u128 + 1;
@@ -325,6 +343,9 @@ impl OpenTree {
         ensures keeps { OnOk result (Keeps self.old self.new) }
         ensures grown { OnOk result (Grown 2 1 0 (weight (label_for self.old.tree (Element (name_of tag) attrs origin))) self.old self.new) }
         ensures tags { OnOk result (open_tags self.new ≡ tag ∷ open_tags self.old) }
+        ensures rest { self.new ≡ record self.old { stack = self.new.stack; tree = self.new.tree; steps = self.new.steps; tokens = self.new.tokens } }
+        ensures tokens_least { self.old.tokens ≤ self.new.tokens }
+        ensures tokens_most { self.new.tokens ≤ next }
         ensures cause { IfErr result (λ e. IsTold self.old (Element (name_of tag) attrs origin) e) }
     {
         let name = Str::of(self.alloc, tag.name())?;
@@ -354,6 +375,9 @@ impl OpenTree {
         ensures keeps { OnOk result (Keeps self.old self.new) }
         ensures grown { OnOk result (Grown 2 0 0 (weight (label_for self.old.tree (Element (name_of tag) attrs origin))) self.old self.new) }
         ensures tags { OnOk result (open_tags self.new ≡ open_tags self.old) }
+        ensures rest { self.new ≡ record self.old { tree = self.new.tree; steps = self.new.steps; tokens = self.new.tokens } }
+        ensures tokens_least { self.old.tokens ≤ self.new.tokens }
+        ensures tokens_most { self.new.tokens ≤ next }
         ensures cause { IfErr result (λ e. IsTold self.old (Element (name_of tag) attrs origin) e) }
     {
         let name = Str::of(self.alloc, tag.name())?;
@@ -389,6 +413,9 @@ impl OpenTree {
         ensures keeps { OnOk result (Keeps self.old self.new) }
         ensures grown { OnOk result (Grown 2 1 0 (weight (label_for self.old.tree (Element name attrs origin))) self.old self.new) }
         ensures tags { OnOk result (open_tags self.new ≡ tag_of name ∷ open_tags self.old) }
+        ensures rest { self.new ≡ record self.old { stack = self.new.stack; tree = self.new.tree; steps = self.new.steps; tokens = self.new.tokens } }
+        ensures tokens_least { self.old.tokens ≤ self.new.tokens }
+        ensures tokens_most { self.new.tokens ≤ next }
         ensures cause { IfErr result (λ e. IsRefused self.old (Element name attrs origin) e) }
     {
         let new = NewNode::Element {
@@ -425,6 +452,9 @@ impl OpenTree {
         ensures keeps { OnOk result (Keeps self.old self.new) }
         ensures grown { OnOk result (Grown 2 0 0 (weight (label_for self.old.tree (Element name attrs origin))) self.old self.new) }
         ensures tags { OnOk result (open_tags self.new ≡ open_tags self.old) }
+        ensures rest { self.new ≡ record self.old { tree = self.new.tree; steps = self.new.steps; tokens = self.new.tokens } }
+        ensures tokens_least { self.old.tokens ≤ self.new.tokens }
+        ensures tokens_most { self.new.tokens ≤ next }
         ensures cause { IfErr result (λ e. IsRefused self.old (Element name attrs origin) e) }
     {
         let new = NewNode::Element {

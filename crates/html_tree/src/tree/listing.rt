@@ -27,6 +27,8 @@ impl OpenTree {
         ensures keeps { OnOk result (Keeps self.old self.new) }
         ensures grown { OnOk result (Grown 0 0 1 0 self.old self.new) }
         ensures tags { OnOk result (open_tags self.new ≡ open_tags self.old) }
+        ensures rest { self.new ≡ record self.old { list = self.new.list; steps = self.new.steps } }
+        ensures tokens { self.new.tokens ≡ self.old.tokens }
         ensures cause { IfErr result (λ e. e ≡ OpenError.OutOfMemory) }
     {
         self.list.marker(&mut self.arena)?;
@@ -42,6 +44,7 @@ impl OpenTree {
         ensures keeps { OnOk result (Keeps self.old self.new) }
         ensures grown { OnOk result (Grown 0 0 1 0 self.old self.new) }
         ensures tags { OnOk result (open_tags self.new ≡ open_tags self.old) }
+        ensures rest { self.new ≡ record self.old { list = self.new.list; steps = self.new.steps } }
         ensures cause { IfErr result (λ e. e ≡ OpenError.OutOfMemory) }
     {
         self.list.push(&mut self.arena, node)?;

@@ -37,6 +37,8 @@ impl OpenTree {
         ensures keeps { OnOk result (Keeps self.old self.new) }
         ensures grown { IfOk result (λ r. Grown 1 0 0 r.1 self.old self.new) }
         ensures tags { OnOk result (open_tags self.new ≡ open_tags self.old) }
+        ensures rest { self.new ≡ record self.old { tree = self.new.tree; steps = self.new.steps } }
+        ensures tokens { self.new.tokens ≡ self.old.tokens }
         ensures cause { IfErr result (λ e. IsTextRefused self.old foster e) }
     {
         let node = self.text_at(foster)?;
@@ -55,6 +57,7 @@ impl OpenTree {
         ensures keeps { OnOk result (Keeps self.old self.new) }
         ensures grown { OnOk result (Grown 1 0 0 0 self.old self.new) }
         ensures tags { OnOk result (open_tags self.new ≡ open_tags self.old) }
+        ensures rest { self.new ≡ record self.old { tree = self.new.tree; steps = self.new.steps } }
         ensures cause { IfErr result (λ e. IsNewTextRefused self.old foster e) }
     {
         match self.text_here(foster) {
@@ -91,6 +94,7 @@ impl OpenTree {
         ensures keeps { OnOk result (Keeps self.old self.new) }
         ensures grown { OnOk result (Grown 1 0 0 0 self.old self.new) }
         ensures tags { OnOk result (open_tags self.new ≡ open_tags self.old) }
+        ensures rest { self.new ≡ record self.old { tree = self.new.tree; steps = self.new.steps } }
         ensures cause { IfErr result (λ e. IsRefused self.old Text e) }
     {
         let target = Target::Current(foster);
@@ -113,6 +117,7 @@ impl OpenTree {
         ensures keeps { OnOk result (Keeps self.old self.new) }
         ensures grown { IfOk result (λ n. Grown 0 0 0 n self.old self.new) }
         ensures tags { OnOk result (open_tags self.new ≡ open_tags self.old) }
+        ensures rest { self.new ≡ record self.old { tree = self.new.tree; steps = self.new.steps } }
         ensures cause { IfErr result (λ e. IsLack (budget self.old.tree 0 1) e) }
     {
         kept_by_edits();
