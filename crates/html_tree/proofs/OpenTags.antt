@@ -1,5 +1,5 @@
 -- The tags of the open elements.
-use Rattle.std.proofs.Common.{◌≡◌, ℕ, zero, suc, ◌+◌, ◌-◌, ◌<◌, ◌≤◌, Bool, true, false, cond, eqb, List, [], ◌∷◌, ◌++◌, length, map, take, drop, get_or, Option, Some, None, ◌⊎◌, inl, inr, refl, sym, ◌∙◌, ap, subst, arith, length-append, length-take}
+use Rattle.std.proofs.Common.{◌≡◌, ℕ, zero, suc, ◌+◌, ◌-◌, ◌<◌, ◌≤◌, Bool, true, false, cond, eqb, List, [], ◌∷◌, ◌++◌, length, map, take, drop, get_or, Option, Some, None, ◌⊎◌, inl, inr, refl, sym, ◌∙◌, ap, subst, arith, length-append, length-take, Result, Ok, Err, OnErr}
 use Rattle.std.specs.Prelude.{reverse, slice_get}
 use Rattle.std.specs.List.{list_all, list_any, range_with_len, sum_by}
 use Rattle.std.proofs.lemmas.Bool.{false≢true}
@@ -35,6 +35,9 @@ use Rattle.html_tree.specs.OpenTags.{HasClosed, HasContext, HasFewer, HasReopene
 use Rattle.html_tree.specs.Searching.{context_at, current_tag, found, is_member, stops, tag_if}
 use Rattle.html_tree.specs.Since.{Keeps, Since}
 use Rattle.html_tree.specs.States.{IsNamed, IsSound, IsUnderWay, State, state_of}
+use Rattle.html_arena.specs.declared.data.NewNode.{NewNode}
+use Rattle.html_open.specs.declared.places.Place.{Place}
+use Rattle.html_tree.specs.Inserting.{IsNew}
 use Rattle.html_tree.proofs.Kept.{few-length, same-tag_in, since-self}
 
 has-head : (x : ℕ) (xs : List ℕ) → has x (x ∷ xs) ≡ true
@@ -330,3 +333,15 @@ module _ (s s' : List ℕ) (l l' : List Entry) (t u : Tree) (n : ℕ) (h f d : O
         | inr q ↦ inl (zero-for (tag_at u x) (clone-tag x q (nodes x b)))
       ]) in
       omega (arith, a, b, c, e)
+
+-- a formatting element was opened
+pub reopened-one : (a b : State) (g : Tag) → is_formatting g ≡ true → open_tags b ≡ g ∷ open_tags a → HasReopened a b
+reopened-one a b g e h = record { opened = g ∷ []; formatting = all-push is_formatting [] g refl e; tags_are = h }
+
+-- a node was made, and is not opened
+pub made-tags : (s s' : List ℕ) (t u v : Tree) (at : Place) (new : NewNode) (k : ℕ) → AreNodes t s → IsNew t u at new k → v ≡ u → s' ≡ s → tags_down v s' ≡ tags_down t s
+made-tags s s' t u v at new k n e i j = ap (tags_down v) j ∙ ap (λ w. tags_down w s) i ∙ same-tags t u s (λ x b. ap tag_in (e.laws.same_labels x (n x b)))
+
+pub always-err : {A E P : Type 0} (r : Result A E) → P → OnErr r P
+always-err (Ok x) p = tt
+always-err (Err e) p = p

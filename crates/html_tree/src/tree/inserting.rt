@@ -1,5 +1,5 @@
 // Nodes that are made of tokens, or implied by them.
-ghost use Rattle.std.specs.Prelude.{◌≡◌, ℕ, ◌+◌, ◌<◌, ◌≤◌, [], ◌∷◌, IfErr, IfOk, None, Ok, OnOk, Option, Some, length, true};
+ghost use Rattle.std.specs.Prelude.{◌≡◌, ℕ, ◌+◌, ◌<◌, ◌≤◌, [], ◌∷◌, IfErr, IfOk, None, Ok, OnErr, OnOk, Option, Some, length, true};
 ghost use Rattle.html_names.specs.declared.tag.Tag.TheVariants as tag;
 ghost use Rattle.html_names.specs.Names.{name_of, tag_of};
 ghost use Rattle.html_names.specs.Sets.{is_formatting};
@@ -12,7 +12,7 @@ ghost use Rattle.html_arena.specs.Weight.{weight};
 ghost use Rattle.html_open.specs.Entries.{push_steps, pushed};
 ghost use Rattle.html_open.specs.Opened.{CanList, open_at};
 ghost use Rattle.html_tree.specs.Inserting.{CanBeFirst, IsFor, IsRefused, IsTold, with_new, with_open};
-ghost use Rattle.html_tree.specs.OpenTags.{open_tags};
+ghost use Rattle.html_tree.specs.OpenTags.{HasReopened, open_tags};
 ghost use Rattle.html_tree.specs.Since.{Grown, Keeps};
 ghost use Rattle.html_tree.specs.Targets.{CanTarget, place_for};
 
@@ -53,6 +53,7 @@ impl OpenTree {
         ensures keeps { OnOk result (Keeps self.old self.new) }
         ensures grown { OnOk result (Grown 2 1 0 (weight (label_for self.old.tree (Element name attrs (Token token)))) self.old self.new) }
         ensures tags { OnOk result (open_tags self.new ≡ tag_of name ∷ open_tags self.old) }
+        ensures refused { OnErr result (open_tags self.new ≡ open_tags self.old) }
         ensures rest { self.new ≡ record self.old { stack = self.new.stack; tree = self.new.tree; steps = self.new.steps; tokens = self.new.tokens } }
         ensures tokens_most { self.new.tokens ≤ token + 1 }
         ensures cause { IfErr result (λ e. IsRefused self.old (Element name attrs (Token token)) e) }
@@ -84,7 +85,7 @@ impl OpenTree {
         ensures steps { OnOk result (self.new.steps ≤ self.old.steps + length self.old.stack + 3) }
         ensures keeps { OnOk result (Keeps self.old self.new) }
         ensures grown { OnOk result (Grown 2 0 0 (weight (label_for self.old.tree (Element name attrs (Token token)))) self.old self.new) }
-        ensures tags { OnOk result (open_tags self.new ≡ open_tags self.old) }
+        ensures tags { open_tags self.new ≡ open_tags self.old }
         ensures rest { self.new ≡ record self.old { tree = self.new.tree; steps = self.new.steps; tokens = self.new.tokens } }
         ensures tokens_most { self.new.tokens ≤ token + 1 }
         ensures cause { IfErr result (λ e. IsRefused self.old (Element name attrs (Token token)) e) }
@@ -110,6 +111,7 @@ impl OpenTree {
         ensures keeps { OnOk result (Keeps self.old self.new) }
         ensures grown { OnOk result (Grown 2 1 0 (weight (label_for self.old.tree (Element (name_of tag) [] Implied))) self.old self.new) }
         ensures tags { OnOk result (open_tags self.new ≡ tag ∷ open_tags self.old) }
+        ensures refused { OnErr result (open_tags self.new ≡ open_tags self.old) }
         ensures rest { self.new ≡ record self.old { stack = self.new.stack; tree = self.new.tree; steps = self.new.steps } }
         ensures tokens { self.new.tokens ≡ self.old.tokens }
         ensures cause { IfErr result (λ e. IsTold self.old (Element (name_of tag) [] Implied) e) }
@@ -135,7 +137,7 @@ impl OpenTree {
         ensures steps { OnOk result (self.new.steps ≤ self.old.steps + length self.old.stack + 3) }
         ensures keeps { OnOk result (Keeps self.old self.new) }
         ensures grown { OnOk result (Grown 2 0 0 (weight (label_for self.old.tree (Element (name_of tag) [] Implied))) self.old self.new) }
-        ensures tags { OnOk result (open_tags self.new ≡ open_tags self.old) }
+        ensures tags { open_tags self.new ≡ open_tags self.old }
         ensures rest { self.new ≡ record self.old { tree = self.new.tree; steps = self.new.steps } }
         ensures tokens { self.new.tokens ≡ self.old.tokens }
         ensures cause { IfErr result (λ e. IsTold self.old (Element (name_of tag) [] Implied) e) }
@@ -167,7 +169,7 @@ impl OpenTree {
         ensures steps { OnOk result (self.new.steps ≤ self.old.steps + length self.old.stack + 3) }
         ensures keeps { OnOk result (Keeps self.old self.new) }
         ensures grown { OnOk result (Grown 2 0 0 (weight (label_for self.old.tree (Comment text token))) self.old self.new) }
-        ensures tags { OnOk result (open_tags self.new ≡ open_tags self.old) }
+        ensures tags { open_tags self.new ≡ open_tags self.old }
         ensures rest { self.new ≡ record self.old { tree = self.new.tree; steps = self.new.steps; tokens = self.new.tokens } }
         ensures tokens_most { self.new.tokens ≤ token + 1 }
         ensures cause { IfErr result (λ e. IsRefused self.old (Comment text token) e) }
@@ -200,7 +202,7 @@ impl OpenTree {
         ensures steps { OnOk result (self.new.steps ≤ self.old.steps + length self.old.stack + 3) }
         ensures keeps { OnOk result (Keeps self.old self.new) }
         ensures grown { OnOk result (Grown 2 0 0 (weight (label_for self.old.tree (Doctype name public system token))) self.old self.new) }
-        ensures tags { OnOk result (open_tags self.new ≡ open_tags self.old) }
+        ensures tags { open_tags self.new ≡ open_tags self.old }
         ensures rest { self.new ≡ record self.old { tree = self.new.tree; steps = self.new.steps; tokens = self.new.tokens } }
         ensures tokens_most { self.new.tokens ≤ token + 1 }
         ensures cause { IfErr result (λ e. IsRefused self.old (Doctype name public system token) e) }
@@ -238,6 +240,7 @@ impl OpenTree {
         ensures keeps { OnOk result (Keeps self.old self.new) }
         ensures grown { OnOk result (Grown 2 1 0 (weight (label_for self.old.tree (Element (name_of tag.Html) attrs (Token token)))) self.old self.new) }
         ensures tags { OnOk result (open_tags self.new ≡ tag.Html ∷ open_tags self.old) }
+        ensures refused { OnErr result (open_tags self.new ≡ open_tags self.old) }
         ensures rest { self.new ≡ record self.old { stack = self.new.stack; tree = self.new.tree; steps = self.new.steps; tokens = self.new.tokens } }
         ensures tokens_most { self.new.tokens ≤ token + 1 }
         ensures cause { IfErr result (λ e. IsTold self.old (Element (name_of tag.Html) attrs (Token token)) e) }
@@ -269,6 +272,7 @@ impl OpenTree {
         ensures keeps { OnOk result (Keeps self.old self.new) }
         ensures grown { OnOk result (Grown 2 1 0 (weight (label_for self.old.tree (Element (name_of tag.Html) [] Implied))) self.old self.new) }
         ensures tags { OnOk result (open_tags self.new ≡ tag.Html ∷ open_tags self.old) }
+        ensures refused { OnErr result (open_tags self.new ≡ open_tags self.old) }
         ensures rest { self.new ≡ record self.old { stack = self.new.stack; tree = self.new.tree; steps = self.new.steps } }
         ensures tokens { self.new.tokens ≡ self.old.tokens }
         ensures cause { IfErr result (λ e. IsTold self.old (Element (name_of tag.Html) [] Implied) e) }
@@ -305,6 +309,7 @@ impl OpenTree {
         ensures keeps { OnOk result (Keeps self.old self.new) }
         ensures grown { OnOk result (Grown 2 1 1 (weight (label_for self.old.tree (Element name attrs (Token token)))) self.old self.new) }
         ensures tags { OnOk result (open_tags self.new ≡ tag_of name ∷ open_tags self.old) }
+        ensures refused { OnErr result (HasReopened self.old self.new) }
         ensures rest { self.new ≡ record self.old { stack = self.new.stack; list = self.new.list; tree = self.new.tree; steps = self.new.steps; tokens = self.new.tokens } }
         ensures tokens_most { self.new.tokens ≤ token + 1 }
         ensures cause { IfErr result (λ e. IsRefused self.old (Element name attrs (Token token)) e) }
@@ -343,6 +348,7 @@ impl OpenTree {
         ensures keeps { OnOk result (Keeps self.old self.new) }
         ensures grown { OnOk result (Grown 2 1 0 (weight (label_for self.old.tree (Element (name_of tag) attrs origin))) self.old self.new) }
         ensures tags { OnOk result (open_tags self.new ≡ tag ∷ open_tags self.old) }
+        ensures refused { OnErr result (open_tags self.new ≡ open_tags self.old) }
         ensures rest { self.new ≡ record self.old { stack = self.new.stack; tree = self.new.tree; steps = self.new.steps; tokens = self.new.tokens } }
         ensures tokens_least { self.old.tokens ≤ self.new.tokens }
         ensures tokens_most { self.new.tokens ≤ next }
@@ -374,7 +380,7 @@ impl OpenTree {
         ensures steps { OnOk result (self.new.steps ≤ self.old.steps + length self.old.stack + 3) }
         ensures keeps { OnOk result (Keeps self.old self.new) }
         ensures grown { OnOk result (Grown 2 0 0 (weight (label_for self.old.tree (Element (name_of tag) attrs origin))) self.old self.new) }
-        ensures tags { OnOk result (open_tags self.new ≡ open_tags self.old) }
+        ensures tags { open_tags self.new ≡ open_tags self.old }
         ensures rest { self.new ≡ record self.old { tree = self.new.tree; steps = self.new.steps; tokens = self.new.tokens } }
         ensures tokens_least { self.old.tokens ≤ self.new.tokens }
         ensures tokens_most { self.new.tokens ≤ next }
@@ -413,6 +419,7 @@ impl OpenTree {
         ensures keeps { OnOk result (Keeps self.old self.new) }
         ensures grown { OnOk result (Grown 2 1 0 (weight (label_for self.old.tree (Element name attrs origin))) self.old self.new) }
         ensures tags { OnOk result (open_tags self.new ≡ tag_of name ∷ open_tags self.old) }
+        ensures refused { OnErr result (open_tags self.new ≡ open_tags self.old) }
         ensures rest { self.new ≡ record self.old { stack = self.new.stack; tree = self.new.tree; steps = self.new.steps; tokens = self.new.tokens } }
         ensures tokens_least { self.old.tokens ≤ self.new.tokens }
         ensures tokens_most { self.new.tokens ≤ next }
@@ -451,7 +458,7 @@ impl OpenTree {
         ensures steps { OnOk result (self.new.steps ≤ self.old.steps + length self.old.stack + 3) }
         ensures keeps { OnOk result (Keeps self.old self.new) }
         ensures grown { OnOk result (Grown 2 0 0 (weight (label_for self.old.tree (Element name attrs origin))) self.old self.new) }
-        ensures tags { OnOk result (open_tags self.new ≡ open_tags self.old) }
+        ensures tags { open_tags self.new ≡ open_tags self.old }
         ensures rest { self.new ≡ record self.old { tree = self.new.tree; steps = self.new.steps; tokens = self.new.tokens } }
         ensures tokens_least { self.old.tokens ≤ self.new.tokens }
         ensures tokens_most { self.new.tokens ≤ next }

@@ -26,7 +26,7 @@ impl OpenTree {
         ensures steps { OnOk result (self.new.steps ≤ self.old.steps + 1) }
         ensures keeps { OnOk result (Keeps self.old self.new) }
         ensures grown { OnOk result (Grown 0 0 1 0 self.old self.new) }
-        ensures tags { OnOk result (open_tags self.new ≡ open_tags self.old) }
+        ensures tags { open_tags self.new ≡ open_tags self.old }
         ensures rest { self.new ≡ record self.old { list = self.new.list; steps = self.new.steps } }
         ensures tokens { self.new.tokens ≡ self.old.tokens }
         ensures cause { IfErr result (λ e. e ≡ OpenError.OutOfMemory) }
@@ -43,7 +43,7 @@ impl OpenTree {
         ensures steps { OnOk result (self.new.steps ≤ self.old.steps + push_steps self.old.tree node self.old.list) }
         ensures keeps { OnOk result (Keeps self.old self.new) }
         ensures grown { OnOk result (Grown 0 0 1 0 self.old self.new) }
-        ensures tags { OnOk result (open_tags self.new ≡ open_tags self.old) }
+        ensures tags { open_tags self.new ≡ open_tags self.old }
         ensures rest { self.new ≡ record self.old { list = self.new.list; steps = self.new.steps } }
         ensures cause { IfErr result (λ e. e ≡ OpenError.OutOfMemory) }
     {

@@ -27,7 +27,7 @@ impl OpenTree {
         ensures steps { OnOk result (self.new.steps ≤ self.old.steps + 1 + length (attrs_in (label_of self.old.tree (slice_index self.old.stack index))) * length attrs) }
         ensures keeps { OnOk result (Keeps self.old self.new) }
         ensures grown { OnOk result (Grown 0 0 0 (attrs_weight (lacking (attrs_in (label_of self.old.tree (slice_index self.old.stack index))) attrs)) self.old self.new) }
-        ensures tags { OnOk result (open_tags self.new ≡ open_tags self.old) }
+        ensures tags { open_tags self.new ≡ open_tags self.old }
         ensures rest { self.new ≡ record self.old { tree = self.new.tree; steps = self.new.steps } }
         ensures tokens { self.new.tokens ≡ self.old.tokens }
         ensures cause { IfErr result (λ e. IsLack (budget self.old.tree 0 (capped (attrs_weight (lacking (attrs_in (label_of self.old.tree (slice_index self.old.stack index))) attrs)))) e) }

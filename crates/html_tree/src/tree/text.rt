@@ -36,7 +36,7 @@ impl OpenTree {
         ensures steps { IfOk result (λ r. self.new.steps ≤ self.old.steps + 2 * length self.old.stack + 4 + r.1) }
         ensures keeps { OnOk result (Keeps self.old self.new) }
         ensures grown { IfOk result (λ r. Grown 1 0 0 r.1 self.old self.new) }
-        ensures tags { OnOk result (open_tags self.new ≡ open_tags self.old) }
+        ensures tags { open_tags self.new ≡ open_tags self.old }
         ensures rest { self.new ≡ record self.old { tree = self.new.tree; steps = self.new.steps } }
         ensures tokens { self.new.tokens ≡ self.old.tokens }
         ensures cause { IfErr result (λ e. IsTextRefused self.old foster e) }
@@ -56,7 +56,7 @@ impl OpenTree {
         ensures steps { OnOk result (self.new.steps ≤ self.old.steps + 2 * length self.old.stack + 4) }
         ensures keeps { OnOk result (Keeps self.old self.new) }
         ensures grown { OnOk result (Grown 1 0 0 0 self.old self.new) }
-        ensures tags { OnOk result (open_tags self.new ≡ open_tags self.old) }
+        ensures tags { open_tags self.new ≡ open_tags self.old }
         ensures rest { self.new ≡ record self.old { tree = self.new.tree; steps = self.new.steps } }
         ensures cause { IfErr result (λ e. IsNewTextRefused self.old foster e) }
     {
@@ -93,7 +93,7 @@ impl OpenTree {
         ensures steps { OnOk result (self.new.steps ≤ self.old.steps + length self.old.stack + 3) }
         ensures keeps { OnOk result (Keeps self.old self.new) }
         ensures grown { OnOk result (Grown 1 0 0 0 self.old self.new) }
-        ensures tags { OnOk result (open_tags self.new ≡ open_tags self.old) }
+        ensures tags { open_tags self.new ≡ open_tags self.old }
         ensures rest { self.new ≡ record self.old { tree = self.new.tree; steps = self.new.steps } }
         ensures cause { IfErr result (λ e. IsRefused self.old Text e) }
     {
@@ -116,7 +116,7 @@ impl OpenTree {
         ensures steps { IfOk result (λ n. self.new.steps ≤ self.old.steps + n) }
         ensures keeps { OnOk result (Keeps self.old self.new) }
         ensures grown { IfOk result (λ n. Grown 0 0 0 n self.old self.new) }
-        ensures tags { OnOk result (open_tags self.new ≡ open_tags self.old) }
+        ensures tags { open_tags self.new ≡ open_tags self.old }
         ensures rest { self.new ≡ record self.old { tree = self.new.tree; steps = self.new.steps } }
         ensures cause { IfErr result (λ e. IsLack (budget self.old.tree 0 1) e) }
     {

@@ -16,7 +16,8 @@ use Rattle.html_tree.proofs.Inserted.{element-element, element-tag, made-under_w
 use Rattle.html_tree.proofs.Listed.{bare-listed}
 use Rattle.html_names.specs.Sets.{is_formatting}
 use Rattle.html_tree.proofs.Kept.{same-under_way}
-use Rattle.html_tree.proofs.OpenTags.{opened-tags}
+use Rattle.html_tree.proofs.OpenTags.{opened-tags, always-err, made-tags}
+use Rattle.html_tree.specs.OpenTags.{open_tags}
 use Rattle.html_tree.proofs.tree.OpenTree.open_new.Goals as goal
 
 pub put_new-requires-clause-head_in : goal.put_new-requires-clause-head_in
@@ -89,3 +90,9 @@ returns-clause-within c =
 
 pub returns-clause-tags : goal.returns-clause-tags
 returns-clause-tags c = opened-tags c.args.self.now _ c.self.inside.stack c.self.inside.list c.self.inside.arena c.self.inside.tokens c.self.inside.head c.self.inside.form c.self.inside.detached c.self.view_is c.self.invariant c.in_ok-node.node _ (returns-clause-keeps c) c.in_ok-push.ensures.stack (returns-clause-tag c).1
+
+pub returns-in_err-push-clause-refused : goal.returns-in_err-push-clause-refused
+returns-in_err-push-clause-refused c =
+    always-err c.from_residual-in_err-push.result
+    (made-tags c.self.inside.stack c.push.new.self c.self.inside.arena c.put_new.new.arena c.push.new.arena (place_at c.self.inside.arena c.self.inside.stack c.self.inside.head c.args.target) (Element c.args.name c.args.attrs c.args.origin) (length c.self.inside.stack + 3)
+    c.self.invariant.is_open.stack_in c.in_ok-node.ensures.new c.in_err-push.ensures.same_tree c.in_err-push.ensures.same_stack ∙ ap open_tags c.self.view_is)
