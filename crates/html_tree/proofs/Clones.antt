@@ -5,7 +5,7 @@ use Rattle.html_arena.specs.declared.data.NodeData.TheVariants as node
 use Rattle.html_arena.specs.declared.data.Origin.TheVariants.{Nothing, Token}
 use Rattle.html_arena.specs.Data.{cloned, label_in, origin_in}
 use Rattle.html_arena.specs.Siblings.{first_of, has}
-use Rattle.html_arena.specs.Tree.{Tree, WellFormed, label_of, parent_of}
+use Rattle.html_arena.specs.Tree.{Tree, WellFormed, label_of, parent_of, more}
 use Rattle.html_open.specs.declared.entry.Entry.{Entry}
 use Rattle.html_open.specs.Adopting.{MadeClones}
 use Rattle.html_open.specs.Opened.{IsOpen, open_at}
@@ -47,9 +47,9 @@ module _ (s s' : List ℕ) (l l' : List Entry) (t u : Tree) (n : ℕ) (h f d : O
       Is d = (i : ℕ) → origin_in d ≡ Token i → i < n
 
   pub clones-since : WellFormed t → KeepsClosed (open_at s l t) u → ((x : ℕ) → first_of s ≡ Some x → first_of s' ≡ Some x) → ((x : ℕ) → x < length t.labels → has x s ≡ false → has x s' ≡ false)
-      → ((x : ℕ) → x < length u.labels → parent_of u x ≡ None → (x < length t.labels) × (parent_of t x ≡ None)) → (parent_of t 0 ≡ None → parent_of u 0 ≡ None)
+      → ((x : ℕ) → x < length u.labels → parent_of u x ≡ None → (x < length t.labels) × (parent_of t x ≡ None)) → (parent_of t 0 ≡ None → parent_of u 0 ≡ None) → more t.steps 0 ≤ u.steps
       → Since (state_of s l t n h f d) (state_of s' l' u n h f d)
-  clones-since w k first off linked root = record {
+  clones-since w k first off linked root steps = record {
     first = first;
     no_fewer = clones-more;
     tokens = omega arith;
@@ -59,6 +59,7 @@ module _ (s s' : List ℕ) (l l' : List Entry) (t u : Tree) (n : ℕ) (h f d : O
     texts = λ x y i none b. clones-label y (w.child_in x y b);
     linked = λ x b p. inr (inr (linked x b p));
     root = root;
+    steps = steps;
     detached = λ x i. i;
   }
 

@@ -84,6 +84,7 @@ module _ (a : State) (s s' : List ℕ) (l : List Entry) (t u : Tree) (n x : ℕ)
 
   pub removed-keeps : Keeps a (state_of s' l u n h f d)
   removed-keeps = closed-keeps a (state_of s' l u n h f d) (remaining x a.stack) removed-exact (rw off-too (without-first x a.stack off-too)) (λ y k. rw off-too (without-has y (eqb x) a.stack k))
+      (let i : u.steps ≡ more t.steps (removal_steps (eqb x) s) = ap (λ (v : Tree). v.steps) e in let j : t.steps ≡ a.steps = ap (λ (v : State). v.steps) w in omega (arith, i, j))
 
   pub removed-grown : Grown 0 0 0 0 a (state_of s' l u n h f d)
   removed-grown = closed-grown a (state_of s' l u n h f d) (remaining x a.stack) removed-exact (rw off-too (without-first x a.stack off-too)) (rw off-too (without-most (eqb x) a.stack))

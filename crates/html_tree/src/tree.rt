@@ -1,5 +1,5 @@
 // The tree under construction.
-ghost use Rattle.std.specs.Prelude.{◌≡◌, ℕ, ◌+◌, ◌<◌, ◌≤◌, [], ◌∷◌, IfErr, IfOk, None, OnOk, Option, Some, length, true};
+ghost use Rattle.std.specs.Prelude.{◌≡◌, ℕ, ◌+◌, ◌^◌, ◌<◌, ◌≤◌, [], ◌∷◌, IfErr, IfOk, None, OnOk, Option, Some, length, true};
 ghost use Rattle.html_names.specs.declared.tag.Tag.TheVariants as tag;
 ghost use Rattle.html_names.specs.Names.{name_of};
 ghost use Rattle.html_arena.specs.declared.data.NewNode.TheVariants.{Element};
@@ -157,8 +157,9 @@ impl OpenTree {
     pub fn laws(&self)
         ensures sound { IsSound self.now }
         ensures depth { length (open_tags self.now) ≡ length self.now.stack }
+        ensures counted { self.now.steps < 2 ^ 128 }
     {
-        let _ = &self.arena;
+        fits(self.arena.meter().steps);
     }
 
     /// The number of open elements.
@@ -217,6 +218,11 @@ impl OpenTree {
         self.form = node;
     }
 }
+
+/// A law of numbers of 128 bits.
+fn fits(steps: u128)
+    ensures below { steps < 2 ^ 128 }
+{}
 
 /// Makes an html element that no token asked for, the first node, and opens it.
 fn push_root(stack: &mut OpenStack, arena: &mut Arena, alloc: Global) -> Result<(), OpenError>

@@ -29,7 +29,7 @@ returns-clause-exact c =
 pub returns-clause-keeps : goal.returns-clause-keeps
 returns-clause-keeps c =
     on-ok c.adopt-end.result c.adopt-end.ensures.roots
-    (λ r. adopted-keeps c.self.inside.stack c.self.inside.list c.self.inside.arena c.self.inside.tokens c.self.inside.head c.self.inside.form c.self.inside.detached c.self.invariant c.args.name c.requires.formatting c.adopt-end.new.stack c.adopt-end.new.list c.adopt-end.new.arena c.adopt-end.ensures.first c.args.self.now c.self.view_is c.forest.ensures.well_formed c.adopt-end.ensures.made c.adopt-end.ensures.closed r c.adopt-end.ensures.survives)
+    (λ r. adopted-keeps c.self.inside.stack c.self.inside.list c.self.inside.arena c.self.inside.tokens c.self.inside.head c.self.inside.form c.self.inside.detached c.self.invariant c.args.name c.requires.formatting c.adopt-end.new.stack c.adopt-end.new.list c.adopt-end.new.arena c.adopt-end.ensures.first c.args.self.now c.self.view_is c.forest.ensures.well_formed c.adopt-end.ensures.made c.adopt-end.ensures.closed r c.adopt-end.ensures.survives (let least = c.adopt-end.ensures.steps.least in omega (arith, least)))
 
 pub returns-clause-steps : goal.returns-clause-steps
 returns-clause-steps c =

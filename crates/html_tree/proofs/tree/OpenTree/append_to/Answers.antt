@@ -1,6 +1,6 @@
-use Rattle.std.proofs.Common.{take, subst, sym, refl}
+use Rattle.std.proofs.Common.{take, subst, sym, refl, ◌≡◌, ap, arith, length}
 use Rattle.html_arena.specs.Data.{with_run}
-use Rattle.html_arena.specs.Tree.{label_of}
+use Rattle.html_arena.specs.Tree.{label_of, Tree, more}
 use Rattle.html_tree.specs.Since.{Keeps}
 use Rattle.html_tree.specs.States.{State, state_of}
 use Rattle.html_tree.specs.Texts.{IsFree}
@@ -21,7 +21,8 @@ returns-clause-keeps c =
     subst (λ (a : State). Keeps a (state_of c.self.inside.stack c.self.inside.list c.append_run.new.self c.self.inside.tokens c.self.inside.head c.self.inside.form c.self.inside.detached)) c.self.view_is
     (keeps-since (state_of c.self.inside.stack c.self.inside.list c.self.inside.arena c.self.inside.tokens c.self.inside.head c.self.inside.form c.self.inside.detached) (state_of c.self.inside.stack c.self.inside.list c.append_run.new.self c.self.inside.tokens c.self.inside.head c.self.inside.form c.self.inside.detached)
     (relabelled-since c.self.inside.stack c.self.inside.list c.self.inside.arena c.append_run.new.self c.self.inside.tokens c.args.node c.self.inside.head c.self.inside.form c.self.inside.detached (with_run (label_of c.self.inside.arena c.args.node) (take c.in_ok-count.count c.args.run.now)) c.in_ok-count.ensures.relabelled (run-essence (label_of c.self.inside.arena c.args.node) (take c.in_ok-count.count c.args.run.now))
-    (subst (λ (a : State). IsFree a c.args.node) (sym c.self.view_is) c.requires.free)))
+    (subst (λ (a : State). IsFree a c.args.node) (sym c.self.view_is) c.requires.free)
+    (let x : c.append_run.new.self.steps ≡ more c.self.inside.arena.steps (length (take c.in_ok-count.count c.args.run.now)) = ap (λ (v : Tree). v.steps) c.in_ok-count.ensures.added in omega (arith, x))))
 
 pub returns-clause-tags : goal.returns-clause-tags
 returns-clause-tags c = kept-tags c.args.self.now _ c.self.inside.stack c.self.inside.list c.self.inside.arena c.self.inside.tokens c.self.inside.head c.self.inside.form c.self.inside.detached c.self.view_is c.self.invariant (returns-clause-keeps c) refl

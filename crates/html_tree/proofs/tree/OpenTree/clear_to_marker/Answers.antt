@@ -18,7 +18,7 @@ pub returns-clause-exact : goal.returns-clause-exact
 returns-clause-exact c = relisted-exact c.args.self.now c.self.inside.stack c.self.inside.list c.clear_to_marker.new.self c.self.inside.arena c.clear_to_marker.new.arena c.self.inside.tokens c.self.inside.head c.self.inside.form c.self.inside.detached c.self.view_is (ap bare c.clear_to_marker.ensures.tree ∙ bare-all c.self.inside.arena InList (cleared c.self.inside.list)) (λ (b : State). below is_marker b.list) c.clear_to_marker.ensures.list
 
 pub returns-clause-keeps : goal.returns-clause-keeps
-returns-clause-keeps c = relisted-keeps c.args.self.now c.self.inside.stack c.self.inside.list c.clear_to_marker.new.self c.self.inside.arena c.clear_to_marker.new.arena c.self.inside.tokens c.self.inside.head c.self.inside.form c.self.inside.detached c.self.view_is (ap bare c.clear_to_marker.ensures.tree ∙ bare-all c.self.inside.arena InList (cleared c.self.inside.list))
+returns-clause-keeps c = relisted-keeps c.args.self.now c.self.inside.stack c.self.inside.list c.clear_to_marker.new.self c.self.inside.arena c.clear_to_marker.new.arena c.self.inside.tokens c.self.inside.head c.self.inside.form c.self.inside.detached c.self.view_is (ap bare c.clear_to_marker.ensures.tree ∙ bare-all c.self.inside.arena InList (cleared c.self.inside.list)) (let x = c.clear_to_marker.ensures.steps in omega (arith, x))
 
 pub returns-clause-grown : goal.returns-clause-grown
 returns-clause-grown c = relisted-grown c.args.self.now c.self.inside.stack c.self.inside.list c.clear_to_marker.new.self c.self.inside.arena c.clear_to_marker.new.arena c.self.inside.tokens c.self.inside.head c.self.inside.form c.self.inside.detached c.self.view_is (ap bare c.clear_to_marker.ensures.tree ∙ bare-all c.self.inside.arena InList (cleared c.self.inside.list)) 0 (let y = ap length c.clear_to_marker.ensures.list in let z = below-most is_marker c.self.inside.list in omega (arith, y, z))

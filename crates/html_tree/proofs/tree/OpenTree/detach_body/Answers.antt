@@ -1,10 +1,10 @@
 use Rattle.std.proofs.Common.{◌≡◌, ◌∙◌, ap, sym, subst, refl, true, ℕ}
 use Rattle.html_names.specs.declared.tag.Tag.TheVariants as tag
-use Rattle.html_arena.specs.Tree.{Tree, named}
+use Rattle.html_arena.specs.Tree.{Tree, named, parent_of}
 use Rattle.std.specs.Prelude.{Some, slice_index}
 use Rattle.html_tree.specs.States.{State, state_of}
 use Rattle.html_tree.proofs.Kept.{charged-under_way}
-use Rattle.html_tree.proofs.Merged.{detached-since, detached-under_way, keeps-charged}
+use Rattle.html_tree.proofs.Merged.{detached-since, detached-under_way, keeps-charged, detached-steps}
 use Rattle.html_tree.proofs.OpenTags.{kept-tags}
 use Rattle.html_tree.proofs.tree.OpenTree.detach_body.Goals as goal
 
@@ -22,7 +22,8 @@ returns-clause-keeps c =
     keeps-charged c.args.self.now (state_of c.self.inside.stack c.self.inside.list c.detach.new.self c.self.inside.tokens c.self.inside.head c.self.inside.form (Some c.at-body.result)) c.self.inside.stack c.self.inside.list c.self.inside.arena c.at-body.new.arena c.self.inside.tokens _ c.self.inside.head c.self.inside.form c.self.inside.detached c.self.view_is c.at-body.ensures.steps
     (detached-since c.self.inside.stack c.self.inside.list c.at-body.new.arena c.detach.new.self c.self.inside.tokens c.at-body.result c.self.inside.head c.self.inside.form c.self.inside.detached c.detach.ensures.unlinked
     ((c.at-body.ensures.keeps c.self.inside.list c.self.invariant.is_open).elements c.at-body.result c.at-body.ensures.member)
-    (ap (λ (a : State). a.detached) c.self.view_is ∙ c.requires.once))
+    (ap (λ (a : State). a.detached) c.self.view_is ∙ c.requires.once)
+    (detached-steps c.at-body.new.arena c.detach.new.self c.at-body.result (parent_of c.at-body.new.arena c.at-body.result) c.detach.ensures.detached))
 
 pub returns-clause-tags : goal.returns-clause-tags
 returns-clause-tags c = kept-tags c.args.self.now _ c.self.inside.stack c.self.inside.list c.self.inside.arena c.self.inside.tokens c.self.inside.head c.self.inside.form c.self.inside.detached c.self.view_is c.self.invariant (returns-clause-keeps c) refl

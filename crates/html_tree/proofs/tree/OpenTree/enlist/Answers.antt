@@ -23,7 +23,7 @@ pub returns-clause-exact : goal.returns-clause-exact
 returns-clause-exact c = relisted-exact c.args.self.now c.self.inside.stack c.self.inside.list c.push.new.self c.self.inside.arena c.push.new.arena c.self.inside.tokens c.self.inside.head c.self.inside.form c.self.inside.detached c.self.view_is (same-tree c) (λ (b : State). pushed b.tree c.args.node b.list) (c.in_ok-push.ensures.list ∙ pushed-same c.self.inside.arena (bare c.self.inside.arena) c.args.node c.self.inside.list refl)
 
 pub returns-clause-keeps : goal.returns-clause-keeps
-returns-clause-keeps c = relisted-keeps c.args.self.now c.self.inside.stack c.self.inside.list c.push.new.self c.self.inside.arena c.push.new.arena c.self.inside.tokens c.self.inside.head c.self.inside.form c.self.inside.detached c.self.view_is (same-tree c)
+returns-clause-keeps c = relisted-keeps c.args.self.now c.self.inside.stack c.self.inside.list c.push.new.self c.self.inside.arena c.push.new.arena c.self.inside.tokens c.self.inside.head c.self.inside.form c.self.inside.detached c.self.view_is (same-tree c) (let x = c.in_ok-push.ensures.steps in omega (arith, x))
 
 pub returns-clause-grown : goal.returns-clause-grown
 returns-clause-grown c = relisted-grown c.args.self.now c.self.inside.stack c.self.inside.list c.push.new.self c.self.inside.arena c.push.new.arena c.self.inside.tokens c.self.inside.head c.self.inside.form c.self.inside.detached c.self.view_is (same-tree c) 1 (let y = ap length c.in_ok-push.ensures.list in let z = pushed-most c.self.inside.arena c.args.node c.self.inside.list in omega (arith, y, z))

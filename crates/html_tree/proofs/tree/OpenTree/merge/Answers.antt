@@ -1,4 +1,4 @@
-use Rattle.std.proofs.Common.{◌≡◌, ◌∙◌, ap, sym, subst, refl, arith, length, ℕ}
+use Rattle.std.proofs.Common.{◌≡◌, ◌∙◌, ap, sym, subst, refl, arith, length, ℕ, ◌*◌}
 use Rattle.std.specs.Prelude.{slice_index}
 use Rattle.html_arena.specs.Data.{attrs_in, with_attrs}
 use Rattle.html_arena.specs.Merge.{lacking, merged}
@@ -29,7 +29,8 @@ pub returns-clause-keeps : goal.returns-clause-keeps
 returns-clause-keeps c =
     keeps-charged c.args.self.now (state_of c.self.inside.stack c.self.inside.list c.merge_attrs.new.self c.self.inside.tokens c.self.inside.head c.self.inside.form c.self.inside.detached) c.self.inside.stack c.self.inside.list c.self.inside.arena c.at-node.new.arena c.self.inside.tokens _ c.self.inside.head c.self.inside.form c.self.inside.detached c.self.view_is c.at-node.ensures.steps
     (relabelled-since c.self.inside.stack c.self.inside.list c.at-node.new.arena c.merge_attrs.new.self c.self.inside.tokens c.at-node.result c.self.inside.head c.self.inside.form c.self.inside.detached (with_attrs (label_of c.at-node.new.arena c.at-node.result) (merged (attrs_in (label_of c.at-node.new.arena c.at-node.result)) c.args.attrs)) c.in_ok-merge_attrs.ensures.relabelled (merged-essence (label_of c.at-node.new.arena c.at-node.result) (merged (attrs_in (label_of c.at-node.new.arena c.at-node.result)) c.args.attrs))
-    (λ p i none. element-free c.at-node.new.arena c.at-node.result ((c.at-node.ensures.keeps c.self.inside.list c.self.invariant.is_open).elements c.at-node.result c.at-node.ensures.member) p none))
+    (λ p i none. element-free c.at-node.new.arena c.at-node.result ((c.at-node.ensures.keeps c.self.inside.list c.self.invariant.is_open).elements c.at-node.result c.at-node.ensures.member) p none)
+    (let x : c.merge_attrs.new.self.steps ≡ more c.at-node.new.arena.steps (length (attrs_in (label_of c.at-node.new.arena c.at-node.result)) * length c.args.attrs) = ap (λ (v : Tree). v.steps) c.in_ok-merge_attrs.ensures.merged in omega (arith, x)))
 
 pub returns-clause-grown : goal.returns-clause-grown
 returns-clause-grown c =

@@ -40,6 +40,9 @@ returns-clause-steps c =
 
 pub returns-clause-keeps : goal.returns-clause-keeps
 returns-clause-keeps c = popped-keeps c.args.self.now _ c.args.len (returns-clause-exact c)
+    (let k : c.pop_to.new.arena.steps ≡ more c.self.inside.arena.steps (c.len-count.result - c.kept_to-kept.result) =
+    ap (λ (v : Tree). v.steps) c.pop_to.ensures.tree ∙ all_unmarked-steps c.charge.new.self OnStack (drop c.kept_to-kept.result c.self.inside.stack) ∙ ap (λ (v : Tree). v.steps) c.charge.ensures in
+    let l : c.self.inside.arena.steps ≡ c.args.self.now.steps = ap (λ (a : State). a.steps) c.self.view_is in omega (arith, k, l))
 
 pub returns-clause-grown : goal.returns-clause-grown
 returns-clause-grown c = popped-grown c.args.self.now _ c.args.len (returns-clause-exact c)

@@ -30,12 +30,12 @@ returns-clause-steps c =
 
 pub returns-clause-keeps : goal.returns-clause-keeps
 returns-clause-keeps c =
-    always c.reopen-reopened.result
-    (subst (λ (b : State). Keeps b (state_of c.reopen-reopened.new.stack c.reopen-reopened.new.self c.reopen-reopened.new.arena c.self.inside.tokens c.self.inside.head c.self.inside.form c.self.inside.detached)) c.self.view_is
+    on-ok c.reopen-reopened.result c.reopen-reopened.ensures.steps
+    (λ steps. subst (λ (b : State). Keeps b (state_of c.reopen-reopened.new.stack c.reopen-reopened.new.self c.reopen-reopened.new.arena c.self.inside.tokens c.self.inside.head c.self.inside.form c.self.inside.detached)) c.self.view_is
     (keeps-since (state_of c.self.inside.stack c.self.inside.list c.self.inside.arena c.self.inside.tokens c.self.inside.head c.self.inside.form c.self.inside.detached) (state_of c.reopen-reopened.new.stack c.reopen-reopened.new.self c.reopen-reopened.new.arena c.self.inside.tokens c.self.inside.head c.self.inside.form c.self.inside.detached)
     (clones-since c.self.inside.stack c.reopen-reopened.new.stack c.self.inside.list c.reopen-reopened.new.self c.self.inside.arena c.reopen-reopened.new.arena c.self.inside.tokens c.self.inside.head c.self.inside.form c.self.inside.detached c.reopen-reopened.ensures.made c.forest.ensures.well_formed c.reopen-reopened.ensures.closed
     (λ x e. c.reopen-reopened.ensures.first ∙ e) (λ x b o. off c.self.inside.stack c.reopen-reopened.new.stack c.self.inside.list c.reopen-reopened.new.self c.self.inside.arena c.reopen-reopened.new.arena c.reopen-reopened.ensures.survives x b o)
-    (parents-linked c.self.inside.arena c.reopen-reopened.new.arena c.reopen-reopened.ensures.parents) (λ e. c.reopen-reopened.ensures.parents.same 0 c.self.invariant.some_node ∙ e))))
+    (parents-linked c.self.inside.arena c.reopen-reopened.new.arena c.reopen-reopened.ensures.parents) (λ e. c.reopen-reopened.ensures.parents.same 0 c.self.invariant.some_node ∙ e) (omega (arith, steps)))))
 
 pub returns-clause-grown : goal.returns-clause-grown
 returns-clause-grown c =

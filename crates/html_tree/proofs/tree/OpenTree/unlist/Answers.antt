@@ -15,7 +15,7 @@ pub returns-clause-exact : goal.returns-clause-exact
 returns-clause-exact c = relisted-exact c.args.self.now c.self.inside.stack c.self.inside.list c.remove.new.self c.self.inside.arena c.remove.new.arena c.self.inside.tokens c.self.inside.head c.self.inside.form c.self.inside.detached c.self.view_is (ap bare c.remove.ensures.tree) (λ (b : State). without_node c.args.node b.list) c.remove.ensures.list
 
 pub returns-clause-keeps : goal.returns-clause-keeps
-returns-clause-keeps c = relisted-keeps c.args.self.now c.self.inside.stack c.self.inside.list c.remove.new.self c.self.inside.arena c.remove.new.arena c.self.inside.tokens c.self.inside.head c.self.inside.form c.self.inside.detached c.self.view_is (ap bare c.remove.ensures.tree)
+returns-clause-keeps c = relisted-keeps c.args.self.now c.self.inside.stack c.self.inside.list c.remove.new.self c.self.inside.arena c.remove.new.arena c.self.inside.tokens c.self.inside.head c.self.inside.form c.self.inside.detached c.self.view_is (ap bare c.remove.ensures.tree) (let x = c.remove.ensures.steps in omega (arith, x))
 
 pub returns-clause-grown : goal.returns-clause-grown
 returns-clause-grown c = relisted-grown c.args.self.now c.self.inside.stack c.self.inside.list c.remove.new.self c.self.inside.arena c.remove.new.arena c.self.inside.tokens c.self.inside.head c.self.inside.form c.self.inside.detached c.self.view_is (ap bare c.remove.ensures.tree) 0 (let y = ap length c.remove.ensures.list in let z = without-most (is_node c.args.node) c.self.inside.list in omega (arith, y, z))
