@@ -2,6 +2,7 @@ pub mod Kept
 pub mod OpenTags
 pub mod Inserted
 pub mod Searches
+pub mod SearchEnds
 pub mod Relisting
 pub mod Closings
 pub mod Spelled

@@ -4,6 +4,7 @@ pub mod Groups
 pub mod Searching
 pub mod Closing
 pub mod OpenTags
+pub mod Paragraphs
 pub mod Targets
 pub mod Inserting
 pub mod Listing

@@ -35,6 +35,8 @@ mod whole;
 pub struct OpenTree {
     arena: Arena,
     stack: OpenStack,
+    /// The open elements at which a search for a p in button scope ends, without the first, at which it ends in any case.
+    p_ends: Vec<NodeId>,
     list: FormattingList,
     /// The number of the first token that no node comes from, nor from a later one.
     tokens: u128,
@@ -47,12 +49,14 @@ pub struct OpenTree {
 
 impl Model for OpenTree {
     ghost use Rattle.html_tree.specs.States.{State, IsUnderWay, state_of};
+    ghost use Rattle.html_tree.specs.Paragraphs.{p_ends_of};
+    ghost use Rattle.std.specs.Prelude.{◌≡◌};
 
     ghost Value = { State };
 
     ghost view = { λ p. state_of p.stack p.list p.arena p.tokens p.head p.form p.detached };
 
-    ghost invariant = { λ p. IsUnderWay p.stack p.list p.arena p.tokens p.head p.form p.detached };
+    ghost invariant = { λ p. IsUnderWay p.stack p.list p.arena p.tokens p.head p.form p.detached × (p.p_ends.items ≡ p_ends_of p.arena p.stack) };
 }
 
 impl OpenTree {
@@ -96,6 +100,7 @@ impl OpenTree {
         Ok(OpenTree {
             arena,
             stack: OpenStack::new(alloc),
+            p_ends: Vec::new(alloc),
             list: FormattingList::new(alloc),
             tokens: 0,
             head: None,
@@ -144,6 +149,7 @@ impl OpenTree {
         Ok(OpenTree {
             arena,
             stack,
+            p_ends: Vec::new(alloc),
             list: FormattingList::new(alloc),
             tokens: 0,
             head: None,

@@ -12,6 +12,7 @@ ghost use Rattle.html_tree.specs.Since.{Grown, Keeps};
 
 use super::OpenTree;
 use crate::groups::{Group, Stop, TableContext};
+use crate::paragraphs::{cut_ends, forget_end};
 use crate::search::{Sought, after, last_index, steps_down};
 use html_arena::NodeId;
 use html_names::Tag;
@@ -29,6 +30,12 @@ impl OpenTree {
         let count = self.stack.len();
         let kept = kept_to(count, len);
         self.arena.charge((count - kept) as u128);
+        cut_ends(
+            &mut self.p_ends,
+            self.stack.as_slice(),
+            &self.arena,
+            kept,
+        );
         self.stack.pop_to(&mut self.arena, kept);
     }
 
@@ -127,6 +134,7 @@ impl OpenTree {
         ensures lighter { IsLighter self.old self.new }
     {
         if !is_first(self.stack.as_slice(), node) {
+            forget_end(&mut self.p_ends, &self.arena, node);
             self.stack.remove(&mut self.arena, node);
         }
     }

@@ -18,6 +18,7 @@ ghost use Rattle.html_tree.specs.Targets.{CanTarget, place_for};
 
 use super::OpenTree;
 use crate::groups::Target;
+use crate::paragraphs::open_node;
 use crate::target::put_new;
 use html_arena::{NewNode, NodeId, Origin};
 use html_charref::Str;
@@ -432,7 +433,7 @@ impl OpenTree {
         };
         let node = put_new(&self.stack, &mut self.arena, self.head, target, new)?;
         self.tokens = next;
-        self.stack.push(&mut self.arena, node)?;
+        open_node(&mut self.stack, &mut self.p_ends, &mut self.arena, node)?;
         Ok(node)
     }
 

@@ -9,16 +9,20 @@ use Rattle.html_tree.proofs.Inserted.{on-ok, under-way-place}
 use Rattle.html_tree.proofs.Spelled.{if-err}
 use Rattle.html_tree.proofs.OpenTags.{adopted-lighter}
 use Rattle.html_tree.specs.OpenTags.{IsLighterBesides}
+use Rattle.html_tree.proofs.SearchEnds.{ends-survived}
 use Rattle.html_tree.proofs.tree.OpenTree.adopt.Goals as goal
 
 pub adopt-end-requires-clause-can_place : goal.adopt-end-requires-clause-can_place
-adopt-end-requires-clause-can_place c = under-way-place c.self.inside.stack c.self.inside.list c.self.inside.arena c.self.inside.tokens c.self.inside.head c.self.inside.form c.self.inside.detached c.self.invariant (subst (λ (a : State). 0 < length a.stack) (sym c.self.view_is) c.requires.opened)
+adopt-end-requires-clause-can_place c = under-way-place c.self.inside.stack c.self.inside.list c.self.inside.arena c.self.inside.tokens c.self.inside.head c.self.inside.form c.self.inside.detached c.self.invariant.0 (subst (λ (a : State). 0 < length a.stack) (sym c.self.view_is) c.requires.opened)
 
 pub adopt-end-requires-clause-first_free : goal.adopt-end-requires-clause-first_free
-adopt-end-requires-clause-first_free c = first-free c.self.inside.stack c.self.inside.list c.self.inside.arena c.self.inside.tokens c.self.inside.head c.self.inside.form c.self.inside.detached c.self.invariant
+adopt-end-requires-clause-first_free c = first-free c.self.inside.stack c.self.inside.list c.self.inside.arena c.self.inside.tokens c.self.inside.head c.self.inside.form c.self.inside.detached c.self.invariant.0
 
 pub invariant_of-self : goal.invariant_of-self
-invariant_of-self c = adopted-under_way c.self.inside.stack c.self.inside.list c.self.inside.arena c.self.inside.tokens c.self.inside.head c.self.inside.form c.self.inside.detached c.self.invariant c.args.name c.requires.formatting c.adopt-end.new.stack c.adopt-end.new.list c.adopt-end.new.arena c.adopt-end.ensures.first (subst (λ (a : State). 0 < length a.stack) (sym c.self.view_is) c.requires.opened) c.adopt-end.ensures.kept c.adopt-end.ensures.made
+invariant_of-self c = (
+    adopted-under_way c.self.inside.stack c.self.inside.list c.self.inside.arena c.self.inside.tokens c.self.inside.head c.self.inside.form c.self.inside.detached c.self.invariant.0 c.args.name c.requires.formatting c.adopt-end.new.stack c.adopt-end.new.list c.adopt-end.new.arena c.adopt-end.ensures.first (subst (λ (a : State). 0 < length a.stack) (sym c.self.view_is) c.requires.opened) c.adopt-end.ensures.kept c.adopt-end.ensures.made,
+    ends-survived c.self.inside.stack c.adopt-end.new.stack c.self.inside.list c.adopt-end.new.list c.self.inside.arena c.adopt-end.new.arena c.adopt-end.ensures.made (c.adopt-end.ensures.survives (formatting-plain c.args.name c.requires.formatting)) c.self.invariant.0.is_open.stack_in c.self.inside.p_ends.items (subst (λ (a : State). 0 < length a.stack) (sym c.self.view_is) c.requires.opened) (first-equal c.self.inside.stack c.self.inside.list c.self.inside.arena c.self.inside.tokens c.self.inside.head c.self.inside.form c.self.inside.detached c.self.invariant.0 c.args.name c.requires.formatting c.adopt-end.new.stack c.adopt-end.new.list c.adopt-end.new.arena c.adopt-end.ensures.first (subst (λ (a : State). 0 < length a.stack) (sym c.self.view_is) c.requires.opened)) c.self.invariant.1
+)
 
 pub returns-clause-exact : goal.returns-clause-exact
 returns-clause-exact c =
@@ -29,7 +33,7 @@ returns-clause-exact c =
 pub returns-clause-keeps : goal.returns-clause-keeps
 returns-clause-keeps c =
     on-ok c.adopt-end.result c.adopt-end.ensures.roots
-    (λ r. adopted-keeps c.self.inside.stack c.self.inside.list c.self.inside.arena c.self.inside.tokens c.self.inside.head c.self.inside.form c.self.inside.detached c.self.invariant c.args.name c.requires.formatting c.adopt-end.new.stack c.adopt-end.new.list c.adopt-end.new.arena c.adopt-end.ensures.first c.args.self.now c.self.view_is c.forest.ensures.well_formed c.adopt-end.ensures.made c.adopt-end.ensures.closed r c.adopt-end.ensures.survives (let least = c.adopt-end.ensures.steps.least in omega (arith, least)))
+    (λ r. adopted-keeps c.self.inside.stack c.self.inside.list c.self.inside.arena c.self.inside.tokens c.self.inside.head c.self.inside.form c.self.inside.detached c.self.invariant.0 c.args.name c.requires.formatting c.adopt-end.new.stack c.adopt-end.new.list c.adopt-end.new.arena c.adopt-end.ensures.first c.args.self.now c.self.view_is c.forest.ensures.well_formed c.adopt-end.ensures.made c.adopt-end.ensures.closed r c.adopt-end.ensures.survives (let least = c.adopt-end.ensures.steps.least in omega (arith, least)))
 
 pub returns-clause-steps : goal.returns-clause-steps
 returns-clause-steps c =
@@ -39,7 +43,7 @@ pub returns-clause-grown : goal.returns-clause-grown
 returns-clause-grown c =
     always c.adopt-end.result
     (subst (λ (a : State). Grown 32 0 0 (32 * listed_weight a) c.args.self.now (state_of c.adopt-end.new.stack c.adopt-end.new.list c.adopt-end.new.arena c.self.inside.tokens c.self.inside.head c.self.inside.form c.self.inside.detached)) c.self.view_is
-    (clones-grown c.self.inside.stack c.adopt-end.new.stack c.self.inside.list c.adopt-end.new.list c.self.inside.arena c.adopt-end.new.arena c.self.inside.tokens c.self.inside.head c.self.inside.form c.self.inside.detached c.adopt-end.ensures.made c.args.self.now 32 0 0 (32 * open_weight c.self.inside.arena c.self.inside.list) c.self.view_is (first-equal c.self.inside.stack c.self.inside.list c.self.inside.arena c.self.inside.tokens c.self.inside.head c.self.inside.form c.self.inside.detached c.self.invariant c.args.name c.requires.formatting c.adopt-end.new.stack c.adopt-end.new.list c.adopt-end.new.arena c.adopt-end.ensures.first (subst (λ (a : State). 0 < length a.stack) (sym c.self.view_is) c.requires.opened)) c.adopt-end.ensures.clones
+    (clones-grown c.self.inside.stack c.adopt-end.new.stack c.self.inside.list c.adopt-end.new.list c.self.inside.arena c.adopt-end.new.arena c.self.inside.tokens c.self.inside.head c.self.inside.form c.self.inside.detached c.adopt-end.ensures.made c.args.self.now 32 0 0 (32 * open_weight c.self.inside.arena c.self.inside.list) c.self.view_is (first-equal c.self.inside.stack c.self.inside.list c.self.inside.arena c.self.inside.tokens c.self.inside.head c.self.inside.form c.self.inside.detached c.self.invariant.0 c.args.name c.requires.formatting c.adopt-end.new.stack c.adopt-end.new.list c.adopt-end.new.arena c.adopt-end.ensures.first (subst (λ (a : State). 0 < length a.stack) (sym c.self.view_is) c.requires.opened)) c.adopt-end.ensures.clones
     (let e = c.adopt-end.ensures.no_more_open in omega (arith, e)) (let e = c.adopt-end.ensures.no_more_listed in omega (arith, e)) c.adopt-end.ensures.held))
 
 pub returns-clause-cause : goal.returns-clause-cause
@@ -51,4 +55,4 @@ returns-clause-cause c =
 pub returns-clause-lighter : goal.returns-clause-lighter
 returns-clause-lighter c =
     subst (λ (a : State). IsLighterBesides a (state_of c.adopt-end.new.stack c.adopt-end.new.list c.adopt-end.new.arena c.self.inside.tokens c.self.inside.head c.self.inside.form c.self.inside.detached)) c.self.view_is
-    (adopted-lighter c.self.inside.stack c.adopt-end.new.stack c.self.inside.list c.adopt-end.new.list c.self.inside.arena c.adopt-end.new.arena c.self.inside.tokens c.self.inside.head c.self.inside.form c.self.inside.detached c.adopt-end.ensures.made c.self.invariant.is_open c.adopt-end.ensures.kept.stack_in c.adopt-end.ensures.kept.stack_once (c.adopt-end.ensures.survives (formatting-plain c.args.name c.requires.formatting)))
+    (adopted-lighter c.self.inside.stack c.adopt-end.new.stack c.self.inside.list c.adopt-end.new.list c.self.inside.arena c.adopt-end.new.arena c.self.inside.tokens c.self.inside.head c.self.inside.form c.self.inside.detached c.adopt-end.ensures.made c.self.invariant.0.is_open c.adopt-end.ensures.kept.stack_in c.adopt-end.ensures.kept.stack_once (c.adopt-end.ensures.survives (formatting-plain c.args.name c.requires.formatting)))

@@ -7,14 +7,17 @@ use Rattle.html_tree.specs.Texts.{IsFree}
 use Rattle.html_tree.proofs.Kept.{keeps-since, same-element, same-origin_in, same-tag_in}
 use Rattle.html_tree.proofs.Merged.{relabelled-since, relabelled-under_way, run-essence}
 use Rattle.html_tree.proofs.OpenTags.{kept-tags}
+use Rattle.html_tree.proofs.SearchEnds.{ends-relabelled}
 use Rattle.html_tree.proofs.tree.OpenTree.append_to.Goals as goal
 
 pub invariant_of-self-2 : goal.invariant_of-self-2
-invariant_of-self-2 c =
+invariant_of-self-2 c = (
     relabelled-under_way c.self.inside.stack c.self.inside.list c.self.inside.arena c.append_run.new.self c.self.inside.tokens c.args.node c.self.inside.head c.self.inside.form c.self.inside.detached (with_run (label_of c.self.inside.arena c.args.node) (take c.in_ok-count.count c.args.run.now)) c.in_ok-count.ensures.relabelled (run-essence (label_of c.self.inside.arena c.args.node) (take c.in_ok-count.count c.args.run.now))
     (c.kept_by_edits.ensures.relabelled c.self.inside.stack c.self.inside.list c.self.inside.arena c.append_run.new.self c.args.node (with_run (label_of c.self.inside.arena c.args.node) (take c.in_ok-count.count c.args.run.now)) c.in_ok-count.ensures.relabelled
-    (same-element (label_of c.self.inside.arena c.args.node) (with_run (label_of c.self.inside.arena c.args.node) (take c.in_ok-count.count c.args.run.now)) (run-essence (label_of c.self.inside.arena c.args.node) (take c.in_ok-count.count c.args.run.now))) (same-tag_in (label_of c.self.inside.arena c.args.node) (with_run (label_of c.self.inside.arena c.args.node) (take c.in_ok-count.count c.args.run.now)) (run-essence (label_of c.self.inside.arena c.args.node) (take c.in_ok-count.count c.args.run.now))) (same-origin_in (label_of c.self.inside.arena c.args.node) (with_run (label_of c.self.inside.arena c.args.node) (take c.in_ok-count.count c.args.run.now)) (run-essence (label_of c.self.inside.arena c.args.node) (take c.in_ok-count.count c.args.run.now))) c.self.invariant.is_open)
-    c.self.invariant
+    (same-element (label_of c.self.inside.arena c.args.node) (with_run (label_of c.self.inside.arena c.args.node) (take c.in_ok-count.count c.args.run.now)) (run-essence (label_of c.self.inside.arena c.args.node) (take c.in_ok-count.count c.args.run.now))) (same-tag_in (label_of c.self.inside.arena c.args.node) (with_run (label_of c.self.inside.arena c.args.node) (take c.in_ok-count.count c.args.run.now)) (run-essence (label_of c.self.inside.arena c.args.node) (take c.in_ok-count.count c.args.run.now))) (same-origin_in (label_of c.self.inside.arena c.args.node) (with_run (label_of c.self.inside.arena c.args.node) (take c.in_ok-count.count c.args.run.now)) (run-essence (label_of c.self.inside.arena c.args.node) (take c.in_ok-count.count c.args.run.now))) c.self.invariant.0.is_open)
+    c.self.invariant.0,
+    ends-relabelled c.self.inside.stack c.self.inside.p_ends.items c.self.inside.arena c.append_run.new.self c.args.node (with_run (label_of c.self.inside.arena c.args.node) (take c.in_ok-count.count c.args.run.now)) c.self.invariant.1 c.in_ok-count.ensures.relabelled (run-essence (label_of c.self.inside.arena c.args.node) (take c.in_ok-count.count c.args.run.now))
+)
 
 pub returns-clause-keeps : goal.returns-clause-keeps
 returns-clause-keeps c =
@@ -25,4 +28,4 @@ returns-clause-keeps c =
     (let x : c.append_run.new.self.steps ≡ more c.self.inside.arena.steps (length (take c.in_ok-count.count c.args.run.now)) = ap (λ (v : Tree). v.steps) c.in_ok-count.ensures.added in omega (arith, x))))
 
 pub returns-clause-tags : goal.returns-clause-tags
-returns-clause-tags c = kept-tags c.args.self.now _ c.self.inside.stack c.self.inside.list c.self.inside.arena c.self.inside.tokens c.self.inside.head c.self.inside.form c.self.inside.detached c.self.view_is c.self.invariant (returns-clause-keeps c) refl
+returns-clause-tags c = kept-tags c.args.self.now _ c.self.inside.stack c.self.inside.list c.self.inside.arena c.self.inside.tokens c.self.inside.head c.self.inside.form c.self.inside.detached c.self.view_is c.self.invariant.0 (returns-clause-keeps c) refl

@@ -9,10 +9,14 @@ use Rattle.html_open.specs.Entries.{cleared, is_marker}
 use Rattle.html_open.specs.Lists.{below, looked}
 use Rattle.html_open.proofs.Closing.{bare-all}
 use Rattle.html_tree.proofs.OpenTags.{kept-tags}
+use Rattle.html_tree.proofs.SearchEnds.{ends-labels}
 use Rattle.html_tree.proofs.tree.OpenTree.clear_to_marker.Goals as goal
 
 pub invariant_of-self : goal.invariant_of-self
-invariant_of-self c = relisted-under_way c.args.self.now c.self.inside.stack c.self.inside.list c.clear_to_marker.new.self c.self.inside.arena c.clear_to_marker.new.arena c.self.inside.tokens c.self.inside.head c.self.inside.form c.self.inside.detached c.self.view_is (ap bare c.clear_to_marker.ensures.tree ∙ bare-all c.self.inside.arena InList (cleared c.self.inside.list)) (c.clear_to_marker.ensures.keeps c.self.inside.stack c.self.invariant.is_open) c.self.invariant
+invariant_of-self c = (
+    relisted-under_way c.args.self.now c.self.inside.stack c.self.inside.list c.clear_to_marker.new.self c.self.inside.arena c.clear_to_marker.new.arena c.self.inside.tokens c.self.inside.head c.self.inside.form c.self.inside.detached c.self.view_is (ap bare c.clear_to_marker.ensures.tree ∙ bare-all c.self.inside.arena InList (cleared c.self.inside.list)) (c.clear_to_marker.ensures.keeps c.self.inside.stack c.self.invariant.0.is_open) c.self.invariant.0,
+    ends-labels c.self.inside.stack c.self.inside.p_ends.items c.self.inside.arena c.clear_to_marker.new.arena c.self.invariant.1 (ap (λ (v : Tree). v.labels) (ap bare c.clear_to_marker.ensures.tree ∙ bare-all c.self.inside.arena InList (cleared c.self.inside.list)))
+)
 
 pub returns-clause-exact : goal.returns-clause-exact
 returns-clause-exact c = relisted-exact c.args.self.now c.self.inside.stack c.self.inside.list c.clear_to_marker.new.self c.self.inside.arena c.clear_to_marker.new.arena c.self.inside.tokens c.self.inside.head c.self.inside.form c.self.inside.detached c.self.view_is (ap bare c.clear_to_marker.ensures.tree ∙ bare-all c.self.inside.arena InList (cleared c.self.inside.list)) (λ (b : State). below is_marker b.list) c.clear_to_marker.ensures.list
@@ -31,4 +35,4 @@ returns-clause-steps c =
     let z = looked-most is_marker c.self.inside.list in omega (arith, x, y, z))
 
 pub returns-clause-tags : goal.returns-clause-tags
-returns-clause-tags c = kept-tags c.args.self.now _ c.self.inside.stack c.self.inside.list c.self.inside.arena c.self.inside.tokens c.self.inside.head c.self.inside.form c.self.inside.detached c.self.view_is c.self.invariant (returns-clause-keeps c) refl
+returns-clause-tags c = kept-tags c.args.self.now _ c.self.inside.stack c.self.inside.list c.self.inside.arena c.self.inside.tokens c.self.inside.head c.self.inside.form c.self.inside.detached c.self.view_is c.self.invariant.0 (returns-clause-keeps c) refl

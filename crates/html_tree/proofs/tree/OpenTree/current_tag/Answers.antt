@@ -7,7 +7,7 @@ use Rattle.html_tree.proofs.tree.OpenTree.current_tag.Goals as goal
 
 pub tag-requires : goal.tag-requires
 tag-requires c =
-    c.self.invariant.is_open.stack_in c.in-Some.node
+    c.self.invariant.0.is_open.stack_in c.in-Some.node
     (subst (λ (v : List ℕ). has c.in-Some.node v ≡ true) c.as_slice.ensures (last-member c.as_slice.result.now (Some c.in-Some.node) (sym c.in-Some.is ∙ c.last_node.ensures)))
 
 pub returns-clause-first : goal.returns-clause-first

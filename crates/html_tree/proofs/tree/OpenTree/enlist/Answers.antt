@@ -9,15 +9,18 @@ use Rattle.html_tree.proofs.Kept.{more-most}
 use Rattle.html_tree.proofs.Listed.{bare-unmarked, full-listed, push_steps-same, pushed-most, pushed-same, unmarked-steps}
 use Rattle.html_tree.proofs.Relisting.{relisted-exact, relisted-grown, relisted-keeps, relisted-under_way}
 use Rattle.html_tree.proofs.OpenTags.{kept-tags}
+use Rattle.html_tree.proofs.SearchEnds.{ends-labels}
 use Rattle.html_tree.proofs.tree.OpenTree.enlist.Goals as goal
 
 same-tree : (c : goal.In_ok-push) → bare c.push.new.arena ≡ bare c.self.inside.arena
 same-tree c = ap bare c.in_ok-push.ensures.tree ∙ bare-unmarked c.self.inside.arena InList (displaced c.self.inside.arena c.args.node c.self.inside.list)
 
 pub invariant_of-self-2 : goal.invariant_of-self-2
-invariant_of-self-2 c =
+invariant_of-self-2 c = (
     relisted-under_way c.args.self.now c.self.inside.stack c.self.inside.list c.push.new.self c.self.inside.arena c.push.new.arena c.self.inside.tokens c.self.inside.head c.self.inside.form c.self.inside.detached c.self.view_is (same-tree c)
-    (c.in_ok-push.ensures.keeps c.self.inside.stack c.self.invariant.is_open (full-listed c.self.inside.stack c.self.inside.list c.self.inside.arena c.args.node (subst (λ (a : State). CanList (open_at a.stack a.list a.tree) c.args.node) (sym c.self.view_is) c.requires))) c.self.invariant
+    (c.in_ok-push.ensures.keeps c.self.inside.stack c.self.invariant.0.is_open (full-listed c.self.inside.stack c.self.inside.list c.self.inside.arena c.args.node (subst (λ (a : State). CanList (open_at a.stack a.list a.tree) c.args.node) (sym c.self.view_is) c.requires))) c.self.invariant.0,
+    ends-labels c.self.inside.stack c.self.inside.p_ends.items c.self.inside.arena c.push.new.arena c.self.invariant.1 (ap (λ (v : Tree). v.labels) (same-tree c))
+)
 
 pub returns-clause-exact : goal.returns-clause-exact
 returns-clause-exact c = relisted-exact c.args.self.now c.self.inside.stack c.self.inside.list c.push.new.self c.self.inside.arena c.push.new.arena c.self.inside.tokens c.self.inside.head c.self.inside.form c.self.inside.detached c.self.view_is (same-tree c) (λ (b : State). pushed b.tree c.args.node b.list) (c.in_ok-push.ensures.list ∙ pushed-same c.self.inside.arena (bare c.self.inside.arena) c.args.node c.self.inside.list refl)
@@ -37,4 +40,4 @@ returns-clause-steps c =
     let z = push_steps-same c.self.inside.arena (bare c.self.inside.arena) c.args.node c.self.inside.list refl in omega (arith, x, u, y, z))
 
 pub returns-clause-tags : goal.returns-clause-tags
-returns-clause-tags c = kept-tags c.args.self.now _ c.self.inside.stack c.self.inside.list c.self.inside.arena c.self.inside.tokens c.self.inside.head c.self.inside.form c.self.inside.detached c.self.view_is c.self.invariant (returns-clause-keeps c) refl
+returns-clause-tags c = kept-tags c.args.self.now _ c.self.inside.stack c.self.inside.list c.self.inside.arena c.self.inside.tokens c.self.inside.head c.self.inside.form c.self.inside.detached c.self.view_is c.self.invariant.0 (returns-clause-keeps c) refl

@@ -11,4 +11,4 @@ returns-clause-exact c =
     charged-popped c.args.self.now c.charge.new.self c.pop_to.new.self c.after-end.result (up_to (stays c.args.self.now.tree c.args.except) c.args.self.now.stack) c.charge.ensures.rest c.pop_to.ensures.exact
     (subst (λ (a : State). first_few c.after-end.result a.stack ≡ up_to (stays a.tree c.args.except) a.stack) c.self.view_is
     (ap (λ k. first_few k c.self.inside.stack) (c.after-end.ensures.value ∙ ap after_index (c.last_index-at.ensures.index ∙ ap (λ v. last_index (stays c.self.inside.arena c.args.except) v) c.as_slice-nodes.ensures))
-    ∙ implied-stack c.self.inside.stack c.self.inside.list c.self.inside.arena c.self.inside.tokens c.self.inside.head c.self.inside.form c.self.inside.detached c.args.except c.self.invariant))
+    ∙ implied-stack c.self.inside.stack c.self.inside.list c.self.inside.arena c.self.inside.tokens c.self.inside.head c.self.inside.form c.self.inside.detached c.args.except c.self.invariant.0))

@@ -6,7 +6,7 @@ use Rattle.html_tree.proofs.tree.OpenTree.laws.Goals as goal
 
 pub returns : goal.returns
 returns c = record {
-  sound = subst (λ (a : State). IsSound a) c.self.view_is (sound c.self.inside.stack c.self.inside.list c.self.inside.arena c.self.inside.tokens c.self.inside.head c.self.inside.form c.self.inside.detached c.self.invariant);
+  sound = subst (λ (a : State). IsSound a) c.self.view_is (sound c.self.inside.stack c.self.inside.list c.self.inside.arena c.self.inside.tokens c.self.inside.head c.self.inside.form c.self.inside.detached c.self.invariant.0);
   counted = (let e = c.meter.ensures ∙ ap (λ (a : State). a.steps) c.self.view_is in let b = c.fits.ensures in omega (arith, e, b));
   depth = length-tags c.args.self.now.tree c.args.self.now.stack;
 }

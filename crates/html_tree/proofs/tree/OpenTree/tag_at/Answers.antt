@@ -8,7 +8,7 @@ use Rattle.html_tree.proofs.tree.OpenTree.tag_at.Goals as goal
 
 pub tag-requires : goal.tag-requires
 tag-requires c =
-    c.self.invariant.is_open.stack_in c.index-nodes-index.result
+    c.self.invariant.0.is_open.stack_in c.index-nodes-index.result
     (at-member c.as_slice-nodes.result.now c.self.inside.stack c.args.index c.index-nodes-index.result c.as_slice-nodes.ensures
     (subst (λ (k : ℕ). c.args.index < k) (sym (ap (λ (a : State). length a.stack) (c.self.view_is ∙ c.charge.ensures.rest))) c.requires) c.index-nodes-index.is)
 

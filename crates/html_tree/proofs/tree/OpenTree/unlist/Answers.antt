@@ -6,10 +6,14 @@ use Rattle.html_tree.proofs.Kept.{more-most}
 use Rattle.html_tree.proofs.Relisting.{relisted-exact, relisted-grown, relisted-keeps, relisted-under_way, removal-most, without-most}
 use Rattle.html_open.specs.Entries.{is_node, removal_steps, without_node}
 use Rattle.html_tree.proofs.OpenTags.{kept-tags}
+use Rattle.html_tree.proofs.SearchEnds.{ends-labels}
 use Rattle.html_tree.proofs.tree.OpenTree.unlist.Goals as goal
 
 pub invariant_of-self : goal.invariant_of-self
-invariant_of-self c = relisted-under_way c.args.self.now c.self.inside.stack c.self.inside.list c.remove.new.self c.self.inside.arena c.remove.new.arena c.self.inside.tokens c.self.inside.head c.self.inside.form c.self.inside.detached c.self.view_is (ap bare c.remove.ensures.tree) (c.remove.ensures.keeps c.self.inside.stack c.self.invariant.is_open) c.self.invariant
+invariant_of-self c = (
+    relisted-under_way c.args.self.now c.self.inside.stack c.self.inside.list c.remove.new.self c.self.inside.arena c.remove.new.arena c.self.inside.tokens c.self.inside.head c.self.inside.form c.self.inside.detached c.self.view_is (ap bare c.remove.ensures.tree) (c.remove.ensures.keeps c.self.inside.stack c.self.invariant.0.is_open) c.self.invariant.0,
+    ends-labels c.self.inside.stack c.self.inside.p_ends.items c.self.inside.arena c.remove.new.arena c.self.invariant.1 (ap (λ (v : Tree). v.labels) c.remove.ensures.tree)
+)
 
 pub returns-clause-exact : goal.returns-clause-exact
 returns-clause-exact c = relisted-exact c.args.self.now c.self.inside.stack c.self.inside.list c.remove.new.self c.self.inside.arena c.remove.new.arena c.self.inside.tokens c.self.inside.head c.self.inside.form c.self.inside.detached c.self.view_is (ap bare c.remove.ensures.tree) (λ (b : State). without_node c.args.node b.list) c.remove.ensures.list
@@ -28,4 +32,4 @@ returns-clause-steps c =
     let z = removal-most (is_node c.args.node) c.self.inside.list in omega (arith, x, y, z))
 
 pub returns-clause-tags : goal.returns-clause-tags
-returns-clause-tags c = kept-tags c.args.self.now _ c.self.inside.stack c.self.inside.list c.self.inside.arena c.self.inside.tokens c.self.inside.head c.self.inside.form c.self.inside.detached c.self.view_is c.self.invariant (returns-clause-keeps c) refl
+returns-clause-tags c = kept-tags c.args.self.now _ c.self.inside.stack c.self.inside.list c.self.inside.arena c.self.inside.tokens c.self.inside.head c.self.inside.form c.self.inside.detached c.self.view_is c.self.invariant.0 (returns-clause-keeps c) refl
