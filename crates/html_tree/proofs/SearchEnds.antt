@@ -234,10 +234,10 @@ module _ (s es : List ℕ) (t : Tree) (e : es ≡ p_ends_of t s) (first : IsName
           let last : last_of es ≡ last_where (is_p_end t) r = ap last_of k ∙ last-filter (is_p_end t) r in
           elim (cases_bool (list_any (is_p_end t) r)) [
             | inl a ↦ (
-              let i : last_index (is_p_end t) (y ∷ r) ≡ Some (length (below (is_p_end t) (y ∷ r))) = rw (any-later y r a) refl in
-              let w : last_where (is_p_end t) (y ∷ r) ≡ Some (get_or (y ∷ r) (length (below (is_p_end t) (y ∷ r))) 0) = last_where-at (is_p_end t) (y ∷ r) (length (below (is_p_end t) (y ∷ r))) 0 i in
-              let v : last_where (is_p_end t) (y ∷ r) ≡ last_where (is_p_end t) r = rw a refl in
-              (length (below (is_p_end t) (y ∷ r)), sym i, sym (ap (is_p t) (last ∙ sym v ∙ w))))
+                let i : last_index (is_p_end t) (y ∷ r) ≡ Some (length (below (is_p_end t) (y ∷ r))) = rw (any-later y r a) refl in
+                let w : last_where (is_p_end t) (y ∷ r) ≡ Some (get_or (y ∷ r) (length (below (is_p_end t) (y ∷ r))) 0) = last_where-at (is_p_end t) (y ∷ r) (length (below (is_p_end t) (y ∷ r))) 0 i in
+                let v : last_where (is_p_end t) (y ∷ r) ≡ last_where (is_p_end t) r = rw a refl in
+                (length (below (is_p_end t) (y ∷ r)), sym i, sym (ap (is_p t) (last ∙ sym v ∙ w))))
             | inr a ↦ (0, zero-index y r a ends, ap (λ g. is_same g tag.P) html ∙ sym (ap (is_p t) (last ∙ none-where r a)))
           ]
         where

@@ -7,6 +7,7 @@ ghost use Rattle.html_arena.specs.Siblings.{first_of, is_in};
 ghost use Rattle.html_tree.specs.Closing.{cleared_to, context_end, closed_through, first_few, kept_to, popped, remaining};
 ghost use Rattle.html_tree.specs.Groups.{in_group};
 ghost use Rattle.html_tree.specs.OpenTags.{HasClosed, HasContext, HasFewer, IsLighter, open_tags};
+ghost use Rattle.html_tree.specs.Paragraphs.{seeks_p};
 ghost use Rattle.html_tree.specs.Searching.{found};
 ghost use Rattle.html_tree.specs.Since.{Grown, Keeps};
 
@@ -22,6 +23,7 @@ impl OpenTree {
     pub fn pop_to(&mut self, len: usize)
         ensures exact { self.new ≡ record self.old { stack = first_few len self.old.stack; steps = self.new.steps } }
         ensures steps { self.new.steps ≤ self.old.steps + length self.old.stack }
+        ensures each { self.new.steps + length self.new.stack ≤ self.old.steps + length self.old.stack }
         ensures keeps { Keeps self.old self.new }
         ensures grown { Grown 0 0 0 0 self.old self.new }
         ensures few { HasFewer self.old self.new }
@@ -30,12 +32,7 @@ impl OpenTree {
         let count = self.stack.len();
         let kept = kept_to(count, len);
         self.arena.charge((count - kept) as u128);
-        cut_ends(
-            &mut self.p_ends,
-            self.stack.as_slice(),
-            &self.arena,
-            kept,
-        );
+        cut_ends(&mut self.p_ends, self.stack.as_slice(), &self.arena, kept);
         self.stack.pop_to(&mut self.arena, kept);
     }
 
@@ -54,11 +51,12 @@ impl OpenTree {
     }
 
     /// Closes elements through the last one of a group, unless one that ends the search stands after it, and says whether there is one.
-    /// At most two steps for each open element.
+    /// At most two steps for each open element; for a p in button scope two for each that is closed, and one.
     pub fn close(&mut self, group: Group, stop: Stop) -> bool
         ensures answer { result ≡ is_some (found self.old group stop) }
         ensures exact { self.new ≡ record self.old { stack = closed_through self.old group stop; steps = self.new.steps } }
         ensures steps { self.new.steps ≤ self.old.steps + 2 * length self.old.stack }
+        ensures paid { seeks_p group stop ≡ true → self.new.steps + 2 * length self.new.stack ≤ self.old.steps + 2 * length self.old.stack + 1 }
         ensures keeps { Keeps self.old self.new }
         ensures grown { Grown 0 0 0 0 self.old self.new }
         ensures few { HasFewer self.old self.new }

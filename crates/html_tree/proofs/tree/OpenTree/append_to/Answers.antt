@@ -12,11 +12,11 @@ use Rattle.html_tree.proofs.tree.OpenTree.append_to.Goals as goal
 
 pub invariant_of-self-2 : goal.invariant_of-self-2
 invariant_of-self-2 c = (
-    relabelled-under_way c.self.inside.stack c.self.inside.list c.self.inside.arena c.append_run.new.self c.self.inside.tokens c.args.node c.self.inside.head c.self.inside.form c.self.inside.detached (with_run (label_of c.self.inside.arena c.args.node) (take c.in_ok-count.count c.args.run.now)) c.in_ok-count.ensures.relabelled (run-essence (label_of c.self.inside.arena c.args.node) (take c.in_ok-count.count c.args.run.now))
-    (c.kept_by_edits.ensures.relabelled c.self.inside.stack c.self.inside.list c.self.inside.arena c.append_run.new.self c.args.node (with_run (label_of c.self.inside.arena c.args.node) (take c.in_ok-count.count c.args.run.now)) c.in_ok-count.ensures.relabelled
-    (same-element (label_of c.self.inside.arena c.args.node) (with_run (label_of c.self.inside.arena c.args.node) (take c.in_ok-count.count c.args.run.now)) (run-essence (label_of c.self.inside.arena c.args.node) (take c.in_ok-count.count c.args.run.now))) (same-tag_in (label_of c.self.inside.arena c.args.node) (with_run (label_of c.self.inside.arena c.args.node) (take c.in_ok-count.count c.args.run.now)) (run-essence (label_of c.self.inside.arena c.args.node) (take c.in_ok-count.count c.args.run.now))) (same-origin_in (label_of c.self.inside.arena c.args.node) (with_run (label_of c.self.inside.arena c.args.node) (take c.in_ok-count.count c.args.run.now)) (run-essence (label_of c.self.inside.arena c.args.node) (take c.in_ok-count.count c.args.run.now))) c.self.invariant.0.is_open)
-    c.self.invariant.0,
-    ends-relabelled c.self.inside.stack c.self.inside.p_ends.items c.self.inside.arena c.append_run.new.self c.args.node (with_run (label_of c.self.inside.arena c.args.node) (take c.in_ok-count.count c.args.run.now)) c.self.invariant.1 c.in_ok-count.ensures.relabelled (run-essence (label_of c.self.inside.arena c.args.node) (take c.in_ok-count.count c.args.run.now))
+  relabelled-under_way c.self.inside.stack c.self.inside.list c.self.inside.arena c.append_run.new.self c.self.inside.tokens c.args.node c.self.inside.head c.self.inside.form c.self.inside.detached (with_run (label_of c.self.inside.arena c.args.node) (take c.in_ok-count.count c.args.run.now)) c.in_ok-count.ensures.relabelled (run-essence (label_of c.self.inside.arena c.args.node) (take c.in_ok-count.count c.args.run.now))
+      (c.kept_by_edits.ensures.relabelled c.self.inside.stack c.self.inside.list c.self.inside.arena c.append_run.new.self c.args.node (with_run (label_of c.self.inside.arena c.args.node) (take c.in_ok-count.count c.args.run.now)) c.in_ok-count.ensures.relabelled
+      (same-element (label_of c.self.inside.arena c.args.node) (with_run (label_of c.self.inside.arena c.args.node) (take c.in_ok-count.count c.args.run.now)) (run-essence (label_of c.self.inside.arena c.args.node) (take c.in_ok-count.count c.args.run.now))) (same-tag_in (label_of c.self.inside.arena c.args.node) (with_run (label_of c.self.inside.arena c.args.node) (take c.in_ok-count.count c.args.run.now)) (run-essence (label_of c.self.inside.arena c.args.node) (take c.in_ok-count.count c.args.run.now))) (same-origin_in (label_of c.self.inside.arena c.args.node) (with_run (label_of c.self.inside.arena c.args.node) (take c.in_ok-count.count c.args.run.now)) (run-essence (label_of c.self.inside.arena c.args.node) (take c.in_ok-count.count c.args.run.now))) c.self.invariant.0.is_open)
+      c.self.invariant.0,
+  ends-relabelled c.self.inside.stack c.self.inside.p_ends.items c.self.inside.arena c.append_run.new.self c.args.node (with_run (label_of c.self.inside.arena c.args.node) (take c.in_ok-count.count c.args.run.now)) c.self.invariant.1 c.in_ok-count.ensures.relabelled (run-essence (label_of c.self.inside.arena c.args.node) (take c.in_ok-count.count c.args.run.now)),
 )
 
 pub returns-clause-keeps : goal.returns-clause-keeps

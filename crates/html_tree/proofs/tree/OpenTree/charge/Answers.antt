@@ -8,9 +8,9 @@ use Rattle.html_tree.proofs.tree.OpenTree.charge.Goals as goal
 
 pub invariant_of-self : goal.invariant_of-self
 invariant_of-self c = (
-    charged-under_way c.self.inside.stack c.self.inside.list c.self.inside.arena c.charge.new.self c.self.inside.tokens _ c.self.inside.head c.self.inside.form c.self.inside.detached c.charge.ensures
-    (charged_keeps c.self.inside.stack c.self.inside.list c.self.inside.arena c.charge.new.self _ c.charge.ensures c.self.invariant.0.is_open) c.self.invariant.0,
-    ends-labels c.self.inside.stack c.self.inside.p_ends.items c.self.inside.arena c.charge.new.self c.self.invariant.1 (ap (λ (v : Tree). v.labels) c.charge.ensures)
+  charged-under_way c.self.inside.stack c.self.inside.list c.self.inside.arena c.charge.new.self c.self.inside.tokens _ c.self.inside.head c.self.inside.form c.self.inside.detached c.charge.ensures
+      (charged_keeps c.self.inside.stack c.self.inside.list c.self.inside.arena c.charge.new.self _ c.charge.ensures c.self.invariant.0.is_open) c.self.invariant.0,
+  ends-labels c.self.inside.stack c.self.inside.p_ends.items c.self.inside.arena c.charge.new.self c.self.invariant.1 (ap (λ (v : Tree). v.labels) c.charge.ensures),
 )
 
 pub returns-clause-rest : goal.returns-clause-rest

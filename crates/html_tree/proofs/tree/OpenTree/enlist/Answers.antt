@@ -17,9 +17,9 @@ same-tree c = ap bare c.in_ok-push.ensures.tree ∙ bare-unmarked c.self.inside.
 
 pub invariant_of-self-2 : goal.invariant_of-self-2
 invariant_of-self-2 c = (
-    relisted-under_way c.args.self.now c.self.inside.stack c.self.inside.list c.push.new.self c.self.inside.arena c.push.new.arena c.self.inside.tokens c.self.inside.head c.self.inside.form c.self.inside.detached c.self.view_is (same-tree c)
-    (c.in_ok-push.ensures.keeps c.self.inside.stack c.self.invariant.0.is_open (full-listed c.self.inside.stack c.self.inside.list c.self.inside.arena c.args.node (subst (λ (a : State). CanList (open_at a.stack a.list a.tree) c.args.node) (sym c.self.view_is) c.requires))) c.self.invariant.0,
-    ends-labels c.self.inside.stack c.self.inside.p_ends.items c.self.inside.arena c.push.new.arena c.self.invariant.1 (ap (λ (v : Tree). v.labels) (same-tree c))
+  relisted-under_way c.args.self.now c.self.inside.stack c.self.inside.list c.push.new.self c.self.inside.arena c.push.new.arena c.self.inside.tokens c.self.inside.head c.self.inside.form c.self.inside.detached c.self.view_is (same-tree c)
+      (c.in_ok-push.ensures.keeps c.self.inside.stack c.self.invariant.0.is_open (full-listed c.self.inside.stack c.self.inside.list c.self.inside.arena c.args.node (subst (λ (a : State). CanList (open_at a.stack a.list a.tree) c.args.node) (sym c.self.view_is) c.requires))) c.self.invariant.0,
+  ends-labels c.self.inside.stack c.self.inside.p_ends.items c.self.inside.arena c.push.new.arena c.self.invariant.1 (ap (λ (v : Tree). v.labels) (same-tree c)),
 )
 
 pub returns-clause-exact : goal.returns-clause-exact

@@ -17,16 +17,16 @@ put_new-requires-clause-head_in c = λ x e. (c.self.invariant.0.head x e).0
 
 pub invariant_of-self : goal.invariant_of-self
 invariant_of-self c = (
-    same-under_way c.self.inside.stack c.self.inside.stack c.self.inside.list c.self.inside.list c.self.inside.arena c.put_new.new.arena c.self.inside.tokens c.self.inside.head c.self.inside.form c.self.inside.detached
-    (ap (λ (v : Tree). v.labels) c.in_err-node.ensures.same) refl (c.put_new.ensures.keeps c.self.inside.list c.self.invariant.0.is_open) c.self.invariant.0,
-    ends-labels c.self.inside.stack c.self.inside.p_ends.items c.self.inside.arena c.put_new.new.arena c.self.invariant.1 (ap (λ (v : Tree). v.labels) c.in_err-node.ensures.same)
+  same-under_way c.self.inside.stack c.self.inside.stack c.self.inside.list c.self.inside.list c.self.inside.arena c.put_new.new.arena c.self.inside.tokens c.self.inside.head c.self.inside.form c.self.inside.detached
+      (ap (λ (v : Tree). v.labels) c.in_err-node.ensures.same) refl (c.put_new.ensures.keeps c.self.inside.list c.self.invariant.0.is_open) c.self.invariant.0,
+  ends-labels c.self.inside.stack c.self.inside.p_ends.items c.self.inside.arena c.put_new.new.arena c.self.invariant.1 (ap (λ (v : Tree). v.labels) c.in_err-node.ensures.same),
 )
 
 pub invariant_of-self-2 : goal.invariant_of-self-2
 invariant_of-self-2 c = (
-    new-under_way c.self.inside.stack c.self.inside.list c.self.inside.arena c.put_new.new.arena (place_at c.self.inside.arena c.self.inside.stack c.self.inside.head c.args.target) (Comment c.args.text c.args.token) (length c.self.inside.stack + 3) c.self.inside.tokens (c.args.token + 1) c.self.inside.head c.self.inside.form c.self.inside.detached c.self.inside.stack refl c.in_ok-node.ensures.new (c.put_new.ensures.keeps c.self.inside.list c.self.invariant.0.is_open)
-    (comment-own c.self.inside.arena c.args.text c.args.token) (let q : c.self.inside.tokens ≤ c.args.token = subst (λ (a : State). a.tokens ≤ c.args.token) (sym c.self.view_is) c.requires.token in omega (arith, q)) c.self.invariant.0,
-    ends-made c.self.inside.stack c.self.inside.p_ends.items c.self.inside.arena c.put_new.new.arena _ _ _ c.self.invariant.1 c.self.invariant.0.is_open.stack_in c.in_ok-node.ensures.new
+  new-under_way c.self.inside.stack c.self.inside.list c.self.inside.arena c.put_new.new.arena (place_at c.self.inside.arena c.self.inside.stack c.self.inside.head c.args.target) (Comment c.args.text c.args.token) (length c.self.inside.stack + 3) c.self.inside.tokens (c.args.token + 1) c.self.inside.head c.self.inside.form c.self.inside.detached c.self.inside.stack refl c.in_ok-node.ensures.new (c.put_new.ensures.keeps c.self.inside.list c.self.invariant.0.is_open)
+      (comment-own c.self.inside.arena c.args.text c.args.token) (let q : c.self.inside.tokens ≤ c.args.token = subst (λ (a : State). a.tokens ≤ c.args.token) (sym c.self.view_is) c.requires.token in omega (arith, q)) c.self.invariant.0,
+  ends-made c.self.inside.stack c.self.inside.p_ends.items c.self.inside.arena c.put_new.new.arena _ _ _ c.self.invariant.1 c.self.invariant.0.is_open.stack_in c.in_ok-node.ensures.new,
 )
 
 pub returns-clause-exact : goal.returns-clause-exact

@@ -15,19 +15,19 @@ use Rattle.html_tree.proofs.tree.OpenTree.merge.Goals as goal
 
 pub invariant_of-self : goal.invariant_of-self
 invariant_of-self c = (
-    same-under_way c.self.inside.stack c.self.inside.stack c.self.inside.list c.self.inside.list c.self.inside.arena c.merge_attrs.new.self c.self.inside.tokens c.self.inside.head c.self.inside.form c.self.inside.detached
-    (ap (λ (v : Tree). v.labels) (c.in_err-merge_attrs.ensures.refused ∙ c.at-node.ensures.steps)) refl
-    (subst (λ t. IsOpen (open_at c.self.inside.stack c.self.inside.list t)) (sym c.in_err-merge_attrs.ensures.refused) (c.at-node.ensures.keeps c.self.inside.list c.self.invariant.0.is_open)) c.self.invariant.0,
-    ends-labels c.self.inside.stack c.self.inside.p_ends.items c.self.inside.arena c.merge_attrs.new.self c.self.invariant.1 (ap (λ (v : Tree). v.labels) (c.in_err-merge_attrs.ensures.refused ∙ c.at-node.ensures.steps))
+  same-under_way c.self.inside.stack c.self.inside.stack c.self.inside.list c.self.inside.list c.self.inside.arena c.merge_attrs.new.self c.self.inside.tokens c.self.inside.head c.self.inside.form c.self.inside.detached
+      (ap (λ (v : Tree). v.labels) (c.in_err-merge_attrs.ensures.refused ∙ c.at-node.ensures.steps)) refl
+      (subst (λ t. IsOpen (open_at c.self.inside.stack c.self.inside.list t)) (sym c.in_err-merge_attrs.ensures.refused) (c.at-node.ensures.keeps c.self.inside.list c.self.invariant.0.is_open)) c.self.invariant.0,
+  ends-labels c.self.inside.stack c.self.inside.p_ends.items c.self.inside.arena c.merge_attrs.new.self c.self.invariant.1 (ap (λ (v : Tree). v.labels) (c.in_err-merge_attrs.ensures.refused ∙ c.at-node.ensures.steps)),
 )
 
 pub invariant_of-self-2 : goal.invariant_of-self-2
 invariant_of-self-2 c = (
-    relabelled-under_way c.self.inside.stack c.self.inside.list c.at-node.new.arena c.merge_attrs.new.self c.self.inside.tokens c.at-node.result c.self.inside.head c.self.inside.form c.self.inside.detached (with_attrs (label_of c.at-node.new.arena c.at-node.result) (merged (attrs_in (label_of c.at-node.new.arena c.at-node.result)) c.args.attrs)) c.in_ok-merge_attrs.ensures.relabelled (merged-essence (label_of c.at-node.new.arena c.at-node.result) (merged (attrs_in (label_of c.at-node.new.arena c.at-node.result)) c.args.attrs))
-    (c.kept_by_edits.ensures.relabelled c.self.inside.stack c.self.inside.list c.at-node.new.arena c.merge_attrs.new.self c.at-node.result (with_attrs (label_of c.at-node.new.arena c.at-node.result) (merged (attrs_in (label_of c.at-node.new.arena c.at-node.result)) c.args.attrs)) c.in_ok-merge_attrs.ensures.relabelled
-    (same-element (label_of c.at-node.new.arena c.at-node.result) (with_attrs (label_of c.at-node.new.arena c.at-node.result) (merged (attrs_in (label_of c.at-node.new.arena c.at-node.result)) c.args.attrs)) (merged-essence (label_of c.at-node.new.arena c.at-node.result) (merged (attrs_in (label_of c.at-node.new.arena c.at-node.result)) c.args.attrs))) (same-tag_in (label_of c.at-node.new.arena c.at-node.result) (with_attrs (label_of c.at-node.new.arena c.at-node.result) (merged (attrs_in (label_of c.at-node.new.arena c.at-node.result)) c.args.attrs)) (merged-essence (label_of c.at-node.new.arena c.at-node.result) (merged (attrs_in (label_of c.at-node.new.arena c.at-node.result)) c.args.attrs))) (same-origin_in (label_of c.at-node.new.arena c.at-node.result) (with_attrs (label_of c.at-node.new.arena c.at-node.result) (merged (attrs_in (label_of c.at-node.new.arena c.at-node.result)) c.args.attrs)) (merged-essence (label_of c.at-node.new.arena c.at-node.result) (merged (attrs_in (label_of c.at-node.new.arena c.at-node.result)) c.args.attrs))) (c.at-node.ensures.keeps c.self.inside.list c.self.invariant.0.is_open))
-    (charged-under_way c.self.inside.stack c.self.inside.list c.self.inside.arena c.at-node.new.arena c.self.inside.tokens _ c.self.inside.head c.self.inside.form c.self.inside.detached c.at-node.ensures.steps (c.at-node.ensures.keeps c.self.inside.list c.self.invariant.0.is_open) c.self.invariant.0),
-    ends-relabelled c.self.inside.stack c.self.inside.p_ends.items c.at-node.new.arena c.merge_attrs.new.self c.at-node.result (with_attrs (label_of c.at-node.new.arena c.at-node.result) (merged (attrs_in (label_of c.at-node.new.arena c.at-node.result)) c.args.attrs)) (ends-labels c.self.inside.stack c.self.inside.p_ends.items c.self.inside.arena c.at-node.new.arena c.self.invariant.1 (ap (λ (v : Tree). v.labels) c.at-node.ensures.steps)) c.in_ok-merge_attrs.ensures.relabelled (merged-essence (label_of c.at-node.new.arena c.at-node.result) (merged (attrs_in (label_of c.at-node.new.arena c.at-node.result)) c.args.attrs))
+  relabelled-under_way c.self.inside.stack c.self.inside.list c.at-node.new.arena c.merge_attrs.new.self c.self.inside.tokens c.at-node.result c.self.inside.head c.self.inside.form c.self.inside.detached (with_attrs (label_of c.at-node.new.arena c.at-node.result) (merged (attrs_in (label_of c.at-node.new.arena c.at-node.result)) c.args.attrs)) c.in_ok-merge_attrs.ensures.relabelled (merged-essence (label_of c.at-node.new.arena c.at-node.result) (merged (attrs_in (label_of c.at-node.new.arena c.at-node.result)) c.args.attrs))
+      (c.kept_by_edits.ensures.relabelled c.self.inside.stack c.self.inside.list c.at-node.new.arena c.merge_attrs.new.self c.at-node.result (with_attrs (label_of c.at-node.new.arena c.at-node.result) (merged (attrs_in (label_of c.at-node.new.arena c.at-node.result)) c.args.attrs)) c.in_ok-merge_attrs.ensures.relabelled
+      (same-element (label_of c.at-node.new.arena c.at-node.result) (with_attrs (label_of c.at-node.new.arena c.at-node.result) (merged (attrs_in (label_of c.at-node.new.arena c.at-node.result)) c.args.attrs)) (merged-essence (label_of c.at-node.new.arena c.at-node.result) (merged (attrs_in (label_of c.at-node.new.arena c.at-node.result)) c.args.attrs))) (same-tag_in (label_of c.at-node.new.arena c.at-node.result) (with_attrs (label_of c.at-node.new.arena c.at-node.result) (merged (attrs_in (label_of c.at-node.new.arena c.at-node.result)) c.args.attrs)) (merged-essence (label_of c.at-node.new.arena c.at-node.result) (merged (attrs_in (label_of c.at-node.new.arena c.at-node.result)) c.args.attrs))) (same-origin_in (label_of c.at-node.new.arena c.at-node.result) (with_attrs (label_of c.at-node.new.arena c.at-node.result) (merged (attrs_in (label_of c.at-node.new.arena c.at-node.result)) c.args.attrs)) (merged-essence (label_of c.at-node.new.arena c.at-node.result) (merged (attrs_in (label_of c.at-node.new.arena c.at-node.result)) c.args.attrs))) (c.at-node.ensures.keeps c.self.inside.list c.self.invariant.0.is_open))
+      (charged-under_way c.self.inside.stack c.self.inside.list c.self.inside.arena c.at-node.new.arena c.self.inside.tokens _ c.self.inside.head c.self.inside.form c.self.inside.detached c.at-node.ensures.steps (c.at-node.ensures.keeps c.self.inside.list c.self.invariant.0.is_open) c.self.invariant.0),
+  ends-relabelled c.self.inside.stack c.self.inside.p_ends.items c.at-node.new.arena c.merge_attrs.new.self c.at-node.result (with_attrs (label_of c.at-node.new.arena c.at-node.result) (merged (attrs_in (label_of c.at-node.new.arena c.at-node.result)) c.args.attrs)) (ends-labels c.self.inside.stack c.self.inside.p_ends.items c.self.inside.arena c.at-node.new.arena c.self.invariant.1 (ap (λ (v : Tree). v.labels) c.at-node.ensures.steps)) c.in_ok-merge_attrs.ensures.relabelled (merged-essence (label_of c.at-node.new.arena c.at-node.result) (merged (attrs_in (label_of c.at-node.new.arena c.at-node.result)) c.args.attrs)),
 )
 
 pub returns-clause-keeps : goal.returns-clause-keeps

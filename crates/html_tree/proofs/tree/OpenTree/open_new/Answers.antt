@@ -27,34 +27,34 @@ put_new-requires-clause-head_in c = λ x e. (c.self.invariant.0.head x e).0
 
 pub invariant_of-self : goal.invariant_of-self
 invariant_of-self c = (
-    same-under_way c.self.inside.stack c.self.inside.stack c.self.inside.list c.self.inside.list c.self.inside.arena c.put_new.new.arena c.self.inside.tokens c.self.inside.head c.self.inside.form c.self.inside.detached
-    (ap (λ (v : Tree). v.labels) c.in_err-node.ensures.same) refl (c.put_new.ensures.keeps c.self.inside.list c.self.invariant.0.is_open) c.self.invariant.0,
-    ends-labels c.self.inside.stack c.self.inside.p_ends.items c.self.inside.arena c.put_new.new.arena c.self.invariant.1 (ap (λ (v : Tree). v.labels) c.in_err-node.ensures.same)
+  same-under_way c.self.inside.stack c.self.inside.stack c.self.inside.list c.self.inside.list c.self.inside.arena c.put_new.new.arena c.self.inside.tokens c.self.inside.head c.self.inside.form c.self.inside.detached
+      (ap (λ (v : Tree). v.labels) c.in_err-node.ensures.same) refl (c.put_new.ensures.keeps c.self.inside.list c.self.invariant.0.is_open) c.self.invariant.0,
+  ends-labels c.self.inside.stack c.self.inside.p_ends.items c.self.inside.arena c.put_new.new.arena c.self.invariant.1 (ap (λ (v : Tree). v.labels) c.in_err-node.ensures.same),
 )
 
 pub invariant_of-self-in_err-open_node : goal.invariant_of-self-in_err-open_node
 invariant_of-self-in_err-open_node c = (
-    made-under_way c.self.inside.list c.self.inside.list c.self.inside.arena c.put_new.new.arena c.open_node.new.arena (place_at c.self.inside.arena c.self.inside.stack c.self.inside.head c.args.target) (length c.self.inside.stack + 3) c.self.inside.tokens c.args.next c.self.inside.head c.self.inside.form c.self.inside.detached c.args.name c.args.attrs c.args.origin c.in_ok-node.ensures.new
-    (subst (λ (a : State). IsFor c.args.origin a.tokens c.args.next) (sym c.self.view_is) c.requires.own) (subst (λ (a : State). a.tokens ≤ c.args.next) (sym c.self.view_is) c.requires.next) (ap (λ (v : Tree). v.labels) c.in_err-open_node.ensures.same_tree)
-    c.self.inside.stack c.open_node.new.stack (ap first_of c.in_err-open_node.ensures.same_stack)
-    (subst (λ s. IsOpen (open_at s c.self.inside.list c.open_node.new.arena)) (sym c.in_err-open_node.ensures.same_stack) (subst (λ t. IsOpen (open_at c.self.inside.stack c.self.inside.list t)) (sym c.in_err-open_node.ensures.same_tree) (c.put_new.ensures.keeps c.self.inside.list c.self.invariant.0.is_open)))
-    c.self.invariant.0,
-    c.in_err-open_node.ensures.same_ends ∙ ends-made c.self.inside.stack c.self.inside.p_ends.items c.self.inside.arena c.put_new.new.arena _ _ _ c.self.invariant.1 c.self.invariant.0.is_open.stack_in c.in_ok-node.ensures.new ∙ ap (λ (v : Tree). p_ends_of v c.self.inside.stack) (sym c.in_err-open_node.ensures.same_tree) ∙ ap (p_ends_of c.open_node.new.arena) (sym c.in_err-open_node.ensures.same_stack)
+  made-under_way c.self.inside.list c.self.inside.list c.self.inside.arena c.put_new.new.arena c.open_node.new.arena (place_at c.self.inside.arena c.self.inside.stack c.self.inside.head c.args.target) (length c.self.inside.stack + 3) c.self.inside.tokens c.args.next c.self.inside.head c.self.inside.form c.self.inside.detached c.args.name c.args.attrs c.args.origin c.in_ok-node.ensures.new
+      (subst (λ (a : State). IsFor c.args.origin a.tokens c.args.next) (sym c.self.view_is) c.requires.own) (subst (λ (a : State). a.tokens ≤ c.args.next) (sym c.self.view_is) c.requires.next) (ap (λ (v : Tree). v.labels) c.in_err-open_node.ensures.same_tree)
+      c.self.inside.stack c.open_node.new.stack (ap first_of c.in_err-open_node.ensures.same_stack)
+      (subst (λ s. IsOpen (open_at s c.self.inside.list c.open_node.new.arena)) (sym c.in_err-open_node.ensures.same_stack) (subst (λ t. IsOpen (open_at c.self.inside.stack c.self.inside.list t)) (sym c.in_err-open_node.ensures.same_tree) (c.put_new.ensures.keeps c.self.inside.list c.self.invariant.0.is_open)))
+      c.self.invariant.0,
+  c.in_err-open_node.ensures.same_ends ∙ ends-made c.self.inside.stack c.self.inside.p_ends.items c.self.inside.arena c.put_new.new.arena _ _ _ c.self.invariant.1 c.self.invariant.0.is_open.stack_in c.in_ok-node.ensures.new ∙ ap (λ (v : Tree). p_ends_of v c.self.inside.stack) (sym c.in_err-open_node.ensures.same_tree) ∙ ap (p_ends_of c.open_node.new.arena) (sym c.in_err-open_node.ensures.same_stack),
 )
 
 pub invariant_of-self-2 : goal.invariant_of-self-2
 invariant_of-self-2 c = (
-    let own : IsFor c.args.origin c.self.inside.tokens c.args.next = subst (λ (a : State). IsFor c.args.origin a.tokens c.args.next) (sym c.self.view_is) c.requires.own in
-    let p : CanPush (open_at c.self.inside.stack c.self.inside.list c.put_new.new.arena) c.in_ok-node.node =
-    subst (λ x. CanPush (open_at c.self.inside.stack c.self.inside.list c.put_new.new.arena) x) (sym c.in_ok-node.ensures.id)
-    (c.in_ok-node.ensures.can_push c.self.inside.list c.self.invariant.0.is_open (element-element c.self.inside.arena c.args.name c.args.attrs c.args.origin)
-    (new-unseen c.self.inside.stack c.self.inside.list c.self.inside.arena c.put_new.new.arena (place_at c.self.inside.arena c.self.inside.stack c.self.inside.head c.args.target) (Element c.args.name c.args.attrs c.args.origin) (length c.self.inside.stack + 3) c.self.inside.tokens c.args.next c.self.inside.head c.self.inside.form c.self.inside.detached (own-least c.self.inside.arena c.args.name c.args.attrs c.args.origin c.self.inside.tokens c.args.next own) c.self.invariant.0)) in
-    opened-under_way c.self.inside.list c.self.inside.list c.self.inside.arena c.put_new.new.arena c.open_node.new.arena (place_at c.self.inside.arena c.self.inside.stack c.self.inside.head c.args.target) (length c.self.inside.stack + 3) c.self.inside.tokens c.args.next c.self.inside.head c.self.inside.form c.self.inside.detached c.args.name c.args.attrs c.args.origin c.in_ok-node.ensures.new
-    own (subst (λ (a : State). a.tokens ≤ c.args.next) (sym c.self.view_is) c.requires.next) (ap (λ (v : Tree). v.labels) c.in_ok-open_node.ensures.tree)
-    c.self.inside.stack c.open_node.new.stack (c.in_ok-open_node.ensures.stack ∙ ap (λ x. c.self.inside.stack ++ x ∷ []) c.in_ok-node.ensures.id)
-    (subst (λ (a : State). CanBeFirst a.stack (tag_of c.args.name)) (sym c.self.view_is) c.requires.first)
-    (c.in_ok-open_node.ensures.keeps c.self.inside.list (c.put_new.ensures.keeps c.self.inside.list c.self.invariant.0.is_open) p) c.self.invariant.0,
-    c.in_ok-open_node.ensures.ends (ends-made c.self.inside.stack c.self.inside.p_ends.items c.self.inside.arena c.put_new.new.arena _ _ _ c.self.invariant.1 c.self.invariant.0.is_open.stack_in c.in_ok-node.ensures.new)
+  let own : IsFor c.args.origin c.self.inside.tokens c.args.next = subst (λ (a : State). IsFor c.args.origin a.tokens c.args.next) (sym c.self.view_is) c.requires.own in
+      let p : CanPush (open_at c.self.inside.stack c.self.inside.list c.put_new.new.arena) c.in_ok-node.node =
+      subst (λ x. CanPush (open_at c.self.inside.stack c.self.inside.list c.put_new.new.arena) x) (sym c.in_ok-node.ensures.id)
+      (c.in_ok-node.ensures.can_push c.self.inside.list c.self.invariant.0.is_open (element-element c.self.inside.arena c.args.name c.args.attrs c.args.origin)
+      (new-unseen c.self.inside.stack c.self.inside.list c.self.inside.arena c.put_new.new.arena (place_at c.self.inside.arena c.self.inside.stack c.self.inside.head c.args.target) (Element c.args.name c.args.attrs c.args.origin) (length c.self.inside.stack + 3) c.self.inside.tokens c.args.next c.self.inside.head c.self.inside.form c.self.inside.detached (own-least c.self.inside.arena c.args.name c.args.attrs c.args.origin c.self.inside.tokens c.args.next own) c.self.invariant.0)) in
+      opened-under_way c.self.inside.list c.self.inside.list c.self.inside.arena c.put_new.new.arena c.open_node.new.arena (place_at c.self.inside.arena c.self.inside.stack c.self.inside.head c.args.target) (length c.self.inside.stack + 3) c.self.inside.tokens c.args.next c.self.inside.head c.self.inside.form c.self.inside.detached c.args.name c.args.attrs c.args.origin c.in_ok-node.ensures.new
+      own (subst (λ (a : State). a.tokens ≤ c.args.next) (sym c.self.view_is) c.requires.next) (ap (λ (v : Tree). v.labels) c.in_ok-open_node.ensures.tree)
+      c.self.inside.stack c.open_node.new.stack (c.in_ok-open_node.ensures.stack ∙ ap (λ x. c.self.inside.stack ++ x ∷ []) c.in_ok-node.ensures.id)
+      (subst (λ (a : State). CanBeFirst a.stack (tag_of c.args.name)) (sym c.self.view_is) c.requires.first)
+      (c.in_ok-open_node.ensures.keeps c.self.inside.list (c.put_new.ensures.keeps c.self.inside.list c.self.invariant.0.is_open) p) c.self.invariant.0,
+  c.in_ok-open_node.ensures.ends (ends-made c.self.inside.stack c.self.inside.p_ends.items c.self.inside.arena c.put_new.new.arena _ _ _ c.self.invariant.1 c.self.invariant.0.is_open.stack_in c.in_ok-node.ensures.new),
 )
 
 pub returns-clause-exact : goal.returns-clause-exact

@@ -15,17 +15,17 @@ use Rattle.html_tree.proofs.tree.OpenTree.pop_to.Goals as goal
 
 pub invariant_of-self : goal.invariant_of-self
 invariant_of-self c = (
-    let stack : c.pop_to.new.self ≡ first_few c.args.len c.self.inside.stack =
-    c.pop_to.ensures.stack ∙ ap (λ k. take k c.self.inside.stack) (c.kept_to-kept.ensures.value ∙ ap (λ n. kept_to n c.args.len) c.len-count.ensures) in
-    same-under_way c.self.inside.stack c.pop_to.new.self c.self.inside.list c.self.inside.list c.self.inside.arena c.pop_to.new.arena c.self.inside.tokens c.self.inside.head c.self.inside.form c.self.inside.detached
-    (ap (λ (v : Tree). v.labels) c.pop_to.ensures.tree ∙ all_unmarked-labels c.charge.new.self OnStack (drop c.kept_to-kept.result c.self.inside.stack) ∙ ap (λ (v : Tree). v.labels) c.charge.ensures)
-    (ap first_of stack ∙ first-few c.args.len c.self.inside.stack)
-    (c.pop_to.ensures.keeps c.self.inside.list (charged_keeps c.self.inside.stack c.self.inside.list c.self.inside.arena c.charge.new.self (c.len-count.result - c.kept_to-kept.result) c.charge.ensures c.self.invariant.0.is_open))
-    c.self.invariant.0,
-    ends-labels c.pop_to.new.self c.cut_ends.new.ends.items c.charge.new.self c.pop_to.new.arena
-    (c.cut_ends.ensures.items (ends-labels c.self.inside.stack c.self.inside.p_ends.items c.self.inside.arena c.charge.new.self c.self.invariant.1 (ap (λ (v : Tree). v.labels) c.charge.ensures) ∙ ap (p_ends_of c.charge.new.self) (sym c.as_slice.ensures))
-    ∙ ap (p_ends_of c.charge.new.self) (ap (take c.kept_to-kept.result) c.as_slice.ensures ∙ sym c.pop_to.ensures.stack))
-    (ap (λ (v : Tree). v.labels) c.pop_to.ensures.tree ∙ all_unmarked-labels c.charge.new.self OnStack (drop c.kept_to-kept.result c.self.inside.stack))
+  let stack : c.pop_to.new.self ≡ first_few c.args.len c.self.inside.stack =
+      c.pop_to.ensures.stack ∙ ap (λ k. take k c.self.inside.stack) (c.kept_to-kept.ensures.value ∙ ap (λ n. kept_to n c.args.len) c.len-count.ensures) in
+      same-under_way c.self.inside.stack c.pop_to.new.self c.self.inside.list c.self.inside.list c.self.inside.arena c.pop_to.new.arena c.self.inside.tokens c.self.inside.head c.self.inside.form c.self.inside.detached
+      (ap (λ (v : Tree). v.labels) c.pop_to.ensures.tree ∙ all_unmarked-labels c.charge.new.self OnStack (drop c.kept_to-kept.result c.self.inside.stack) ∙ ap (λ (v : Tree). v.labels) c.charge.ensures)
+      (ap first_of stack ∙ first-few c.args.len c.self.inside.stack)
+      (c.pop_to.ensures.keeps c.self.inside.list (charged_keeps c.self.inside.stack c.self.inside.list c.self.inside.arena c.charge.new.self (c.len-count.result - c.kept_to-kept.result) c.charge.ensures c.self.invariant.0.is_open))
+      c.self.invariant.0,
+  ends-labels c.pop_to.new.self c.cut_ends.new.ends.items c.charge.new.self c.pop_to.new.arena
+      (c.cut_ends.ensures.items (ends-labels c.self.inside.stack c.self.inside.p_ends.items c.self.inside.arena c.charge.new.self c.self.invariant.1 (ap (λ (v : Tree). v.labels) c.charge.ensures) ∙ ap (p_ends_of c.charge.new.self) (sym c.as_slice.ensures))
+      ∙ ap (p_ends_of c.charge.new.self) (ap (take c.kept_to-kept.result) c.as_slice.ensures ∙ sym c.pop_to.ensures.stack))
+      (ap (λ (v : Tree). v.labels) c.pop_to.ensures.tree ∙ all_unmarked-labels c.charge.new.self OnStack (drop c.kept_to-kept.result c.self.inside.stack)),
 )
 
 pub returns-clause-exact : goal.returns-clause-exact

@@ -11,8 +11,8 @@ off c = ap (λ v. is_in c.args.node (first_of v)) (sym c.as_slice.ensures) ∙ s
 
 pub invariant_of-self : goal.invariant_of-self
 invariant_of-self c = (
-    removed-under_way c.args.self.now c.self.inside.stack c.remove.new.self c.self.inside.list c.self.inside.arena c.remove.new.arena c.self.inside.tokens c.args.node c.self.inside.head c.self.inside.form c.self.inside.detached c.self.view_is c.remove.ensures.stack c.remove.ensures.tree (off c) (c.remove.ensures.keeps c.self.inside.list c.self.invariant.0.is_open) c.self.invariant.0,
-    ends-removed c.self.inside.stack c.remove.new.self c.self.inside.p_ends.items c.forget_end.new.ends.items c.self.inside.arena c.remove.new.arena c.args.node (off c) c.remove.ensures.stack (ap (λ (v : Tree). v.labels) c.remove.ensures.tree) c.forget_end.ensures.items c.self.invariant.1
+  removed-under_way c.args.self.now c.self.inside.stack c.remove.new.self c.self.inside.list c.self.inside.arena c.remove.new.arena c.self.inside.tokens c.args.node c.self.inside.head c.self.inside.form c.self.inside.detached c.self.view_is c.remove.ensures.stack c.remove.ensures.tree (off c) (c.remove.ensures.keeps c.self.inside.list c.self.invariant.0.is_open) c.self.invariant.0,
+  ends-removed c.self.inside.stack c.remove.new.self c.self.inside.p_ends.items c.forget_end.new.ends.items c.self.inside.arena c.remove.new.arena c.args.node (off c) c.remove.ensures.stack (ap (λ (v : Tree). v.labels) c.remove.ensures.tree) c.forget_end.ensures.items c.self.invariant.1,
 )
 
 pub returns-then-not-is_first-clause-exact : goal.returns-then-not-is_first-clause-exact

@@ -18,8 +18,8 @@ reopen-reopened-requires-clause-can_place c = under-way-place c.self.inside.stac
 
 pub invariant_of-self : goal.invariant_of-self
 invariant_of-self c = (
-    clones-under_way c.self.inside.stack c.reopen-reopened.new.stack c.self.inside.list c.reopen-reopened.new.self c.self.inside.arena c.reopen-reopened.new.arena c.self.inside.tokens c.self.inside.head c.self.inside.form c.self.inside.detached c.reopen-reopened.ensures.made c.reopen-reopened.ensures.keeps c.reopen-reopened.ensures.first c.self.invariant.0,
-    ends-survived c.self.inside.stack c.reopen-reopened.new.stack c.self.inside.list c.reopen-reopened.new.self c.self.inside.arena c.reopen-reopened.new.arena c.reopen-reopened.ensures.made c.reopen-reopened.ensures.survives c.self.invariant.0.is_open.stack_in c.self.inside.p_ends.items (subst (λ (a : State). 0 < length a.stack) (sym c.self.view_is) c.requires) c.reopen-reopened.ensures.first c.self.invariant.1
+  clones-under_way c.self.inside.stack c.reopen-reopened.new.stack c.self.inside.list c.reopen-reopened.new.self c.self.inside.arena c.reopen-reopened.new.arena c.self.inside.tokens c.self.inside.head c.self.inside.form c.self.inside.detached c.reopen-reopened.ensures.made c.reopen-reopened.ensures.keeps c.reopen-reopened.ensures.first c.self.invariant.0,
+  ends-survived c.self.inside.stack c.reopen-reopened.new.stack c.self.inside.list c.reopen-reopened.new.self c.self.inside.arena c.reopen-reopened.new.arena c.reopen-reopened.ensures.made c.reopen-reopened.ensures.survives c.self.invariant.0.is_open.stack_in c.self.inside.p_ends.items (subst (λ (a : State). 0 < length a.stack) (sym c.self.view_is) c.requires) c.reopen-reopened.ensures.first c.self.invariant.1,
 )
 
 pub returns-clause-exact : goal.returns-clause-exact

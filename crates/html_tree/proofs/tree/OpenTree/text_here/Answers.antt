@@ -13,8 +13,8 @@ use Rattle.html_tree.proofs.tree.OpenTree.text_here.Goals as goal
 
 pub invariant_of-self : goal.invariant_of-self
 invariant_of-self c = (
-    charged-under_way c.self.inside.stack c.self.inside.list c.self.inside.arena c.place-place.new.arena c.self.inside.tokens _ c.self.inside.head c.self.inside.form c.self.inside.detached c.place-place.ensures.steps (c.place-place.ensures.keeps c.self.inside.list c.self.invariant.0.is_open) c.self.invariant.0,
-    ends-labels c.self.inside.stack c.self.inside.p_ends.items c.self.inside.arena c.place-place.new.arena c.self.invariant.1 (ap (λ (v : Tree). v.labels) c.place-place.ensures.steps)
+  charged-under_way c.self.inside.stack c.self.inside.list c.self.inside.arena c.place-place.new.arena c.self.inside.tokens _ c.self.inside.head c.self.inside.form c.self.inside.detached c.place-place.ensures.steps (c.place-place.ensures.keeps c.self.inside.list c.self.invariant.0.is_open) c.self.invariant.0,
+  ends-labels c.self.inside.stack c.self.inside.p_ends.items c.self.inside.arena c.place-place.new.arena c.self.invariant.1 (ap (λ (v : Tree). v.labels) c.place-place.ensures.steps),
 )
 
 pub returns-clause-text : goal.returns-clause-text

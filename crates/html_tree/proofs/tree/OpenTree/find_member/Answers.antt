@@ -1,7 +1,7 @@
 use Rattle.std.proofs.Common.{◌∙◌, ap}
 use Rattle.html_tree.specs.Searching.{found, index_before, is_member, stops}
 use Rattle.html_tree.specs.States.{State}
-use Rattle.html_tree.proofs.tree.OpenTree.find.Goals as goal
+use Rattle.html_tree.proofs.tree.OpenTree.find_member.Goals as goal
 
 pub returns-clause-index : goal.returns-clause-index
 returns-clause-index c =
