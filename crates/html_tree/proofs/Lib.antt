@@ -12,3 +12,4 @@ pub mod Texted
 pub mod Clones
 pub mod Adopted
 pub mod Roots
+pub mod Seating

@@ -24,12 +24,13 @@ use Rattle.html_open.proofs.Finding.{last_where-passes}
 use Rattle.html_open.proofs.Fostering.{last_of-at}
 use Rattle.html_open.proofs.Inserted.{get-before}
 use Rattle.html_open.proofs.Keeps.{cases_bool, cases_eqb, eqb-self, has-append, split-last}
-use Rattle.html_open.proofs.Lists.{has-at, last_where-at, looked-some}
+use Rattle.html_open.proofs.Lists.{has-at, last_where-at, looked-some, not_any}
 use Rattle.html_open.proofs.SafePlaces.{same-tag}
 use Rattle.html_tree.specs.declared.groups.Group.{Group}
 use Rattle.html_tree.specs.declared.groups.Stop.{Stop}
 use Rattle.html_tree.specs.declared.groups.TableContext.{TableContext}
-use Rattle.html_tree.specs.Closing.{cleared_to, first_few, kept_to, remaining}
+use Rattle.html_tree.specs.declared.groups.TableContext.TheVariants as context
+use Rattle.html_tree.specs.Closing.{cleared_to, first_few, kept_to, remaining, context_end}
 use Rattle.html_tree.specs.Groups.{in_group, is_context}
 use Rattle.html_tree.specs.OpenTags.{HasClosed, HasContext, HasFewer, HasReopened, IsLighter, IsLighterBesides, open_tags, tags_down}
 use Rattle.html_tree.specs.Searching.{context_at, current_tag, found, is_member, stops, tag_if}
@@ -104,6 +105,10 @@ at-tag t s i x b e = ap (λ v. slice_get v i) (reverse-reverse (map (tag_at t) s
     by [] k c q = absurd (omega arith)
     by (y ∷ xs) zero c q = ap (λ v. Some (tag_at t v)) (sym q)
     by (y ∷ xs) (suc k) c q = by xs k (omega arith) q
+
+pub deepest-tag : (t : Tree) (s : List ℕ) → IsNamed t tag.Html (first_of s) → 0 < length s → slice_get (reverse (tags_down t s)) 0 ≡ Some tag.Html
+deepest-tag t [] f b = absurd (omega (arith, b))
+deepest-tag t (x ∷ s) f b = at-tag t (x ∷ s) 0 x b refl ∙ ap Some (same-tag (tag_at t x) tag.Html (f x refl).1)
 
 pub current-first : (a : State) → current_tag a ≡ slice_get (open_tags a) 0
 current-first a = by (last_of a.stack) refl
@@ -189,14 +194,25 @@ passes-at : (p : ℕ → Bool) (s : List ℕ) (i : ℕ) → last_index p s ≡ S
 passes-at p s i e = last_where-passes p s (get_or s i 0) (last_where-at p s i 0 e)
 
 -- the stack is cleared
-pub cleared-context : (a b : State) (c : TableContext) → b ≡ record a { stack = cleared_to a c; steps = b.steps } → HasContext c b
-cleared-context a b c e g rest h l = by (last_index (context_at a.tree c) a.stack) refl
+pub cleared-context : (a b : State) (c : TableContext) → IsSound a → b ≡ record a { stack = cleared_to a c; steps = b.steps } → HasContext c b
+cleared-context a b c s e g rest h = by (last_index (context_at a.tree c) a.stack) refl
   where
+    html-meets : (d : TableContext) → is_context d tag.Html ≡ true
+    html-meets context.Table = refl
+    html-meets context.Body = refl
+    html-meets context.Row = refl
+
+    first-meets : (xs : List ℕ) → IsNamed a.tree tag.Html (first_of xs) → list_any (context_at a.tree c) xs ≡ false → length xs ≡ 0
+    first-meets [] f n = refl
+    first-meets (x ∷ xs) f n = absurd (let m : context_at a.tree c x ≡ true = ap (is_context c) (same-tag (tag_at a.tree x) tag.Html (f x refl).1) ∙ html-meets c in let k : true ≡ false = rw m at n in cc)
+
     by : (o : Option ℕ) → last_index (context_at a.tree c) a.stack ≡ o → is_context c g ≡ true
     by None k = absurd (
-        let x : length (open_tags b) ≡ kept_to (length a.stack) 0 = ap (λ v. length (open_tags v)) e ∙ length-tags a.tree (cleared_to a c) ∙ ap (λ o. length (first_few (after_index o) a.stack)) k ∙ few-length 0 a.stack in
+        let x : length (open_tags b) ≡ length (cleared_to a c) = ap (λ v. length (open_tags v)) e ∙ length-tags a.tree (cleared_to a c) in
+        let z : length (cleared_to a c) ≡ kept_to (length a.stack) (context_end a c) = few-length (context_end a c) a.stack in
+        let n = first-meets a.stack s.first (not_any (context_at a.tree c) a.stack k) in
         let y : length (open_tags b) ≡ suc (length rest) = ap length h in
-        omega (arith, x, y, l))
+        omega (arith, x, y, z, n))
     by (Some i) k =
         let within = (looked-some (context_at a.tree c) a.stack i k).1 in
         let len : length (take (i + 1) a.stack) ≡ i + 1 = length-take (i + 1) a.stack ∙ omega (arith, within) in
@@ -300,7 +316,7 @@ module _ (s s' : List ℕ) (l l' : List Entry) (t u : Tree) (n : ℕ) (h f d : O
   old-tag : (x : ℕ) → x < length t.labels → tag_at u x ≡ tag_at t x
   old-tag x b = ap (λ ds. tag_in (label_in ds x)) m.labels_are ∙ ap tag_in (get-before t.labels (map (λ y. cloned (label_of t y)) m.elements) x node.Document b)
 
-  clone-tag : (x : ℕ) → length t.labels ≤ x → x < length u.labels → is_formatting (tag_at u x) ≡ true
+  pub clone-tag : (x : ℕ) → length t.labels ≤ x → x < length u.labels → is_formatting (tag_at u x) ≡ true
   clone-tag x a b =
       let k : length u.labels ≡ length t.labels + length m.elements =
       ap length m.labels_are ∙ length-append t.labels (map (λ y. cloned (label_of t y)) m.elements) ∙ ap (λ v. length t.labels + v) (length_map m.elements (λ y. cloned (label_of t y))) in

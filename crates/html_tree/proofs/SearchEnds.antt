@@ -1,12 +1,11 @@
 -- The open elements at which a search for a p in button scope ends.
-use Rattle.std.proofs.Common.{◌≡◌, ◌≢◌, ℕ, zero, suc, ◌+◌, ◌-◌, ◌<◌, ◌≤◌, Bool, true, false, cond, eqb, not, ◌||◌, ◌&&◌, List, [], ◌∷◌, ◌++◌, length, take, drop, map, get_or, Option, Some, None, inl, inr, refl, sym, ◌∙◌, ap, subst, arith, length-append}
+use Rattle.std.proofs.Common.{◌≡◌, ℕ, zero, suc, ◌+◌, ◌-◌, ◌<◌, ◌≤◌, Bool, true, false, cond, eqb, ◌||◌, ◌&&◌, List, [], ◌∷◌, ◌++◌, length, take, drop, map, get_or, Some, None, inl, inr, refl, sym, ◌∙◌, ap, subst, arith, length-append}
 use Rattle.std.specs.Prelude.{count_by, filter}
 use Rattle.std.specs.List.{list_any}
 use Rattle.std.proofs.lemmas.Bool.{false≢true}
 use Rattle.std.proofs.lemmas.List.{append-nil, take-append-drop, take_at}
 use Rattle.std.proofs.lemmas.List.Elements.{filter-append}
 use Rattle.std.proofs.lemmas.List.Sums.{length-filter}
-use Rattle.html_names.specs.declared.sets.Scope.{Scope}
 use Rattle.html_names.specs.declared.sets.Scope.TheVariants as scope
 use Rattle.html_names.specs.declared.tag.Tag.{Tag}
 use Rattle.html_names.specs.declared.tag.Tag.TheVariants as tag
@@ -38,10 +37,10 @@ use Rattle.html_tree.specs.declared.groups.Group.TheVariants as group
 use Rattle.html_tree.specs.declared.groups.Stop.{Stop}
 use Rattle.html_tree.specs.declared.groups.Stop.TheVariants as stop
 use Rattle.html_tree.specs.Inserting.{IsNew}
-use Rattle.html_tree.specs.Paragraphs.{ends_p_search, is_button_scope, is_button_stop, is_p, is_p_end, p_ends_of, seeks_p}
-use Rattle.html_tree.specs.Searching.{found, index_before, is_member, stops}
+use Rattle.html_tree.specs.Paragraphs.{ends_p_search, is_button_stop, is_p, is_p_end, p_ends_of, seeks_p}
+use Rattle.html_tree.specs.Searching.{index_before, is_member, stops}
 use Rattle.html_tree.specs.Since.{essence}
-use Rattle.html_tree.specs.States.{IsNamed, IsUnderWay, State, state_of}
+use Rattle.html_tree.specs.States.{IsNamed}
 use Rattle.html_tree.proofs.Kept.{same-tag_in}
 use Rattle.html_tree.proofs.Searches.{before-other, before-some}
 
@@ -92,7 +91,7 @@ or-true : (b : Bool) → (b || true) ≡ true
 or-true true = refl
 or-true false = refl
 
-any-mid : (p : ℕ → Bool) (xs : List ℕ) (k : ℕ) (ys : List ℕ) → p k ≡ true → list_any p (xs ++ k ∷ ys) ≡ true
+pub any-mid : (p : ℕ → Bool) (xs : List ℕ) (k : ℕ) (ys : List ℕ) → p k ≡ true → list_any p (xs ++ k ∷ ys) ≡ true
 any-mid p [] k ys h = rw h refl
 any-mid p (x ∷ xs) k ys h = rw (any-mid p xs k ys h) (or-true (p x))
 

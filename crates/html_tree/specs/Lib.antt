@@ -5,6 +5,7 @@ pub mod Searching
 pub mod Closing
 pub mod OpenTags
 pub mod Paragraphs
+pub mod Seats
 pub mod Targets
 pub mod Inserting
 pub mod Listing

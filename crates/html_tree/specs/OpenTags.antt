@@ -1,5 +1,5 @@
 -- What is open, by tags (13.2.4.2).
-use Rattle.std.specs.Prelude.{◌≡◌, ℕ, ◌+◌, ◌<◌, ◌≤◌, true, List, ◌∷◌, ◌++◌, drop, length, map, reverse}
+use Rattle.std.specs.Prelude.{◌≡◌, ℕ, ◌+◌, ◌≤◌, true, List, ◌∷◌, ◌++◌, drop, map, reverse}
 use Rattle.std.specs.List.{list_all, sum_by}
 use Rattle.html_names.specs.declared.tag.Tag.{Tag}
 use Rattle.html_names.specs.Sets.{is_formatting}
@@ -39,6 +39,6 @@ pub record HasReopened (a b : State) : Type 0 where
 abbrev pub HasClosed : Group → State → State → Type 0
 HasClosed g a b = (w : Tag → ℕ) (m : ℕ) → ((h : Tag) → in_group g h ≡ true → m ≤ w h) → sum_by w (open_tags b) + m ≤ sum_by w (open_tags a)
 
--- the current node is of the context, unless it is the only open element
+-- the current node is one back to which the stack is cleared
 abbrev pub HasContext : TableContext → State → Type 0
-HasContext c b = (g : Tag) (rest : List Tag) → open_tags b ≡ g ∷ rest → 0 < length rest → is_context c g ≡ true
+HasContext c b = (g : Tag) (rest : List Tag) → open_tags b ≡ g ∷ rest → is_context c g ≡ true

@@ -1,5 +1,5 @@
 // The tree under construction.
-ghost use Rattle.std.specs.Prelude.{◌≡◌, ℕ, ◌+◌, ◌^◌, ◌<◌, ◌≤◌, [], ◌∷◌, IfErr, IfOk, None, OnOk, Option, Some, length, true};
+ghost use Rattle.std.specs.Prelude.{◌≡◌, ℕ, ◌+◌, ◌^◌, ◌<◌, ◌≤◌, [], ◌∷◌, IfErr, IfOk, None, OnOk, Option, Some, length, reverse, slice_get, true};
 ghost use Rattle.html_names.specs.declared.tag.Tag.TheVariants as tag;
 ghost use Rattle.html_names.specs.Names.{name_of};
 ghost use Rattle.html_arena.specs.declared.data.NewNode.TheVariants.{Element};
@@ -163,6 +163,7 @@ impl OpenTree {
     pub fn laws(&self)
         ensures sound { IsSound self.now }
         ensures depth { length (open_tags self.now) ≡ length self.now.stack }
+        ensures deepest { 0 < length self.now.stack → slice_get (reverse (open_tags self.now)) 0 ≡ Some tag.Html }
         ensures counted { self.now.steps < 2 ^ 128 }
     {
         fits(self.arena.meter().steps);

@@ -4,11 +4,13 @@ ghost use Rattle.html_names.specs.declared.tag.Tag.TheVariants as tag;
 ghost use Rattle.html_open.specs.Lists.{up_to};
 ghost use Rattle.html_open.specs.Scopes.{stays};
 ghost use Rattle.html_arena.specs.Siblings.{first_of, is_in};
+ghost use Rattle.html_arena.specs.Tree.{tag_at};
 ghost use Rattle.html_tree.specs.Closing.{cleared_to, context_end, closed_through, first_few, kept_to, popped, remaining};
 ghost use Rattle.html_tree.specs.Groups.{in_group};
 ghost use Rattle.html_tree.specs.OpenTags.{HasClosed, HasContext, HasFewer, IsLighter, open_tags};
 ghost use Rattle.html_tree.specs.Paragraphs.{seeks_p};
 ghost use Rattle.html_tree.specs.Searching.{found};
+ghost use Rattle.html_tree.specs.Seats.{AreSeated, carries_part};
 ghost use Rattle.html_tree.specs.Since.{Grown, Keeps};
 
 use super::OpenTree;
@@ -28,6 +30,7 @@ impl OpenTree {
         ensures grown { Grown 0 0 0 0 self.old self.new }
         ensures few { HasFewer self.old self.new }
         ensures lighter { IsLighter self.old self.new }
+        ensures seated { AreSeated (open_tags self.old) → AreSeated (open_tags self.new) }
     {
         let count = self.stack.len();
         let kept = kept_to(count, len);
@@ -45,6 +48,7 @@ impl OpenTree {
         ensures tags { 1 < length self.old.stack → open_tags self.new ≡ drop 1 (open_tags self.old) }
         ensures few { HasFewer self.old self.new }
         ensures lighter { IsLighter self.old self.new }
+        ensures seated { AreSeated (open_tags self.old) → AreSeated (open_tags self.new) }
     {
         let count = self.stack.len();
         self.pop_to(count.saturating_sub(1));
@@ -61,6 +65,7 @@ impl OpenTree {
         ensures grown { Grown 0 0 0 0 self.old self.new }
         ensures few { HasFewer self.old self.new }
         ensures lighter { IsLighter self.old self.new }
+        ensures seated { AreSeated (open_tags self.old) → AreSeated (open_tags self.new) }
         ensures found { result ≡ true → in_group group tag.Html ≡ false → HasClosed group self.old self.new }
     {
         self.laws();
@@ -81,8 +86,10 @@ impl OpenTree {
         ensures grown { Grown 0 0 0 0 self.old self.new }
         ensures few { HasFewer self.old self.new }
         ensures lighter { IsLighter self.old self.new }
+        ensures seated { AreSeated (open_tags self.old) → AreSeated (open_tags self.new) }
         ensures context { HasContext context self.new }
     {
+        self.laws();
         let len = self.context_end(context);
         self.pop_to(len);
     }
@@ -113,6 +120,7 @@ impl OpenTree {
         ensures grown { Grown 0 0 0 0 self.old self.new }
         ensures few { HasFewer self.old self.new }
         ensures lighter { IsLighter self.old self.new }
+        ensures seated { AreSeated (open_tags self.old) → AreSeated (open_tags self.new) }
     {
         let nodes = self.stack.as_slice();
         let at = last_index(nodes, &self.arena, Sought::Staying(except));
@@ -130,6 +138,7 @@ impl OpenTree {
         ensures keeps { Keeps self.old self.new }
         ensures grown { Grown 0 0 0 0 self.old self.new }
         ensures lighter { IsLighter self.old self.new }
+        ensures seated { carries_part (tag_at self.old.tree node) ≡ false → AreSeated (open_tags self.old) → AreSeated (open_tags self.new) }
     {
         if !is_first(self.stack.as_slice(), node) {
             forget_end(&mut self.p_ends, &self.arena, node);

@@ -1,4 +1,4 @@
-use Rattle.std.proofs.Common.{arith, ◌≡◌, eqb, sym, ◌∙◌, ap}
+use Rattle.std.proofs.Common.{arith, eqb, sym, ◌∙◌, ap}
 use Rattle.html_open.proofs.Lists.{last_index-hit, last_index-miss}
 use Rattle.html_tree.proofs.paragraphs.index_of.Goals as goal
 

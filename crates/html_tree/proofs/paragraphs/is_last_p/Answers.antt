@@ -1,6 +1,5 @@
 use Rattle.std.proofs.Common.{◌∙◌, sym}
 use Rattle.html_open.proofs.Members.{last-member}
-use Rattle.html_tree.proofs.SearchEnds.{lacks-p}
 use Rattle.html_tree.proofs.paragraphs.is_last_p.Goals as goal
 
 pub is_named-requires : goal.is_named-requires

@@ -1,4 +1,4 @@
-use Rattle.std.proofs.Common.{◌≡◌, ◌∙◌, ◌++◌, cond, [], ◌∷◌, ap, sym}
+use Rattle.std.proofs.Common.{◌∙◌, ◌++◌, cond, [], ◌∷◌, ap}
 use Rattle.html_arena.specs.Tree.{Tree}
 use Rattle.html_tree.specs.Paragraphs.{is_p_end}
 use Rattle.html_tree.proofs.SearchEnds.{ends-pushed}

@@ -8,8 +8,11 @@ use Rattle.html_tree.proofs.Clones.{clones-grown}
 use Rattle.html_tree.proofs.Inserted.{on-ok, under-way-place}
 use Rattle.html_tree.proofs.Spelled.{if-err}
 use Rattle.html_tree.proofs.OpenTags.{adopted-lighter}
-use Rattle.html_tree.specs.OpenTags.{IsLighterBesides}
+use Rattle.html_tree.specs.OpenTags.{IsLighterBesides, open_tags}
 use Rattle.html_tree.proofs.SearchEnds.{ends-survived}
+use Rattle.html_tree.proofs.Seating.{adopted-seated}
+use Rattle.html_tree.specs.Seats.{AreSeated}
+use Rattle.html_open.specs.Opened.{open_at}
 use Rattle.html_tree.proofs.tree.OpenTree.adopt.Goals as goal
 
 pub adopt-end-requires-clause-can_place : goal.adopt-end-requires-clause-can_place
@@ -56,3 +59,8 @@ pub returns-clause-lighter : goal.returns-clause-lighter
 returns-clause-lighter c =
     subst (λ (a : State). IsLighterBesides a (state_of c.adopt-end.new.stack c.adopt-end.new.list c.adopt-end.new.arena c.self.inside.tokens c.self.inside.head c.self.inside.form c.self.inside.detached)) c.self.view_is
     (adopted-lighter c.self.inside.stack c.adopt-end.new.stack c.self.inside.list c.adopt-end.new.list c.self.inside.arena c.adopt-end.new.arena c.self.inside.tokens c.self.inside.head c.self.inside.form c.self.inside.detached c.adopt-end.ensures.made c.self.invariant.0.is_open c.adopt-end.ensures.kept.stack_in c.adopt-end.ensures.kept.stack_once (c.adopt-end.ensures.survives (formatting-plain c.args.name c.requires.formatting)))
+
+pub returns-clause-seated : goal.returns-clause-seated
+returns-clause-seated c = λ h.
+    adopted-seated c.args.name c.args.foster c.adopt-end.result (open_at c.self.inside.stack c.self.inside.list c.self.inside.arena) (open_at c.adopt-end.new.stack c.adopt-end.new.list c.adopt-end.new.arena) c.self.invariant.0.is_open c.adopt-end.ensures.adopted c.adopt-end.ensures.cause
+    (subst (λ (a : State). AreSeated (open_tags a)) (sym c.self.view_is) h)

@@ -1,10 +1,10 @@
-use Rattle.std.proofs.Common.{◌≡◌, ◌<◌, Bool, true, false, not, Option, Some, None, length, refl, sym, ◌∙◌, ap, ℕ}
+use Rattle.std.proofs.Common.{◌≡◌, Bool, true, false, not, Option, Some, None, refl, sym, ◌∙◌, ap, ℕ}
 use Rattle.html_names.specs.declared.sets.Scope.TheVariants as scope
 use Rattle.html_names.specs.declared.tag.Tag.TheVariants as tag
 use Rattle.html_tree.specs.declared.groups.Group.TheVariants as group
 use Rattle.html_tree.specs.declared.groups.Stop.TheVariants as stop
 use Rattle.html_tree.specs.Searching.{found}
-use Rattle.html_tree.specs.States.{State, state_of}
+use Rattle.html_tree.specs.States.{State}
 use Rattle.html_tree.proofs.SearchEnds.{ends-in, finds-p, lacks-p}
 use Rattle.html_tree.proofs.tree.OpenTree.lacks_p.Goals as goal
 

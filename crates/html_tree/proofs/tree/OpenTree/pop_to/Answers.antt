@@ -11,6 +11,7 @@ use Rattle.html_tree.proofs.Kept.{all_unmarked-steps, first-few, more-most, popp
 use Rattle.html_tree.proofs.OpenTags.{few-tags, few-weigh-less}
 use Rattle.html_tree.specs.Paragraphs.{p_ends_of}
 use Rattle.html_tree.proofs.SearchEnds.{ends-labels}
+use Rattle.html_tree.proofs.Seating.{few-seated}
 use Rattle.html_tree.proofs.tree.OpenTree.pop_to.Goals as goal
 
 pub invariant_of-self : goal.invariant_of-self
@@ -59,3 +60,6 @@ returns-clause-few c = few-tags c.args.self.now _ c.args.len (returns-clause-exa
 
 pub returns-clause-lighter : goal.returns-clause-lighter
 returns-clause-lighter c = few-weigh-less c.args.self.now _ c.args.len (returns-clause-exact c)
+
+pub returns-clause-seated : goal.returns-clause-seated
+returns-clause-seated c = few-seated c.args.self.now (state_of c.pop_to.new.self c.self.inside.list c.pop_to.new.arena c.self.inside.tokens c.self.inside.head c.self.inside.form c.self.inside.detached) (returns-clause-few c)

@@ -4,6 +4,8 @@ use Rattle.html_tree.proofs.Closings.{removed-exact, removed-grown, removed-keep
 use Rattle.html_tree.proofs.OpenTags.{removed-lighter}
 use Rattle.html_tree.proofs.SearchEnds.{ends-removed}
 use Rattle.html_arena.specs.Tree.{Tree}
+use Rattle.html_tree.proofs.Seating.{removed-seated}
+use Rattle.html_tree.specs.States.{state_of}
 use Rattle.html_tree.proofs.tree.OpenTree.remove_open.Goals as goal
 
 off : (c : goal.After-remove) → is_in c.args.node (first_of c.self.inside.stack) ≡ false
@@ -29,3 +31,6 @@ returns-then-not-is_first-clause-grown c = removed-grown c.args.self.now c.self.
 
 pub returns-then-not-is_first-clause-lighter : goal.returns-then-not-is_first-clause-lighter
 returns-then-not-is_first-clause-lighter c = removed-lighter c.args.self.now _ c.args.node (returns-then-not-is_first-clause-exact c)
+
+pub returns-then-not-is_first-clause-seated : goal.returns-then-not-is_first-clause-seated
+returns-then-not-is_first-clause-seated c = removed-seated c.args.self.now (state_of c.remove.new.self c.self.inside.list c.remove.new.arena c.self.inside.tokens c.self.inside.head c.self.inside.form c.self.inside.detached) c.args.node (returns-then-not-is_first-clause-exact c)

@@ -11,6 +11,7 @@ use Rattle.html_tree.proofs.Kept.{keeps-since}
 use Rattle.html_tree.proofs.OpenTags.{reopened-tags}
 use Rattle.html_tree.specs.OpenTags.{HasReopened}
 use Rattle.html_tree.proofs.SearchEnds.{ends-survived}
+use Rattle.html_tree.proofs.Seating.{reopened-seated}
 use Rattle.html_tree.proofs.tree.OpenTree.reopen.Goals as goal
 
 pub reopen-reopened-requires-clause-can_place : goal.reopen-reopened-requires-clause-can_place
@@ -57,3 +58,6 @@ pub returns-clause-opened : goal.returns-clause-opened
 returns-clause-opened c =
     subst (λ (a : State). HasReopened a (state_of c.reopen-reopened.new.stack c.reopen-reopened.new.self c.reopen-reopened.new.arena c.self.inside.tokens c.self.inside.head c.self.inside.form c.self.inside.detached)) c.self.view_is
     (reopened-tags c.self.inside.stack c.reopen-reopened.new.stack c.self.inside.list c.reopen-reopened.new.self c.self.inside.arena c.reopen-reopened.new.arena c.self.inside.tokens c.self.inside.head c.self.inside.form c.self.inside.detached c.reopen-reopened.ensures.made c.self.invariant.0.is_open c.reopen-reopened.ensures.keeps.stack_in (length c.reopen-reopened.ensures.so_far.done) c.reopen-reopened.ensures.so_far.stack_is)
+
+pub returns-clause-seated : goal.returns-clause-seated
+returns-clause-seated c = reopened-seated c.args.self.now (state_of c.reopen-reopened.new.stack c.reopen-reopened.new.self c.reopen-reopened.new.arena c.self.inside.tokens c.self.inside.head c.self.inside.form c.self.inside.detached) (returns-clause-opened c)
