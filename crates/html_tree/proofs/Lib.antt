@@ -13,3 +13,4 @@ pub mod Clones
 pub mod Adopted
 pub mod Roots
 pub mod Seating
+pub mod Scoped

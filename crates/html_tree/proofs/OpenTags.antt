@@ -48,7 +48,7 @@ has-later : (x y : ℕ) (xs : List ℕ) → has x xs ≡ true → has x (y ∷ x
 has-later x y xs b = elim (cases_eqb x y) [ inl q ↦ rw q.0 refl | inr q ↦ rw q.0 b ]
 
 -- lists of tags
-cons-tags : (t : Tree) (x : ℕ) (s : List ℕ) → tags_down t (x ∷ s) ≡ tags_down t s ++ tag_at t x ∷ []
+pub cons-tags : (t : Tree) (x : ℕ) (s : List ℕ) → tags_down t (x ∷ s) ≡ tags_down t s ++ tag_at t x ∷ []
 cons-tags t x s = reverse_onto (map (tag_at t) s) (tag_at t x) []
 
 pub push-tags : (t : Tree) (s : List ℕ) (x : ℕ) → tags_down t (s ++ x ∷ []) ≡ tag_at t x ∷ tags_down t s
@@ -194,23 +194,27 @@ passes-at : (p : ℕ → Bool) (s : List ℕ) (i : ℕ) → last_index p s ≡ S
 passes-at p s i e = last_where-passes p s (get_or s i 0) (last_where-at p s i 0 e)
 
 -- the stack is cleared
+html-meets : (d : TableContext) → is_context d tag.Html ≡ true
+html-meets context.Table = refl
+html-meets context.Body = refl
+html-meets context.Row = refl
+
+-- the first element, an html, is one back to which the stack is cleared
+pub some-meets : (a : State) (c : TableContext) → IsSound a → list_any (context_at a.tree c) a.stack ≡ false → length a.stack ≡ 0
+some-meets a c s n = by a.stack s.first n
+  where
+    by : (xs : List ℕ) → IsNamed a.tree tag.Html (first_of xs) → list_any (context_at a.tree c) xs ≡ false → length xs ≡ 0
+    by [] f k = refl
+    by (x ∷ xs) f k = absurd (let m : context_at a.tree c x ≡ true = ap (is_context c) (same-tag (tag_at a.tree x) tag.Html (f x refl).1) ∙ html-meets c in let q : true ≡ false = rw m at k in cc)
+
 pub cleared-context : (a b : State) (c : TableContext) → IsSound a → b ≡ record a { stack = cleared_to a c; steps = b.steps } → HasContext c b
 cleared-context a b c s e g rest h = by (last_index (context_at a.tree c) a.stack) refl
   where
-    html-meets : (d : TableContext) → is_context d tag.Html ≡ true
-    html-meets context.Table = refl
-    html-meets context.Body = refl
-    html-meets context.Row = refl
-
-    first-meets : (xs : List ℕ) → IsNamed a.tree tag.Html (first_of xs) → list_any (context_at a.tree c) xs ≡ false → length xs ≡ 0
-    first-meets [] f n = refl
-    first-meets (x ∷ xs) f n = absurd (let m : context_at a.tree c x ≡ true = ap (is_context c) (same-tag (tag_at a.tree x) tag.Html (f x refl).1) ∙ html-meets c in let k : true ≡ false = rw m at n in cc)
-
     by : (o : Option ℕ) → last_index (context_at a.tree c) a.stack ≡ o → is_context c g ≡ true
     by None k = absurd (
         let x : length (open_tags b) ≡ length (cleared_to a c) = ap (λ v. length (open_tags v)) e ∙ length-tags a.tree (cleared_to a c) in
         let z : length (cleared_to a c) ≡ kept_to (length a.stack) (context_end a c) = few-length (context_end a c) a.stack in
-        let n = first-meets a.stack s.first (not_any (context_at a.tree c) a.stack k) in
+        let n = some-meets a c s (not_any (context_at a.tree c) a.stack k) in
         let y : length (open_tags b) ≡ suc (length rest) = ap length h in
         omega (arith, x, y, z, n))
     by (Some i) k =
@@ -226,12 +230,28 @@ cleared-context a b c s e g rest h = by (last_index (context_at a.tree c) a.stac
         ap (is_context c) is ∙ passes-at (context_at a.tree c) a.stack i k
 
 -- an element of a group is closed
+pub last-found : (a : State) (g : Group) (e : Stop) (i : ℕ) → found a g e ≡ Some i → last_index (is_member a.tree g) a.stack ≡ Some i
+last-found a g e i k = if-there (in_scope (is_member a.tree g) (stops a.tree e) a.stack) (last_index (is_member a.tree g) a.stack) k
+  where
+    if-there : (c : Bool) (o : Option ℕ) → cond c o None ≡ Some i → o ≡ Some i
+    if-there true o q = q
+    if-there false o q = absurd (let r = q in cc)
+
+-- the first element, an html, is not of the group
+pub later-found : (a : State) (g : Group) (i : ℕ) → IsSound a → in_group g tag.Html ≡ false → last_index (is_member a.tree g) a.stack ≡ Some i → 0 < i
+later-found a g i s n at = not-first i a.stack (looked-some (is_member a.tree g) a.stack i at).1 s.first (passes-at (is_member a.tree g) a.stack i at)
+  where
+    not-first : (k : ℕ) (xs : List ℕ) → k < length xs → IsNamed a.tree tag.Html (first_of xs) → is_member a.tree g (get_or xs k 0) ≡ true → 0 < k
+    not-first k [] c f p = absurd (omega arith)
+    not-first zero (x ∷ xs) c f p = absurd (false≢true (sym n ∙ ap (in_group g) (sym (same-tag (tag_at a.tree x) tag.Html (f x refl).1)) ∙ p))
+    not-first (suc k) (x ∷ xs) c f p = omega arith
+
 pub closed-group : (a b : State) (g : Group) (e : Stop) (i : ℕ) → IsSound a → Some i ≡ found a g e → b ≡ record a { stack = first_few i a.stack; steps = b.steps } → in_group g tag.Html ≡ false → HasClosed g a b
 closed-group a b g e i s h q n w m least =
-    let at = last-found (sym h) in
+    let at = last-found a g e i (sym h) in
     let within = (looked-some (is_member a.tree g) a.stack i at).1 in
     let member = passes-at (is_member a.tree g) a.stack i at in
-    let later : 0 < i = not-first i a.stack within s.first member in
+    let later : 0 < i = later-found a g i s n at in
     let few : kept_to (length a.stack) i ≡ i = omega (arith, within, later) in
     let cut : first_few i a.stack ≡ take i a.stack = ap (λ n. take n a.stack) few in
     let x : sum_by w (open_tags b) ≡ sum_by w (tags_down a.tree (take i a.stack)) = ap (λ v. sum_by w (open_tags v)) q ∙ ap (λ v. sum_by w (tags_down a.tree v)) cut in
@@ -240,18 +260,6 @@ closed-group a b g e i s h q n w m least =
     let v = sum_by_more_le (λ y. w (tag_at a.tree y)) a.stack i 0 within in
     let u = least (tag_at a.tree (get_or a.stack i 0)) member in
     omega (arith, x, y, z, v, u)
-  where
-    not-first : (k : ℕ) (xs : List ℕ) → k < length xs → IsNamed a.tree tag.Html (first_of xs) → is_member a.tree g (get_or xs k 0) ≡ true → 0 < k
-    not-first k [] c f p = absurd (omega arith)
-    not-first zero (x ∷ xs) c f p = absurd (false≢true (sym n ∙ ap (in_group g) (sym (same-tag (tag_at a.tree x) tag.Html (f x refl).1)) ∙ p))
-    not-first (suc k) (x ∷ xs) c f p = omega arith
-
-    if-there : (c : Bool) (o : Option ℕ) → cond c o None ≡ Some i → o ≡ Some i
-    if-there true o k = k
-    if-there false o k = absurd (let r = k in cc)
-
-    last-found : found a g e ≡ Some i → last_index (is_member a.tree g) a.stack ≡ Some i
-    last-found k = if-there (in_scope (is_member a.tree g) (stops a.tree e) a.stack) (last_index (is_member a.tree g) a.stack) k
 
 -- sums over lists without repetition
 has-without : (y x : ℕ) (ys : List ℕ) → has y ys ≡ true → eqb y x ≡ false → has y (without x ys) ≡ true

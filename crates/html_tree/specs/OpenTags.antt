@@ -1,12 +1,13 @@
 -- What is open, by tags (13.2.4.2).
-use Rattle.std.specs.Prelude.{◌≡◌, ℕ, ◌+◌, ◌≤◌, true, List, ◌∷◌, ◌++◌, drop, map, reverse}
-use Rattle.std.specs.List.{list_all, sum_by}
+use Rattle.std.specs.Prelude.{◌≡◌, ℕ, ◌+◌, ◌≤◌, true, List, ◌∷◌, ◌++◌, drop, map, reverse, Bool, false, cond, []}
+use Rattle.std.specs.List.{list_all, sum_by, position_or_len}
 use Rattle.html_names.specs.declared.tag.Tag.{Tag}
 use Rattle.html_names.specs.Sets.{is_formatting}
 use Rattle.html_arena.specs.Tree.{Tree, tag_at}
 use Rattle.html_tree.specs.declared.groups.Group.{Group}
 use Rattle.html_tree.specs.declared.groups.TableContext.{TableContext}
-use Rattle.html_tree.specs.Groups.{in_group, is_context}
+use Rattle.html_tree.specs.Groups.{in_group, is_context, is_stop}
+use Rattle.html_tree.specs.declared.groups.Stop.{Stop}
 use Rattle.html_tree.specs.States.{State}
 
 -- the tags of elements, from the last one down
@@ -34,6 +35,15 @@ pub record HasReopened (a b : State) : Type 0 where
   pub opened : List Tag
   pub formatting : list_all is_formatting opened ≡ true
   pub tags_are : open_tags b ≡ opened ++ open_tags a
+
+-- the tags from the first that passes on
+abbrev pub back_to : (Tag → Bool) → List Tag → List Tag
+back_to p tags = drop (position_or_len p tags) tags
+
+-- one of a group comes before one that ends the search
+abbrev pub is_tag_in_scope : Group → Stop → List Tag → Bool
+is_tag_in_scope g e [] = false
+is_tag_in_scope g e (h ∷ rest) = cond (in_group g h) true (cond (is_stop e h) false (is_tag_in_scope g e rest))
 
 -- an element of the group was closed: where each of its tags weighs m at least, what is open weighs at least m less
 abbrev pub HasClosed : Group → State → State → Type 0

@@ -1,13 +1,14 @@
 // Elements that are closed. The first element never is.
 ghost use Rattle.std.specs.Prelude.{◌≡◌, ℕ, ◌+◌, ◌*◌, ◌<◌, ◌≤◌, drop, false, is_some, length, true};
+ghost use Rattle.std.specs.List.{after_first};
 ghost use Rattle.html_names.specs.declared.tag.Tag.TheVariants as tag;
 ghost use Rattle.html_open.specs.Lists.{up_to};
-ghost use Rattle.html_open.specs.Scopes.{stays};
+ghost use Rattle.html_open.specs.Scopes.{stays, tag_stays};
 ghost use Rattle.html_arena.specs.Siblings.{first_of, is_in};
 ghost use Rattle.html_arena.specs.Tree.{tag_at};
 ghost use Rattle.html_tree.specs.Closing.{cleared_to, context_end, closed_through, first_few, kept_to, popped, remaining};
-ghost use Rattle.html_tree.specs.Groups.{in_group};
-ghost use Rattle.html_tree.specs.OpenTags.{HasClosed, HasContext, HasFewer, IsLighter, open_tags};
+ghost use Rattle.html_tree.specs.Groups.{in_group, is_context};
+ghost use Rattle.html_tree.specs.OpenTags.{HasClosed, HasContext, HasFewer, IsLighter, back_to, is_tag_in_scope, open_tags};
 ghost use Rattle.html_tree.specs.Paragraphs.{seeks_p};
 ghost use Rattle.html_tree.specs.Searching.{found};
 ghost use Rattle.html_tree.specs.Seats.{AreSeated, carries_part};
@@ -58,6 +59,7 @@ impl OpenTree {
     /// At most two steps for each open element; for a p in button scope two for each that is closed, and one.
     pub fn close(&mut self, group: Group, stop: Stop) -> bool
         ensures answer { result ≡ is_some (found self.old group stop) }
+        ensures in_scope { result ≡ is_tag_in_scope group stop (open_tags self.old) }
         ensures exact { self.new ≡ record self.old { stack = closed_through self.old group stop; steps = self.new.steps } }
         ensures steps { self.new.steps ≤ self.old.steps + 2 * length self.old.stack }
         ensures paid { seeks_p group stop ≡ true → self.new.steps + 2 * length self.new.stack ≤ self.old.steps + 2 * length self.old.stack + 1 }
@@ -65,6 +67,8 @@ impl OpenTree {
         ensures grown { Grown 0 0 0 0 self.old self.new }
         ensures few { HasFewer self.old self.new }
         ensures lighter { IsLighter self.old self.new }
+        ensures same { result ≡ false → open_tags self.new ≡ open_tags self.old }
+        ensures closed { result ≡ true → in_group group tag.Html ≡ false → open_tags self.new ≡ after_first (in_group group) (open_tags self.old) }
         ensures seated { AreSeated (open_tags self.old) → AreSeated (open_tags self.new) }
         ensures found { result ≡ true → in_group group tag.Html ≡ false → HasClosed group self.old self.new }
     {
@@ -86,6 +90,7 @@ impl OpenTree {
         ensures grown { Grown 0 0 0 0 self.old self.new }
         ensures few { HasFewer self.old self.new }
         ensures lighter { IsLighter self.old self.new }
+        ensures cleared { open_tags self.new ≡ back_to (is_context context) (open_tags self.old) }
         ensures seated { AreSeated (open_tags self.old) → AreSeated (open_tags self.new) }
         ensures context { HasContext context self.new }
     {
@@ -120,6 +125,7 @@ impl OpenTree {
         ensures grown { Grown 0 0 0 0 self.old self.new }
         ensures few { HasFewer self.old self.new }
         ensures lighter { IsLighter self.old self.new }
+        ensures left { open_tags self.new ≡ back_to (tag_stays except) (open_tags self.old) }
         ensures seated { AreSeated (open_tags self.old) → AreSeated (open_tags self.new) }
     {
         let nodes = self.stack.as_slice();

@@ -7,7 +7,7 @@ ghost use Rattle.html_arena.specs.Tree.{tag_at};
 ghost use Rattle.html_open.specs.AdoptFinding.{element_in_scope};
 ghost use Rattle.html_tree.specs.Paragraphs.{seeks_p};
 ghost use Rattle.html_tree.specs.Searching.{current_tag, found, found_name};
-ghost use Rattle.html_tree.specs.OpenTags.{open_tags};
+ghost use Rattle.html_tree.specs.OpenTags.{is_tag_in_scope, open_tags};
 ghost use Rattle.html_tree.specs.Since.{Grown, Keeps};
 
 use super::OpenTree;
@@ -55,6 +55,7 @@ impl OpenTree {
     /// current node down to the one where the search stops; where it is for a p in button scope and there is none, one step in all.
     pub fn find(&mut self, group: Group, stop: Stop) -> Option<usize>
         ensures index { result ≡ found self.old group stop }
+        ensures in_scope { is_some result ≡ is_tag_in_scope group stop (open_tags self.old) }
         ensures below { IfSome result (λ i. i < length self.old.stack) }
         ensures rest { self.new ≡ record self.old { steps = self.new.steps } }
         ensures steps { self.new.steps ≤ self.old.steps + length self.old.stack }
@@ -83,6 +84,7 @@ impl OpenTree {
     /// The index of the last open element of a group, unless one that ends the search stands after it, sought down the stack.
     fn find_member(&mut self, group: Group, stop: Stop) -> Option<usize>
         ensures index { result ≡ found self.old group stop }
+        ensures in_scope { is_some result ≡ is_tag_in_scope group stop (open_tags self.old) }
         ensures below { IfSome result (λ i. i < length self.old.stack) }
         ensures rest { self.new ≡ record self.old { steps = self.new.steps } }
         ensures steps { self.new.steps ≤ self.old.steps + length self.old.stack }
@@ -102,6 +104,7 @@ impl OpenTree {
     /// Whether an element of a group is open, and none that ends the search stands after the last such. Steps as those of `find`.
     pub fn has(&mut self, group: Group, stop: Stop) -> bool
         ensures answer { result ≡ is_some (found self.old group stop) }
+        ensures in_scope { result ≡ is_tag_in_scope group stop (open_tags self.old) }
         ensures quick { seeks_p group stop ≡ true → result ≡ false → self.new.steps ≤ self.old.steps + 1 }
         ensures rest { self.new ≡ record self.old { steps = self.new.steps } }
         ensures steps { self.new.steps ≤ self.old.steps + length self.old.stack }
