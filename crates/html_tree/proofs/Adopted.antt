@@ -1,5 +1,5 @@
 -- An adoption keeps what is always true, and what was closed.
-use Rattle.std.proofs.Common.{◌≡◌, ◌≢◌, ℕ, ◌+◌, ◌<◌, ◌≤◌, Bool, true, false, List, [], ◌∷◌, drop, length, Option, Some, None, Result, Ok, Err, IfOk, OnOk, ◌⊎◌, inl, inr, refl, sym, ◌∙◌, ap, subst, arith}
+use Rattle.std.proofs.Common.{◌≡◌, ℕ, ◌<◌, ◌≤◌, true, false, List, [], ◌∷◌, drop, length, Option, Some, None, Result, Ok, Err, IfOk, OnOk, ◌⊎◌, inl, inr, refl, sym, ◌∙◌, ap, subst, arith}
 use Rattle.std.proofs.lemmas.Bool.{false≢true}
 use Rattle.html_names.specs.Sets.{is_formatting, is_special}
 use Rattle.html_names.specs.Tags.{is_same}
@@ -7,7 +7,7 @@ use Rattle.html_names.specs.declared.tag.Tag.{Tag}
 use Rattle.html_names.specs.declared.tag.Tag.TheVariants as tag
 use Rattle.html_arena.specs.Data.{IsElement, tag_in}
 use Rattle.html_arena.specs.Siblings.{Distinct, first_of, has}
-use Rattle.html_arena.specs.Tree.{Tree, WellFormed, label_of, named, parent_of}
+use Rattle.html_arena.specs.Tree.{Tree, WellFormed, label_of, named, parent_of, more}
 use Rattle.html_open.specs.declared.entry.Entry.{Entry}
 use Rattle.html_open.specs.Adopting.{IsFirstFree, MadeClones, Survives}
 use Rattle.html_open.specs.Entries.{has_node}
@@ -78,9 +78,9 @@ module _ (s : List ℕ) (l : List Entry) (t : Tree) (n : ℕ) (hd fm dt : Option
     adopted-under_way b o m = clones-under_way s s' l l' t u n hd fm dt m o (first-equal b) h
 
     pub adopted-keeps : (a : State) → state_of s l t n hd fm dt ≡ a → WellFormed t → MadeClones (open_at s l t) u → KeepsClosed (open_at s l t) u → KeepsRoots (open_at s l t) u
-        → (is_special name ≡ false → Survives (open_at s l t) (open_at s' l' u)) → Keeps a (state_of s' l' u n hd fm dt)
-    adopted-keeps a w wf m k r v = subst (λ (b : State). Keeps b (state_of s' l' u n hd fm dt)) w (keeps-since (state_of s l t n hd fm dt) (state_of s' l' u n hd fm dt)
-        (clones-since s s' l l' t u n hd fm dt m wf k first-stays off r.linked (λ p. r.roots 0 h.some_node p zero-off)))
+        → (is_special name ≡ false → Survives (open_at s l t) (open_at s' l' u)) → more t.steps 0 ≤ u.steps → Keeps a (state_of s' l' u n hd fm dt)
+    adopted-keeps a w wf m k r v steps = subst (λ (b : State). Keeps b (state_of s' l' u n hd fm dt)) w (keeps-since (state_of s l t n hd fm dt) (state_of s' l' u n hd fm dt)
+        (clones-since s s' l l' t u n hd fm dt m wf k first-stays off r.linked (λ p. r.roots 0 h.some_node p zero-off) steps))
       where
         off : (x : ℕ) → x < length t.labels → has x s ≡ false → has x s' ≡ false
         off x b c = elim (cases_bool (has x s')) [

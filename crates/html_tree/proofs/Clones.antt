@@ -1,29 +1,19 @@
 -- Reopening and adoption: the nodes that are made are clones.
-use Rattle.std.proofs.Common.{◌≡◌, ◌≢◌, ℕ, zero, suc, ◌+◌, ◌*◌, ◌<◌, ◌≤◌, Bool, true, false, cond, eqb, List, [], ◌∷◌, ◌++◌, length, map, get_or, Option, Some, None, ◌⊎◌, inl, inr, refl, sym, ◌∙◌, ap, subst, arith, length-append}
-use Rattle.std.specs.List.{list_any, range_with_len, sum_by}
-use Rattle.html_names.specs.Tags.{is_same}
-use Rattle.html_names.specs.declared.tag.Tag.TheVariants as tag
+use Rattle.std.proofs.Common.{◌≡◌, ℕ, zero, suc, ◌+◌, ◌<◌, ◌≤◌, false, List, [], ◌∷◌, ◌++◌, length, map, get_or, Option, Some, None, inr, sym, ◌∙◌, ap, subst, arith, length-append}
 use Rattle.html_arena.specs.declared.data.NodeData.{NodeData}
 use Rattle.html_arena.specs.declared.data.NodeData.TheVariants as node
 use Rattle.html_arena.specs.declared.data.Origin.TheVariants.{Nothing, Token}
-use Rattle.html_arena.specs.declared.marks.Mark.TheVariants.{InList}
-use Rattle.html_arena.specs.Data.{IsElement, cloned, label_in, origin_in, tag_in}
+use Rattle.html_arena.specs.Data.{cloned, label_in, origin_in}
 use Rattle.html_arena.specs.Siblings.{first_of, has}
-use Rattle.html_arena.specs.Tree.{Tree, WellFormed, children_of, label_of, more, named, parent_of}
-use Rattle.html_arena.specs.Weight.{capped, weight}
+use Rattle.html_arena.specs.Tree.{Tree, WellFormed, label_of, parent_of, more}
 use Rattle.html_open.specs.declared.entry.Entry.{Entry}
-use Rattle.html_open.specs.declared.entry.Entry.TheVariants.{Marker, Node}
 use Rattle.html_open.specs.Adopting.{MadeClones}
-use Rattle.html_open.specs.Entries.{nodes_of}
-use Rattle.html_open.specs.Lists.{above, up_to}
-use Rattle.html_open.specs.Marking.{bare}
-use Rattle.html_open.specs.Opened.{IsOpen, open_at, origin_at}
-use Rattle.html_open.specs.Reopening.{HoldsNoElement, KeepsClosed, Reopened, clone_steps, closed, clones_of, end_steps, fresh, reopen_steps, search_steps, stands, with_clone}
+use Rattle.html_open.specs.Opened.{IsOpen, open_at}
+use Rattle.html_open.specs.Reopening.{KeepsClosed}
 use Rattle.html_open.proofs.Inserted.{cloned-origin, get-before}
-use Rattle.html_open.proofs.Keeps.{cases_bool, cases_eqb, has-append}
-use Rattle.html_tree.specs.Since.{Grown, IsClosed, Keeps, Since, essence}
+use Rattle.html_tree.specs.Since.{Grown, Since, essence}
 use Rattle.html_tree.specs.States.{State, IsUnderWay, state_of}
-use Rattle.html_tree.proofs.Kept.{keeps-since, same-first-under_way, some-first}
+use Rattle.html_tree.proofs.Kept.{same-first-under_way, some-first}
 
 -- what holds of two lists holds of one after the other
 both : (P : NodeData → Type 0) (d : NodeData) (xs ys : List NodeData) → ((y : ℕ) → P (get_or xs y d)) → ((y : ℕ) → P (get_or ys y d)) → (y : ℕ) → P (get_or (xs ++ ys) y d)
@@ -57,9 +47,9 @@ module _ (s s' : List ℕ) (l l' : List Entry) (t u : Tree) (n : ℕ) (h f d : O
       Is d = (i : ℕ) → origin_in d ≡ Token i → i < n
 
   pub clones-since : WellFormed t → KeepsClosed (open_at s l t) u → ((x : ℕ) → first_of s ≡ Some x → first_of s' ≡ Some x) → ((x : ℕ) → x < length t.labels → has x s ≡ false → has x s' ≡ false)
-      → ((x : ℕ) → x < length u.labels → parent_of u x ≡ None → (x < length t.labels) × (parent_of t x ≡ None)) → (parent_of t 0 ≡ None → parent_of u 0 ≡ None)
+      → ((x : ℕ) → x < length u.labels → parent_of u x ≡ None → (x < length t.labels) × (parent_of t x ≡ None)) → (parent_of t 0 ≡ None → parent_of u 0 ≡ None) → more t.steps 0 ≤ u.steps
       → Since (state_of s l t n h f d) (state_of s' l' u n h f d)
-  clones-since w k first off linked root = record {
+  clones-since w k first off linked root steps = record {
     first = first;
     no_fewer = clones-more;
     tokens = omega arith;
@@ -69,6 +59,7 @@ module _ (s s' : List ℕ) (l l' : List Entry) (t u : Tree) (n : ℕ) (h f d : O
     texts = λ x y i none b. clones-label y (w.child_in x y b);
     linked = λ x b p. inr (inr (linked x b p));
     root = root;
+    steps = steps;
     detached = λ x i. i;
   }
 

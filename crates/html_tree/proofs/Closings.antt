@@ -1,6 +1,5 @@
 -- Elements that are closed: those whose end tags are implied, and one wherever it stands.
-use Rattle.std.proofs.Common.{◌≡◌, ◌≢◌, ℕ, zero, suc, ◌+◌, ◌*◌, ◌<◌, ◌≤◌, Bool, true, false, ◌||◌, cond, eqb, List, [], ◌∷◌, ◌++◌, length, take, min, max, Option, Some, None, inl, inr, refl, sym, ◌∙◌, ap, subst, arith, length-append}
-use Rattle.std.proofs.lemmas.Bool.{false≢true}
+use Rattle.std.proofs.Common.{◌≡◌, ℕ, zero, suc, ◌+◌, ◌*◌, ◌≤◌, Bool, true, false, ◌||◌, eqb, List, [], ◌∷◌, ◌++◌, length, take, Option, Some, None, inl, inr, refl, sym, ◌∙◌, ap, subst, arith}
 use Rattle.std.specs.List.{list_any}
 use Rattle.html_names.specs.Tags.{is_same}
 use Rattle.html_names.specs.declared.tag.Tag.{Tag}
@@ -15,7 +14,7 @@ use Rattle.html_open.specs.Lists.{above, after_index, below, last_index, up_to, 
 use Rattle.html_open.specs.Marking.{bare, charged}
 use Rattle.html_open.specs.Opened.{IsOpen, open_at}
 use Rattle.html_open.specs.Scopes.{stays, tag_stays}
-use Rattle.html_open.proofs.Keeps.{cases_bool, has-append, has-tail, split-last}
+use Rattle.html_open.proofs.Keeps.{cases_bool, has-tail, split-last}
 use Rattle.html_open.proofs.Lists.{after-up_to, looked-some}
 use Rattle.html_open.proofs.SafePlaces.{same-tag}
 use Rattle.html_tree.specs.Closing.{first_few, kept_to, remaining}
@@ -85,6 +84,7 @@ module _ (a : State) (s s' : List ℕ) (l : List Entry) (t u : Tree) (n x : ℕ)
 
   pub removed-keeps : Keeps a (state_of s' l u n h f d)
   removed-keeps = closed-keeps a (state_of s' l u n h f d) (remaining x a.stack) removed-exact (rw off-too (without-first x a.stack off-too)) (λ y k. rw off-too (without-has y (eqb x) a.stack k))
+      (let i : u.steps ≡ more t.steps (removal_steps (eqb x) s) = ap (λ (v : Tree). v.steps) e in let j : t.steps ≡ a.steps = ap (λ (v : State). v.steps) w in omega (arith, i, j))
 
   pub removed-grown : Grown 0 0 0 0 a (state_of s' l u n h f d)
   removed-grown = closed-grown a (state_of s' l u n h f d) (remaining x a.stack) removed-exact (rw off-too (without-first x a.stack off-too)) (rw off-too (without-most (eqb x) a.stack))

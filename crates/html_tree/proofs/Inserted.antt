@@ -1,8 +1,7 @@
 -- A new node at a target.
-use Rattle.std.proofs.Common.{◌≡◌, ◌≢◌, ℕ, zero, suc, ◌+◌, ◌<◌, ◌≤◌, Bool, true, false, cond, eqb, List, [], ◌∷◌, ◌++◌, length, get_or, slice_set, Option, Some, None, Result, Ok, Err, OnOk, ◌⊎◌, inl, inr, refl, sym, ◌∙◌, ap, subst, arith, length-append}
+use Rattle.std.proofs.Common.{◌≡◌, ◌≢◌, ℕ, zero, suc, ◌+◌, ◌<◌, ◌≤◌, Bool, true, false, List, [], ◌∷◌, ◌++◌, length, get_or, Option, Some, None, Result, Ok, Err, OnOk, ◌⊎◌, inl, inr, refl, sym, ◌∙◌, ap, subst, arith, length-append}
 use Rattle.std.proofs.lemmas.Bool.{false≢true}
 use Rattle.html_names.specs.Tags.{is_same}
-use Rattle.html_names.specs.declared.tag.Tag.{Tag}
 use Rattle.html_names.specs.declared.tag.Tag.TheVariants as tag
 use Rattle.html_arena.specs.declared.data.NodeData.{NodeData}
 use Rattle.html_arena.specs.declared.data.NodeData.TheVariants as node
@@ -13,11 +12,11 @@ use Rattle.html_arena.specs.declared.marks.Mark.TheVariants.{OnStack}
 use Rattle.html_tokens.specs.declared.attributes.Attr.{Attr}
 use Rattle.html_names.specs.Names.{tag_of}
 use Rattle.html_names.specs.Sets.{is_formatting, is_template}
-use Rattle.html_arena.specs.declared.data.Origin.TheVariants.{Nothing, Token}
+use Rattle.html_arena.specs.declared.data.Origin.TheVariants.{Token}
 use Rattle.html_arena.specs.Data.{IsElement, host_in, label_in, origin_in, tag_in}
-use Rattle.html_arena.specs.Make.{has_contents, label_for, made, made_weight}
+use Rattle.html_arena.specs.Make.{has_contents, label_for, made}
 use Rattle.html_arena.specs.Siblings.{first_of, has}
-use Rattle.html_arena.specs.Tree.{Tree, WellFormed, children_of, label_of, inserted, more, named, parent_of, with_marked}
+use Rattle.html_arena.specs.Tree.{Tree, WellFormed, label_of, inserted, more, named, parent_of, with_marked}
 use Rattle.html_arena.specs.Weight.{weight}
 use Rattle.html_open.specs.declared.entry.Entry.{Entry}
 use Rattle.html_open.specs.declared.places.Place.{Place}
@@ -27,16 +26,16 @@ use Rattle.html_open.specs.Marking.{bare, charged}
 use Rattle.html_open.specs.Opened.{CanList, CanPush, IsOpen, IsUnseen, open_at, origin_at}
 use Rattle.html_open.specs.Placing.{CanPlace, IsPlace, fosters, parent_at, place_of, place_steps, put, table, target_of}
 use Rattle.html_open.specs.Reopening.{HoldsNoElement}
-use Rattle.html_open.proofs.Keeps.{cases_bool, cases_eqb, charged_keeps, eqb-self, has-append}
+use Rattle.html_open.proofs.Keeps.{cases_bool, cases_eqb, eqb-self, has-append}
 use Rattle.html_open.proofs.SafePlaces.{same-tag}
 use Rattle.html_open.proofs.Standing.{not-parent, place-by}
 use Rattle.html_tree.specs.declared.groups.Target.{Target}
 use Rattle.html_tree.specs.declared.groups.Target.TheVariants as target
 use Rattle.html_tree.specs.Inserting.{CanBeFirst, IsFor, IsNew, rest_of, with_new, with_open}
 use Rattle.html_tree.specs.Since.{Grown, IsClosed, Keeps, Since, essence}
-use Rattle.html_tree.specs.States.{IsNamed, State, IsUnderWay, state_of}
+use Rattle.html_tree.specs.States.{State, IsUnderWay, state_of}
 use Rattle.html_tree.specs.Targets.{CanTarget, place_at, place_for, target_steps}
-use Rattle.html_tree.proofs.Kept.{charged-under_way, keeps-since, same-element, later-under_way, looked-most, more-most, same-first-under_way, same-state, same-under_way, since-since}
+use Rattle.html_tree.proofs.Kept.{keeps-since, same-element, later-under_way, looked-most, more-most, same-first-under_way, same-state}
 
 -- the first element is an html, so it can take what has no better place
 pub under-way-place : (s : List ℕ) (l : List Entry) (t : Tree) (n : ℕ) (h f d : Option ℕ) → IsUnderWay s l t n h f d → 0 < length s → CanPlace t s
@@ -159,10 +158,10 @@ module _ (s : List ℕ) (l : List Entry) (t u : Tree) (at : Place) (new : NewNod
 -- the states before and after
 module _ (s s' : List ℕ) (l l' : List Entry) (t u v : Tree) (at : Place) (new : NewNode) (k n m : ℕ) (h f d : Option ℕ) where
   pub new-since : IsNew t u at new k → ((x : ℕ) → IsClosed (state_of s l t n h f d) x → HoldsNoElement t x → parent_at t at ≢ Some x) → n ≤ m → 0 < length t.labels
-      → v.labels ≡ u.labels → v.children ≡ u.children → v.parents ≡ u.parents
+      → v.labels ≡ u.labels → v.children ≡ u.children → v.parents ≡ u.parents → more u.steps 0 ≤ v.steps
       → ((x : ℕ) → first_of s ≡ Some x → first_of s' ≡ Some x) → ((x : ℕ) → x < length t.labels → has x s ≡ false → has x s' ≡ false)
       → Since (state_of s l t n h f d) (state_of s' l' v m h f d)
-  new-since e free nm some vl vc vp first off =
+  new-since e free nm some vl vc vp steps first off =
       let w = e.laws in
       let longer = w.longer in
       let same : length v.labels ≡ length u.labels = ap length vl in
@@ -188,6 +187,7 @@ module _ (s s' : List ℕ) (l l' : List Entry) (t u v : Tree) (at : Place) (new 
         ];
         root = λ p. ap (λ ps. get_or ps 0 None) vp ∙ w.same_parents 0 some ∙ p;
         detached = λ x p. p;
+        steps = (let i = e.steps_least in omega (arith, i, steps));
       }
 
 -- a tree without marks and steps, with a new node
@@ -246,6 +246,29 @@ inserted-steps t t1 t2 k at new e f =
     let d : t2.steps ≡ (put (made t1 new) at (length t1.labels)).steps = ap (λ (v : Tree). v.steps) f in
     let g = more-most t.steps k in
     omega (arith, a, b, c, d, g)
+
+put-least : (t : Tree) (p : Place) (c : ℕ) → more t.steps 0 ≤ (put t p c).steps
+put-least t (Last q) c = omega arith
+put-least t (Before b) c = by (parent_of t b)
+  where
+    by : (o : Option ℕ) → more t.steps 0 ≤ (inserted t c b o).steps
+    by None = omega arith
+    by (Some q) = omega arith
+
+made-least : (t : Tree) (new : NewNode) → more t.steps 0 ≤ (made t new).steps
+made-least t new = by (has_contents new) refl
+  where
+    by : (b : Bool) → has_contents new ≡ b → more t.steps 0 ≤ (made t new).steps
+    by true h = rw h (omega arith)
+    by false h = rw h (omega arith)
+
+inserted-least : (t t1 t2 : Tree) (k : ℕ) (at : Place) (new : NewNode) → t1 ≡ charged t k → t2 ≡ put (made t1 new) at (length t1.labels) → more t.steps 0 ≤ t2.steps
+inserted-least t t1 t2 k at new e f =
+    let a : t1.steps ≡ more t.steps k = ap (λ (v : Tree). v.steps) e in
+    let b = made-least t1 new in
+    let c = put-least (made t1 new) at (length t1.labels) in
+    let d : t2.steps ≡ (put (made t1 new) at (length t1.labels)).steps = ap (λ (v : Tree). v.steps) f in
+    omega (arith, a, b, c, d)
 
 pub parent-charged : (t : Tree) (k : ℕ) (p : Place) → parent_at (charged t k) p ≡ parent_at t p
 parent-charged t k (Last p) = refl
@@ -310,6 +333,7 @@ is-new t t1 u k m at d w p e q h f = record {
   tree_is = ap bare f ∙ bare-new t1 at d ∙ ap (λ w. with_new w at d) (ap bare e);
   labels_are = ap (λ (v : Tree). v.labels) f ∙ put-labels (made t1 d) at (length t1.labels) ∙ made-labels t1 d
       ∙ ap (λ (v : Tree). v.labels ++ label_for v d ∷ rest_of (length v.labels) (has_contents d)) e ∙ ap (λ b. t.labels ++ b ∷ rest_of (length t.labels) (has_contents d)) (label-charged t k d);
+  steps_least = inserted-least t t1 u k at d e f;
   steps_most = (let i = inserted-steps t t1 u k at d e f in omega (arith, i, q));
   held_most = held-most t t1 u k at d e f;
   well_formed = w;
@@ -414,7 +438,7 @@ module _ (a : State) (s s' : List ℕ) (l : List Entry) (t u v : Tree) (at : Tar
   pub opened-keeps : CanTarget s at → n ≤ m → IsUnderWay s l t n h f d → Keeps a (state_of s' l v m h f d)
   opened-keeps o r g = subst (λ (b : State). Keeps b (state_of s' l v m h f d)) w (keeps-since (state_of s l t n h f d) (state_of s' l v m h f d)
       (new-since s s' l l t u v (place_at t s h at) new k n m h f d e (target-free s l t n h f d at g e.well_formed o) r g.some_node
-      (ap (λ (b : Tree). b.labels) q) (ap (λ (b : Tree). b.children) q) (ap (λ (b : Tree). b.parents) q)
+      (ap (λ (b : Tree). b.labels) q) (ap (λ (b : Tree). b.children) q) (ap (λ (b : Tree). b.parents) q) (let z : v.steps ≡ more u.steps 1 = ap (λ (b : Tree). b.steps) q in omega (arith, z))
       (λ y z. ap first_of i ∙ first-more s x y z) (λ y b z. ap (has y) i ∙ off-more s x y (omega arith) z)))
 
   pub opened-grown : Grown 2 1 0 (weight (label_for t new)) a (state_of s' l v m h f d)
@@ -455,7 +479,7 @@ module _ (a : State) (s : List ℕ) (l : List Entry) (t u : Tree) (at : Target) 
 
   pub placed-keeps : CanTarget s at → n ≤ m → IsUnderWay s l t n h f d → Keeps a (state_of s l u m h f d)
   placed-keeps o r g = subst (λ (b : State). Keeps b (state_of s l u m h f d)) w (keeps-since (state_of s l t n h f d) (state_of s l u m h f d)
-      (new-since s s l l t u u (place_at t s h at) new k n m h f d e (target-free s l t n h f d at g e.well_formed o) r g.some_node refl refl refl (λ y z. z) (λ y b z. z)))
+      (new-since s s l l t u u (place_at t s h at) new k n m h f d e (target-free s l t n h f d at g e.well_formed o) r g.some_node refl refl refl (omega arith) (λ y z. z) (λ y b z. z)))
 
   pub placed-grown : Grown 2 0 0 (weight (label_for t new)) a (state_of s l u m h f d)
   placed-grown =

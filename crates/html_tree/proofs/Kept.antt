@@ -1,5 +1,5 @@
 -- What is always true of a tree under construction is kept, and so is what was so before.
-use Rattle.std.proofs.Common.{◌≡◌, ◌≢◌, ℕ, zero, suc, ◌+◌, ◌<◌, ◌≤◌, Bool, true, false, cond, eqb, List, [], ◌∷◌, ◌++◌, length, take, drop, min, max, Option, Some, None, ◌⊎◌, inl, inr, refl, sym, ◌∙◌, ap, subst, arith, length-append, length-take}
+use Rattle.std.proofs.Common.{◌≡◌, ℕ, zero, suc, ◌+◌, ◌<◌, ◌≤◌, Bool, true, false, List, [], ◌∷◌, length, take, min, Option, Some, inl, inr, refl, sym, ◌∙◌, ap, subst, arith, length-append, length-take}
 use Rattle.std.specs.List.{list_any}
 use Rattle.html_names.specs.Tags.{is_same}
 use Rattle.html_names.specs.declared.tag.Tag.{Tag}
@@ -10,7 +10,7 @@ use Rattle.html_arena.specs.declared.data.Origin.TheVariants.{Token}
 use Rattle.html_arena.specs.declared.marks.Mark.{Mark}
 use Rattle.html_arena.specs.Data.{IsElement, host_in, label_in, origin_in, tag_in}
 use Rattle.html_arena.specs.Siblings.{first_of, has}
-use Rattle.html_arena.specs.Tree.{Tree, children_of, host_at, label_of, more, named, parent_of}
+use Rattle.html_arena.specs.Tree.{Tree, children_of, label_of, more, parent_of}
 use Rattle.html_open.specs.declared.entry.Entry.{Entry}
 use Rattle.html_open.specs.Lists.{above, below, looked}
 use Rattle.html_open.specs.Marking.{all_unmarked, bare, charged}
@@ -18,8 +18,8 @@ use Rattle.html_open.specs.Opened.{IsOpen, open_at, origin_at}
 use Rattle.html_open.specs.Reopening.{HoldsNoElement}
 use Rattle.html_open.proofs.Keeps.{cases_bool, has-tail, split-last}
 use Rattle.html_tree.specs.Closing.{first_few, kept_to}
-use Rattle.html_tree.specs.Since.{Grown, IsClosed, IsContents, Keeps, Since, essence}
-use Rattle.html_tree.specs.States.{IsNamed, IsNode, IsUnderWay, State, state_of}
+use Rattle.html_tree.specs.Since.{Grown, IsClosed, Keeps, Since, essence}
+use Rattle.html_tree.specs.States.{IsNamed, IsUnderWay, State, state_of}
 
 -- what stays of a node tells its kind, its tag, its token and its template
 tag-essence : (d : NodeData) → tag_in (essence d) ≡ tag_in d
@@ -86,6 +86,7 @@ since-self a = record {
   linked = λ x i h. inr (inr (i, h));
   root = λ h. h;
   detached = λ x h. h;
+  steps = omega arith;
 }
 
 pub since-since : (s a b : State) → Since s a → Since a b → Since s b
@@ -94,6 +95,8 @@ since-since s a b f g =
     let tokens = f.tokens in
     let more_nodes = g.no_fewer in
     let more_tokens = g.tokens in
+    let steps = f.steps in
+    let more_steps = g.steps in
     let within : (x : ℕ) → x < length s.tree.labels → x < length a.tree.labels = λ x h. omega arith in
     let closed : (x : ℕ) → IsClosed s x → IsClosed a x = λ x h. record {
       node_in = within x h.node_in;
@@ -126,6 +129,7 @@ since-since s a b f g =
       ];
       root = λ h. g.root (f.root h);
       detached = λ x h. g.detached x (f.detached x h);
+      steps = omega arith;
     }
 
 pub keeps-since : (a b : State) → Since a b → Keeps a b
@@ -170,8 +174,8 @@ pub charged-bare : (t u : Tree) (k : ℕ) → u ≡ charged t k → bare u ≡ b
 charged-bare t u k e = ap bare e
 
 -- the tree is the same, and no element is opened
-pub fewer-since : (a b : State) → b.tree ≡ a.tree → b.tokens ≡ a.tokens → b.detached ≡ a.detached → ((x : ℕ) → first_of a.stack ≡ Some x → first_of b.stack ≡ Some x) → ((x : ℕ) → has x a.stack ≡ false → has x b.stack ≡ false) → Since a b
-fewer-since a b e n d f o =
+pub fewer-since : (a b : State) → b.tree ≡ a.tree → b.tokens ≡ a.tokens → b.detached ≡ a.detached → ((x : ℕ) → first_of a.stack ≡ Some x → first_of b.stack ≡ Some x) → ((x : ℕ) → has x a.stack ≡ false → has x b.stack ≡ false) → more a.steps 0 ≤ b.steps → Since a b
+fewer-since a b e n d f o k =
     let fewer : length b.tree.labels ≡ length a.tree.labels = ap (λ (v : Tree). length v.labels) e in
     record {
       first = f;
@@ -184,11 +188,12 @@ fewer-since a b e n d f o =
       linked = λ x b h. inr (inr (omega arith, sym (ap (λ (v : Tree). parent_of v x) e) ∙ h));
       root = λ h. ap (λ (v : Tree). parent_of v 0) e ∙ h;
       detached = λ x h. d ∙ h;
+      steps = k;
     }
 
-pub same-keeps : (a b : State) → b ≡ record a { steps = b.steps } → Keeps a b
-same-keeps a b e = keeps-since a b (fewer-since a b (ap (λ (v : State). v.tree) e) (ap (λ (v : State). v.tokens) e) (ap (λ (v : State). v.detached) e)
-    (λ x h. ap (λ (v : State). first_of v.stack) e ∙ h) (λ x h. ap (λ (v : State). has x v.stack) e ∙ h))
+pub same-keeps : (a b : State) → b ≡ record a { steps = b.steps } → more a.steps 0 ≤ b.steps → Keeps a b
+same-keeps a b e k = keeps-since a b (fewer-since a b (ap (λ (v : State). v.tree) e) (ap (λ (v : State). v.tokens) e) (ap (λ (v : State). v.detached) e)
+    (λ x h. ap (λ (v : State). first_of v.stack) e ∙ h) (λ x h. ap (λ (v : State). has x v.stack) e ∙ h) k)
 
 -- steps
 pub looked-most : {X : Type 0} (p : X → Bool) (xs : List X) → looked p xs ≤ length xs
@@ -240,10 +245,10 @@ pub few-length : (k : ℕ) (s : List ℕ) → length (first_few k s) ≡ kept_to
 few-length k s = length-take (kept_to (length s) k) s ∙ omega arith
 
 -- elements are closed, and nothing else changes
-pub closed-keeps : (a b : State) (s : List ℕ) → b ≡ record a { stack = s; steps = b.steps } → first_of s ≡ first_of a.stack → ((x : ℕ) → has x a.stack ≡ false → has x s ≡ false) → Keeps a b
-closed-keeps a b s e f o = keeps-since a b (fewer-since a b (ap (λ (v : State). v.tree) e) (ap (λ (v : State). v.tokens) e) (ap (λ (v : State). v.detached) e)
+pub closed-keeps : (a b : State) (s : List ℕ) → b ≡ record a { stack = s; steps = b.steps } → first_of s ≡ first_of a.stack → ((x : ℕ) → has x a.stack ≡ false → has x s ≡ false) → more a.steps 0 ≤ b.steps → Keeps a b
+closed-keeps a b s e f o k = keeps-since a b (fewer-since a b (ap (λ (v : State). v.tree) e) (ap (λ (v : State). v.tokens) e) (ap (λ (v : State). v.detached) e)
     (λ x h. ap (λ (v : State). first_of v.stack) e ∙ f ∙ h)
-    (λ x h. ap (λ (v : State). has x v.stack) e ∙ o x h))
+    (λ x h. ap (λ (v : State). has x v.stack) e ∙ o x h) k)
 
 pub some-first : (s s' : List ℕ) → first_of s' ≡ first_of s → min 1 (length s) ≤ length s'
 some-first [] s' e = omega arith
@@ -259,8 +264,8 @@ closed-grown a b s e f o =
     let q = some-first a.stack s f in
     record { nodes_least = omega arith; nodes_most = omega arith; open_most = omega arith; entries_most = omega arith; held_most = omega arith; open_least = omega arith }
 
-pub popped-keeps : (a b : State) (k : ℕ) → b ≡ record a { stack = first_few k a.stack; steps = b.steps } → Keeps a b
-popped-keeps a b k e = closed-keeps a b (first_few k a.stack) e (first-few k a.stack) (λ x h. has-take x (kept_to (length a.stack) k) a.stack h)
+pub popped-keeps : (a b : State) (k : ℕ) → b ≡ record a { stack = first_few k a.stack; steps = b.steps } → more a.steps 0 ≤ b.steps → Keeps a b
+popped-keeps a b k e m = closed-keeps a b (first_few k a.stack) e (first-few k a.stack) (λ x h. has-take x (kept_to (length a.stack) k) a.stack h) m
 
 pub popped-grown : (a b : State) (k : ℕ) → b ≡ record a { stack = first_few k a.stack; steps = b.steps } → Grown 0 0 0 0 a b
 popped-grown a b k e = closed-grown a b (first_few k a.stack) e (first-few k a.stack) (let y = few-length k a.stack in omega arith)
@@ -271,7 +276,10 @@ read-rest a s l t u n k h f d e g =
     subst (λ (v : State). state_of s l u n h f d ≡ record v { steps = u.steps }) e (same-state s s l l (bare t) (bare u) u.steps n h f d refl refl (ap bare g))
 
 pub read-keeps : (a : State) (s : List ℕ) (l : List Entry) (t u : Tree) (n k : ℕ) (h f d : Option ℕ) → state_of s l t n h f d ≡ a → u ≡ charged t k → Keeps a (state_of s l u n h f d)
-read-keeps a s l t u n k h f d e g = same-keeps a (state_of s l u n h f d) (read-rest a s l t u n k h f d e g)
+read-keeps a s l t u n k h f d e g =
+    let x : u.steps ≡ more t.steps k = ap (λ (v : Tree). v.steps) g in
+    let y : t.steps ≡ a.steps = ap (λ (v : State). v.steps) e in
+    same-keeps a (state_of s l u n h f d) (read-rest a s l t u n k h f d e g) (omega (arith, x, y))
 
 pub same-grown : (a b : State) → b ≡ record a { steps = b.steps } → Grown 0 0 0 0 a b
 same-grown a b e =

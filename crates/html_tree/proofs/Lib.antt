@@ -1,6 +1,8 @@
 pub mod Kept
+pub mod OpenTags
 pub mod Inserted
 pub mod Searches
+pub mod SearchEnds
 pub mod Relisting
 pub mod Closings
 pub mod Spelled
@@ -10,3 +12,5 @@ pub mod Texted
 pub mod Clones
 pub mod Adopted
 pub mod Roots
+pub mod Seating
+pub mod Scoped

@@ -1,29 +1,24 @@
 -- A new formatting element, opened and listed.
-use Rattle.std.proofs.Common.{◌≡◌, ◌≢◌, ℕ, zero, suc, ◌+◌, ◌*◌, ◌<◌, ◌≤◌, Bool, true, false, cond, nat_le, List, [], ◌∷◌, ◌++◌, length, Option, Some, None, inl, inr, refl, sym, ◌∙◌, ap, subst, arith, length-append}
+use Rattle.std.proofs.Common.{◌≡◌, ℕ, ◌+◌, ◌*◌, ◌≤◌, Bool, true, false, cond, nat_le, List, [], ◌∷◌, ◌++◌, length, Option, Some, None, inl, inr, refl, ◌∙◌, ap, arith, length-append}
 use Rattle.std.specs.Prelude.{◌&&◌, count_by, sum_by}
 use mathlib.Core.Path.{fun_ext}
 use Rattle.html_names.specs.Tags.{is_same}
-use Rattle.html_arena.specs.declared.data.NodeData.{NodeData}
-use Rattle.html_arena.specs.declared.data.NewNode.{NewNode}
 use Rattle.html_arena.specs.Data.{attrs_in, label_in, tag_in}
-use Rattle.html_arena.specs.Make.{label_for}
-use Rattle.html_arena.specs.Siblings.{first_of, has}
-use Rattle.html_arena.specs.Tree.{Tree, label_of, more, with_marked}
-use Rattle.html_arena.specs.Weight.{weight}
+use Rattle.html_arena.specs.Tree.{Tree}
 use Rattle.html_open.specs.declared.entry.Entry.{Entry}
 use Rattle.html_open.specs.declared.entry.Entry.TheVariants.{Marker, Node}
 use Rattle.html_open.specs.Attributes.{same_attrs}
-use Rattle.html_open.specs.Entries.{alike, has_three, comparisons, displaced, is_marker, push_steps, pushed}
+use Rattle.html_open.specs.Entries.{alike, has_three, comparisons, is_marker, push_steps, pushed}
 use Rattle.html_open.specs.Lists.{above, after_first, looked, up_to, without_first}
 use Rattle.std.specs.List.{list_any}
 use Rattle.html_arena.specs.declared.marks.Mark.{Mark}
 use Rattle.html_open.specs.Opened.{CanList, open_at}
 use Rattle.html_open.proofs.Keeps.{cases_bool}
-use Rattle.html_open.specs.Marking.{bare, charged, unmarked}
+use Rattle.html_open.specs.Marking.{bare, unmarked}
 use Rattle.html_arena.specs.declared.data.Origin.TheVariants.{Token}
 use Rattle.html_tree.specs.Inserting.{IsFor}
-use Rattle.html_tree.specs.States.{State, state_of}
-use Rattle.html_tree.proofs.Kept.{more-most, same-state, state}
+use Rattle.html_tree.specs.States.{State}
+use Rattle.html_tree.proofs.Kept.{state}
 
 alike-same : (t u : Tree) (x : ℕ) → t.labels ≡ u.labels → (e : Entry) → alike t x e ≡ alike u x e
 alike-same t u x h Marker = refl

@@ -1,26 +1,24 @@
 -- Attributes that are merged, text that is added, and a body that leaves the tree.
-use Rattle.std.proofs.Common.{◌≡◌, ◌≢◌, ℕ, zero, suc, ◌+◌, ◌*◌, ◌<◌, ◌≤◌, Bool, true, false, cond, eqb, List, [], ◌∷◌, ◌++◌, length, get_or, Option, Some, None, ◌⊎◌, inl, inr, refl, sym, ◌∙◌, ap, subst, arith}
+use Rattle.std.proofs.Common.{◌≡◌, ℕ, ◌<◌, true, false, List, [], length, get_or, Option, Some, None, inl, inr, refl, sym, ◌∙◌, ap, subst, arith, ◌≤◌}
 use Rattle.std.proofs.lemmas.Bool.{false≢true}
 use Rattle.html_names.specs.Tags.{is_same}
 use Rattle.html_names.specs.declared.tag.Tag.TheVariants as tag
 use Rattle.html_arena.specs.declared.data.NodeData.{NodeData}
 use Rattle.html_arena.specs.declared.data.NodeData.TheVariants as node
-use Rattle.html_arena.specs.declared.data.Origin.TheVariants.{Token}
-use Rattle.html_arena.specs.Data.{IsElement, IsText, label_in, origin_in, tag_in, with_attrs, with_run}
+use Rattle.html_arena.specs.Data.{IsElement, label_in, origin_in, tag_in, with_attrs, with_run}
 use Rattle.html_arena.specs.Laws.{IsRelabelled, IsUnlinked}
-use Rattle.html_arena.specs.Siblings.{first_of, has, without}
-use Rattle.html_arena.specs.Tree.{Tree, WellFormed, children_of, label_of, named, parent_of}
+use Rattle.html_arena.specs.Siblings.{has}
+use Rattle.html_arena.specs.Tree.{Tree, children_of, label_of, named, parent_of, more, detached}
 use Rattle.html_arena.proofs.Laws.{without-none}
 use Rattle.html_tokens.specs.declared.attributes.Attr.{Attr}
 use Rattle.html_open.specs.declared.entry.Entry.{Entry}
 use Rattle.html_open.specs.Marking.{charged}
-use Rattle.html_open.specs.Opened.{IsOpen, open_at, origin_at}
+use Rattle.html_open.specs.Opened.{IsOpen, open_at}
 use Rattle.html_open.specs.Reopening.{HoldsNoElement}
-use Rattle.html_open.proofs.Keeps.{cases_bool, cases_eqb, eqb-self}
+use Rattle.html_open.proofs.Keeps.{cases_bool, cases_eqb}
 use Rattle.html_tree.specs.Since.{IsClosed, Keeps, Since, essence}
 use Rattle.html_tree.specs.States.{IsUnderWay, State, state_of}
-use Rattle.html_tree.specs.Texts.{IsFree}
-use Rattle.html_tree.proofs.Kept.{charged-under_way, keeps-since, read-keeps, same-first-under_way, same-origin_in}
+use Rattle.html_tree.proofs.Kept.{keeps-since, read-keeps, same-first-under_way, same-origin_in}
 
 -- a node has another label of the same essence
 module _ (s : List ℕ) (l : List Entry) (t u : Tree) (n x : ℕ) (h f d : Option ℕ) (e : NodeData) (r : IsRelabelled t u x e) (i : essence e ≡ essence (label_of t x)) where
@@ -38,8 +36,8 @@ module _ (s : List ℕ) (l : List Entry) (t u : Tree) (n x : ℕ) (h f d : Optio
       (λ y j k. p.tokens y j (sym (same-origin_in (label_of t y) (label_of u y) (relabelled y)) ∙ k)))
 
   -- x is in no element that was closed and holds no element
-  pub relabelled-since : ((p : ℕ) → IsClosed (state_of s l t n h f d) p → HoldsNoElement t p → has x (children_of t p) ≡ false) → Since (state_of s l t n h f d) (state_of s l u n h f d)
-  relabelled-since free = (let q = same-length in record {
+  pub relabelled-since : ((p : ℕ) → IsClosed (state_of s l t n h f d) p → HoldsNoElement t p → has x (children_of t p) ≡ false) → more t.steps 0 ≤ u.steps → Since (state_of s l t n h f d) (state_of s l u n h f d)
+  relabelled-since free steps = (let q = same-length in record {
     first = λ y k. k;
     no_fewer = omega arith;
     tokens = omega arith;
@@ -50,6 +48,7 @@ module _ (s : List ℕ) (l : List Entry) (t u : Tree) (n x : ℕ) (h f d : Optio
     linked = λ y b k. inr (inr (subst (λ v. y < v) q b, sym (ap (λ ps. get_or ps y None) r.same_parents) ∙ k));
     root = λ k. ap (λ ps. get_or ps 0 None) r.same_parents ∙ k;
     detached = λ y k. k;
+    steps = steps;
   })
 
 pub merged-essence : (e : NodeData) (attrs : List Attr) → essence (with_attrs e attrs) ≡ essence e
@@ -89,8 +88,8 @@ module _ (s : List ℕ) (l : List Entry) (t u : Tree) (n x : ℕ) (h f d : Optio
             (subst (λ v. v < length u.labels) z (omega arith), subst (λ v. named u tag.Body v ≡ true) z (ap (λ ls. is_same (tag_in (label_in ls x)) tag.Body) r.same_labels ∙ b)));
       })
 
-  pub detached-since : IsElement (label_of t x) → d ≡ None → Since (state_of s l t n h f d) (state_of s l u n h f (Some x))
-  detached-since i none = (let q : length u.labels ≡ length t.labels = ap length r.same_labels in record {
+  pub detached-since : IsElement (label_of t x) → d ≡ None → more t.steps 0 ≤ u.steps → Since (state_of s l t n h f d) (state_of s l u n h f (Some x))
+  detached-since i none steps = (let q : length u.labels ≡ length t.labels = ap length r.same_labels in record {
     first = λ y k. k;
     no_fewer = omega arith;
     tokens = omega arith;
@@ -104,7 +103,12 @@ module _ (s : List ℕ) (l : List Entry) (t u : Tree) (n x : ℕ) (h f d : Optio
     ];
     root = λ k. (elim (cases_eqb 0 x) [ inl w ↦ r.parent_is 0 ∙ rw w.0 refl | inr w ↦ (let c : parent_of u 0 ≡ parent_of t 0 = r.parent_is 0 ∙ rw w.0 refl in c ∙ k) ]);
     detached = λ y k. absurd (let c : None ≡ Some y = sym none ∙ k in cc);
+    steps = steps;
   })
+
+pub detached-steps : (t u : Tree) (x : ℕ) (o : Option ℕ) → u ≡ detached t x o → more t.steps 0 ≤ u.steps
+detached-steps t u x None e = (let k : u.steps ≡ more t.steps 1 = ap (λ (v : Tree). v.steps) e in omega (arith, k))
+detached-steps t u x (Some p) e = (let k : u.steps ≡ more t.steps 1 = ap (λ (v : Tree). v.steps) e in omega (arith, k))
 
 -- a step is counted first
 pub keeps-charged : (a b : State) (s : List ℕ) (l : List Entry) (t t1 : Tree) (n k : ℕ) (h f d : Option ℕ) → state_of s l t n h f d ≡ a → t1 ≡ charged t k → Since (state_of s l t1 n h f d) b → Keeps a b

@@ -1,11 +1,10 @@
 -- Another list over the same tree.
-use Rattle.std.proofs.Common.{◌≡◌, ℕ, zero, suc, ◌+◌, ◌*◌, ◌<◌, ◌≤◌, Bool, true, false, cond, eqb, List, [], ◌∷◌, ◌++◌, length, Option, inl, inr, refl, sym, ◌∙◌, ap, subst, arith, length-append}
+use Rattle.std.proofs.Common.{◌≡◌, ℕ, suc, ◌+◌, ◌*◌, ◌≤◌, Bool, List, [], ◌∷◌, ◌++◌, length, Option, inl, inr, refl, ◌∙◌, ap, subst, arith, length-append}
 use Rattle.std.specs.List.{list_any}
-use Rattle.html_arena.specs.Siblings.{first_of, has}
 use Rattle.html_arena.specs.Tree.{Tree, more}
 use Rattle.html_open.specs.declared.entry.Entry.{Entry}
-use Rattle.html_open.specs.Entries.{is_node, removal_steps}
-use Rattle.html_open.specs.Lists.{above, below, looked, without_last}
+use Rattle.html_open.specs.Entries.{removal_steps}
+use Rattle.html_open.specs.Lists.{above, below, without_last}
 use Rattle.html_open.specs.Marking.{bare}
 use Rattle.html_open.specs.Opened.{IsOpen, open_at}
 use Rattle.html_open.proofs.Keeps.{cases_bool, split-last}
@@ -21,9 +20,9 @@ module _ (a : State) (s : List ℕ) (l l' : List Entry) (t u : Tree) (n : ℕ) (
   relisted-exact m i = subst (λ (b : State). state_of s l' u n h f d ≡ record b { list = m b; steps = u.steps }) w
       (same-state s s (m (state_of s l t n h f d)) l' (bare t) (bare u) u.steps n h f d refl i e)
 
-  pub relisted-keeps : Keeps a (state_of s l' u n h f d)
-  relisted-keeps = subst (λ (b : State). Keeps b (state_of s l' u n h f d)) w (keeps-since (state_of s l t n h f d) (state_of s l' u n h f d)
-      (fewer-since (state_of s l t n h f d) (state_of s l' u n h f d) e refl refl (λ x i. i) (λ x i. i)))
+  pub relisted-keeps : more t.steps 0 ≤ u.steps → Keeps a (state_of s l' u n h f d)
+  relisted-keeps k = subst (λ (b : State). Keeps b (state_of s l' u n h f d)) w (keeps-since (state_of s l t n h f d) (state_of s l' u n h f d)
+      (fewer-since (state_of s l t n h f d) (state_of s l' u n h f d) e refl refl (λ x i. i) (λ x i. i) k))
 
   pub relisted-grown : (k : ℕ) → length l' ≤ length l + k → Grown 0 0 k 0 a (state_of s l' u n h f d)
   relisted-grown k i =

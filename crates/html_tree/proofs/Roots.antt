@@ -1,19 +1,17 @@
 -- The root of a fragment, and what is always true.
-use Rattle.std.proofs.Common.{◌≡◌, ℕ, zero, suc, ◌+◌, ◌<◌, ◌≤◌, true, false, List, [], ◌∷◌, ◌++◌, length, Option, Some, None, Result, Ok, Err, inl, inr, refl, sym, ◌∙◌, ap, subst, arith}
+use Rattle.std.proofs.Common.{◌≡◌, ℕ, zero, suc, ◌<◌, true, List, [], ◌∷◌, length, Option, Some, None, Result, Ok, Err, refl, sym, ◌∙◌, ap, subst, arith}
 use Rattle.html_names.specs.Names.{tag_of}
 use Rattle.html_names.specs.Tags.{is_same}
 use Rattle.html_names.specs.declared.tag.Tag.TheVariants as tag
 use Rattle.html_arena.specs.declared.arena.ArenaError.{ArenaError}
 use Rattle.html_arena.specs.declared.arena.ArenaError.TheVariants as arena
 use Rattle.html_arena.specs.declared.arena.Limits.{Limits}
-use Rattle.html_arena.specs.declared.data.NodeData.TheVariants as node
 use Rattle.html_arena.specs.declared.data.NewNode.TheVariants as new
-use Rattle.html_arena.specs.declared.data.Origin.{Origin}
 use Rattle.html_arena.specs.declared.data.Origin.TheVariants.{Implied, Token}
 use Rattle.html_arena.specs.Budget.{RefusedBy}
 use Rattle.html_arena.specs.Data.{IsElement, label_in, origin_in, tag_in}
 use Rattle.html_arena.specs.Make.{has_contents, label_for, made}
-use Rattle.html_arena.specs.Siblings.{first_of, has}
+use Rattle.html_arena.specs.Siblings.{first_of}
 use Rattle.html_arena.specs.Tree.{Tree, empty_tree, label_of, named}
 use Rattle.html_open.specs.declared.entry.Entry.{Entry}
 use Rattle.html_open.specs.declared.error.OpenError.{OpenError}
@@ -22,7 +20,7 @@ use Rattle.html_open.specs.Marking.{bare}
 use Rattle.html_open.specs.Opened.{CanPush, IsOpen, IsOrdered, open_at, origin_at}
 use Rattle.html_open.specs.Refusals.{of_arena}
 use Rattle.html_tree.specs.Inserting.{IsBudget, rest_of}
-use Rattle.html_tree.specs.States.{IsSound, IsUnderWay, State, state_of}
+use Rattle.html_tree.specs.States.{IsSound, IsUnderWay, state_of}
 use Rattle.html_tree.proofs.Inserted.{beyond, element-element, element-origin, element-tag, made-labels}
 
 pub refused-budget : (r : Result (Unit {0}) ArenaError) (e : ArenaError) → RefusedBy r e → IsBudget r (of_arena e)

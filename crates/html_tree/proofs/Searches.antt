@@ -1,10 +1,9 @@
 -- Searches down the stack.
-use Rattle.std.proofs.Common.{◌≡◌, ◌≢◌, ℕ, zero, suc, ◌+◌, ◌<◌, ◌≤◌, Bool, true, false, cond, ◌||◌, List, [], ◌∷◌, length, get_or, Option, Some, None, ◌⊎◌, inl, inr, refl, sym, ◌∙◌, ap, subst, arith}
+use Rattle.std.proofs.Common.{◌≡◌, ℕ, zero, suc, Bool, true, false, ◌||◌, List, [], ◌∷◌, length, get_or, Some, None, inl, inr, refl, sym, ◌∙◌, ap}
 use Rattle.std.specs.List.{list_any}
-use Rattle.html_open.specs.Lists.{above, below, last_index}
-use Rattle.html_open.specs.Scopes.{in_scope}
+use Rattle.html_open.specs.Lists.{below, last_index}
 use Rattle.html_open.proofs.Keeps.{cases_bool}
-use Rattle.html_open.proofs.Lists.{in_scope-at, looked-some}
+use Rattle.html_open.proofs.Lists.{in_scope-at}
 use Rattle.html_tree.specs.Searching.{index_before}
 
 or-true : (b : Bool) → (b || true) ≡ true

@@ -1,6 +1,6 @@
 -- The names of known tags as code points, and refusals of elements of such names.
-use Rattle.std.proofs.Common.{◌≡◌, ℕ, Bool, true, false, List, [], ◌⊎◌, inl, inr, Result, Ok, Err, IfErr, refl, sym, ◌∙◌, ap, subst, arith}
-use Rattle.std.specs.Str.{IsAscii, IsUtf8, chars}
+use Rattle.std.proofs.Common.{◌≡◌, ℕ, false, List, [], inl, inr, Result, Ok, Err, IfErr, refl, sym, ◌∙◌, ap, subst, arith}
+use Rattle.std.specs.Str.{IsUtf8, chars}
 use Rattle.std.proofs.lemmas.Str.{chars-IsAscii}
 use Rattle.html_names.specs.declared.tag.Tag.{Tag}
 use Rattle.html_names.specs.declared.tag.Tag.TheVariants as tag
@@ -9,8 +9,6 @@ use Rattle.html_names.proofs.Known.{tag_of-chars, tag_of-known}
 use Rattle.html_arena.specs.declared.arena.ArenaError.{ArenaError}
 use Rattle.html_arena.specs.declared.arena.ArenaError.TheVariants as arena
 use Rattle.html_open.specs.declared.error.OpenError.{OpenError}
-use Rattle.html_open.specs.declared.error.OpenError.TheVariants as told
-use Rattle.html_open.specs.Refusals.{of_arena}
 use Rattle.html_open.proofs.Keeps.{cases_bool}
 use Rattle.html_tree.specs.Inserting.{IsBudget, IsLack}
 

@@ -1,15 +1,12 @@
 -- The text at a place.
-use Rattle.std.proofs.Common.{◌≡◌, ◌≢◌, ℕ, zero, suc, ◌+◌, ◌<◌, ◌≤◌, Bool, true, false, cond, List, [], ◌∷◌, ◌++◌, length, min, Option, Some, None, IfSome, ◌⊎◌, inl, inr, refl, sym, ◌∙◌, ap, subst, arith, length-append}
+use Rattle.std.proofs.Common.{◌≡◌, ℕ, ◌+◌, ◌<◌, Bool, true, List, [], ◌∷◌, ◌++◌, length, Option, Some, None, IfSome, ◌⊎◌, inl, inr, refl, sym, ◌∙◌, ap, subst, arith, length-append}
 use Rattle.html_names.specs.Tags.{is_same}
 use Rattle.html_names.specs.declared.tag.Tag.TheVariants as tag
-use Rattle.html_arena.specs.declared.arena.Limits.{Limits}
 use Rattle.html_arena.specs.declared.data.NewNode.TheVariants as new
-use Rattle.html_arena.specs.declared.data.NodeData.{NodeData}
 use Rattle.html_arena.specs.declared.data.NodeData.TheVariants as node
-use Rattle.html_arena.specs.declared.data.Origin.{Origin}
 use Rattle.html_arena.specs.declared.data.Origin.TheVariants.{Nothing, Token}
 use Rattle.html_arena.specs.Budget.{budget, budget_of}
-use Rattle.html_arena.specs.Data.{IsElement, is_text, tag_in}
+use Rattle.html_arena.specs.Data.{IsElement, tag_in}
 use Rattle.html_arena.specs.Make.{made}
 use Rattle.html_arena.specs.Siblings.{before, has, last_of}
 use Rattle.html_arena.specs.Tree.{Tree, WellFormed, children_of, inserted, label_of, more, parent_of, sibling}
@@ -17,16 +14,15 @@ use Rattle.html_open.specs.declared.entry.Entry.{Entry}
 use Rattle.html_open.specs.declared.error.OpenError.{OpenError}
 use Rattle.html_open.specs.declared.places.Place.{Place}
 use Rattle.html_open.specs.declared.places.Place.TheVariants.{Before, Last}
-use Rattle.html_open.specs.Marking.{bare, charged}
+use Rattle.html_open.specs.Marking.{bare}
 use Rattle.html_open.specs.Placing.{parent_at, place_of, put}
-use Rattle.html_open.specs.Reopening.{HoldsNoElement}
 use Rattle.html_open.proofs.Keeps.{cases_bool}
 use Rattle.html_tree.specs.declared.groups.Target.TheVariants as target
 use Rattle.html_tree.specs.Inserting.{IsLack, IsNew, with_new}
 use Rattle.html_tree.specs.Since.{IsClosed}
-use Rattle.html_tree.specs.States.{IsUnderWay, State, state_of}
+use Rattle.html_tree.specs.States.{IsUnderWay, state_of}
 use Rattle.html_tree.specs.Texts.{IsFree, IsTextLack, if_text, text_before, tree_or_new}
-use Rattle.html_tree.proofs.Inserted.{parent-charged, target-free}
+use Rattle.html_tree.proofs.Inserted.{target-free}
 use Rattle.html_tree.proofs.Spelled.{lack-budget}
 
 if-bare : (t : Tree) (o : Option ℕ) → if_text (bare t) o ≡ if_text t o

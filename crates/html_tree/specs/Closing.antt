@@ -1,5 +1,5 @@
 -- What stays on the stack of open elements (13.2.4.2).
-use Rattle.std.specs.Prelude.{ℕ, ◌+◌, ◌-◌, Bool, cond, eqb, List, length, min, max, take, Option, Some, None}
+use Rattle.std.specs.Prelude.{ℕ, ◌-◌, cond, eqb, List, length, min, max, take, Option, Some, None}
 use Rattle.html_arena.specs.Siblings.{first_of, is_in}
 use Rattle.html_open.specs.Lists.{after_index, last_index, without_last}
 use Rattle.html_tree.specs.declared.groups.Group.{Group}

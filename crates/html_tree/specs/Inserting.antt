@@ -14,7 +14,7 @@ use Rattle.html_arena.specs.declared.data.NodeData.{NodeData}
 use Rattle.html_arena.specs.declared.data.NodeData.TheVariants.{Contents}
 use Rattle.html_arena.specs.Budget.{budget}
 use Rattle.html_arena.specs.Make.{has_contents, label_for, made, made_weight, nodes_made}
-use Rattle.html_arena.specs.Tree.{Tree, WellFormed}
+use Rattle.html_arena.specs.Tree.{Tree, WellFormed, more}
 use Rattle.html_arena.specs.Weight.{weight}
 use Rattle.html_open.specs.declared.error.OpenError.{OpenError}
 use Rattle.html_open.specs.declared.error.OpenError.TheVariants.{OutOfMemory, NodeBudget, HeldBudget}
@@ -37,12 +37,13 @@ with_open a = a.stack ++ length a.tree.labels ∷ []
 abbrev pub rest_of : ℕ → Bool → List NodeData
 rest_of h b = cond b (Contents h ∷ []) []
 
--- a new node is at a place, in so many steps
+-- a new node is at a place, in at most so many steps
 pub record IsNew (t u : Tree) (at : Place) (new : NewNode) (k : ℕ) : Type 0 where
   pub place_in : IsPlace t at
   pub laws : HasNew t u at (label_for t new)
   pub tree_is : bare u ≡ with_new (bare t) at new
   pub labels_are : u.labels ≡ t.labels ++ label_for t new ∷ rest_of (length t.labels) (has_contents new)
+  pub steps_least : more t.steps 0 ≤ u.steps
   pub steps_most : u.steps ≤ t.steps + k
   pub held_most : u.held ≤ t.held + weight (label_for t new)
   pub well_formed : WellFormed t

@@ -3,6 +3,9 @@ pub mod Since
 pub mod Groups
 pub mod Searching
 pub mod Closing
+pub mod OpenTags
+pub mod Paragraphs
+pub mod Seats
 pub mod Targets
 pub mod Inserting
 pub mod Listing

@@ -1,11 +1,11 @@
 -- What calls keep of a tree under construction.
-use Rattle.std.specs.Prelude.{◌≡◌, ℕ, ◌+◌, ◌<◌, ◌≤◌, true, false, List, [], length, min, Option, Some, None, ◌⊎◌}
+use Rattle.std.specs.Prelude.{◌≡◌, ℕ, ◌+◌, ◌<◌, ◌≤◌, true, false, [], length, min, Some, None, ◌⊎◌}
 use Rattle.html_names.specs.declared.tag.Tag.TheVariants as tag
 use Rattle.html_arena.specs.declared.data.NodeData.{NodeData}
 use Rattle.html_arena.specs.declared.data.NodeData.TheVariants.{Document, Contents, Element, Text, Comment, Doctype}
 use Rattle.html_arena.specs.Data.{IsElement}
 use Rattle.html_arena.specs.Siblings.{first_of, has}
-use Rattle.html_arena.specs.Tree.{children_of, host_at, label_of, named, parent_of}
+use Rattle.html_arena.specs.Tree.{children_of, host_at, label_of, more, named, parent_of}
 use Rattle.html_open.specs.Reopening.{HoldsNoElement}
 use Rattle.html_tree.specs.States.{State}
 
@@ -32,7 +32,7 @@ IsContents a x = (h : ℕ) × (host_at a.tree x ≡ Some h)
 
 -- Of a state and a later one. The first open element stays first; nodes stay what they are; what was closed stays closed, and where it holds
 -- no element it keeps its children and their texts; a node without a parent had none before, or is a template's contents, or is the
--- body that a frameset took the place of; node 0 stays without a parent.
+-- body that a frameset took the place of; node 0 stays without a parent; steps are not fewer, up to the greatest number that is counted.
 pub record Since (a b : State) : Type 0 where
   pub first : (x : ℕ) → first_of a.stack ≡ Some x → first_of b.stack ≡ Some x
   pub no_fewer : length a.tree.labels ≤ length b.tree.labels
@@ -45,6 +45,7 @@ pub record Since (a b : State) : Type 0 where
       → IsContents b x ⊎ ((b.detached ≡ Some x) ⊎ ((x < length a.tree.labels) × (parent_of a.tree x ≡ None)))
   pub root : parent_of a.tree 0 ≡ None → parent_of b.tree 0 ≡ None
   pub detached : (x : ℕ) → a.detached ≡ Some x → b.detached ≡ Some x
+  pub steps : more a.steps 0 ≤ b.steps
 
 -- what was so since an earlier state is so still
 abbrev pub Keeps : State → State → Type 0

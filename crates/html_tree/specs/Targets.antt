@@ -1,5 +1,5 @@
 -- Where a new node goes (13.2.6.1).
-use Rattle.std.specs.Prelude.{ℕ, ◌<◌, Bool, List, length, Option, Some, None}
+use Rattle.std.specs.Prelude.{ℕ, ◌<◌, List, length, Option, None}
 use Rattle.html_arena.specs.Siblings.{first_of}
 use Rattle.html_arena.specs.Tree.{Tree}
 use Rattle.html_open.specs.declared.places.Place.{Place}

@@ -3,6 +3,7 @@
 #![tactic(auto)]
 
 mod groups;
+mod paragraphs;
 mod search;
 mod target;
 mod tree;

@@ -1,5 +1,5 @@
 // Searches from the current node down the stack.
-ghost use Rattle.std.specs.Prelude.{◌≡◌, ℕ, ◌<◌, ◌≤◌, Bool, length};
+ghost use Rattle.std.specs.Prelude.{◌≡◌, ℕ, ◌<◌, ◌≤◌, Bool, IfSome, Some, length};
 ghost use Rattle.std.specs.Str.{chars};
 ghost use Rattle.html_arena.specs.Siblings.{last_of};
 ghost use Rattle.html_open.specs.Lists.{IsBelow, after_index, last_index, steps_down};
@@ -73,6 +73,7 @@ pub(crate) fn member_at(
     requires at_in { IsBelow (length nodes.now) at }
     requires stopped { at ≡ last_index (member_or_stop arena.now group stop) nodes.now }
     ensures index { result ≡ index_before (is_member arena.now group) (stops arena.now stop) nodes.now }
+    ensures same { IfSome result (λ i. at ≡ Some i) }
     ensures below { IsBelow (length nodes.now) result }
 {
     match at {

@@ -1,5 +1,5 @@
 // The tree under construction.
-ghost use Rattle.std.specs.Prelude.{◌≡◌, ℕ, ◌+◌, ◌<◌, ◌≤◌, [], ◌∷◌, IfErr, IfOk, None, OnOk, Option, Some, length, true};
+ghost use Rattle.std.specs.Prelude.{◌≡◌, ℕ, ◌+◌, ◌^◌, ◌<◌, ◌≤◌, [], ◌∷◌, IfErr, IfOk, None, OnOk, Option, Some, length, reverse, slice_get, true};
 ghost use Rattle.html_names.specs.declared.tag.Tag.TheVariants as tag;
 ghost use Rattle.html_names.specs.Names.{name_of};
 ghost use Rattle.html_arena.specs.declared.data.NewNode.TheVariants.{Element};
@@ -11,6 +11,7 @@ ghost use Rattle.html_arena.specs.Tree.{empty_tree, more, named};
 ghost use Rattle.html_open.specs.Marking.{bare};
 ghost use Rattle.html_tree.specs.Inserting.{IsBudget, IsLack, root_budget};
 ghost use Rattle.html_tree.specs.States.{IsUnderWay};
+ghost use Rattle.html_tree.specs.OpenTags.{open_tags};
 ghost use Rattle.html_tree.specs.Since.{Grown, Keeps};
 
 use html_arena::{Arena, Limits, NewNode, NodeId, Origin};
@@ -27,12 +28,15 @@ mod listing;
 mod merging;
 mod searching;
 mod text;
+mod whole;
 
 /// A tree under construction: its nodes, which of them are open, which are listed, and the element pointers.
 #[derive(Drop)]
 pub struct OpenTree {
     arena: Arena,
     stack: OpenStack,
+    /// The open elements at which a search for a p in button scope ends, without the first, at which it ends in any case.
+    p_ends: Vec<NodeId>,
     list: FormattingList,
     /// The number of the first token that no node comes from, nor from a later one.
     tokens: u128,
@@ -45,12 +49,14 @@ pub struct OpenTree {
 
 impl Model for OpenTree {
     ghost use Rattle.html_tree.specs.States.{State, IsUnderWay, state_of};
+    ghost use Rattle.html_tree.specs.Paragraphs.{p_ends_of};
+    ghost use Rattle.std.specs.Prelude.{◌≡◌};
 
     ghost Value = { State };
 
     ghost view = { λ p. state_of p.stack p.list p.arena p.tokens p.head p.form p.detached };
 
-    ghost invariant = { λ p. IsUnderWay p.stack p.list p.arena p.tokens p.head p.form p.detached };
+    ghost invariant = { λ p. IsUnderWay p.stack p.list p.arena p.tokens p.head p.form p.detached × (p.p_ends.items ≡ p_ends_of p.arena p.stack) };
 }
 
 impl OpenTree {
@@ -94,6 +100,7 @@ impl OpenTree {
         Ok(OpenTree {
             arena,
             stack: OpenStack::new(alloc),
+            p_ends: Vec::new(alloc),
             list: FormattingList::new(alloc),
             tokens: 0,
             head: None,
@@ -142,6 +149,7 @@ impl OpenTree {
         Ok(OpenTree {
             arena,
             stack,
+            p_ends: Vec::new(alloc),
             list: FormattingList::new(alloc),
             tokens: 0,
             head: None,
@@ -154,8 +162,11 @@ impl OpenTree {
     /// What is always true of a tree under construction: a law.
     pub fn laws(&self)
         ensures sound { IsSound self.now }
+        ensures depth { length (open_tags self.now) ≡ length self.now.stack }
+        ensures deepest { 0 < length self.now.stack → slice_get (reverse (open_tags self.now)) 0 ≡ Some tag.Html }
+        ensures counted { self.now.steps < 2 ^ 128 }
     {
-        let _ = &self.arena;
+        fits(self.arena.meter().steps);
     }
 
     /// The number of open elements.
@@ -172,6 +183,7 @@ impl OpenTree {
         ensures steps { self.new.steps ≤ self.old.steps + steps }
         ensures keeps { Keeps self.old self.new }
         ensures grown { Grown 0 0 0 0 self.old self.new }
+        ensures tags { open_tags self.new ≡ open_tags self.old }
     {
         self.arena.charge(steps);
     }
@@ -190,6 +202,7 @@ impl OpenTree {
         ensures exact { self.new ≡ record self.old { head = Some node } }
         ensures keeps { Keeps self.old self.new }
         ensures grown { Grown 0 0 0 0 self.old self.new }
+        ensures tags { open_tags self.new ≡ open_tags self.old }
     {
         self.head = Some(node);
     }
@@ -207,10 +220,16 @@ impl OpenTree {
         ensures exact { self.new ≡ record self.old { form = node } }
         ensures keeps { Keeps self.old self.new }
         ensures grown { Grown 0 0 0 0 self.old self.new }
+        ensures tags { open_tags self.new ≡ open_tags self.old }
     {
         self.form = node;
     }
 }
+
+/// A law of numbers of 128 bits.
+fn fits(steps: u128)
+    ensures below { steps < 2 ^ 128 }
+{}
 
 /// Makes an html element that no token asked for, the first node, and opens it.
 fn push_root(stack: &mut OpenStack, arena: &mut Arena, alloc: Global) -> Result<(), OpenError>

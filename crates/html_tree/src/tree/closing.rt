@@ -1,14 +1,22 @@
 // Elements that are closed. The first element never is.
-ghost use Rattle.std.specs.Prelude.{◌≡◌, ℕ, ◌+◌, ◌*◌, ◌<◌, ◌≤◌, is_some, length};
+ghost use Rattle.std.specs.Prelude.{◌≡◌, ℕ, ◌+◌, ◌*◌, ◌<◌, ◌≤◌, drop, false, is_some, length, true};
+ghost use Rattle.std.specs.List.{after_first};
+ghost use Rattle.html_names.specs.declared.tag.Tag.TheVariants as tag;
 ghost use Rattle.html_open.specs.Lists.{up_to};
-ghost use Rattle.html_open.specs.Scopes.{stays};
+ghost use Rattle.html_open.specs.Scopes.{stays, tag_stays};
 ghost use Rattle.html_arena.specs.Siblings.{first_of, is_in};
+ghost use Rattle.html_arena.specs.Tree.{tag_at};
 ghost use Rattle.html_tree.specs.Closing.{cleared_to, context_end, closed_through, first_few, kept_to, popped, remaining};
+ghost use Rattle.html_tree.specs.Groups.{in_group, is_context};
+ghost use Rattle.html_tree.specs.OpenTags.{HasClosed, HasContext, HasFewer, IsLighter, back_to, is_tag_in_scope, open_tags};
+ghost use Rattle.html_tree.specs.Paragraphs.{seeks_p};
 ghost use Rattle.html_tree.specs.Searching.{found};
+ghost use Rattle.html_tree.specs.Seats.{AreSeated, carries_part};
 ghost use Rattle.html_tree.specs.Since.{Grown, Keeps};
 
 use super::OpenTree;
 use crate::groups::{Group, Stop, TableContext};
+use crate::paragraphs::{cut_ends, forget_end};
 use crate::search::{Sought, after, last_index, steps_down};
 use html_arena::NodeId;
 use html_names::Tag;
@@ -18,12 +26,17 @@ impl OpenTree {
     pub fn pop_to(&mut self, len: usize)
         ensures exact { self.new ≡ record self.old { stack = first_few len self.old.stack; steps = self.new.steps } }
         ensures steps { self.new.steps ≤ self.old.steps + length self.old.stack }
+        ensures each { self.new.steps + length self.new.stack ≤ self.old.steps + length self.old.stack }
         ensures keeps { Keeps self.old self.new }
         ensures grown { Grown 0 0 0 0 self.old self.new }
+        ensures few { HasFewer self.old self.new }
+        ensures lighter { IsLighter self.old self.new }
+        ensures seated { AreSeated (open_tags self.old) → AreSeated (open_tags self.new) }
     {
         let count = self.stack.len();
         let kept = kept_to(count, len);
         self.arena.charge((count - kept) as u128);
+        cut_ends(&mut self.p_ends, self.stack.as_slice(), &self.arena, kept);
         self.stack.pop_to(&mut self.arena, kept);
     }
 
@@ -33,20 +46,33 @@ impl OpenTree {
         ensures steps { self.new.steps ≤ self.old.steps + length self.old.stack }
         ensures keeps { Keeps self.old self.new }
         ensures grown { Grown 0 0 0 0 self.old self.new }
+        ensures tags { 1 < length self.old.stack → open_tags self.new ≡ drop 1 (open_tags self.old) }
+        ensures few { HasFewer self.old self.new }
+        ensures lighter { IsLighter self.old self.new }
+        ensures seated { AreSeated (open_tags self.old) → AreSeated (open_tags self.new) }
     {
         let count = self.stack.len();
         self.pop_to(count.saturating_sub(1));
     }
 
     /// Closes elements through the last one of a group, unless one that ends the search stands after it, and says whether there is one.
-    /// At most two steps for each open element.
+    /// At most two steps for each open element; for a p in button scope two for each that is closed, and one.
     pub fn close(&mut self, group: Group, stop: Stop) -> bool
         ensures answer { result ≡ is_some (found self.old group stop) }
+        ensures in_scope { result ≡ is_tag_in_scope group stop (open_tags self.old) }
         ensures exact { self.new ≡ record self.old { stack = closed_through self.old group stop; steps = self.new.steps } }
         ensures steps { self.new.steps ≤ self.old.steps + 2 * length self.old.stack }
+        ensures paid { seeks_p group stop ≡ true → self.new.steps + 2 * length self.new.stack ≤ self.old.steps + 2 * length self.old.stack + 1 }
         ensures keeps { Keeps self.old self.new }
         ensures grown { Grown 0 0 0 0 self.old self.new }
+        ensures few { HasFewer self.old self.new }
+        ensures lighter { IsLighter self.old self.new }
+        ensures same { result ≡ false → open_tags self.new ≡ open_tags self.old }
+        ensures closed { result ≡ true → in_group group tag.Html ≡ false → open_tags self.new ≡ after_first (in_group group) (open_tags self.old) }
+        ensures seated { AreSeated (open_tags self.old) → AreSeated (open_tags self.new) }
+        ensures found { result ≡ true → in_group group tag.Html ≡ false → HasClosed group self.old self.new }
     {
+        self.laws();
         match self.find(group, stop) {
             None => false,
             Some(index) => {
@@ -62,7 +88,13 @@ impl OpenTree {
         ensures steps { self.new.steps ≤ self.old.steps + 2 * length self.old.stack }
         ensures keeps { Keeps self.old self.new }
         ensures grown { Grown 0 0 0 0 self.old self.new }
+        ensures few { HasFewer self.old self.new }
+        ensures lighter { IsLighter self.old self.new }
+        ensures cleared { open_tags self.new ≡ back_to (is_context context) (open_tags self.old) }
+        ensures seated { AreSeated (open_tags self.old) → AreSeated (open_tags self.new) }
+        ensures context { HasContext context self.new }
     {
+        self.laws();
         let len = self.context_end(context);
         self.pop_to(len);
     }
@@ -74,6 +106,7 @@ impl OpenTree {
         ensures steps { self.new.steps ≤ self.old.steps + length self.old.stack }
         ensures keeps { Keeps self.old self.new }
         ensures grown { Grown 0 0 0 0 self.old self.new }
+        ensures tags { open_tags self.new ≡ open_tags self.old }
     {
         let nodes = self.stack.as_slice();
         let at = last_index(nodes, &self.arena, Sought::Context(context));
@@ -90,6 +123,10 @@ impl OpenTree {
         ensures steps { self.new.steps ≤ self.old.steps + 2 * length self.old.stack + 1 }
         ensures keeps { Keeps self.old self.new }
         ensures grown { Grown 0 0 0 0 self.old self.new }
+        ensures few { HasFewer self.old self.new }
+        ensures lighter { IsLighter self.old self.new }
+        ensures left { open_tags self.new ≡ back_to (tag_stays except) (open_tags self.old) }
+        ensures seated { AreSeated (open_tags self.old) → AreSeated (open_tags self.new) }
     {
         let nodes = self.stack.as_slice();
         let at = last_index(nodes, &self.arena, Sought::Staying(except));
@@ -106,8 +143,11 @@ impl OpenTree {
         ensures steps { self.new.steps ≤ self.old.steps + 2 * length self.old.stack + 1 }
         ensures keeps { Keeps self.old self.new }
         ensures grown { Grown 0 0 0 0 self.old self.new }
+        ensures lighter { IsLighter self.old self.new }
+        ensures seated { carries_part (tag_at self.old.tree node) ≡ false → AreSeated (open_tags self.old) → AreSeated (open_tags self.new) }
     {
         if !is_first(self.stack.as_slice(), node) {
+            forget_end(&mut self.p_ends, &self.arena, node);
             self.stack.remove(&mut self.arena, node);
         }
     }

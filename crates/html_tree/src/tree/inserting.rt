@@ -1,5 +1,5 @@
 // Nodes that are made of tokens, or implied by them.
-ghost use Rattle.std.specs.Prelude.{◌≡◌, ℕ, ◌+◌, ◌<◌, ◌≤◌, [], IfErr, IfOk, None, Ok, OnOk, Option, Some, length, true};
+ghost use Rattle.std.specs.Prelude.{◌≡◌, ℕ, ◌+◌, ◌<◌, ◌≤◌, [], ◌∷◌, IfErr, IfOk, None, Ok, OnErr, OnOk, Option, Some, length, true};
 ghost use Rattle.html_names.specs.declared.tag.Tag.TheVariants as tag;
 ghost use Rattle.html_names.specs.Names.{name_of, tag_of};
 ghost use Rattle.html_names.specs.Sets.{is_formatting};
@@ -12,11 +12,13 @@ ghost use Rattle.html_arena.specs.Weight.{weight};
 ghost use Rattle.html_open.specs.Entries.{push_steps, pushed};
 ghost use Rattle.html_open.specs.Opened.{CanList, open_at};
 ghost use Rattle.html_tree.specs.Inserting.{CanBeFirst, IsFor, IsRefused, IsTold, with_new, with_open};
+ghost use Rattle.html_tree.specs.OpenTags.{HasReopened, open_tags};
 ghost use Rattle.html_tree.specs.Since.{Grown, Keeps};
 ghost use Rattle.html_tree.specs.Targets.{CanTarget, place_for};
 
 use super::OpenTree;
 use crate::groups::Target;
+use crate::paragraphs::open_node;
 use crate::target::put_new;
 use html_arena::{NewNode, NodeId, Origin};
 use html_charref::Str;
@@ -51,6 +53,10 @@ impl OpenTree {
         ensures steps { OnOk result (self.new.steps ≤ self.old.steps + length self.old.stack + 4) }
         ensures keeps { OnOk result (Keeps self.old self.new) }
         ensures grown { OnOk result (Grown 2 1 0 (weight (label_for self.old.tree (Element name attrs (Token token)))) self.old self.new) }
+        ensures tags { OnOk result (open_tags self.new ≡ tag_of name ∷ open_tags self.old) }
+        ensures refused { OnErr result (open_tags self.new ≡ open_tags self.old) }
+        ensures rest { self.new ≡ record self.old { stack = self.new.stack; tree = self.new.tree; steps = self.new.steps; tokens = self.new.tokens } }
+        ensures tokens_most { self.new.tokens ≤ token + 1 }
         ensures cause { IfErr result (λ e. IsRefused self.old (Element name attrs (Token token)) e) }
     {
         self.open_new(name, attrs, Origin::Token(token), token as u128 + 1, target)
@@ -80,6 +86,9 @@ impl OpenTree {
         ensures steps { OnOk result (self.new.steps ≤ self.old.steps + length self.old.stack + 3) }
         ensures keeps { OnOk result (Keeps self.old self.new) }
         ensures grown { OnOk result (Grown 2 0 0 (weight (label_for self.old.tree (Element name attrs (Token token)))) self.old self.new) }
+        ensures tags { open_tags self.new ≡ open_tags self.old }
+        ensures rest { self.new ≡ record self.old { tree = self.new.tree; steps = self.new.steps; tokens = self.new.tokens } }
+        ensures tokens_most { self.new.tokens ≤ token + 1 }
         ensures cause { IfErr result (λ e. IsRefused self.old (Element name attrs (Token token)) e) }
     {
         self.closed_new(name, attrs, Origin::Token(token), token as u128 + 1, target)
@@ -102,6 +111,10 @@ impl OpenTree {
         ensures steps { OnOk result (self.new.steps ≤ self.old.steps + length self.old.stack + 4) }
         ensures keeps { OnOk result (Keeps self.old self.new) }
         ensures grown { OnOk result (Grown 2 1 0 (weight (label_for self.old.tree (Element (name_of tag) [] Implied))) self.old self.new) }
+        ensures tags { OnOk result (open_tags self.new ≡ tag ∷ open_tags self.old) }
+        ensures refused { OnErr result (open_tags self.new ≡ open_tags self.old) }
+        ensures rest { self.new ≡ record self.old { stack = self.new.stack; tree = self.new.tree; steps = self.new.steps } }
+        ensures tokens { self.new.tokens ≡ self.old.tokens }
         ensures cause { IfErr result (λ e. IsTold self.old (Element (name_of tag) [] Implied) e) }
     {
         let attrs = Attrs::new(self.alloc);
@@ -125,6 +138,9 @@ impl OpenTree {
         ensures steps { OnOk result (self.new.steps ≤ self.old.steps + length self.old.stack + 3) }
         ensures keeps { OnOk result (Keeps self.old self.new) }
         ensures grown { OnOk result (Grown 2 0 0 (weight (label_for self.old.tree (Element (name_of tag) [] Implied))) self.old self.new) }
+        ensures tags { open_tags self.new ≡ open_tags self.old }
+        ensures rest { self.new ≡ record self.old { tree = self.new.tree; steps = self.new.steps } }
+        ensures tokens { self.new.tokens ≡ self.old.tokens }
         ensures cause { IfErr result (λ e. IsTold self.old (Element (name_of tag) [] Implied) e) }
     {
         let attrs = Attrs::new(self.alloc);
@@ -154,6 +170,9 @@ impl OpenTree {
         ensures steps { OnOk result (self.new.steps ≤ self.old.steps + length self.old.stack + 3) }
         ensures keeps { OnOk result (Keeps self.old self.new) }
         ensures grown { OnOk result (Grown 2 0 0 (weight (label_for self.old.tree (Comment text token))) self.old self.new) }
+        ensures tags { open_tags self.new ≡ open_tags self.old }
+        ensures rest { self.new ≡ record self.old { tree = self.new.tree; steps = self.new.steps; tokens = self.new.tokens } }
+        ensures tokens_most { self.new.tokens ≤ token + 1 }
         ensures cause { IfErr result (λ e. IsRefused self.old (Comment text token) e) }
     {
         let new = NewNode::Comment { text, token };
@@ -184,6 +203,9 @@ impl OpenTree {
         ensures steps { OnOk result (self.new.steps ≤ self.old.steps + length self.old.stack + 3) }
         ensures keeps { OnOk result (Keeps self.old self.new) }
         ensures grown { OnOk result (Grown 2 0 0 (weight (label_for self.old.tree (Doctype name public system token))) self.old self.new) }
+        ensures tags { open_tags self.new ≡ open_tags self.old }
+        ensures rest { self.new ≡ record self.old { tree = self.new.tree; steps = self.new.steps; tokens = self.new.tokens } }
+        ensures tokens_most { self.new.tokens ≤ token + 1 }
         ensures cause { IfErr result (λ e. IsRefused self.old (Doctype name public system token) e) }
     {
         let new = NewNode::Doctype {
@@ -218,6 +240,10 @@ impl OpenTree {
         ensures steps { OnOk result (self.new.steps ≤ self.old.steps + length self.old.stack + 4) }
         ensures keeps { OnOk result (Keeps self.old self.new) }
         ensures grown { OnOk result (Grown 2 1 0 (weight (label_for self.old.tree (Element (name_of tag.Html) attrs (Token token)))) self.old self.new) }
+        ensures tags { OnOk result (open_tags self.new ≡ tag.Html ∷ open_tags self.old) }
+        ensures refused { OnErr result (open_tags self.new ≡ open_tags self.old) }
+        ensures rest { self.new ≡ record self.old { stack = self.new.stack; tree = self.new.tree; steps = self.new.steps; tokens = self.new.tokens } }
+        ensures tokens_most { self.new.tokens ≤ token + 1 }
         ensures cause { IfErr result (λ e. IsTold self.old (Element (name_of tag.Html) attrs (Token token)) e) }
     {
         let next = token as u128 + 1;
@@ -246,6 +272,10 @@ impl OpenTree {
         ensures steps { OnOk result (self.new.steps ≤ self.old.steps + length self.old.stack + 4) }
         ensures keeps { OnOk result (Keeps self.old self.new) }
         ensures grown { OnOk result (Grown 2 1 0 (weight (label_for self.old.tree (Element (name_of tag.Html) [] Implied))) self.old self.new) }
+        ensures tags { OnOk result (open_tags self.new ≡ tag.Html ∷ open_tags self.old) }
+        ensures refused { OnErr result (open_tags self.new ≡ open_tags self.old) }
+        ensures rest { self.new ≡ record self.old { stack = self.new.stack; tree = self.new.tree; steps = self.new.steps } }
+        ensures tokens { self.new.tokens ≡ self.old.tokens }
         ensures cause { IfErr result (λ e. IsTold self.old (Element (name_of tag.Html) [] Implied) e) }
     {
         let attrs = Attrs::new(self.alloc);
@@ -279,6 +309,10 @@ impl OpenTree {
         ensures steps { OnOk result (self.new.steps ≤ self.old.steps + length self.old.stack + 4 + push_steps (with_new self.old.tree (place_for self.old (Target.Current foster)) (Element name attrs (Token token))) (length self.old.tree.labels) self.old.list) }
         ensures keeps { OnOk result (Keeps self.old self.new) }
         ensures grown { OnOk result (Grown 2 1 1 (weight (label_for self.old.tree (Element name attrs (Token token)))) self.old self.new) }
+        ensures tags { OnOk result (open_tags self.new ≡ tag_of name ∷ open_tags self.old) }
+        ensures refused { OnErr result (HasReopened self.old self.new) }
+        ensures rest { self.new ≡ record self.old { stack = self.new.stack; list = self.new.list; tree = self.new.tree; steps = self.new.steps; tokens = self.new.tokens } }
+        ensures tokens_most { self.new.tokens ≤ token + 1 }
         ensures cause { IfErr result (λ e. IsRefused self.old (Element name attrs (Token token)) e) }
     {
         let next = token as u128 + 1;
@@ -314,6 +348,11 @@ impl OpenTree {
         ensures steps { OnOk result (self.new.steps ≤ self.old.steps + length self.old.stack + 4) }
         ensures keeps { OnOk result (Keeps self.old self.new) }
         ensures grown { OnOk result (Grown 2 1 0 (weight (label_for self.old.tree (Element (name_of tag) attrs origin))) self.old self.new) }
+        ensures tags { OnOk result (open_tags self.new ≡ tag ∷ open_tags self.old) }
+        ensures refused { OnErr result (open_tags self.new ≡ open_tags self.old) }
+        ensures rest { self.new ≡ record self.old { stack = self.new.stack; tree = self.new.tree; steps = self.new.steps; tokens = self.new.tokens } }
+        ensures tokens_least { self.old.tokens ≤ self.new.tokens }
+        ensures tokens_most { self.new.tokens ≤ next }
         ensures cause { IfErr result (λ e. IsTold self.old (Element (name_of tag) attrs origin) e) }
     {
         let name = Str::of(self.alloc, tag.name())?;
@@ -342,6 +381,10 @@ impl OpenTree {
         ensures steps { OnOk result (self.new.steps ≤ self.old.steps + length self.old.stack + 3) }
         ensures keeps { OnOk result (Keeps self.old self.new) }
         ensures grown { OnOk result (Grown 2 0 0 (weight (label_for self.old.tree (Element (name_of tag) attrs origin))) self.old self.new) }
+        ensures tags { open_tags self.new ≡ open_tags self.old }
+        ensures rest { self.new ≡ record self.old { tree = self.new.tree; steps = self.new.steps; tokens = self.new.tokens } }
+        ensures tokens_least { self.old.tokens ≤ self.new.tokens }
+        ensures tokens_most { self.new.tokens ≤ next }
         ensures cause { IfErr result (λ e. IsTold self.old (Element (name_of tag) attrs origin) e) }
     {
         let name = Str::of(self.alloc, tag.name())?;
@@ -376,6 +419,11 @@ impl OpenTree {
         ensures steps { OnOk result (self.new.steps ≤ self.old.steps + length self.old.stack + 4) }
         ensures keeps { OnOk result (Keeps self.old self.new) }
         ensures grown { OnOk result (Grown 2 1 0 (weight (label_for self.old.tree (Element name attrs origin))) self.old self.new) }
+        ensures tags { OnOk result (open_tags self.new ≡ tag_of name ∷ open_tags self.old) }
+        ensures refused { OnErr result (open_tags self.new ≡ open_tags self.old) }
+        ensures rest { self.new ≡ record self.old { stack = self.new.stack; tree = self.new.tree; steps = self.new.steps; tokens = self.new.tokens } }
+        ensures tokens_least { self.old.tokens ≤ self.new.tokens }
+        ensures tokens_most { self.new.tokens ≤ next }
         ensures cause { IfErr result (λ e. IsRefused self.old (Element name attrs origin) e) }
     {
         let new = NewNode::Element {
@@ -385,7 +433,7 @@ impl OpenTree {
         };
         let node = put_new(&self.stack, &mut self.arena, self.head, target, new)?;
         self.tokens = next;
-        self.stack.push(&mut self.arena, node)?;
+        open_node(&mut self.stack, &mut self.p_ends, &mut self.arena, node)?;
         Ok(node)
     }
 
@@ -411,6 +459,10 @@ impl OpenTree {
         ensures steps { OnOk result (self.new.steps ≤ self.old.steps + length self.old.stack + 3) }
         ensures keeps { OnOk result (Keeps self.old self.new) }
         ensures grown { OnOk result (Grown 2 0 0 (weight (label_for self.old.tree (Element name attrs origin))) self.old self.new) }
+        ensures tags { open_tags self.new ≡ open_tags self.old }
+        ensures rest { self.new ≡ record self.old { tree = self.new.tree; steps = self.new.steps; tokens = self.new.tokens } }
+        ensures tokens_least { self.old.tokens ≤ self.new.tokens }
+        ensures tokens_most { self.new.tokens ≤ next }
         ensures cause { IfErr result (λ e. IsRefused self.old (Element name attrs origin) e) }
     {
         let new = NewNode::Element {

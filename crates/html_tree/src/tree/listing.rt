@@ -5,6 +5,8 @@ ghost use Rattle.html_open.specs.Entries.{is_marker, last_named, push_steps, pus
 ghost use Rattle.html_open.specs.Opened.{CanList, open_at};
 ghost use Rattle.html_open.specs.Lists.{below};
 ghost use Rattle.html_tree.specs.Listing.{IsAdoptRefused, IsAdopted, IsReopenRefused, IsReopened, listed_weight};
+ghost use Rattle.html_tree.specs.OpenTags.{HasReopened, IsLighterBesides, open_tags};
+ghost use Rattle.html_tree.specs.Seats.{AreSeated};
 ghost use Rattle.html_tree.specs.Since.{Grown, Keeps};
 
 use super::OpenTree;
@@ -25,6 +27,9 @@ impl OpenTree {
         ensures steps { OnOk result (self.new.steps ≤ self.old.steps + 1) }
         ensures keeps { OnOk result (Keeps self.old self.new) }
         ensures grown { OnOk result (Grown 0 0 1 0 self.old self.new) }
+        ensures tags { open_tags self.new ≡ open_tags self.old }
+        ensures rest { self.new ≡ record self.old { list = self.new.list; steps = self.new.steps } }
+        ensures tokens { self.new.tokens ≡ self.old.tokens }
         ensures cause { IfErr result (λ e. e ≡ OpenError.OutOfMemory) }
     {
         self.list.marker(&mut self.arena)?;
@@ -39,6 +44,8 @@ impl OpenTree {
         ensures steps { OnOk result (self.new.steps ≤ self.old.steps + push_steps self.old.tree node self.old.list) }
         ensures keeps { OnOk result (Keeps self.old self.new) }
         ensures grown { OnOk result (Grown 0 0 1 0 self.old self.new) }
+        ensures tags { open_tags self.new ≡ open_tags self.old }
+        ensures rest { self.new ≡ record self.old { list = self.new.list; steps = self.new.steps } }
         ensures cause { IfErr result (λ e. e ≡ OpenError.OutOfMemory) }
     {
         self.list.push(&mut self.arena, node)?;
@@ -51,6 +58,7 @@ impl OpenTree {
         ensures steps { self.new.steps ≤ self.old.steps + 2 * length self.old.list }
         ensures keeps { Keeps self.old self.new }
         ensures grown { Grown 0 0 0 0 self.old self.new }
+        ensures tags { open_tags self.new ≡ open_tags self.old }
     {
         self.list.clear_to_marker(&mut self.arena);
     }
@@ -63,6 +71,7 @@ impl OpenTree {
         ensures steps { self.new.steps ≤ self.old.steps + length self.old.list }
         ensures keeps { Keeps self.old self.new }
         ensures grown { Grown 0 0 0 0 self.old self.new }
+        ensures tags { open_tags self.new ≡ open_tags self.old }
     {
         self.list.last_named(&mut self.arena, name)
     }
@@ -74,6 +83,7 @@ impl OpenTree {
         ensures steps { self.new.steps ≤ self.old.steps + 2 * length self.old.list + 1 }
         ensures keeps { Keeps self.old self.new }
         ensures grown { Grown 0 0 0 0 self.old self.new }
+        ensures tags { open_tags self.new ≡ open_tags self.old }
     {
         self.list.remove(&mut self.arena, node);
     }
@@ -90,6 +100,8 @@ impl OpenTree {
         ensures steps { self.new.steps ≤ self.old.steps + length self.old.list * (length self.old.stack + length self.old.list + 7) }
         ensures keeps { OnOk result (Keeps self.old self.new) }
         ensures grown { OnOk result (Grown (length self.old.list) (length self.old.list) 0 (listed_weight self.old) self.old self.new) }
+        ensures opened { HasReopened self.old self.new }
+        ensures seated { AreSeated (open_tags self.old) → AreSeated (open_tags self.new) }
         ensures cause { IfErr result (λ e. IsReopenRefused foster self.old e) }
     {
         self.arena.forest();
@@ -111,6 +123,8 @@ impl OpenTree {
         ensures steps { self.new.steps ≤ self.old.steps + (32 * ((length self.old.stack + length self.old.list + 4) * (length self.old.stack + length self.old.list + 4)) + 8 * length self.new.tree.labels) }
         ensures keeps { OnOk result (Keeps self.old self.new) }
         ensures grown { OnOk result (Grown 32 0 0 (32 * listed_weight self.old) self.old self.new) }
+        ensures lighter { IsLighterBesides self.old self.new }
+        ensures seated { AreSeated (open_tags self.old) → AreSeated (open_tags self.new) }
         ensures cause { IfErr result (λ e. IsAdoptRefused name foster self.old self.new e) }
     {
         self.arena.forest();

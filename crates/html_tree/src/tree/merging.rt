@@ -8,6 +8,7 @@ ghost use Rattle.html_arena.specs.Weight.{attrs_weight, capped};
 ghost use Rattle.html_arena.specs.Budget.{budget};
 ghost use Rattle.html_open.specs.Marking.{bare};
 ghost use Rattle.html_tree.specs.Inserting.{IsLack};
+ghost use Rattle.html_tree.specs.OpenTags.{open_tags};
 ghost use Rattle.html_tree.specs.Since.{Grown, Keeps};
 
 use super::OpenTree;
@@ -26,6 +27,9 @@ impl OpenTree {
         ensures steps { OnOk result (self.new.steps ≤ self.old.steps + 1 + length (attrs_in (label_of self.old.tree (slice_index self.old.stack index))) * length attrs) }
         ensures keeps { OnOk result (Keeps self.old self.new) }
         ensures grown { OnOk result (Grown 0 0 0 (attrs_weight (lacking (attrs_in (label_of self.old.tree (slice_index self.old.stack index))) attrs)) self.old self.new) }
+        ensures tags { open_tags self.new ≡ open_tags self.old }
+        ensures rest { self.new ≡ record self.old { tree = self.new.tree; steps = self.new.steps } }
+        ensures tokens { self.new.tokens ≡ self.old.tokens }
         ensures cause { IfErr result (λ e. IsLack (budget self.old.tree 0 (capped (attrs_weight (lacking (attrs_in (label_of self.old.tree (slice_index self.old.stack index))) attrs)))) e) }
     {
         kept_by_edits();
@@ -47,6 +51,7 @@ impl OpenTree {
         ensures steps { self.new.steps ≤ self.old.steps + 2 }
         ensures keeps { Keeps self.old self.new }
         ensures grown { Grown 0 0 0 0 self.old self.new }
+        ensures tags { open_tags self.new ≡ open_tags self.old }
     {
         kept_by_edits();
         let body = self.stack.at(&mut self.arena, 1);

@@ -1,13 +1,18 @@
 // Questions about the open elements.
-ghost use Rattle.std.specs.Prelude.{◌≡◌, ℕ, ◌+◌, ◌<◌, ◌≤◌, IfSome, is_some, length, slice_index};
+ghost use Rattle.std.specs.Prelude.{◌≡◌, ℕ, ◌+◌, ◌<◌, ◌≤◌, IfSome, None, Some, false, is_some, length, reverse, slice_get, slice_index, true};
 ghost use Rattle.std.specs.Str.{chars};
+ghost use Rattle.html_names.specs.declared.sets.Scope.TheVariants as scope;
+ghost use Rattle.html_names.specs.declared.tag.Tag.TheVariants as tag;
 ghost use Rattle.html_arena.specs.Tree.{tag_at};
 ghost use Rattle.html_open.specs.AdoptFinding.{element_in_scope};
+ghost use Rattle.html_tree.specs.Paragraphs.{seeks_p};
 ghost use Rattle.html_tree.specs.Searching.{current_tag, found, found_name};
+ghost use Rattle.html_tree.specs.OpenTags.{is_tag_in_scope, open_tags};
 ghost use Rattle.html_tree.specs.Since.{Grown, Keeps};
 
 use super::OpenTree;
 use crate::groups::{Group, Stop};
+use crate::paragraphs::{is_last_p, seeks_p};
 use crate::search::{Sought, last_index, last_node, member_at, name_index, named_at, steps_down};
 use html_arena::NodeId;
 use html_names::Tag;
@@ -20,6 +25,8 @@ impl OpenTree {
         ensures steps { self.new.steps ≤ self.old.steps + 1 }
         ensures keeps { Keeps self.old self.new }
         ensures grown { Grown 0 0 0 0 self.old self.new }
+        ensures first { result ≡ slice_get (open_tags self.old) 0 }
+        ensures tags { open_tags self.new ≡ open_tags self.old }
     {
         self.charge(1);
         match last_node(self.stack.as_slice()) {
@@ -36,6 +43,8 @@ impl OpenTree {
         ensures steps { self.new.steps ≤ self.old.steps + 1 }
         ensures keeps { Keeps self.old self.new }
         ensures grown { Grown 0 0 0 0 self.old self.new }
+        ensures at { slice_get (reverse (open_tags self.old)) index ≡ Some result }
+        ensures tags { open_tags self.new ≡ open_tags self.old }
     {
         self.charge(1);
         let nodes = self.stack.as_slice();
@@ -43,14 +52,46 @@ impl OpenTree {
     }
 
     /// The index of the last open element of a group, unless one that ends the search stands after it. One step for each element from the
-    /// current node down to the one where the search stops.
+    /// current node down to the one where the search stops; where it is for a p in button scope and there is none, one step in all.
     pub fn find(&mut self, group: Group, stop: Stop) -> Option<usize>
         ensures index { result ≡ found self.old group stop }
+        ensures in_scope { is_some result ≡ is_tag_in_scope group stop (open_tags self.old) }
         ensures below { IfSome result (λ i. i < length self.old.stack) }
         ensures rest { self.new ≡ record self.old { steps = self.new.steps } }
         ensures steps { self.new.steps ≤ self.old.steps + length self.old.stack }
+        ensures near { IfSome result (λ i. self.new.steps + i ≤ self.old.steps + length self.old.stack) }
+        ensures quick { seeks_p group stop ≡ true → result ≡ None → self.new.steps ≤ self.old.steps + 1 }
         ensures keeps { Keeps self.old self.new }
         ensures grown { Grown 0 0 0 0 self.old self.new }
+        ensures tags { open_tags self.new ≡ open_tags self.old }
+    {
+        if seeks_p(group, stop) && self.lacks_p() {
+            self.charge(1);
+            return None;
+        }
+        self.find_member(group, stop)
+    }
+
+    /// Whether an element is open and no p is in button scope.
+    fn lacks_p(&self) -> bool
+        ensures none { result ≡ true → found self.now (Group.Named tag.P) (Stop.EndOf scope.Button) ≡ None }
+        ensures opened { result ≡ true → 0 < length self.now.stack }
+        ensures only { result ≡ false → found self.now (Group.Named tag.P) (Stop.EndOf scope.Button) ≡ None → length self.now.stack ≡ 0 }
+    {
+        !self.stack.is_empty() && !is_last_p(self.p_ends.as_slice(), &self.arena)
+    }
+
+    /// The index of the last open element of a group, unless one that ends the search stands after it, sought down the stack.
+    fn find_member(&mut self, group: Group, stop: Stop) -> Option<usize>
+        ensures index { result ≡ found self.old group stop }
+        ensures in_scope { is_some result ≡ is_tag_in_scope group stop (open_tags self.old) }
+        ensures below { IfSome result (λ i. i < length self.old.stack) }
+        ensures rest { self.new ≡ record self.old { steps = self.new.steps } }
+        ensures steps { self.new.steps ≤ self.old.steps + length self.old.stack }
+        ensures near { IfSome result (λ i. self.new.steps + i ≤ self.old.steps + length self.old.stack) }
+        ensures keeps { Keeps self.old self.new }
+        ensures grown { Grown 0 0 0 0 self.old self.new }
+        ensures tags { open_tags self.new ≡ open_tags self.old }
     {
         let nodes = self.stack.as_slice();
         let at = last_index(nodes, &self.arena, Sought::Member(group, stop));
@@ -63,10 +104,13 @@ impl OpenTree {
     /// Whether an element of a group is open, and none that ends the search stands after the last such. Steps as those of `find`.
     pub fn has(&mut self, group: Group, stop: Stop) -> bool
         ensures answer { result ≡ is_some (found self.old group stop) }
+        ensures in_scope { result ≡ is_tag_in_scope group stop (open_tags self.old) }
+        ensures quick { seeks_p group stop ≡ true → result ≡ false → self.new.steps ≤ self.old.steps + 1 }
         ensures rest { self.new ≡ record self.old { steps = self.new.steps } }
         ensures steps { self.new.steps ≤ self.old.steps + length self.old.stack }
         ensures keeps { Keeps self.old self.new }
         ensures grown { Grown 0 0 0 0 self.old self.new }
+        ensures tags { open_tags self.new ≡ open_tags self.old }
     {
         self.find(group, stop).is_some()
     }
@@ -79,6 +123,7 @@ impl OpenTree {
         ensures steps { self.new.steps ≤ self.old.steps + length self.old.stack }
         ensures keeps { Keeps self.old self.new }
         ensures grown { Grown 0 0 0 0 self.old self.new }
+        ensures tags { open_tags self.new ≡ open_tags self.old }
     {
         let nodes = self.stack.as_slice();
         let at = name_index(nodes, &self.arena, name);
@@ -95,6 +140,7 @@ impl OpenTree {
         ensures steps { self.new.steps ≤ self.old.steps + length self.old.stack }
         ensures keeps { Keeps self.old self.new }
         ensures grown { Grown 0 0 0 0 self.old self.new }
+        ensures tags { open_tags self.new ≡ open_tags self.old }
     {
         self.stack.is_in_scope(&mut self.arena, node)
     }

@@ -7,6 +7,7 @@ ghost use Rattle.html_arena.specs.Tree.{label_of, texted_run};
 ghost use Rattle.html_open.specs.Marking.{bare};
 ghost use Rattle.html_arena.specs.declared.data.NewNode.TheVariants.{Text};
 ghost use Rattle.html_tree.specs.Inserting.{IsLack, IsRefused, with_new};
+ghost use Rattle.html_tree.specs.OpenTags.{open_tags};
 ghost use Rattle.html_tree.specs.Since.{Grown, Keeps};
 ghost use Rattle.html_tree.specs.Texts.{IsFree, IsNewTextRefused, IsTextRefused, place_here, text_before, text_node, with_text, with_text_node};
 
@@ -35,6 +36,9 @@ impl OpenTree {
         ensures steps { IfOk result (λ r. self.new.steps ≤ self.old.steps + 2 * length self.old.stack + 4 + r.1) }
         ensures keeps { OnOk result (Keeps self.old self.new) }
         ensures grown { IfOk result (λ r. Grown 1 0 0 r.1 self.old self.new) }
+        ensures tags { open_tags self.new ≡ open_tags self.old }
+        ensures rest { self.new ≡ record self.old { tree = self.new.tree; steps = self.new.steps } }
+        ensures tokens { self.new.tokens ≡ self.old.tokens }
         ensures cause { IfErr result (λ e. IsTextRefused self.old foster e) }
     {
         let node = self.text_at(foster)?;
@@ -52,6 +56,8 @@ impl OpenTree {
         ensures steps { OnOk result (self.new.steps ≤ self.old.steps + 2 * length self.old.stack + 4) }
         ensures keeps { OnOk result (Keeps self.old self.new) }
         ensures grown { OnOk result (Grown 1 0 0 0 self.old self.new) }
+        ensures tags { open_tags self.new ≡ open_tags self.old }
+        ensures rest { self.new ≡ record self.old { tree = self.new.tree; steps = self.new.steps } }
         ensures cause { IfErr result (λ e. IsNewTextRefused self.old foster e) }
     {
         match self.text_here(foster) {
@@ -70,6 +76,7 @@ impl OpenTree {
         ensures steps { self.new.steps ≤ self.old.steps + length self.old.stack + 1 }
         ensures keeps { Keeps self.old self.new }
         ensures grown { Grown 0 0 0 0 self.old self.new }
+        ensures tags { open_tags self.new ≡ open_tags self.old }
     {
         self.arena.forest();
         let place = place(&self.stack, &mut self.arena, None, foster);
@@ -86,6 +93,8 @@ impl OpenTree {
         ensures steps { OnOk result (self.new.steps ≤ self.old.steps + length self.old.stack + 3) }
         ensures keeps { OnOk result (Keeps self.old self.new) }
         ensures grown { OnOk result (Grown 1 0 0 0 self.old self.new) }
+        ensures tags { open_tags self.new ≡ open_tags self.old }
+        ensures rest { self.new ≡ record self.old { tree = self.new.tree; steps = self.new.steps } }
         ensures cause { IfErr result (λ e. IsRefused self.old Text e) }
     {
         let target = Target::Current(foster);
@@ -107,6 +116,8 @@ impl OpenTree {
         ensures steps { IfOk result (λ n. self.new.steps ≤ self.old.steps + n) }
         ensures keeps { OnOk result (Keeps self.old self.new) }
         ensures grown { IfOk result (λ n. Grown 0 0 0 n self.old self.new) }
+        ensures tags { open_tags self.new ≡ open_tags self.old }
+        ensures rest { self.new ≡ record self.old { tree = self.new.tree; steps = self.new.steps } }
         ensures cause { IfErr result (λ e. IsLack (budget self.old.tree 0 1) e) }
     {
         kept_by_edits();

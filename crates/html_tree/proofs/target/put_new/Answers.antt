@@ -1,4 +1,4 @@
-use Rattle.std.proofs.Common.{refl, subst, length, ◌+◌}
+use Rattle.std.proofs.Common.{subst, length, ◌+◌}
 use Rattle.html_tree.specs.Inserting.{IsNew}
 use Rattle.html_tree.specs.Targets.{target_steps}
 use Rattle.html_tree.proofs.Inserted.{is-new, list-charged, on-ok, on-ok-both, push-charged, target-most}

@@ -1,4 +1,4 @@
-use Rattle.std.proofs.Common.{◌≡◌, ◌+◌, ℕ, List, [], ◌∷◌, ◌++◌, length, Option, sym, ◌∙◌, ap, subst}
+use Rattle.std.proofs.Common.{◌≡◌, ℕ, List, [], ◌∷◌, ◌++◌, length, sym, ◌∙◌, ap, subst}
 use Rattle.std.proofs.lemmas.Result.{err_from_is_err_and}
 use Rattle.html_names.specs.declared.tag.Tag.TheVariants as tag
 use Rattle.html_names.specs.Names.{name_of, tag_of}
@@ -11,7 +11,6 @@ use Rattle.html_arena.specs.Make.{made, made_weight, nodes_made}
 use Rattle.html_arena.specs.Tree.{Tree, empty_tree}
 use Rattle.html_open.specs.Marking.{bare}
 use Rattle.html_open.specs.Opened.{CanPush, IsOpen, open_at}
-use Rattle.html_open.specs.Refusals.{of_arena}
 use Rattle.html_tree.specs.Inserting.{IsBudget, root_budget}
 use Rattle.html_tree.proofs.Roots.{refused-budget, root-can_push, root-under_way}
 use Rattle.html_tree.proofs.Spelled.{chars-name}

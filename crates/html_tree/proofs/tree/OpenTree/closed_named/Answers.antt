@@ -1,11 +1,11 @@
-use Rattle.std.proofs.Common.{◌≡◌, ◌+◌, ◌<◌, ℕ, List, length, OnOk, IfOk, IfErr, sym, ◌∙◌, ap, subst}
+use Rattle.std.proofs.Common.{◌≡◌, ◌<◌, ℕ, List, length, OnOk, IfOk, IfErr, sym, ◌∙◌, ap, subst}
 use Rattle.html_names.specs.Names.{name_of, tag_of}
 use Rattle.html_arena.specs.declared.data.NewNode.TheVariants.{Element}
 use Rattle.html_arena.specs.Budget.{budget}
 use Rattle.html_arena.specs.Make.{label_for, made_weight, nodes_made}
 use Rattle.html_arena.specs.Tree.{tag_at}
 use Rattle.html_arena.specs.Weight.{weight}
-use Rattle.html_tree.specs.Inserting.{IsRefused, IsTold, with_new}
+use Rattle.html_tree.specs.Inserting.{IsTold, with_new}
 use Rattle.html_tree.specs.Since.{Grown}
 use Rattle.html_tree.specs.Targets.{place_for}
 use Rattle.html_tree.proofs.Spelled.{chars-name, if-err, lack-budget}

@@ -1,4 +1,4 @@
-use Rattle.std.proofs.Common.{◌≡◌, ℕ, List, ◌∙◌, ap}
+use Rattle.std.proofs.Common.{◌∙◌, ap}
 use Rattle.html_open.specs.Lists.{after_index, last_index}
 use Rattle.html_tree.specs.Closing.{context_end}
 use Rattle.html_tree.specs.Searching.{context_at}

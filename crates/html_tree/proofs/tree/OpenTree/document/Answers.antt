@@ -1,4 +1,4 @@
-use Rattle.std.proofs.Common.{None, Some}
+use Rattle.std.proofs.Common.{None}
 use Rattle.html_tree.proofs.tree.OpenTree.document.Goals as goal
 
 pub returns-clause-steps : goal.returns-clause-steps

@@ -1,9 +1,8 @@
-use Rattle.std.proofs.Common.{◌≡◌, ◌≤◌, ◌+◌, ℕ, List, length, ◌∙◌, ap, subst}
-use Rattle.html_tree.specs.Searching.{found, index_before, is_member, stops}
-use Rattle.html_tree.specs.States.{State}
+use Rattle.html_tree.proofs.Scoped.{found-scope}
+use Rattle.std.specs.Prelude.{None, is_some}
+use Rattle.std.proofs.Common.{◌≡◌, ◌∙◌, ap, rules}
+use Rattle.html_tree.specs.Searching.{found}
 use Rattle.html_tree.proofs.tree.OpenTree.find.Goals as goal
 
-pub returns-clause-index : goal.returns-clause-index
-returns-clause-index c =
-    c.member_at-index.ensures.index ∙ ap (λ v. index_before (is_member c.self.inside.arena c.args.group) (stops c.self.inside.arena c.args.stop) v) c.as_slice-nodes.ensures
-    ∙ ap (λ (a : State). found a c.args.group c.args.stop) c.self.view_is
+pub returns-then-lacks_p-clause-in_scope : goal.returns-then-lacks_p-clause-in_scope
+returns-then-lacks_p-clause-in_scope c = (let i : None ≡ found c.args.self.now c.args.group c.args.stop = search rules in ap is_some i ∙ found-scope c.args.self.now c.args.group c.args.stop)

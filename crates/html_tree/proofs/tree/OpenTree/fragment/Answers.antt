@@ -1,4 +1,4 @@
-use Rattle.std.proofs.Common.{None, Some}
+use Rattle.std.proofs.Common.{None}
 use Rattle.html_tree.proofs.Roots.{no-budget}
 use Rattle.html_tree.proofs.Spelled.{if-err}
 use Rattle.html_tree.proofs.tree.OpenTree.fragment.Goals as goal

@@ -1,9 +1,10 @@
-use Rattle.std.proofs.Common.{◌≡◌, ℕ, List, ◌∙◌, ap, subst}
+use Rattle.std.proofs.Common.{◌≡◌, ◌∙◌, ap, subst}
 use Rattle.html_open.specs.Lists.{after_index, last_index, up_to}
 use Rattle.html_open.specs.Scopes.{stays}
 use Rattle.html_tree.specs.Closing.{first_few}
 use Rattle.html_tree.specs.States.{State}
 use Rattle.html_tree.proofs.Closings.{charged-popped, implied-stack}
+use Rattle.html_tree.proofs.Scoped.{implied-back}
 use Rattle.html_tree.proofs.tree.OpenTree.implied.Goals as goal
 
 pub returns-clause-exact : goal.returns-clause-exact
@@ -11,4 +12,7 @@ returns-clause-exact c =
     charged-popped c.args.self.now c.charge.new.self c.pop_to.new.self c.after-end.result (up_to (stays c.args.self.now.tree c.args.except) c.args.self.now.stack) c.charge.ensures.rest c.pop_to.ensures.exact
     (subst (λ (a : State). first_few c.after-end.result a.stack ≡ up_to (stays a.tree c.args.except) a.stack) c.self.view_is
     (ap (λ k. first_few k c.self.inside.stack) (c.after-end.ensures.value ∙ ap after_index (c.last_index-at.ensures.index ∙ ap (λ v. last_index (stays c.self.inside.arena c.args.except) v) c.as_slice-nodes.ensures))
-    ∙ implied-stack c.self.inside.stack c.self.inside.list c.self.inside.arena c.self.inside.tokens c.self.inside.head c.self.inside.form c.self.inside.detached c.args.except c.self.invariant))
+    ∙ implied-stack c.self.inside.stack c.self.inside.list c.self.inside.arena c.self.inside.tokens c.self.inside.head c.self.inside.form c.self.inside.detached c.args.except c.self.invariant.0))
+
+pub returns-clause-left : goal.returns-clause-left
+returns-clause-left c = implied-back c.args.self.now c.pop_to.new.self c.args.except (returns-clause-exact c)

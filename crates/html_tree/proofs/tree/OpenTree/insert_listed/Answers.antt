@@ -1,14 +1,14 @@
-use Rattle.std.proofs.Common.{◌≡◌, ◌≤◌, ◌+◌, ℕ, length, Ok, ap, ◌∙◌, subst, sym, refl, arith}
+use Rattle.std.proofs.Common.{◌+◌, length, ◌∙◌, subst, sym, refl, arith}
 use Rattle.std.proofs.lemmas.Result.{err_from_is_err_and}
 use Rattle.html_arena.specs.declared.data.NewNode.TheVariants.{Element}
 use Rattle.html_arena.specs.declared.data.Origin.TheVariants.{Token}
-use Rattle.html_arena.specs.Budget.{budget}
-use Rattle.html_open.specs.Entries.{push_steps, pushed}
 use Rattle.html_open.specs.declared.error.OpenError.TheVariants.{OutOfMemory}
 use Rattle.html_tree.specs.Inserting.{IsLack, IsRefused, with_new, with_open}
 use Rattle.html_tree.specs.declared.groups.Target.TheVariants as target
 use Rattle.html_tree.specs.Targets.{place_for}
 use Rattle.html_tree.proofs.Listed.{enlisted-exact, enlisted-steps}
+use Rattle.html_tree.proofs.OpenTags.{always-err, reopened-one}
+use Rattle.html_names.specs.Names.{tag_of}
 use Rattle.html_tree.proofs.tree.OpenTree.insert_listed.Goals as goal
 
 pub returns-in_err-enlist-clause-cause : goal.returns-in_err-enlist-clause-cause
@@ -23,3 +23,7 @@ pub returns-clause-steps : goal.returns-clause-steps
 returns-clause-steps c =
     let s = enlisted-steps c.args.self.now c.open_new.new.self c.enlist.new.self c.in_ok-node.node (length c.args.self.now.tree.labels) (with_open c.args.self.now) (with_new c.args.self.now.tree (place_for c.args.self.now (target.Current c.args.foster)) (Element c.args.name c.args.attrs (Token c.args.token))) (c.args.token + 1) c.in_ok-node.ensures.exact c.in_ok-node.ensures.id (length c.args.self.now.stack + 4) c.in_ok-enlist.ensures.steps (let g = c.in_ok-node.ensures.steps in omega (arith, g)) in
     omega (arith, s)
+
+pub returns-in_err-enlist-clause-refused : goal.returns-in_err-enlist-clause-refused
+returns-in_err-enlist-clause-refused c =
+    always-err c.from_residual-in_err-enlist.result (reopened-one c.args.self.now c.enlist.new.self (tag_of c.args.name) c.requires.formatting (c.enlist.ensures.tags ∙ c.in_ok-node.ensures.tags))

@@ -1,12 +1,17 @@
-use Rattle.std.proofs.Common.{◌≡◌, ◌≤◌, ◌+◌, length, subst, ap, ◌∙◌}
+use Rattle.std.proofs.Common.{◌≤◌, ◌+◌, length, subst, ap, ◌∙◌, refl}
 use Rattle.html_open.specs.Entries.{last_named}
 use Rattle.html_tree.specs.States.{State}
 use Rattle.html_tree.proofs.Kept.{charged-steps, charged-under_way, looked-most, read-grown, read-keeps, read-rest}
+use Rattle.html_tree.proofs.OpenTags.{kept-tags}
+use Rattle.html_tree.proofs.SearchEnds.{ends-labels}
+use Rattle.html_arena.specs.Tree.{Tree}
 use Rattle.html_tree.proofs.tree.OpenTree.last_listed.Goals as goal
 
 pub invariant_of-self : goal.invariant_of-self
-invariant_of-self c =
-    charged-under_way c.self.inside.stack c.self.inside.list c.self.inside.arena c.last_named.new.arena c.self.inside.tokens _ c.self.inside.head c.self.inside.form c.self.inside.detached c.last_named.ensures.steps (c.last_named.ensures.keeps c.self.inside.stack c.self.invariant.is_open) c.self.invariant
+invariant_of-self c = (
+  charged-under_way c.self.inside.stack c.self.inside.list c.self.inside.arena c.last_named.new.arena c.self.inside.tokens _ c.self.inside.head c.self.inside.form c.self.inside.detached c.last_named.ensures.steps (c.last_named.ensures.keeps c.self.inside.stack c.self.invariant.0.is_open) c.self.invariant.0,
+  ends-labels c.self.inside.stack c.self.inside.p_ends.items c.self.inside.arena c.last_named.new.arena c.self.invariant.1 (ap (λ (v : Tree). v.labels) c.last_named.ensures.steps),
+)
 
 pub returns-clause-rest : goal.returns-clause-rest
 returns-clause-rest c = read-rest c.args.self.now c.self.inside.stack c.self.inside.list c.self.inside.arena c.last_named.new.arena c.self.inside.tokens _ c.self.inside.head c.self.inside.form c.self.inside.detached c.self.view_is c.last_named.ensures.steps
@@ -24,3 +29,6 @@ returns-clause-grown c = read-grown c.args.self.now c.self.inside.stack c.self.i
 
 pub returns-clause-node : goal.returns-clause-node
 returns-clause-node c = c.last_named.ensures.node ∙ ap (λ (a : State). last_named a.tree c.args.name a.list) c.self.view_is
+
+pub returns-clause-tags : goal.returns-clause-tags
+returns-clause-tags c = kept-tags c.args.self.now _ c.self.inside.stack c.self.inside.list c.self.inside.arena c.self.inside.tokens c.self.inside.head c.self.inside.form c.self.inside.detached c.self.view_is c.self.invariant.0 (returns-clause-keeps c) refl

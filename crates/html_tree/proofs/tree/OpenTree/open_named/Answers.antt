@@ -1,14 +1,15 @@
-use Rattle.std.proofs.Common.{◌≡◌, ◌+◌, ◌<◌, ℕ, List, length, OnOk, IfOk, IfErr, sym, ◌∙◌, ap, subst}
+use Rattle.std.proofs.Common.{◌≡◌, ◌<◌, ℕ, List, length, OnOk, IfOk, IfErr, sym, ◌∙◌, ap, subst, ◌∷◌}
 use Rattle.html_names.specs.Names.{name_of, tag_of}
 use Rattle.html_arena.specs.declared.data.NewNode.TheVariants.{Element}
 use Rattle.html_arena.specs.Budget.{budget}
 use Rattle.html_arena.specs.Make.{label_for, made_weight, nodes_made}
 use Rattle.html_arena.specs.Tree.{tag_at}
 use Rattle.html_arena.specs.Weight.{weight}
-use Rattle.html_tree.specs.Inserting.{CanBeFirst, IsRefused, IsTold, with_new, with_open}
+use Rattle.html_tree.specs.Inserting.{CanBeFirst, IsTold, with_new, with_open}
 use Rattle.html_tree.specs.Since.{Grown}
 use Rattle.html_tree.specs.Targets.{place_for}
 use Rattle.html_tree.proofs.Spelled.{chars-name, if-err, lack-budget}
+use Rattle.html_tree.specs.OpenTags.{open_tags}
 use Rattle.html_tree.proofs.tree.OpenTree.open_named.Goals as goal
 
 pub open_new-requires-clause-first : goal.open_new-requires-clause-first
@@ -38,3 +39,8 @@ pub returns-clause-cause : goal.returns-clause-cause
 returns-clause-cause c =
     subst (λ (n : List ℕ). IfErr c.open_new.result (λ e. IsTold c.args.self.now (Element n c.args.attrs c.args.origin) e)) (name-is c)
     (if-err c.open_new.result c.open_new.ensures.cause (λ e. lack-budget (budget c.args.self.now.tree (nodes_made (Element c.in_ok-name.name c.args.attrs c.args.origin)) (made_weight c.args.self.now.tree (Element c.in_ok-name.name c.args.attrs c.args.origin))) e))
+
+pub returns-clause-tags : goal.returns-clause-tags
+returns-clause-tags c =
+    subst (λ g. OnOk c.open_new.result (open_tags c.open_new.new.self ≡ g ∷ open_tags c.args.self.now))
+    (ap tag_of (name-is c ∙ sym c.name.ensures.value) ∙ c.name.ensures.back) c.open_new.ensures.tags

@@ -1,13 +1,21 @@
-use Rattle.std.proofs.Common.{◌≡◌, ℕ, List, false, ◌∙◌, ap, sym, subst}
+use Rattle.std.proofs.Common.{◌≡◌, false, ◌∙◌, ap, sym}
 use Rattle.html_arena.specs.Siblings.{first_of, is_in}
 use Rattle.html_tree.proofs.Closings.{removed-exact, removed-grown, removed-keeps, removed-steps, removed-under_way}
+use Rattle.html_tree.proofs.OpenTags.{removed-lighter}
+use Rattle.html_tree.proofs.SearchEnds.{ends-removed}
+use Rattle.html_arena.specs.Tree.{Tree}
+use Rattle.html_tree.proofs.Seating.{removed-seated}
+use Rattle.html_tree.specs.States.{state_of}
 use Rattle.html_tree.proofs.tree.OpenTree.remove_open.Goals as goal
 
 off : (c : goal.After-remove) → is_in c.args.node (first_of c.self.inside.stack) ≡ false
 off c = ap (λ v. is_in c.args.node (first_of v)) (sym c.as_slice.ensures) ∙ sym c.is_first.ensures ∙ c.if-not-is_first.true
 
 pub invariant_of-self : goal.invariant_of-self
-invariant_of-self c = removed-under_way c.args.self.now c.self.inside.stack c.remove.new.self c.self.inside.list c.self.inside.arena c.remove.new.arena c.self.inside.tokens c.args.node c.self.inside.head c.self.inside.form c.self.inside.detached c.self.view_is c.remove.ensures.stack c.remove.ensures.tree (off c) (c.remove.ensures.keeps c.self.inside.list c.self.invariant.is_open) c.self.invariant
+invariant_of-self c = (
+  removed-under_way c.args.self.now c.self.inside.stack c.remove.new.self c.self.inside.list c.self.inside.arena c.remove.new.arena c.self.inside.tokens c.args.node c.self.inside.head c.self.inside.form c.self.inside.detached c.self.view_is c.remove.ensures.stack c.remove.ensures.tree (off c) (c.remove.ensures.keeps c.self.inside.list c.self.invariant.0.is_open) c.self.invariant.0,
+  ends-removed c.self.inside.stack c.remove.new.self c.self.inside.p_ends.items c.forget_end.new.ends.items c.self.inside.arena c.remove.new.arena c.args.node (off c) c.remove.ensures.stack (ap (λ (v : Tree). v.labels) c.remove.ensures.tree) c.forget_end.ensures.items c.self.invariant.1,
+)
 
 pub returns-then-not-is_first-clause-exact : goal.returns-then-not-is_first-clause-exact
 returns-then-not-is_first-clause-exact c = removed-exact c.args.self.now c.self.inside.stack c.remove.new.self c.self.inside.list c.self.inside.arena c.remove.new.arena c.self.inside.tokens c.args.node c.self.inside.head c.self.inside.form c.self.inside.detached c.self.view_is c.remove.ensures.stack c.remove.ensures.tree (off c)
@@ -20,3 +28,9 @@ returns-then-not-is_first-clause-keeps c = removed-keeps c.args.self.now c.self.
 
 pub returns-then-not-is_first-clause-grown : goal.returns-then-not-is_first-clause-grown
 returns-then-not-is_first-clause-grown c = removed-grown c.args.self.now c.self.inside.stack c.remove.new.self c.self.inside.list c.self.inside.arena c.remove.new.arena c.self.inside.tokens c.args.node c.self.inside.head c.self.inside.form c.self.inside.detached c.self.view_is c.remove.ensures.stack c.remove.ensures.tree (off c)
+
+pub returns-then-not-is_first-clause-lighter : goal.returns-then-not-is_first-clause-lighter
+returns-then-not-is_first-clause-lighter c = removed-lighter c.args.self.now _ c.args.node (returns-then-not-is_first-clause-exact c)
+
+pub returns-then-not-is_first-clause-seated : goal.returns-then-not-is_first-clause-seated
+returns-then-not-is_first-clause-seated c = removed-seated c.args.self.now (state_of c.remove.new.self c.self.inside.list c.remove.new.arena c.self.inside.tokens c.self.inside.head c.self.inside.form c.self.inside.detached) c.args.node (returns-then-not-is_first-clause-exact c)

@@ -1,5 +1,4 @@
-use Rattle.std.proofs.Common.{◌≡◌, ℕ, ◌<◌, ◌≤◌, ◌+◌, ◌*◌, length, refl, subst, sym, ap, ◌∙◌, arith, OnOk}
-use Rattle.html_arena.specs.Tree.{Tree}
+use Rattle.std.proofs.Common.{◌<◌, ◌≤◌, ◌+◌, ◌*◌, length, refl, subst, sym, ◌∙◌, arith}
 use Rattle.html_open.specs.Leaving.{listed_weight as open_weight}
 use Rattle.html_tree.specs.Listing.{IsReopenRefused, IsReopened, listed_weight}
 use Rattle.html_tree.specs.Since.{Grown, Keeps}
@@ -9,13 +8,20 @@ use Rattle.html_tree.proofs.Clones.{clones-grown, clones-since, clones-under_way
 use Rattle.html_tree.proofs.Inserted.{on-ok, under-way-place}
 use Rattle.html_tree.proofs.Spelled.{if-err}
 use Rattle.html_tree.proofs.Kept.{keeps-since}
+use Rattle.html_tree.proofs.OpenTags.{reopened-tags}
+use Rattle.html_tree.specs.OpenTags.{HasReopened}
+use Rattle.html_tree.proofs.SearchEnds.{ends-survived}
+use Rattle.html_tree.proofs.Seating.{reopened-seated}
 use Rattle.html_tree.proofs.tree.OpenTree.reopen.Goals as goal
 
 pub reopen-reopened-requires-clause-can_place : goal.reopen-reopened-requires-clause-can_place
-reopen-reopened-requires-clause-can_place c = under-way-place c.self.inside.stack c.self.inside.list c.self.inside.arena c.self.inside.tokens c.self.inside.head c.self.inside.form c.self.inside.detached c.self.invariant (subst (λ (a : State). 0 < length a.stack) (sym c.self.view_is) c.requires)
+reopen-reopened-requires-clause-can_place c = under-way-place c.self.inside.stack c.self.inside.list c.self.inside.arena c.self.inside.tokens c.self.inside.head c.self.inside.form c.self.inside.detached c.self.invariant.0 (subst (λ (a : State). 0 < length a.stack) (sym c.self.view_is) c.requires)
 
 pub invariant_of-self : goal.invariant_of-self
-invariant_of-self c = clones-under_way c.self.inside.stack c.reopen-reopened.new.stack c.self.inside.list c.reopen-reopened.new.self c.self.inside.arena c.reopen-reopened.new.arena c.self.inside.tokens c.self.inside.head c.self.inside.form c.self.inside.detached c.reopen-reopened.ensures.made c.reopen-reopened.ensures.keeps c.reopen-reopened.ensures.first c.self.invariant
+invariant_of-self c = (
+  clones-under_way c.self.inside.stack c.reopen-reopened.new.stack c.self.inside.list c.reopen-reopened.new.self c.self.inside.arena c.reopen-reopened.new.arena c.self.inside.tokens c.self.inside.head c.self.inside.form c.self.inside.detached c.reopen-reopened.ensures.made c.reopen-reopened.ensures.keeps c.reopen-reopened.ensures.first c.self.invariant.0,
+  ends-survived c.self.inside.stack c.reopen-reopened.new.stack c.self.inside.list c.reopen-reopened.new.self c.self.inside.arena c.reopen-reopened.new.arena c.reopen-reopened.ensures.made c.reopen-reopened.ensures.survives c.self.invariant.0.is_open.stack_in c.self.inside.p_ends.items (subst (λ (a : State). 0 < length a.stack) (sym c.self.view_is) c.requires) c.reopen-reopened.ensures.first c.self.invariant.1,
+)
 
 pub returns-clause-exact : goal.returns-clause-exact
 returns-clause-exact c =
@@ -29,12 +35,12 @@ returns-clause-steps c =
 
 pub returns-clause-keeps : goal.returns-clause-keeps
 returns-clause-keeps c =
-    always c.reopen-reopened.result
-    (subst (λ (b : State). Keeps b (state_of c.reopen-reopened.new.stack c.reopen-reopened.new.self c.reopen-reopened.new.arena c.self.inside.tokens c.self.inside.head c.self.inside.form c.self.inside.detached)) c.self.view_is
+    on-ok c.reopen-reopened.result c.reopen-reopened.ensures.steps
+    (λ steps. subst (λ (b : State). Keeps b (state_of c.reopen-reopened.new.stack c.reopen-reopened.new.self c.reopen-reopened.new.arena c.self.inside.tokens c.self.inside.head c.self.inside.form c.self.inside.detached)) c.self.view_is
     (keeps-since (state_of c.self.inside.stack c.self.inside.list c.self.inside.arena c.self.inside.tokens c.self.inside.head c.self.inside.form c.self.inside.detached) (state_of c.reopen-reopened.new.stack c.reopen-reopened.new.self c.reopen-reopened.new.arena c.self.inside.tokens c.self.inside.head c.self.inside.form c.self.inside.detached)
     (clones-since c.self.inside.stack c.reopen-reopened.new.stack c.self.inside.list c.reopen-reopened.new.self c.self.inside.arena c.reopen-reopened.new.arena c.self.inside.tokens c.self.inside.head c.self.inside.form c.self.inside.detached c.reopen-reopened.ensures.made c.forest.ensures.well_formed c.reopen-reopened.ensures.closed
     (λ x e. c.reopen-reopened.ensures.first ∙ e) (λ x b o. off c.self.inside.stack c.reopen-reopened.new.stack c.self.inside.list c.reopen-reopened.new.self c.self.inside.arena c.reopen-reopened.new.arena c.reopen-reopened.ensures.survives x b o)
-    (parents-linked c.self.inside.arena c.reopen-reopened.new.arena c.reopen-reopened.ensures.parents) (λ e. c.reopen-reopened.ensures.parents.same 0 c.self.invariant.some_node ∙ e))))
+    (parents-linked c.self.inside.arena c.reopen-reopened.new.arena c.reopen-reopened.ensures.parents) (λ e. c.reopen-reopened.ensures.parents.same 0 c.self.invariant.0.some_node ∙ e) (omega (arith, steps)))))
 
 pub returns-clause-grown : goal.returns-clause-grown
 returns-clause-grown c =
@@ -47,3 +53,11 @@ pub returns-clause-cause : goal.returns-clause-cause
 returns-clause-cause c =
     if-err c.reopen-reopened.result c.reopen-reopened.ensures.cause
     (λ e r. subst (λ (a : State). IsReopenRefused c.args.foster a e) c.self.view_is (record { old = c.self.inside.arena; old_is = refl; cause = r }))
+
+pub returns-clause-opened : goal.returns-clause-opened
+returns-clause-opened c =
+    subst (λ (a : State). HasReopened a (state_of c.reopen-reopened.new.stack c.reopen-reopened.new.self c.reopen-reopened.new.arena c.self.inside.tokens c.self.inside.head c.self.inside.form c.self.inside.detached)) c.self.view_is
+    (reopened-tags c.self.inside.stack c.reopen-reopened.new.stack c.self.inside.list c.reopen-reopened.new.self c.self.inside.arena c.reopen-reopened.new.arena c.self.inside.tokens c.self.inside.head c.self.inside.form c.self.inside.detached c.reopen-reopened.ensures.made c.self.invariant.0.is_open c.reopen-reopened.ensures.keeps.stack_in (length c.reopen-reopened.ensures.so_far.done) c.reopen-reopened.ensures.so_far.stack_is)
+
+pub returns-clause-seated : goal.returns-clause-seated
+returns-clause-seated c = reopened-seated c.args.self.now (state_of c.reopen-reopened.new.stack c.reopen-reopened.new.self c.reopen-reopened.new.arena c.self.inside.tokens c.self.inside.head c.self.inside.form c.self.inside.detached) (returns-clause-opened c)
