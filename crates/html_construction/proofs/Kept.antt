@@ -1,0 +1,245 @@
+-- What calls of the tree and of the ledger are to the whole.
+use Rattle.std.specs.List.{list_all}
+use Rattle.std.specs.Bool.{IsTrue}
+use Rattle.std.proofs.lemmas.Bool.{false≢true}
+use Rattle.std.proofs.lemmas.List.{append-nil}
+use Rattle.std.proofs.Common.{ℕ, zero, suc, ◌&&◌, not, take, append_assoc, ◌≡◌, ◌+◌, ◌<◌, ◌≤◌, Bool, true, false, List, [], ◌∷◌, ◌++◌, length, refl, sym, ap, subst, ◌∙◌, arith}
+use Rattle.html_names.specs.declared.tag.Tag.{Tag}
+use Rattle.html_names.specs.Sets.{is_formatting}
+use Rattle.html_tokens.specs.declared.attributes.Attr.{Attr}
+use Rattle.html_tokens.specs.declared.token.TokenKind.{TokenKind}
+use Rattle.html_tree.specs.declared.groups.Group.{Group}
+use Rattle.html_tree.specs.States.{State as Tree}
+use Rattle.html_tree.specs.Since.{Keeps as TreeKeeps}
+use Rattle.html_tree.specs.OpenTags.{HasClosed, HasReopened, IsLighter, IsLighterBesides, open_tags}
+use Rattle.html_tokens.specs.declared.token.TokenKind.TheVariants as kind
+use Rattle.html_ledger.specs.declared.history.History.{History}
+use Rattle.html_ledger.specs.declared.symbol.Symbol.TheVariants.{Char, Eof}
+use Rattle.html_ledger.specs.declared.fate.Fate.{Fate}
+use Rattle.html_ledger.specs.Flags.{is_free_run, is_not_null, may_text_run}
+use Rattle.html_ledger.specs.declared.symbol.Symbol.{Symbol}
+use Rattle.html_ledger.specs.Symbols.{symbol_of, chars_of as symbol_chars}
+use Rattle.html_ledger.specs.Entries.{Entries, Fed, Releases as LedgerReleases, Takes as LedgerTakes, TakesRun as LedgerTakesRun, given, given_run, number_of}
+use Rattle.html_construction.specs.Calls.{HasFate, IsTree, listed_at}
+use Rattle.html_construction.specs.States.{State}
+use Rattle.html_construction.specs.declared.mode.Mode.{Mode}
+use Rattle.html_construction.specs.Built.{BeginsWith, Handed, IsBuilt, Keeps, Releases, Takes, TakesRun, chars_of, symbols, with_tokens}
+use Rattle.html_construction.specs.Modes.{is_reset}
+use Rattle.html_construction.specs.UnderWay.{IsUnderWay}
+use Rattle.html_construction.specs.Weights.{group_weight, weight, weight_of}
+use Rattle.html_construction.proofs.Building.{rooted-keeps, symbols-append, symbols-chars, symbols-push}
+use Rattle.html_construction.proofs.Weighing.{group-weighs, weight-le, weight-less, weight_of-formatting}
+
+-- both of two tests
+both : (a b : Bool) → (a && b) ≡ true → (a ≡ true) × (b ≡ true)
+both true b e = (refl, e)
+both false b e = absurd (false≢true e)
+
+and : (a b : Bool) → a ≡ true → b ≡ true → (a && b) ≡ true
+and a b e f = rw (e, f) refl
+
+-- the first symbol of a list, and the rest
+abbrev first : List Symbol → Symbol
+first [] = Eof
+first (y ∷ ys) = y
+
+abbrev rest : List Symbol → List Symbol
+rest [] = []
+rest (y ∷ ys) = ys
+
+-- fates are only added
+pub record AddsFates (a b : Entries) : Type 0 where
+  pub more : List Fate
+  pub fates_are : b.fates ≡ a.fates ++ more
+
+pub adds-none : (a b : Entries) → b.fates ≡ a.fates → AddsFates a b
+adds-none a b e = record { more = []; fates_are = e ∙ sym (append-nil a.fates) }
+
+pub adds : (a b : Entries) (fs : List Fate) → b.fates ≡ a.fates ++ fs → AddsFates a b
+adds a b fs e = record { more = fs; fates_are = e }
+
+run-fates : (a : Entries) (cs : List ℕ) (f : Fate) → AddsFates a (given_run a cs f)
+run-fates a [] f = record { more = []; fates_are = sym (append-nil a.fates) }
+run-fates a (c ∷ cs) f = let p = run-fates (given a (Char c) f) cs f in record { more = f ∷ p.more; fates_are = p.fates_are ∙ append_assoc a.fates (f ∷ []) p.more }
+
+pub adds-run : (a b : Entries) (cs : List ℕ) (f : Fate) → b ≡ given_run a cs f → AddsFates a b
+adds-run a b cs f e = subst (λ x. AddsFates a x) (sym e) (run-fates a cs f)
+
+-- the same, of the state in which the call began
+pub adds-made : (n g : State) (y : Symbol) (f : Fate) → HasFate y f n g → AddsFates n.ledger g.ledger
+adds-made n g y f h = record { more = f ∷ []; fates_are = ap (λ (x : Entries). x.fates) h.ledger_is }
+
+-- more fates
+longer : (fs gs hs ks : List Fate) → ks ≡ gs ++ hs → BeginsWith fs gs → BeginsWith fs ks
+longer fs gs hs ks e b = (b.0 ++ hs, e ∙ ap (λ xs. xs ++ hs) b.1 ∙ append_assoc fs b.0 hs)
+
+-- the tree changed, and the ledger did not
+pub kept : (v n z : State) → v ≡ n → z.ledger ≡ v.ledger → TreeKeeps v.tree z.tree → Keeps n z
+kept v n z e f k = λ h w.
+    let u : IsBuilt h v = subst (λ x. IsBuilt h x) (sym e) w in record {
+      fed = subst (λ l. Fed h.setting l (symbols h.tokens)) (sym f) u.fed;
+      known = subst (λ (l : Entries). BeginsWith h.known l.fates) (sym f) u.known;
+      rooted = rooted-keeps v.tree z.tree k u.rooted;
+    }
+
+-- the ledger took a token, and the tree may have changed
+pub taken : (v n z : State) (t : TokenKind) (y : Symbol) → v ≡ n → symbol_of t ≡ y → LedgerTakes y v.ledger z.ledger → AddsFates v.ledger z.ledger → TreeKeeps v.tree z.tree → Takes t n z
+unfolding with_tokens
+taken v n z t y e f g m k = λ h w.
+    let u : IsBuilt h v = subst (λ x. IsBuilt h x) (sym e) w in record {
+      fed = subst (λ us. Fed h.setting z.ledger us) (sym (symbols-push h.tokens t ∙ ap (λ x. symbols h.tokens ++ x ∷ []) f)) (g h.setting (symbols h.tokens) u.fed);
+      known = longer h.known v.ledger.fates m.more z.ledger.fates m.fates_are u.known;
+      rooted = rooted-keeps v.tree z.tree k u.rooted;
+    }
+
+-- the ledger took code points
+pub taken-run : (v n z : State) (cs : List ℕ) → v ≡ n → LedgerTakesRun cs v.ledger z.ledger → AddsFates v.ledger z.ledger → TreeKeeps v.tree z.tree → TakesRun cs n z
+unfolding with_tokens
+taken-run v n z cs e g m k = λ h w.
+    let u : IsBuilt h v = subst (λ x. IsBuilt h x) (sym e) w in record {
+      fed = subst (λ us. Fed h.setting z.ledger us) (sym (symbols-append h.tokens (chars_of cs) ∙ ap (λ x. symbols h.tokens ++ x) (symbols-chars cs))) (g h.setting (symbols h.tokens) u.fed);
+      known = longer h.known v.ledger.fates m.more z.ledger.fates m.fates_are u.known;
+      rooted = rooted-keeps v.tree z.tree k u.rooted;
+    }
+
+-- the tree is as it was
+pub unchanged : (a : Tree) → TreeKeeps a a
+unchanged a = λ s w. w
+
+-- tree operations one after the other
+pub then : (a b d : Tree) → TreeKeeps a b → TreeKeeps b d → TreeKeeps a d
+then a b d k l = λ s w. l s (k s w)
+
+pub lighter : (n : State) (a b : Tree) → open_tags a ≡ n.stack → IsLighter a b → weight (open_tags b) ≤ weight n.stack
+lighter n a b e h = subst (λ s. weight (open_tags b) ≤ weight s) e (weight-le (open_tags a) (open_tags b) (h weight_of))
+
+pub lighter-besides : (n : State) (a b : Tree) → open_tags a ≡ n.stack → IsLighterBesides a b → weight (open_tags b) ≤ weight n.stack
+lighter-besides n a b e h = subst (λ s. weight (open_tags b) ≤ weight s) e (weight-le (open_tags a) (open_tags b) (h weight_of weight_of-formatting))
+
+pub closed : (g : Group) (n : State) (a b : Tree) → open_tags a ≡ n.stack → HasClosed g a b → weight (open_tags b) + group_weight g ≤ weight n.stack
+closed g n a b e h = subst (λ s. weight (open_tags b) + group_weight g ≤ weight s) e (weight-less (open_tags a) (open_tags b) (group_weight g) (h weight_of (group_weight g) (group-weighs g)))
+
+-- the tags of the open elements are those of the view
+pub stack-is : (v n : State) → v ≡ n → v.stack ≡ n.stack
+stack-is v n e = ap (λ (x : State). x.stack) e
+
+-- the ledger took a token first, and then the tree changed
+pub taken-made : (v g n z : State) (t : TokenKind) (y : Symbol) → v ≡ g → g ≡ record n { ledger = g.ledger } → z.ledger ≡ v.ledger → symbol_of t ≡ y → LedgerTakes y n.ledger g.ledger → AddsFates n.ledger g.ledger → TreeKeeps v.tree z.tree → Takes t n z
+taken-made v g n z t y e r p f k q j =
+    taken n n z t y refl f
+    (subst (λ m. LedgerTakes y n.ledger m) (sym (p ∙ ap (λ (x : State). x.ledger) e)) k)
+    (subst (λ m. AddsFates n.ledger m) (sym (p ∙ ap (λ (x : State). x.ledger) e)) q)
+    (subst (λ x. TreeKeeps x z.tree) (ap (λ (x : State). x.tree) e ∙ ap (λ (x : State). x.tree) r) j)
+
+-- formatting elements were opened anew
+formatting-weighs : (ts : List Tag) → list_all is_formatting ts ≡ true → weight ts ≡ 0
+formatting-weighs [] e = refl
+formatting-weighs (t ∷ ts) e = let p = both (is_formatting t) (list_all is_formatting ts) e in ap (λ m. m + weight ts) (weight_of-formatting t p.0) ∙ ap (λ n. 0 + n) (formatting-weighs ts p.1)
+
+weight-append : (s r : List Tag) → weight (s ++ r) ≡ weight s + weight r
+weight-append [] r = omega arith
+weight-append (t ∷ s) r = rw (weight-append s r) (omega arith)
+
+pub reopened : (n : State) (a b : Tree) → open_tags a ≡ n.stack → HasReopened a b → weight (open_tags b) ≤ weight n.stack
+reopened n a b e h =
+    let p : weight (open_tags b) ≡ weight h.opened + weight (open_tags a) = ap weight h.tags_are ∙ weight-append h.opened (open_tags a) in
+    let z : weight h.opened ≡ 0 = formatting-weighs h.opened h.formatting in
+    subst (λ s. weight (open_tags b) ≤ weight s) e (rw (p, z) (omega arith))
+
+-- no node comes from a later token
+pub still : (n m : ℕ) (l : Entries) (ms : List Mode) → m ≡ n → IsUnderWay n l ms → IsUnderWay m l ms
+still n m l ms e u = record { tokens = subst (λ k. k ≤ number_of l) (sym e) u.tokens; templates_fit = u.templates_fit }
+
+pub behind : (v g n : State) (k : ℕ) → v ≡ g → k ≡ number_of n.ledger → g.tree.tokens ≤ number_of n.ledger → v.tree.tokens ≤ k
+behind v g n k e f h = rw (ap (λ (x : State). x.tree.tokens) e, f) h
+
+pub made-next : (v g n : State) (k m : ℕ) (ms : List Mode) → v ≡ g → k ≡ number_of n.ledger → number_of g.ledger ≡ number_of n.ledger + 1 → m ≤ k + 1 → list_all is_reset ms ≡ true → IsUnderWay m v.ledger ms
+made-next v g n k m ms e f c h r = record {
+  tokens = rw (ap (λ (x : State). number_of x.ledger) e, c, sym f) h;
+  templates_fit = r;
+}
+
+-- more and more tokens
+pub with-both : (h : Handed) (ts us : List TokenKind) → with_tokens (with_tokens h ts) us ≡ with_tokens h (ts ++ us)
+unfolding with_tokens
+with-both h ts us = ap (λ vs. record h { tokens = vs }) (append_assoc h.tokens ts us)
+
+with-none : (h : Handed) → with_tokens h [] ≡ h
+unfolding with_tokens
+with-none h = ap (λ vs. record h { tokens = vs }) (append-nil h.tokens)
+
+-- settled code points, one after the other
+pub next-settled : (a b d : State) (c : ℕ) (cs : List ℕ) → Releases (c ∷ cs) a b → Takes (kind.Char c) b d → Releases cs a d
+next-settled a b d c cs r t = λ h w. let p = r h w in
+    (with_tokens p.0 (kind.Char c ∷ []), t p.0 p.1, p.2 ∙ sym (with-both p.0 (kind.Char c ∷ []) (chars_of cs)))
+
+pub all-settled : (a b : State) → Releases [] a b → Keeps a b
+all-settled a b r = λ h w. let p = r h w in subst (λ x. IsBuilt x b) (sym (p.2 ∙ with-none p.0)) p.1
+
+-- a token that is a code point to the rules
+abbrev token_of : Symbol → TokenKind
+token_of (Char x) = kind.Char x
+token_of _ = kind.Eof
+
+char-is : (t : TokenKind) (c : ℕ) → symbol_of t ≡ Char c → t ≡ kind.Char c
+char-is (kind.Char d) c e = ap token_of e
+char-is _ c e = absurd cc
+
+chars-back : (ts : List TokenKind) (cs : List ℕ) → symbols ts ≡ symbol_chars cs → ts ≡ chars_of cs
+chars-back [] [] e = refl
+chars-back [] (c ∷ cs) e = absurd cc
+chars-back (t ∷ ts) [] e = absurd cc
+chars-back (t ∷ ts) (c ∷ cs) e = ap (λ u. u ∷ ts) (char-is t c (ap first e)) ∙ ap (λ us. kind.Char c ∷ us) (chars-back ts cs (ap rest e))
+
+split-symbols : (ts : List TokenKind) (ys : List Symbol) (cs : List ℕ) → symbols ts ≡ ys ++ symbol_chars cs → (front : List TokenKind) × (symbols front ≡ ys) × (ts ≡ front ++ chars_of cs)
+split-symbols ts [] cs e = ([], refl, chars-back ts cs e)
+split-symbols [] (y ∷ ys) cs e = absurd cc
+split-symbols (t ∷ ts) (y ∷ ys) cs e = let p = split-symbols ts ys cs (ap rest e) in
+    (t ∷ p.0, ap (λ z. z ∷ symbols p.0) (ap first e) ∙ ap (λ zs. y ∷ zs) p.1, ap (λ us. t ∷ us) p.2)
+
+pub released : (v n z : State) (cs : List ℕ) → v ≡ n → LedgerReleases cs v.ledger z.ledger → AddsFates v.ledger z.ledger → TreeKeeps v.tree z.tree → Releases cs n z
+unfolding with_tokens
+released v n z cs e r m k = λ h w.
+    let u : IsBuilt h v = subst (λ x. IsBuilt h x) (sym e) w in
+    let p = r h.setting (symbols h.tokens) u.fed in
+    let q = split-symbols h.tokens p.0 cs p.2 in (
+      record h { tokens = q.0 },
+      record { fed = subst (λ ys. Fed h.setting z.ledger ys) (sym q.1) p.1; known = longer h.known v.ledger.fates m.more z.ledger.fates m.fates_are u.known; rooted = rooted-keeps v.tree z.tree k u.rooted },
+      ap (λ vs. record h { tokens = vs }) q.2,
+    )
+
+-- a front of code points that may become text in one go
+all-front : (cs : List ℕ) (n : ℕ) → list_all is_not_null cs ≡ true → list_all is_not_null (take n cs) ≡ true
+all-front cs zero e = refl
+all-front [] (suc n) e = refl
+all-front (c ∷ cs) (suc n) e = let p = both (is_not_null c) (list_all is_not_null cs) e in and (is_not_null c) (list_all is_not_null (take n cs)) p.0 (all-front cs n p.1)
+
+free-front : (h : History) (cs : List ℕ) (n : ℕ) → is_free_run h cs ≡ true → is_free_run h (take n cs) ≡ true
+free-front h cs zero e = refl
+free-front h [] (suc n) e = refl
+free-front h (c ∷ cs) (suc n) e = e
+
+pub front-run : (h : History) (cs : List ℕ) (n : ℕ) → IsTrue (may_text_run h cs) → IsTrue (may_text_run h (take n cs))
+front-run h cs n e =
+    let p = both (not h.awaits_doctype) (list_all is_not_null cs && is_free_run h cs) e in
+    let q = both (list_all is_not_null cs) (is_free_run h cs) p.1 in
+    and (not h.awaits_doctype) (list_all is_not_null (take n cs) && is_free_run h (take n cs)) p.0
+    (and (list_all is_not_null (take n cs)) (is_free_run h (take n cs)) (all-front cs n q.0) (free-front h cs n q.1))
+
+-- what one call of the tree makes of it
+pub exactly : (v n z : State) (f : Tree → Tree) → v ≡ n → z.tree ≡ record (f v.tree) { steps = z.tree.steps } → IsTree (f n.tree) z
+exactly v n z f e p = record { tree_is = p ∙ ap (λ (x : State). record (f x.tree) { steps = z.tree.steps }) e }
+
+-- the ledger's one fate
+pub fated : (v n z : State) (y : Symbol) (f : Fate) → v ≡ n → z.ledger ≡ given v.ledger y f → HasFate y f n z
+fated v n z y f e p = record { ledger_is = p ∙ ap (λ (x : State). given x.ledger y f) e }
+
+-- a formatting element, where the ledger took its token first
+pub listed-made : (v g n z : State) (m o : List ℕ) (xs ys : List Attr) (k l : ℕ) → v ≡ g → g ≡ record n { ledger = g.ledger } → m ≡ o → xs ≡ ys → k ≡ l
+    → z.tree ≡ record (listed_at v.fostering m xs k v.tree) { steps = z.tree.steps } → IsTree (listed_at n.fostering o ys l n.tree) z
+listed-made v g n z m o xs ys k l e r p q i h = record {
+  tree_is = h ∙ ap (λ (x : State). record (listed_at x.fostering m xs k x.tree) { steps = z.tree.steps }) (e ∙ r)
+      ∙ ap (λ a. record (listed_at n.fostering a xs k n.tree) { steps = z.tree.steps }) p
+      ∙ ap (λ bs. record (listed_at n.fostering o bs k n.tree) { steps = z.tree.steps }) q
+      ∙ ap (λ j. record (listed_at n.fostering o ys j n.tree) { steps = z.tree.steps }) i;
+}

@@ -1,0 +1,4 @@
+pub mod Building
+pub mod Kept
+pub mod Results
+pub mod Weighing

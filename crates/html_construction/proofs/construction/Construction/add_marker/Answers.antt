@@ -1,0 +1,9 @@
+use Rattle.std.proofs.Common.{refl}
+use Rattle.html_construction.proofs.Kept.{kept, still}
+use Rattle.html_construction.proofs.construction.Construction.add_marker.Goals as goal
+
+pub invariant_of-self : goal.invariant_of-self
+invariant_of-self c = still _ _ c.self.inside.ledger c.self.inside.registers.templates.items c.add_marker.ensures.tokens c.self.invariant
+
+pub returns-clause-keeps : goal.returns-clause-keeps
+returns-clause-keeps c = kept _ c.args.self.now _ c.self.view_is refl c.in_ok-add_marker.ensures.keeps

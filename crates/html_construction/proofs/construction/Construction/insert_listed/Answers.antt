@@ -1,0 +1,19 @@
+use Rattle.html_ledger.specs.declared.symbol.Symbol.TheVariants.{Start}
+use Rattle.std.proofs.Common.{refl}
+use Rattle.html_construction.specs.Tokens.{attrs_of, tag_name}
+use Rattle.html_construction.proofs.Kept.{adds-made, behind, listed-made, made-next, taken-made}
+use Rattle.html_construction.proofs.construction.Construction.insert_listed.Goals as goal
+
+pub insert_listed-requires-clause-token : goal.insert_listed-requires-clause-token
+insert_listed-requires-clause-token c = behind _ _ c.args.self.now c.in_ok-number.number c.self.view_is c.in_ok-number.ensures.number c.in_ok-number.ensures.behind
+
+pub invariant_of-self : goal.invariant_of-self
+invariant_of-self c = made-next _ _ c.args.self.now c.in_ok-number.number _ c.self.inside.registers.templates.items c.self.view_is c.in_ok-number.ensures.number c.in_ok-number.ensures.counted c.insert_listed.ensures.tokens_most c.self.invariant.templates_fit
+
+pub returns-clause-takes : goal.returns-clause-takes
+returns-clause-takes c = taken-made _ _ c.args.self.now _ c.args.token.now (Start c.args.tag) c.self.view_is c.in_ok-number.ensures.rest refl c.requires.symbol c.in_ok-number.ensures.takes (adds-made _ _ _ _ c.in_ok-number.ensures.fate) c.in_ok-insert_listed.ensures.keeps
+
+pub returns-clause-exact : goal.returns-clause-exact
+returns-clause-exact c =
+    listed-made _ _ c.args.self.now _ c.in_ok-name.name (tag_name c.args.token.now) c.in_ok-attrs.attrs (attrs_of c.args.token.now) c.in_ok-number.number _
+    c.self.view_is c.in_ok-number.ensures.rest c.in_ok-name.ensures.name c.in_ok-attrs.ensures.attrs c.in_ok-number.ensures.number c.in_ok-insert_listed.ensures.exact

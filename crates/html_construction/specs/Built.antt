@@ -1,0 +1,80 @@
+-- Tokens against what was built of them.
+use Rattle.std.specs.Prelude.{◌≡◌, ℕ, ◌<◌, ◌⊎◌, ◌+◌, ◌≤◌, List, [], ◌∷◌, ◌++◌, length, Option, Some, None}
+use Rattle.html_arena.specs.Tree.{host_at, parent_of}
+use Rattle.html_tokens.specs.declared.token.TokenKind.{TokenKind}
+use Rattle.html_tokens.specs.declared.token.TokenKind.TheVariants as kind
+use Rattle.html_tree.specs.States.{State as Tree}
+use Rattle.html_ledger.specs.declared.setting.Setting.{Setting}
+use Rattle.html_ledger.specs.declared.symbol.Symbol.{Symbol}
+use Rattle.html_ledger.specs.Symbols.{symbol_of}
+use Rattle.html_ledger.specs.declared.fate.Fate.{Fate}
+use Rattle.html_ledger.specs.Entries.{Entries, Fed}
+use Rattle.html_ledger.specs.Fates.{is_made}
+use Rattle.std.specs.Prelude.{Bool, false}
+use Rattle.html_ledger.specs.Runs.{last_of}
+use Rattle.html_construction.specs.States.{State}
+
+-- tokens as the rules tell them apart
+abbrev pub symbols : List TokenKind → List Symbol
+symbols [] = []
+symbols (t ∷ ts) = symbol_of t ∷ symbols ts
+
+-- code points as tokens
+abbrev pub chars_of : List ℕ → List TokenKind
+chars_of [] = []
+chars_of (c ∷ cs) = kind.Char c ∷ chars_of cs
+
+-- The nodes without a parent are the first, the contents of templates, and the body that a frameset took the place of.
+abbrev pub IsRooted : Tree → Type 0
+IsRooted t =
+    (x : ℕ) → x < length t.tree.labels → parent_of t.tree x ≡ None
+    → (x ≡ 0) ⊎ (((h : ℕ) × (host_at t.tree x ≡ Some h)) ⊎ (t.detached ≡ Some x))
+
+-- What is parsed, the tokens that were handed in, and fates that the first of them are known to have.
+pub record Handed : Type 0 where
+  pub setting : Setting
+  pub tokens : List TokenKind
+  pub known : List Fate
+
+-- before the first token
+abbrev pub nothing_of : Setting → Handed
+nothing_of s = record { setting = s; tokens = []; known = [] }
+
+-- after more tokens
+unfoldable pub with_tokens : Handed → List TokenKind → Handed
+with_tokens h ts = record h { tokens = h.tokens ++ ts }
+
+-- these members come first
+abbrev pub BeginsWith : List Fate → List Fate → Type 0
+BeginsWith front fates = (rest : List Fate) × (fates ≡ front ++ rest)
+
+-- The tree and the ledger are what was built of what was handed in; fates that were known are as they were.
+pub record IsBuilt (h : Handed) (a : State) : Type 0 where
+  pub fed : Fed h.setting a.ledger (symbols h.tokens)
+  pub known : BeginsWith h.known a.ledger.fates
+  pub rooted : IsRooted a.tree
+
+-- From one state to a later one: the tokens handed in are the same.
+abbrev pub Keeps : State → State → Type 0
+Keeps a b = (h : Handed) → IsBuilt h a → IsBuilt h b
+
+-- This token was handed in.
+abbrev pub Takes : TokenKind → State → State → Type 0
+Takes t a b = (h : Handed) → IsBuilt h a → IsBuilt (with_tokens h (t ∷ [])) b
+
+-- These code points were handed in.
+abbrev pub TakesRun : List ℕ → State → State → Type 0
+TakesRun cs a b = (h : Handed) → IsBuilt h a → IsBuilt (with_tokens h (chars_of cs)) b
+
+-- These code points, the last that were handed in, were taken out again.
+abbrev pub Releases : List ℕ → State → State → Type 0
+Releases cs a b = (h : Handed) → IsBuilt h a → (front : Handed) × IsBuilt front b × (h ≡ with_tokens front (chars_of cs))
+
+-- a fate, and a node was made of its token
+abbrev pub some_made : Option Fate → Bool
+some_made None = false
+some_made (Some f) = is_made f
+
+-- A node was made of the last token that has a fate.
+abbrev pub ends_made : List Fate → Bool
+ends_made fates = some_made (last_of fates)

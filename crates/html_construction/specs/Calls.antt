@@ -1,0 +1,84 @@
+-- What one call makes of the tree and of the ledger.
+use Rattle.std.specs.Prelude.{◌==◌, ◌&&◌, ◌≡◌, ℕ, ◌+◌, List, [], ◌∷◌, ◌++◌, Bool, cond, length}
+use Rattle.html_names.specs.declared.tag.Tag.{Tag}
+use Rattle.html_names.specs.declared.tag.Tag.TheVariants as tag
+use Rattle.html_names.specs.Names.{name_of}
+use Rattle.html_names.specs.Groups.{is_definition}
+use Rattle.html_arena.specs.declared.data.NewNode.{NewNode}
+use Rattle.html_arena.specs.declared.data.NewNode.TheVariants.{Element, Comment, Doctype}
+use Rattle.html_arena.specs.declared.data.Origin.TheVariants.{Implied, Token}
+use Rattle.html_tokens.specs.declared.attributes.Attr.{Attr}
+use Rattle.html_open.specs.Entries.{pushed}
+use Rattle.html_tokens.specs.declared.token.TokenKind.{TokenKind}
+use Rattle.html_tree.specs.declared.groups.Group.{Group}
+use Rattle.html_tree.specs.declared.groups.Group.TheVariants as group
+use Rattle.html_tree.specs.declared.groups.Target.{Target}
+use Rattle.html_tree.specs.declared.groups.Target.TheVariants as target
+use Rattle.html_tree.specs.Groups.{in_group}
+use Rattle.html_tree.specs.Inserting.{with_new, with_open}
+use Rattle.html_tree.specs.States.{State as Tree}
+use Rattle.html_tree.specs.Targets.{place_for}
+use Rattle.html_ledger.specs.declared.fate.Fate.{Fate}
+use Rattle.html_ledger.specs.declared.symbol.Symbol.{Symbol}
+use Rattle.html_ledger.specs.Entries.{Entries, given, number_of}
+use Rattle.html_construction.specs.States.{State}
+use Rattle.html_construction.specs.Tokens.{attrs_of, data_of, element_name, name_id, public_id, system_id, tag_name}
+
+-- the tree is this one, but for its steps
+pub record IsTree (t : Tree) (z : State) : Type 0 where
+  pub tree_is : z.tree ≡ record t { steps = z.tree.steps }
+
+-- the next token was given this fate, and no other
+pub record HasFate (y : Symbol) (f : Fate) (a z : State) : Type 0 where
+  pub ledger_is : z.ledger ≡ given a.ledger y f
+
+-- a node is made and put at a target, and opened
+abbrev pub opened_at : NewNode → Target → Tree → Tree
+opened_at new g t = record t { stack = with_open t; tree = with_new t.tree (place_for t g) new }
+
+-- a node is made and put at a target
+abbrev pub placed_at : NewNode → Target → Tree → Tree
+placed_at new g t = record t { tree = with_new t.tree (place_for t g) new }
+
+-- so many tokens have nodes at most
+abbrev pub counting : ℕ → Tree → Tree
+counting n t = record t { tokens = n }
+
+-- the element of a start tag
+abbrev pub element_of : State → TokenKind → NewNode
+element_of a token = Element (tag_name token) (attrs_of token) (Token (number_of a.ledger))
+
+-- the same, where a void element of the name image is an img
+abbrev pub void_of : State → Tag → TokenKind → NewNode
+void_of a t token = Element (element_name t token) (attrs_of token) (Token (number_of a.ledger))
+
+abbrev pub root_of : State → TokenKind → NewNode
+root_of a token = Element (name_of tag.Html) (attrs_of token) (Token (number_of a.ledger))
+
+abbrev pub implied_of : Tag → NewNode
+implied_of t = Element (name_of t) [] Implied
+
+abbrev pub comment_of : State → TokenKind → NewNode
+comment_of a token = Comment (data_of token) (number_of a.ledger)
+
+abbrev pub doctype_of : State → TokenKind → NewNode
+doctype_of a token = Doctype (name_id token) (public_id token) (system_id token) (number_of a.ledger)
+
+-- the list items that one of this name closes (13.2.6.4.7)
+abbrev pub item_group : Tag → Group
+item_group t = cond (is_definition t) group.Definition (group.Named t)
+
+-- the current node is of a group
+abbrev pub is_first : Group → List Tag → Bool
+is_first g [] = in_group g tag.Other
+is_first g (t ∷ s) = in_group g t
+
+-- the rules for the token in hand took nothing off the stack of open elements and made no node so far
+abbrev pub is_idle : State → Bool
+is_idle a = (length a.stack == a.depth) && (length a.tree.tree.labels == a.nodes)
+
+-- the element of a formatting start tag is made, put at the place for the current node, opened and listed
+abbrev pub listed_at : Bool → List ℕ → List Attr → ℕ → Tree → Tree
+listed_at foster name attrs k t = record (opened_at (Element name attrs (Token k)) (target.Current foster) (counting (k + 1) t)) {
+  list = pushed (with_new t.tree (place_for t (target.Current foster)) (Element name attrs (Token k))) (length t.tree.labels) t.list;
+}

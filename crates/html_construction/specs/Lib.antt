@@ -1,0 +1,9 @@
+pub mod States
+pub mod Weights
+pub mod Built
+pub mod Calls
+pub mod Grown
+pub mod Modes
+pub mod Targets
+pub mod Tokens
+pub mod UnderWay

@@ -1,0 +1,217 @@
+// The state of tree construction.
+ghost use Rattle.std.specs.Prelude.{◌≡◌, ℕ, ◌∷◌, [], IfOk, OnOk, Option, true};
+ghost use Rattle.html_arena.specs.declared.arena.Limits.{Limits};
+ghost use Rattle.html_ledger.specs.declared.setting.Setting.TheVariants.{Document, Fragment};
+ghost use Rattle.html_names.specs.declared.tag.Tag.TheVariants as tag;
+ghost use Rattle.html_tree.specs.States.{document_state, fragment_state};
+ghost use Rattle.html_arena.specs.Tree.{WellFormed};
+ghost use Rattle.html_open.specs.Marking.{bare};
+ghost use Rattle.html_ledger.specs.Errors.{AreErrors};
+ghost use Rattle.html_ledger.specs.Fated.{Fated};
+ghost use Rattle.html_construction.specs.Built.{Handed, IsBuilt, Keeps, nothing_of, symbols};
+ghost use Rattle.html_construction.specs.Grown.{Grown};
+ghost use Rattle.html_construction.specs.Modes.{is_reset};
+
+use crate::mode::Mode;
+use crate::refusal::Refusal;
+use crate::registers::Registers;
+use html_arena::{Arena, Limits};
+use html_ledger::{Fates, Ledger, Setting};
+use html_names::Tag;
+use html_tree::OpenTree;
+use std::alloc::Global;
+use std::marker::Model;
+
+mod closing;
+mod fates;
+mod inserting;
+mod listing;
+mod pointers;
+mod resetting;
+mod searching;
+mod switches;
+mod texts;
+
+/// Tree construction under way: the tree, what became of each token, and the registers.
+///
+/// No node comes from a token that has no fate: a token gets its fate before its node is made.
+#[derive(Drop)]
+pub struct Construction {
+    tree: OpenTree,
+    ledger: Ledger,
+    registers: Registers,
+}
+
+impl Model for Construction {
+    ghost use Rattle.html_tree.specs.OpenTags.{open_tags};
+    ghost use Rattle.html_construction.specs.States.{State};
+    ghost use Rattle.html_construction.specs.UnderWay.{IsUnderWay};
+
+    ghost Value = { State };
+
+    ghost view = { λ b. record {
+      tree = b.tree;
+      stack = open_tags b.tree;
+      ledger = b.ledger;
+      mode = b.registers.mode;
+      original = b.registers.original;
+      templates = b.registers.templates.items;
+      context = b.registers.context;
+      quirks = b.registers.quirks;
+      frameset_ok = b.registers.frameset_ok;
+      fostering = b.registers.fostering;
+      outer_form = b.registers.outer_form;
+      began = b.registers.call.began;
+      depth = b.registers.call.depth;
+      nodes = b.registers.call.nodes;
+    } };
+
+    ghost invariant = { λ b. IsUnderWay b.tree.tokens b.ledger b.registers.templates.items };
+}
+
+impl Construction {
+    /// Begins a document.
+    ///
+    /// # Errors
+    ///
+    /// `OutOfMemory`.
+    pub fn document(alloc: Global) -> Result<Construction, Refusal>
+        ensures built { IfOk result (λ b. IsBuilt (nothing_of Document) b) }
+        ensures mode { IfOk result (λ b. b.mode ≡ Mode.Initial) }
+        ensures stack { IfOk result (λ b. b.stack ≡ []) }
+        ensures quiet { IfOk result (λ b. b.ledger.kept ≡ []) }
+        ensures listed { IfOk result (λ b. b.tree.list ≡ []) }
+    {
+        let tree = OpenTree::document(alloc)?;
+        Ok(Construction::of_document(alloc, tree))
+    }
+
+    /// Begins a document whose tree keeps to limits.
+    ///
+    /// # Errors
+    ///
+    /// `NodeBudget` where not even the document is within them; `OutOfMemory`.
+    pub fn document_within(alloc: Global, limits: Limits) -> Result<Construction, Refusal>
+        ensures built { IfOk result (λ b. IsBuilt (nothing_of Document) b) }
+        ensures mode { IfOk result (λ b. b.mode ≡ Mode.Initial) }
+        ensures stack { IfOk result (λ b. b.stack ≡ []) }
+        ensures quiet { IfOk result (λ b. b.ledger.kept ≡ []) }
+        ensures listed { IfOk result (λ b. b.tree.list ≡ []) }
+    {
+        let tree = OpenTree::document_within(alloc, limits)?;
+        Ok(Construction::of_document(alloc, tree))
+    }
+
+    /// Begins a fragment in a context of this name, in a form or not, of a document in quirks mode or not (13.4).
+    ///
+    /// # Errors
+    ///
+    /// `OutOfMemory`.
+    pub fn fragment(
+        alloc: Global,
+        context: Tag,
+        in_form: bool,
+        quirks: bool,
+    ) -> Result<Construction, Refusal>
+        ensures built { IfOk result (λ b. IsBuilt (nothing_of (Fragment context in_form)) b) }
+        ensures reset { IfOk result (λ b. is_reset b.mode ≡ true) }
+        ensures stack { IfOk result (λ b. b.stack ≡ tag.Html ∷ []) }
+        ensures quiet { IfOk result (λ b. b.ledger.kept ≡ []) }
+        ensures listed { IfOk result (λ b. b.tree.list ≡ []) }
+    {
+        let tree = OpenTree::fragment(alloc)?;
+        Construction::of_fragment(alloc, tree, context, in_form, quirks)
+    }
+
+    /// Begins a fragment whose tree keeps to limits.
+    ///
+    /// # Errors
+    ///
+    /// `NodeBudget` and `HeldBudget` where not even the root is within the limits; `OutOfMemory`.
+    pub fn fragment_within(
+        alloc: Global,
+        context: Tag,
+        in_form: bool,
+        quirks: bool,
+        limits: Limits,
+    ) -> Result<Construction, Refusal>
+        ensures built { IfOk result (λ b. IsBuilt (nothing_of (Fragment context in_form)) b) }
+        ensures reset { IfOk result (λ b. is_reset b.mode ≡ true) }
+        ensures stack { IfOk result (λ b. b.stack ≡ tag.Html ∷ []) }
+        ensures quiet { IfOk result (λ b. b.ledger.kept ≡ []) }
+        ensures listed { IfOk result (λ b. b.tree.list ≡ []) }
+    {
+        let tree = OpenTree::fragment_within(alloc, limits)?;
+        Construction::of_fragment(alloc, tree, context, in_form, quirks)
+    }
+
+    /// The nodes, the fate of each token, and the rising numbers of the tokens with an error.
+    pub fn into_parts(self) -> (Arena, Fates, Vec<u64>)
+        ensures nodes { bare result.0 ≡ self.tree.tree }
+        ensures well_formed { WellFormed result.0 }
+        ensures steps { result.0.steps ≡ self.tree.steps }
+        ensures fates { result.1 ≡ self.ledger.fates }
+        ensures errors { result.2.items ≡ self.ledger.errors }
+        ensures fated { (h : Handed) → self.ledger.kept ≡ [] → IsBuilt h self → Fated h.setting (symbols h.tokens) result.1 }
+        ensures told { (h : Handed) → self.ledger.kept ≡ [] → IsBuilt h self → AreErrors h.setting (symbols h.tokens) result.1 result.2.items }
+    {
+        let Construction { tree, ledger, .. } = self;
+        let (fates, errors) = ledger.into_parts();
+        (tree.into_arena(), fates, errors)
+    }
+
+    /// A document, before the first token.
+    fn of_document(alloc: Global, tree: OpenTree) -> Construction
+        requires begun { (l : Option Limits) × (k : ℕ) × (tree ≡ document_state l k) }
+        ensures built { IsBuilt (nothing_of Document) result }
+        ensures mode { result.mode ≡ Mode.Initial }
+        ensures stack { result.stack ≡ [] }
+        ensures quiet { result.ledger.kept ≡ [] }
+        ensures listed { result.tree.list ≡ [] }
+    {
+        Construction {
+            tree,
+            ledger: Ledger::new(alloc, Setting::Document),
+            registers: Registers::new(alloc, None, false, false),
+        }
+    }
+
+    /// A fragment, before the first token, in the mode that its context calls for.
+    fn of_fragment(
+        alloc: Global,
+        tree: OpenTree,
+        context: Tag,
+        in_form: bool,
+        quirks: bool,
+    ) -> Result<Construction, Refusal>
+        requires begun { (l : Option Limits) × (k : ℕ) × (tree ≡ fragment_state l k) }
+        ensures built { IfOk result (λ b. IsBuilt (nothing_of (Fragment context in_form)) b) }
+        ensures reset { IfOk result (λ b. is_reset b.mode ≡ true) }
+        ensures stack { IfOk result (λ b. b.stack ≡ tag.Html ∷ []) }
+        ensures quiet { IfOk result (λ b. b.ledger.kept ≡ []) }
+        ensures listed { IfOk result (λ b. b.tree.list ≡ []) }
+    {
+        let outer_form = in_form || context.is(Tag::Form);
+        let mut construction = Construction {
+            tree,
+            ledger: Ledger::new(alloc, Setting::Fragment { context, in_form }),
+            registers: Registers::new(alloc, Some(context), quirks, outer_form),
+        };
+        construction.enter_context(context)?;
+        Ok(construction)
+    }
+
+    /// The mode that a context calls for, before the first token.
+    fn enter_context(&mut self, context: Tag) -> Result<(), Refusal>
+        ensures rest { OnOk result (self.new ≡ record self.old { tree = self.new.tree; mode = self.new.mode; templates = self.new.templates }) }
+        ensures keeps { OnOk result (Keeps self.old self.new) }
+        ensures grown { OnOk result (Grown 0 0 0 self.old self.new) }
+        ensures reset { OnOk result (is_reset self.new.mode ≡ true) }
+    {
+        if context.is_template() {
+            self.push_template_mode(Mode::InTemplate)?;
+        }
+        self.reset();
+        Ok(())
+    }
+}

@@ -1,0 +1,128 @@
+// The list of active formatting elements (13.2.4.3). No call gives a token its fate.
+ghost use Rattle.std.specs.Prelude.{◌≡◌, ◌<◌, ◌≤◌, IfSome, OnOk, length, true};
+ghost use Rattle.html_names.specs.Sets.{is_formatting};
+ghost use Rattle.html_construction.specs.Built.{Keeps};
+ghost use Rattle.html_construction.specs.Grown.{Grown};
+ghost use Rattle.html_construction.specs.Weights.{weight};
+ghost use Rattle.std.specs.Prelude.{◌++◌, ◌∷◌, [], IfOk};
+ghost use Rattle.html_open.specs.declared.entry.Entry.TheVariants.{Marker};
+ghost use Rattle.html_open.specs.Entries.{is_marker, last_named, without_node};
+ghost use Rattle.html_open.specs.Lists.{below};
+ghost use Rattle.html_tree.specs.Listing.{IsAdopted, IsReopened};
+ghost use Rattle.html_construction.specs.Calls.{IsTree};
+
+use super::Construction;
+use crate::refusal::Refusal;
+use html_arena::NodeId;
+use html_names::Tag;
+use html_tree::AdoptEnd;
+
+impl Construction {
+    /// Adds a marker to the list.
+    pub fn add_marker(&mut self) -> Result<(), Refusal>
+        ensures rest { OnOk result (self.new ≡ record self.old { tree = self.new.tree }) }
+        ensures keeps { OnOk result (Keeps self.old self.new) }
+        ensures grown { OnOk result (Grown 0 0 1 self.old self.new) }
+        ensures exact { OnOk result (IsTree (record self.old.tree { list = self.old.tree.list ++ Marker ∷ [] }) self.new) }
+    {
+        self.tree.add_marker()?;
+        Ok(())
+    }
+
+    /// Takes entries off the list up to the last marker.
+    pub fn clear_to_marker(&mut self)
+        ensures rest { self.new ≡ record self.old { tree = self.new.tree } }
+        ensures keeps { Keeps self.old self.new }
+        ensures grown { Grown 0 0 0 self.old self.new }
+        ensures exact { IsTree (record self.old.tree { list = below is_marker self.old.tree.list }) self.new }
+    {
+        self.tree.clear_to_marker();
+    }
+
+    /// Reconstructs the active formatting elements: opens anew the listed elements that are not open.
+    pub fn reconstruct(&mut self) -> Result<(), Refusal>
+        requires opened { 0 < length self.old.stack }
+        requires listed { length self.old.tree.list ≤ length self.old.ledger.fates }
+        ensures rest { OnOk result (self.new ≡ record self.old { tree = self.new.tree; stack = self.new.stack }) }
+        ensures keeps { OnOk result (Keeps self.old self.new) }
+        ensures grown { OnOk result (Grown 0 (length self.old.ledger.fates) 0 self.old self.new) }
+        ensures lighter { OnOk result (weight self.new.stack ≤ weight self.old.stack) }
+        ensures opened { OnOk result (0 < length self.new.stack) }
+        ensures exact { OnOk result (IsReopened self.old.fostering self.old.tree self.new.tree) }
+    {
+        self.tree.reopen(self.registers.fostering)?;
+        Ok(())
+    }
+
+    /// The end tag of a formatting element: the adoption agency, and where it says so the rules for any other end tag.
+    pub fn end_formatting(&mut self, tag: Tag) -> Result<(), Refusal>
+        requires opened { 0 < length self.old.stack }
+        requires formatting { is_formatting tag ≡ true }
+        ensures rest { OnOk result (self.new ≡ record self.old { tree = self.new.tree; stack = self.new.stack }) }
+        ensures keeps { OnOk result (Keeps self.old self.new) }
+        ensures grown { OnOk result (Grown 0 32 0 self.old self.new) }
+        ensures lighter { OnOk result (weight self.new.stack ≤ weight self.old.stack) }
+        ensures opened { OnOk result (0 < length self.new.stack) }
+    {
+        match self.adopt(tag)? {
+            AdoptEnd::Done => {}
+            AdoptEnd::OtherEndTag => self.close_named(tag.name()),
+        }
+        Ok(())
+    }
+
+    /// Runs the adoption agency algorithm for a formatting name.
+    fn adopt(&mut self, tag: Tag) -> Result<AdoptEnd, Refusal>
+        requires opened { 0 < length self.old.stack }
+        requires formatting { is_formatting tag ≡ true }
+        ensures rest { OnOk result (self.new ≡ record self.old { tree = self.new.tree; stack = self.new.stack }) }
+        ensures keeps { OnOk result (Keeps self.old self.new) }
+        ensures grown { OnOk result (Grown 0 32 0 self.old self.new) }
+        ensures lighter { OnOk result (weight self.new.stack ≤ weight self.old.stack) }
+        ensures opened { OnOk result (0 < length self.new.stack) }
+        ensures exact { IfOk result (λ end. IsAdopted tag self.old.fostering end self.old.tree self.new.tree) }
+    {
+        let end = self.tree.adopt(tag, self.registers.fostering)?;
+        Ok(end)
+    }
+
+    /// Closes a link that is listed after the last marker, and takes it out of the list and off the stack where it is still there.
+    pub fn close_link(&mut self) -> Result<(), Refusal>
+        requires opened { 0 < length self.old.stack }
+        ensures rest { OnOk result (self.new ≡ record self.old { tree = self.new.tree; stack = self.new.stack }) }
+        ensures keeps { OnOk result (Keeps self.old self.new) }
+        ensures grown { OnOk result (Grown 0 32 0 self.old self.new) }
+        ensures lighter { OnOk result (weight self.new.stack ≤ weight self.old.stack) }
+        ensures opened { OnOk result (0 < length self.new.stack) }
+    {
+        if let Some(link) = self.last_listed(Tag::A) {
+            self.end_formatting(Tag::A)?;
+            self.unlist(link);
+            self.remove_open(link);
+        }
+        Ok(())
+    }
+
+    /// The last listed element of this name after the last marker.
+    fn last_listed(&mut self, tag: Tag) -> Option<NodeId>
+        ensures rest { self.new ≡ record self.old { tree = self.new.tree } }
+        ensures keeps { Keeps self.old self.new }
+        ensures grown { Grown 0 0 0 self.old self.new }
+        ensures node { IfSome result (λ x. x < length self.new.tree.tree.labels) }
+        ensures listed { result ≡ last_named self.old.tree.tree tag self.old.tree.list }
+        ensures same { IsTree self.old.tree self.new }
+    {
+        self.tree.last_listed(tag)
+    }
+
+    /// Takes an element out of the list.
+    fn unlist(&mut self, node: NodeId)
+        requires node { node < length self.old.tree.tree.labels }
+        ensures rest { self.new ≡ record self.old { tree = self.new.tree } }
+        ensures keeps { Keeps self.old self.new }
+        ensures grown { Grown 0 0 0 self.old self.new }
+        ensures exact { IsTree (record self.old.tree { list = without_node node self.old.tree.list }) self.new }
+    {
+        self.tree.unlist(node);
+    }
+}

@@ -1,0 +1,254 @@
+// The element pointers (13.2.4.4), the body that a frameset takes the place of, and how many elements and nodes there were when the rules for a
+// token began.
+ghost use Rattle.std.specs.Prelude.{◌≡◌, ◌+◌, ◌<◌, ◌≤◌, ◌∷◌, [], IfSome, None, OnOk, false, length, slice_index, true};
+ghost use Rattle.html_names.specs.declared.tag.Tag.TheVariants as tag;
+ghost use Rattle.html_arena.specs.Tree.{named, tag_at};
+ghost use Rattle.html_ledger.specs.Symbols.{symbol_of};
+ghost use Rattle.html_ledger.specs.declared.symbol.Symbol.TheVariants.{Start};
+ghost use Rattle.html_construction.specs.Built.{Keeps, Takes};
+ghost use Rattle.html_construction.specs.Grown.{Grown};
+ghost use Rattle.html_construction.specs.Weights.{weight};
+ghost use Rattle.std.specs.Prelude.{◌||◌, Some, is_some};
+ghost use Rattle.html_construction.specs.Calls.{IsTree, is_idle};
+
+use super::Construction;
+use crate::mode::Mode;
+use crate::refusal::Refusal;
+use crate::registers::Call;
+use html_arena::NodeId;
+use html_names::Tag;
+use html_tokens::TokenKind;
+use html_tree::Target;
+
+impl Construction {
+    /// Makes the head of its start tag, opens it and points to it.
+    pub fn insert_head(&mut self, token: &TokenKind) -> Result<(), Refusal>
+        requires symbol { symbol_of token.now ≡ Start tag.Head }
+        requires opened { 0 < length self.old.stack }
+        requires quiet { self.old.ledger.kept ≡ [] }
+        ensures rest { OnOk result (self.new ≡ record self.old { tree = self.new.tree; ledger = self.new.ledger; stack = tag.Head ∷ self.old.stack }) }
+        ensures takes { OnOk result (Takes token.now self.old self.new) }
+        ensures quiet { OnOk result (self.new.ledger.kept ≡ []) }
+        ensures grown { OnOk result (Grown 1 2 0 self.old self.new) }
+    {
+        let target = self.here();
+        let head = self.open_at(token, Tag::Head, target)?;
+        self.set_head(head);
+        Ok(())
+    }
+
+    /// Makes a head that no token asked for, opens it and points to it. No token gets a fate.
+    pub fn insert_implied_head(&mut self) -> Result<(), Refusal>
+        requires opened { 0 < length self.old.stack }
+        ensures rest { OnOk result (self.new ≡ record self.old { tree = self.new.tree; stack = tag.Head ∷ self.old.stack }) }
+        ensures keeps { OnOk result (Keeps self.old self.new) }
+        ensures grown { OnOk result (Grown 0 2 0 self.old self.new) }
+    {
+        let head = self.open_implied(Tag::Head)?;
+        self.set_head(head);
+        Ok(())
+    }
+
+    /// Points to the head, an element of that name.
+    fn set_head(&mut self, head: NodeId)
+        requires node { head < length self.old.tree.tree.labels }
+        requires tag { tag_at self.old.tree.tree head ≡ tag.Head }
+        ensures exact { IsTree (record self.old.tree { head = Some head }) self.new }
+        ensures rest { self.new ≡ record self.old { tree = self.new.tree } }
+        ensures keeps { Keeps self.old self.new }
+        ensures grown { Grown 0 0 0 self.old self.new }
+    {
+        self.tree.set_head(head);
+    }
+
+    /// Points to a form.
+    fn set_form(&mut self, form: NodeId)
+        requires node { form < length self.old.tree.tree.labels }
+        ensures exact { IsTree (record self.old.tree { form = Some form }) self.new }
+        ensures rest { self.new ≡ record self.old { tree = self.new.tree } }
+        ensures keeps { Keeps self.old self.new }
+        ensures grown { Grown 0 0 0 self.old self.new }
+    {
+        self.tree.set_form(Some(form));
+    }
+
+    /// Makes the form of its start tag, opens it and points to it.
+    pub fn insert_form(&mut self, token: &TokenKind) -> Result<(), Refusal>
+        requires symbol { symbol_of token.now ≡ Start tag.Form }
+        requires opened { 0 < length self.old.stack }
+        requires quiet { self.old.ledger.kept ≡ [] }
+        ensures rest { OnOk result (self.new ≡ record self.old { tree = self.new.tree; ledger = self.new.ledger; stack = tag.Form ∷ self.old.stack }) }
+        ensures takes { OnOk result (Takes token.now self.old self.new) }
+        ensures quiet { OnOk result (self.new.ledger.kept ≡ []) }
+        ensures grown { OnOk result (Grown 1 2 0 self.old self.new) }
+    {
+        let target = self.here();
+        let form = self.open_at(token, Tag::Form, target)?;
+        self.set_form(form);
+        Ok(())
+    }
+
+    /// Makes the form of its start tag and points to it; it is not opened.
+    pub fn insert_closed_form(&mut self, token: &TokenKind) -> Result<(), Refusal>
+        requires symbol { symbol_of token.now ≡ Start tag.Form }
+        requires opened { 0 < length self.old.stack }
+        requires quiet { self.old.ledger.kept ≡ [] }
+        ensures rest { OnOk result (self.new ≡ record self.old { tree = self.new.tree; ledger = self.new.ledger }) }
+        ensures takes { OnOk result (Takes token.now self.old self.new) }
+        ensures quiet { OnOk result (self.new.ledger.kept ≡ []) }
+        ensures grown { OnOk result (Grown 1 2 0 self.old self.new) }
+    {
+        let target = self.here();
+        let form = self.void_at(token, Tag::Form, target)?;
+        self.set_form(form);
+        Ok(())
+    }
+
+    /// Whether the form element pointer is at a form, of the tree or around the fragment.
+    pub fn points_to_form(&self) -> bool
+        ensures value { result ≡ (self.now.outer_form || is_some self.now.tree.form) }
+    {
+        self.registers.outer_form || self.tree.form().is_some()
+    }
+
+    /// Points to no form any more, and closes the one to which the pointer was, where it is in scope (13.2.6.4.7, an end tag "form").
+    pub fn close_form(&mut self)
+        requires opened { 0 < length self.old.stack }
+        ensures rest { self.new ≡ record self.old { tree = self.new.tree; stack = self.new.stack; outer_form = false } }
+        ensures keeps { Keeps self.old self.new }
+        ensures grown { Grown 0 0 0 self.old self.new }
+        ensures lighter { weight self.new.stack ≤ weight self.old.stack }
+        ensures opened { 0 < length self.new.stack }
+    {
+        if let Some(form) = self.take_form() {
+            if self.is_in_scope(form) {
+                self.implied(None);
+                self.remove_open(form);
+            }
+        }
+    }
+
+    /// Points to no form any more, and answers the one of the tree to which the pointer was.
+    fn take_form(&mut self) -> Option<NodeId>
+        ensures rest { self.new ≡ record self.old { tree = self.new.tree; outer_form = false } }
+        ensures keeps { Keeps self.old self.new }
+        ensures grown { Grown 0 0 0 self.old self.new }
+        ensures node { IfSome result (λ x. x < length self.new.tree.tree.labels) }
+        ensures taken { result ≡ self.old.tree.form }
+        ensures exact { IsTree (record self.old.tree { form = None }) self.new }
+    {
+        self.tree.laws();
+        let form = self.tree.form();
+        self.tree.set_form(None);
+        self.registers.outer_form = false;
+        form
+    }
+
+    /// Whether an element itself is in the default scope.
+    fn is_in_scope(&mut self, node: NodeId) -> bool
+        ensures rest { self.new ≡ record self.old { tree = self.new.tree } }
+        ensures keeps { Keeps self.old self.new }
+        ensures grown { Grown 0 0 0 self.old self.new }
+    {
+        self.tree.is_in_scope(node)
+    }
+
+    /// Whether the second open element is a body.
+    pub fn has_body(&mut self) -> bool
+        ensures rest { self.new ≡ record self.old { tree = self.new.tree } }
+        ensures keeps { Keeps self.old self.new }
+        ensures grown { Grown 0 0 0 self.old self.new }
+        ensures second { result ≡ true → 1 < length self.new.stack }
+        ensures element { result ≡ true → 1 < length self.new.tree.stack }
+        ensures body { result ≡ true → named self.new.tree.tree tag.Body (slice_index self.new.tree.stack 1) ≡ true }
+        ensures detached { self.new.tree.detached ≡ self.old.tree.detached }
+    {
+        self.depth() > 1 && self.tag_at(1).is(Tag::Body)
+    }
+
+    /// Takes the body, where it is the second open element, out of the tree for a frameset, closes all but the first element, and says
+    /// whether it did. A body is taken out once.
+    pub fn replace_body(&mut self) -> bool
+        requires opened { 0 < length self.old.stack }
+        ensures rest { self.new ≡ record self.old { tree = self.new.tree; stack = self.new.stack } }
+        ensures keeps { Keeps self.old self.new }
+        ensures grown { Grown 0 0 0 self.old self.new }
+        ensures lighter { weight self.new.stack ≤ weight self.old.stack }
+        ensures opened { 0 < length self.new.stack }
+    {
+        if self.has_detached_body() || !self.has_body() {
+            return false;
+        }
+        self.detach_body();
+        self.pop_to(1);
+        true
+    }
+
+    /// Whether a frameset took the place of the body before.
+    fn has_detached_body(&self) -> bool
+        ensures none { result ≡ false → self.now.tree.detached ≡ None }
+    {
+        self.tree.detached_body().is_some()
+    }
+
+    /// Takes the body, which is the second open element, out of the tree.
+    fn detach_body(&mut self)
+        requires second { 1 < length self.old.tree.stack }
+        requires body { named self.old.tree.tree tag.Body (slice_index self.old.tree.stack 1) ≡ true }
+        requires once { self.old.tree.detached ≡ None }
+        ensures rest { self.new ≡ record self.old { tree = self.new.tree } }
+        ensures keeps { Keeps self.old self.new }
+        ensures grown { Grown 0 0 0 self.old self.new }
+    {
+        self.tree.detach_body();
+    }
+
+    /// Begins the rules for a token: nothing of the tree or of the ledger changes.
+    pub fn begin_call(&mut self)
+        ensures rest { self.new ≡ record self.old { began = self.old.mode; depth = length self.old.stack; nodes = length self.old.tree.tree.labels } }
+        ensures keeps { Keeps self.old self.new }
+    {
+        self.registers.call = Call {
+            began: self.registers.mode,
+            depth: self.depth(),
+            nodes: self.tree.node_count(),
+        };
+    }
+
+    /// Begins the rules for a token's own part, after the kept text of a table was settled.
+    pub fn begin_own_part(&mut self)
+        ensures rest { self.new ≡ record self.old { depth = length self.old.stack; nodes = length self.old.tree.tree.labels } }
+        ensures keeps { Keeps self.old self.new }
+    {
+        self.registers.call = Call {
+            began: self.registers.call.began,
+            depth: self.depth(),
+            nodes: self.tree.node_count(),
+        };
+    }
+
+    /// The mode in which the rules for the token in hand began.
+    pub fn began(&self) -> Mode
+        ensures { result ≡ self.now.began }
+    {
+        self.registers.call.began
+    }
+
+    /// Whether the rules for the token in hand took nothing off the stack of open elements and made no node so far. (What makes the stack
+    /// longer makes a node.)
+    pub(super) fn is_idle(&self) -> bool
+        ensures value { result ≡ is_idle self.now }
+    {
+        self.depth() == self.registers.call.depth
+            && self.tree.node_count() == self.registers.call.nodes
+    }
+
+    /// Counts entries of a token into the rules of a mode.
+    pub fn count_steps(&mut self, count: usize)
+        ensures rest { self.new ≡ record self.old { tree = self.new.tree } }
+        ensures keeps { Keeps self.old self.new }
+        ensures grown { Grown 0 0 0 self.old self.new }
+    {
+        self.tree.charge(count as u128);
+    }
+}

@@ -1,0 +1,121 @@
+// Questions about the open elements. They count steps; all else stays.
+ghost use Rattle.std.specs.Prelude.{◌≡◌, ◌+◌, ◌<◌, ◌≤◌, Some, drop, length, slice_get, slice_index, true};
+ghost use Rattle.html_arena.specs.Tree.{tag_at};
+ghost use Rattle.html_construction.specs.Built.{Keeps};
+ghost use Rattle.html_construction.specs.Grown.{Grown};
+ghost use Rattle.html_construction.specs.Weights.{group_weight, weight};
+ghost use Rattle.std.specs.Prelude.{◌&&◌, is_some};
+ghost use Rattle.html_names.specs.declared.tag.Tag.TheVariants as html;
+ghost use Rattle.html_tree.specs.declared.groups.Group.TheVariants as group;
+ghost use Rattle.html_tree.specs.declared.groups.Stop.TheVariants as stop;
+ghost use Rattle.html_tree.specs.Searching.{found};
+ghost use Rattle.html_construction.specs.Calls.{IsTree, is_first};
+
+use super::Construction;
+use html_names::{Scope, Tag};
+use html_tree::{Group, Stop};
+
+impl Construction {
+    /// The number of open elements.
+    pub fn depth(&self) -> usize
+        ensures depth { result ≡ length self.now.stack }
+        ensures elements { result ≡ length self.now.tree.stack }
+    {
+        self.tree.laws();
+        self.tree.depth()
+    }
+
+    /// The tag of the open element at an index; that of the first element is 0.
+    pub(super) fn tag_at(&mut self, index: usize) -> Tag
+        requires { index < length self.old.stack }
+        ensures rest { self.new ≡ record self.old { tree = self.new.tree } }
+        ensures keeps { Keeps self.old self.new }
+        ensures grown { Grown 0 0 0 self.old self.new }
+        ensures same { self.new ≡ record self.old { tree = record self.old.tree { steps = self.new.tree.steps } } }
+        ensures tag { result ≡ tag_at self.new.tree.tree (slice_index self.new.tree.stack index) }
+    {
+        self.tree.laws();
+        self.tree.tag_at(index)
+    }
+
+    /// The tag of the current node; `Other` where nothing is open.
+    pub fn current(&mut self) -> Tag
+        ensures rest { self.new ≡ record self.old { tree = self.new.tree } }
+        ensures keeps { Keeps self.old self.new }
+        ensures grown { Grown 0 0 0 self.old self.new }
+        ensures tag { 0 < length self.old.stack → slice_get self.old.stack 0 ≡ Some result }
+        ensures same { IsTree self.old.tree self.new }
+    {
+        self.tree.current_tag().unwrap_or(Tag::Other)
+    }
+
+    /// Whether the current node is of a group.
+    pub fn current_is(&mut self, group: Group) -> bool
+        ensures rest { self.new ≡ record self.old { tree = self.new.tree } }
+        ensures keeps { Keeps self.old self.new }
+        ensures grown { Grown 0 0 0 self.old self.new }
+        ensures member { result ≡ true → 0 < length self.old.stack → weight (drop 1 self.old.stack) + group_weight group ≤ weight self.old.stack }
+        ensures answer { 0 < length self.old.stack → result ≡ is_first group self.old.stack }
+        ensures same { IsTree self.old.tree self.new }
+    {
+        group.has(self.current())
+    }
+
+    /// Whether an element of this name is in a scope.
+    pub fn has_in_scope(&mut self, tag: Tag, scope: Scope) -> bool
+        ensures rest { self.new ≡ record self.old { tree = self.new.tree } }
+        ensures keeps { Keeps self.old self.new }
+        ensures grown { Grown 0 0 0 self.old self.new }
+        ensures answer { result ≡ is_some (found self.old.tree (group.Named tag) (stop.EndOf scope)) }
+        ensures same { IsTree self.old.tree self.new }
+    {
+        self.tree.has(Group::Named(tag), Stop::EndOf(scope))
+    }
+
+    /// Whether an element of the group is in a scope.
+    pub fn has_group_in_scope(&mut self, group: Group, scope: Scope) -> bool
+        ensures rest { self.new ≡ record self.old { tree = self.new.tree } }
+        ensures keeps { Keeps self.old self.new }
+        ensures grown { Grown 0 0 0 self.old self.new }
+        ensures answer { result ≡ is_some (found self.old.tree group (stop.EndOf scope)) }
+        ensures same { IsTree self.old.tree self.new }
+    {
+        self.tree.has(group, Stop::EndOf(scope))
+    }
+
+    /// Whether a template is open. None is where none was made, and the stack need not be searched.
+    pub fn has_template(&mut self) -> bool
+        ensures rest { self.new ≡ record self.old { tree = self.new.tree } }
+        ensures keeps { Keeps self.old self.new }
+        ensures grown { Grown 0 0 0 self.old self.new }
+        ensures made { result ≡ true → self.old.ledger.history.template ≡ true }
+        ensures answer { result ≡ (self.old.ledger.history.template && is_some (found self.old.tree (group.Named html.Template) stop.Never)) }
+        ensures same { IsTree self.old.tree self.new }
+    {
+        self.history().template && self.has_open_template()
+    }
+
+    /// Whether a template stands on the stack.
+    fn has_open_template(&mut self) -> bool
+        ensures rest { self.new ≡ record self.old { tree = self.new.tree } }
+        ensures keeps { Keeps self.old self.new }
+        ensures grown { Grown 0 0 0 self.old self.new }
+        ensures answer { result ≡ is_some (found self.old.tree (group.Named html.Template) stop.Never) }
+        ensures same { IsTree self.old.tree self.new }
+    {
+        self.tree.has(Group::Named(Tag::Template), Stop::Never)
+    }
+
+    /// Whether the current node is an option that stands on an optgroup.
+    pub fn is_option_in_group(&mut self) -> bool
+        ensures rest { self.new ≡ record self.old { tree = self.new.tree } }
+        ensures keeps { Keeps self.old self.new }
+        ensures grown { Grown 0 0 0 self.old self.new }
+        ensures second { result ≡ true → 1 < length self.new.stack }
+    {
+        let depth = self.depth();
+        depth > 1
+            && self.tag_at(depth - 1).is(Tag::Option)
+            && self.tag_at(depth - 2).is(Tag::Optgroup)
+    }
+}
