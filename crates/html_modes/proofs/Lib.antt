@@ -1,0 +1,5 @@
+pub mod Moded
+pub mod Tagged
+pub mod Settled
+pub mod Handing
+pub mod Counting

@@ -1,0 +1,213 @@
+-- What the sets of tags settle.
+use Rattle.std.proofs.Common.{ℕ, ◌+◌, ◌≡◌, ◌==◌, ◌<◌, ◌≤◌, Bool, true, false, ◌||◌, IsTrue, refl, sym, if◌then◌else◌, arith}
+use Rattle.std.proofs.lemmas.Bool.{false≢true}
+use Rattle.std.proofs.lemmas.Grind.{common_steps}
+use Rattle.html_names.specs.declared.tag.Tag.{Tag}
+use Rattle.html_names.specs.declared.tag.Tag.TheVariants as tag
+use Rattle.html_names.specs.Sets.{is_block, is_heading, is_headish, is_section, is_cell, is_formatting}
+use Rattle.html_names.specs.Groups.{is_preformatted, takes_marker, is_head_text, is_table_piece, ends_section, ends_row, is_placed, is_table_part, ends_select, ends_select_in_table}
+use Rattle.html_names.specs.Tags.{is_same}
+use Rattle.html_ledger.specs.declared.symbol.Symbol.TheVariants.{Start}
+use Rattle.html_ledger.specs.declared.history.History.{History}
+use Rattle.html_ledger.specs.declared.fate.Cause.TheVariants.{Misplaced}
+use Rattle.html_ledger.specs.Flags.{may_drop}
+use Rattle.html_ledger.specs.MayDrop.{is_in_select}
+use Rattle.html_ledger.specs.Spaces.{is_space}
+use Rattle.html_construction.specs.Weights.{weight_of}
+use Rattle.html_modes.specs.Ranks.{table_rank, table_body_rank, row_rank, caption_rank, column_group_rank}
+
+weight_if : (a b : Bool) → b ≡ false → (if a then 0 else (if b then 10 else 4)) ≤ 4
+weight_if true b e = omega arith
+weight_if false false e = omega arith
+weight_if false true e = absurd (false≢true (sym e))
+
+weight_any : (a b : Bool) → (if a then 0 else (if b then 10 else 4)) ≤ 10
+weight_any true b = omega arith
+weight_any false false = omega arith
+weight_any false true = omega arith
+
+-- no element but a template counts more than four
+pub weight_of-plain : (t : Tag) → is_same t tag.Template ≡ false → weight_of t ≤ 4
+weight_of-plain t e = weight_if (is_formatting t) (is_same t tag.Template) e
+
+pub weight_of-most : (t : Tag) → weight_of t ≤ 10
+weight_of-most t = weight_any (is_formatting t) (is_same t tag.Template)
+
+pub plain-other : (t : Tag) → is_headish t ≡ false → is_same t tag.Template ≡ false
+plain-other tag.Template e = absurd (false≢true (sym e))
+plain-other _ e = refl
+
+pub small-other : (t : Tag) → is_headish t ≡ false → weight_of t ≤ 4
+small-other t e = weight_of-plain t (plain-other t e)
+
+pub plain-is_block : (t : Tag) → is_block t ≡ true → is_same t tag.Template ≡ false
+plain-is_block tag.Template e = absurd (false≢true e)
+plain-is_block _ e = refl
+
+pub small-is_block : (t : Tag) → is_block t ≡ true → weight_of t ≤ 4
+small-is_block t e = weight_of-plain t (plain-is_block t e)
+
+pub plain-is_heading : (t : Tag) → is_heading t ≡ true → is_same t tag.Template ≡ false
+plain-is_heading tag.Template e = absurd (false≢true e)
+plain-is_heading _ e = refl
+
+pub small-is_heading : (t : Tag) → is_heading t ≡ true → weight_of t ≤ 4
+small-is_heading t e = weight_of-plain t (plain-is_heading t e)
+
+pub plain-is_preformatted : (t : Tag) → is_preformatted t ≡ true → is_same t tag.Template ≡ false
+plain-is_preformatted tag.Template e = absurd (false≢true e)
+plain-is_preformatted _ e = refl
+
+pub small-is_preformatted : (t : Tag) → is_preformatted t ≡ true → weight_of t ≤ 4
+small-is_preformatted t e = weight_of-plain t (plain-is_preformatted t e)
+
+pub plain-takes_marker : (t : Tag) → takes_marker t ≡ true → is_same t tag.Template ≡ false
+plain-takes_marker tag.Template e = absurd (false≢true e)
+plain-takes_marker _ e = refl
+
+pub small-takes_marker : (t : Tag) → takes_marker t ≡ true → weight_of t ≤ 4
+small-takes_marker t e = weight_of-plain t (plain-takes_marker t e)
+
+pub plain-is_head_text : (t : Tag) → is_head_text t ≡ true → is_same t tag.Template ≡ false
+plain-is_head_text tag.Template e = absurd (false≢true e)
+plain-is_head_text _ e = refl
+
+pub small-is_head_text : (t : Tag) → is_head_text t ≡ true → weight_of t ≤ 4
+small-is_head_text t e = weight_of-plain t (plain-is_head_text t e)
+
+pub plain-is_section : (t : Tag) → is_section t ≡ true → is_same t tag.Template ≡ false
+plain-is_section tag.Template e = absurd (false≢true e)
+plain-is_section _ e = refl
+
+pub small-is_section : (t : Tag) → is_section t ≡ true → weight_of t ≤ 4
+small-is_section t e = weight_of-plain t (plain-is_section t e)
+
+pub plain-is_cell : (t : Tag) → is_cell t ≡ true → is_same t tag.Template ≡ false
+plain-is_cell tag.Template e = absurd (false≢true e)
+plain-is_cell _ e = refl
+
+pub small-is_cell : (t : Tag) → is_cell t ≡ true → weight_of t ≤ 4
+small-is_cell t e = weight_of-plain t (plain-is_cell t e)
+
+pub plain-is_formatting : (t : Tag) → is_formatting t ≡ true → is_same t tag.Template ≡ false
+plain-is_formatting tag.Template e = absurd (false≢true e)
+plain-is_formatting _ e = refl
+
+pub small-is_formatting : (t : Tag) → is_formatting t ≡ true → weight_of t ≤ 4
+small-is_formatting t e = weight_of-plain t (plain-is_formatting t e)
+
+pub placed-is_table_piece : (t : Tag) → is_table_piece t ≡ true → is_placed t ≡ true
+placed-is_table_piece tag.Caption e = refl
+placed-is_table_piece tag.Col e = refl
+placed-is_table_piece tag.Colgroup e = refl
+placed-is_table_piece tag.Tbody e = refl
+placed-is_table_piece tag.Td e = refl
+placed-is_table_piece tag.Tfoot e = refl
+placed-is_table_piece tag.Th e = refl
+placed-is_table_piece tag.Thead e = refl
+placed-is_table_piece tag.Tr e = refl
+placed-is_table_piece _ e = absurd (false≢true e)
+
+pub placed-ends_section : (t : Tag) → ends_section t ≡ true → is_placed t ≡ true
+placed-ends_section tag.Caption e = refl
+placed-ends_section tag.Col e = refl
+placed-ends_section tag.Colgroup e = refl
+placed-ends_section tag.Tbody e = refl
+placed-ends_section tag.Tfoot e = refl
+placed-ends_section tag.Thead e = refl
+placed-ends_section _ e = absurd (false≢true e)
+
+pub placed-ends_row : (t : Tag) → ends_row t ≡ true → is_placed t ≡ true
+placed-ends_row tag.Caption e = refl
+placed-ends_row tag.Col e = refl
+placed-ends_row tag.Colgroup e = refl
+placed-ends_row tag.Tbody e = refl
+placed-ends_row tag.Tfoot e = refl
+placed-ends_row tag.Thead e = refl
+placed-ends_row tag.Tr e = refl
+placed-ends_row _ e = absurd (false≢true e)
+
+pub rank-section : (t : Tag) → ends_section t ≡ true → table_rank t < table_body_rank t + 4
+rank-section tag.Caption e = omega arith
+rank-section tag.Col e = omega arith
+rank-section tag.Colgroup e = omega arith
+rank-section tag.Tbody e = omega arith
+rank-section tag.Tfoot e = omega arith
+rank-section tag.Thead e = omega arith
+rank-section _ e = absurd (false≢true e)
+
+pub rank-row : (t : Tag) → ends_row t ≡ true → table_body_rank t < row_rank t + 4
+rank-row tag.Caption e = omega arith
+rank-row tag.Col e = omega arith
+rank-row tag.Colgroup e = omega arith
+rank-row tag.Tbody e = omega arith
+rank-row tag.Tfoot e = omega arith
+rank-row tag.Thead e = omega arith
+rank-row tag.Tr e = omega arith
+rank-row _ e = absurd (false≢true e)
+
+pub rank-cell : (t : Tag) → is_table_piece t ≡ true → row_rank t < 4
+rank-cell tag.Caption e = omega arith
+rank-cell tag.Col e = omega arith
+rank-cell tag.Colgroup e = omega arith
+rank-cell tag.Tbody e = omega arith
+rank-cell tag.Td e = omega arith
+rank-cell tag.Tfoot e = omega arith
+rank-cell tag.Th e = omega arith
+rank-cell tag.Thead e = omega arith
+rank-cell tag.Tr e = omega arith
+rank-cell _ e = absurd (false≢true e)
+
+pub rank-caption : (t : Tag) → is_table_piece t ≡ true → table_rank t < caption_rank t + 4
+rank-caption tag.Caption e = omega arith
+rank-caption tag.Col e = omega arith
+rank-caption tag.Colgroup e = omega arith
+rank-caption tag.Tbody e = omega arith
+rank-caption tag.Td e = omega arith
+rank-caption tag.Tfoot e = omega arith
+rank-caption tag.Th e = omega arith
+rank-caption tag.Thead e = omega arith
+rank-caption tag.Tr e = omega arith
+rank-caption _ e = absurd (false≢true e)
+
+pub rank-table_part : (t : Tag) → is_table_part t ≡ true → table_rank t ≡ 0
+rank-table_part tag.Caption e = refl
+rank-table_part tag.Colgroup e = refl
+rank-table_part tag.Tbody e = refl
+rank-table_part tag.Tfoot e = refl
+rank-table_part tag.Thead e = refl
+rank-table_part _ e = absurd (false≢true e)
+
+pub outside-ends_select : (t : Tag) → ends_select t ≡ true → is_in_select t ≡ false
+outside-ends_select tag.Input e = refl
+outside-ends_select tag.Keygen e = refl
+outside-ends_select tag.Textarea e = refl
+outside-ends_select _ e = absurd (false≢true e)
+
+pub outside-ends_select_in_table : (t : Tag) → ends_select_in_table t ≡ true → is_in_select t ≡ false
+outside-ends_select_in_table tag.Caption e = refl
+outside-ends_select_in_table tag.Table e = refl
+outside-ends_select_in_table tag.Tbody e = refl
+outside-ends_select_in_table tag.Td e = refl
+outside-ends_select_in_table tag.Tfoot e = refl
+outside-ends_select_in_table tag.Th e = refl
+outside-ends_select_in_table tag.Thead e = refl
+outside-ends_select_in_table tag.Tr e = refl
+outside-ends_select_in_table _ e = absurd (false≢true e)
+
+pub rank-group : (t : Tag) → is_same t tag.Col ≡ false → table_rank t < column_group_rank t + 4
+rank-group t e = grind arith
+
+pub group-least : (t : Tag) → is_same t tag.Col ≡ false → 2 ≤ column_group_rank t
+group-least t e = grind arith
+
+or_left : (a b : Bool) → IsTrue a → IsTrue (a || b)
+or_left true b h = h
+or_left false b h = absurd (false≢true h)
+
+-- what is placed by its name may be misplaced
+pub may_misplace-placed : (h : History) (t : Tag) → is_placed t ≡ true → IsTrue (may_drop h (Start t) Misplaced)
+may_misplace-placed h t e = or_left (is_placed t) _ e
+
+pub is_visible-space : (c : ℕ) → is_space c ≡ true → (c == 0) ≡ false
+is_visible-space c e = grind (arith, common_steps)

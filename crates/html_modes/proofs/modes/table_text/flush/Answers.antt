@@ -1,0 +1,46 @@
+use Rattle.std.proofs.Common.{rules, arith, ◌≡◌, ◌+◌, ◌<◌, ◌≤◌, ◌∷◌, ◌++◌, [], length, take, refl, sym, subst, ℕ}
+use Rattle.std.proofs.lemmas.Grind.{common_steps}
+use Rattle.std.proofs.lemmas.List.{take_more}
+use Rattle.std.proofs.Math.Seq.{take-length}
+use Rattle.html_construction.specs.Built.{TakesRun, Releases}
+use Rattle.html_modes.proofs.Handing.{run-none, run-next, run-released}
+use Rattle.html_modes.proofs.Settled.{Spends-kept}
+use Rattle.html_modes.proofs.modes.table_text.flush.Goals as goal
+
+pub flushing-init : goal.flushing-init
+flushing-init c = record {
+  rest = refl;
+  run = run-none c.take_kept-kept.new.self;
+  lighter = omega arith;
+  opened = grind (arith, common_steps);
+  quiet = c.take_kept-kept.ensures.quiet;
+  listed = grind (arith, common_steps);
+  spends = omega arith;
+}
+
+pub flushing-preserved : goal.flushing-preserved
+flushing-preserved c =
+    let one : take (c.flushing.c-index + 1) c.deref-c-items.result.now ≡ take c.flushing.c-index c.deref-c-items.result.now ++ c.c-item.result ∷ [] = grind (arith, common_steps, take_more) in
+    record {
+      rest = grind (arith, common_steps);
+      run = subst (λ cs. TakesRun cs c.take_kept-kept.new.self c.settle_kept.new.page) (sym one)
+          (run-next (take c.flushing.c-index c.deref-c-items.result.now) c.c-item.result c.take_kept-kept.new.self c.flushing.page c.settle_kept.new.page c.flushing.invariant.run c.in_ok-settle_kept.ensures.takes);
+      lighter = grind (arith, common_steps);
+      opened = c.in_ok-settle_kept.ensures.opened;
+      quiet = c.in_ok-settle_kept.ensures.quiet;
+      listed = grind (arith, common_steps);
+      spends = Spends-kept c.take_kept-kept.new.self c.flushing.page c.settle_kept.new.page c.flushing.invariant.spends c.in_ok-settle_kept.ensures.grown;
+    }
+
+pub returns-clause-keeps : goal.returns-clause-keeps
+returns-clause-keeps c =
+    let whole : c.flushing.c-index ≡ length c.deref-c-items.result.now = grind (arith, common_steps) in
+    let kept : c.deref-c-items.result.now ≡ c.take_kept-kept.result.items = grind (arith, common_steps) in
+    let all : take c.flushing.c-index c.deref-c-items.result.now ≡ c.take_kept-kept.result.items = rw (whole, take-length) kept in
+    run-released c.take_kept-kept.result.items c.args.page.now c.take_kept-kept.new.self c.flushing.page c.take_kept-kept.ensures.releases
+    (subst (λ cs. TakesRun cs c.take_kept-kept.new.self c.flushing.page) all c.flushing.invariant.run)
+
+pub returns-clause-spends : goal.returns-clause-spends
+returns-clause-spends c =
+    let same : length c.take_kept-kept.new.self.ledger.fates ≡ length c.args.page.now.ledger.fates = grind (arith, common_steps) in
+    rw (sym same) (grind (arith, common_steps))

@@ -1,0 +1,32 @@
+use Rattle.std.proofs.Common.{rules, arith, ℕ, zero, suc, ◌≡◌, ◌==◌, ◌<◌, ◌≤◌, ◌∷◌, [], List, Bool, true, false, not, ◌&&◌, IsTrue, length, take, refl, sym, subst, ap, get_or}
+use Rattle.std.specs.Prelude.{slice_get, Some}
+use Rattle.std.specs.List.{list_all}
+use Rattle.std.proofs.lemmas.Bool.{false≢true}
+use Rattle.std.proofs.lemmas.Grind.{common_steps}
+use Rattle.html_ledger.specs.declared.history.History.{History}
+use Rattle.html_ledger.specs.declared.symbol.Symbol.TheVariants.{Char}
+use Rattle.html_ledger.specs.Flags.{is_free, is_not_null, may_text_run}
+use Rattle.html_modes.proofs.runs.take_front.Goals as goal
+
+three : (a b c : Bool) → a ≡ false → b ≡ true → IsTrue c → IsTrue (not a && (b && c))
+three false true c x y z = z
+three true b c x y z = absurd (false≢true (sym x))
+three false false c x y z = absurd (false≢true y)
+
+may-run : (h : History) (text : List ℕ) (k c : ℕ) → slice_get text 0 ≡ Some c → 0 < k → h.awaits_doctype ≡ false → list_all is_not_null (take k text) ≡ true → IsTrue (is_free h (Char c)) → IsTrue (may_text_run h (take k text))
+may-run h [] k c e p d v f = absurd cc
+may-run h (x ∷ xs) zero c e p d v f = absurd (omega arith)
+may-run h (x ∷ xs) (suc k) c e p d v f =
+    let same : c ≡ x = cc in
+    three h.awaits_doctype (list_all is_not_null (x ∷ take k xs)) (is_free h (Char x)) d v (subst (λ y. IsTrue (is_free h (Char y))) same f)
+
+first-read : (text : List ℕ) (x : ℕ) → 0 < length text → x ≡ get_or text 0 x → slice_get text 0 ≡ Some x
+first-read [] x h e = absurd (omega arith)
+first-read (y ∷ ys) x h e = ap (λ z. Some z) (sym e)
+
+pub take_run-requires-clause-may : goal.take_run-requires-clause-may
+take_run-requires-clause-may c =
+    let first : slice_get c.args.text.now 0 ≡ Some c.index-text-0.result = first-read c.args.text.now c.index-text-0.result c.requires.some c.index-text-0.is in
+    may-run c.args.page.now.ledger.history c.args.text.now c.null_index-end.result c.index-text-0.result first
+    (c.null_index-end.ensures.some c.index-text-0.result first (c.takes_run.ensures.visible c.if-takes_run.true))
+    (c.takes_run.ensures.doctype c.if-takes_run.true) c.null_index-end.ensures.visible (c.takes_run.ensures.free c.if-takes_run.true)

@@ -1,0 +1,52 @@
+-- What one entry of a token into the rules of a mode does (13.2.6).
+use Rattle.std.specs.Prelude.{ℕ, ◌+◌, ◌*◌, ◌≡◌, ◌<◌, ◌≤◌, Bool, true, false, [], length}
+use Rattle.html_tokens.specs.declared.token.TokenKind.{TokenKind}
+use Rattle.html_ledger.specs.declared.symbol.Symbol.{Symbol}
+use Rattle.html_ledger.specs.declared.symbol.Symbol.TheVariants.{Char}
+use Rattle.html_construction.specs.Built.{Keeps, Takes}
+use Rattle.html_construction.specs.Grown.{Grown}
+use Rattle.html_construction.specs.States.{State}
+use Rattle.html_construction.specs.Weights.{weight}
+use Rattle.html_modes.specs.Ranks.{rank, top_rank}
+use Rattle.html_modes.specs.declared.outcome.Outcome.{Outcome}
+use Rattle.html_modes.specs.declared.outcome.Outcome.TheVariants.{Done, Reprocess}
+
+-- the token was handed in, or is still in hand
+abbrev pub Steps : Outcome → TokenKind → State → State → Type 0
+Steps Done t a b = Takes t a b
+Steps Reprocess t a b = Keeps a b
+
+-- what open elements and the mode count together falls, and rises by fifteen at most where the token is done with
+abbrev pub Falls : Outcome → Symbol → State → State → Type 0
+Falls Done t a b = weight b.stack + top_rank b.mode ≤ weight a.stack + 15
+Falls Reprocess t a b = weight b.stack + rank b.mode t < weight a.stack + rank a.mode t
+
+-- A token makes at most the clones of two reopenings and of an adoption, and four nodes; an entry that ends with the token in hand makes two.
+abbrev pub Grows : Outcome → State → State → Type 0
+Grows Done a b = Grown 1 (length a.ledger.fates + length a.ledger.fates + 36) 1 a b
+Grows Reprocess a b = Grown 0 2 0 a b
+
+-- the nodes that so many tokens may have made, apart from those of entries that end with the token in hand
+abbrev pub allowance : ℕ → ℕ
+allowance t = t * t + 35 * t
+
+-- What was made keeps to the allowance of the tokens that were done with, but for so many nodes.
+abbrev pub Spends : ℕ → State → State → Type 0
+Spends more a b =
+    length b.tree.tree.labels + allowance (length a.ledger.fates) ≤ length a.tree.tree.labels + allowance (length b.ledger.fates) + more
+
+-- a code point
+abbrev pub is_code_point : Symbol → Bool
+is_code_point (Char c) = true
+is_code_point _ = false
+
+-- A token that is no code point and is done with has its fate, and no code points were kept before it.
+abbrev pub Settles : Outcome → Symbol → State → State → Type 0
+Settles Done t a b = is_code_point t ≡ false → (a.ledger.kept ≡ []) × (length b.ledger.fates ≡ length a.ledger.fates + 1)
+Settles Reprocess t a b = Unit {0}
+
+-- One token makes what its allowance grants, and what the open elements and the mode then count is room for later entries.
+abbrev pub Pays : State → State → Type 0
+Pays a b =
+    length b.tree.tree.labels + 2 * (weight b.stack + top_rank b.mode) + allowance (length a.ledger.fates)
+    ≤ length a.tree.tree.labels + 2 * (weight a.stack + top_rank a.mode) + 32 + allowance (length b.ledger.fates)

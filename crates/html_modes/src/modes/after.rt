@@ -1,0 +1,110 @@
+// The modes after the body (13.2.6.4.19 and 13.2.6.4.22).
+ghost use Rattle.std.specs.Prelude.{◌≡◌, [], IfOk, OnOk, IsTrue};
+ghost use Rattle.html_ledger.specs.Symbols.{symbol_of};
+ghost use Rattle.html_ledger.specs.Flags.{is_free};
+ghost use Rattle.html_construction.specs.Built.{Takes};
+ghost use Rattle.html_modes.specs.Fitting.{Fits, Calls};
+ghost use Rattle.html_modes.specs.Steps.{Steps, Falls, Grows};
+ghost use Rattle.html_modes.specs.declared.outcome.Outcome.TheVariants.{Done};
+
+use crate::modes::body_start::{body_char, html_start};
+use crate::modes::initial::doctype;
+use crate::outcome::Outcome;
+use html_construction::{Construction, Mode, Refusal};
+use html_ledger::{Symbol, is_space};
+use html_names::Tag;
+use html_tokens::TokenKind;
+use html_tree::Target;
+
+/// The rules for the "after body" insertion mode (13.2.6.4.19).
+#[tactic(auto, using(crate::proofs::Settled::mode_rules))]
+pub(crate) fn after_body(
+    page: &mut Construction,
+    token: &TokenKind,
+    symbol: Symbol,
+) -> Result<Outcome, Refusal>
+    requires symbol { symbol_of token.now ≡ symbol }
+    requires mode { page.old.mode ≡ Mode.AfterBody }
+    requires fits { Fits page.old }
+    requires quiet { page.old.ledger.kept ≡ [] }
+    requires free { IsTrue (is_free page.old.ledger.history symbol) }
+    ensures fits { OnOk result (Fits page.new) }
+    ensures takes { IfOk result (λ o. Steps o token.now page.old page.new) }
+    ensures falls { IfOk result (λ o. Falls o symbol page.old page.new) }
+    ensures grows { IfOk result (λ o. Grows o page.old page.new) }
+{
+    match symbol {
+        // A character token that is one of U+0009, U+000A, U+000C, U+000D, U+0020: process the token using the rules for "in body".
+        Symbol::Char(c) if is_space(c) => body_char(page, token, c)?,
+        // A comment token: insert a comment as the last child of the html element.
+        Symbol::Comment => page.insert_comment_at(token, Target::First)?,
+        // A DOCTYPE token: ignore the token.
+        Symbol::Doctype => doctype(page, token)?,
+        // A start tag whose tag name is "html": process the token using the rules for "in body".
+        Symbol::Start(Tag::Html) => html_start(page, token)?,
+        // An end tag whose tag name is "html": in a fragment ignore the token; else switch the insertion mode to
+        // "after after body".
+        Symbol::End(Tag::Html) => end_page(page, token)?,
+        // An end-of-file token: stop parsing.
+        Symbol::Eof => page.end(token, symbol)?,
+        // Anything else: switch the insertion mode to "in body", reprocess.
+        Symbol::Char(_) | Symbol::Start(_) | Symbol::End(_) => {
+            page.set_mode(Mode::InBody);
+            return Ok(Outcome::Reprocess);
+        }
+    }
+    Ok(Outcome::Done)
+}
+
+/// The end tag of the root, after the body.
+#[tactic(auto, using(crate::proofs::Settled::mode_rules))]
+fn end_page(page: &mut Construction, token: &TokenKind) -> Result<(), Refusal>
+    requires symbol { symbol_of token.now ≡ Symbol.End Tag.Html }
+    requires calls { Calls page.old }
+    ensures fits { OnOk result (Fits page.new) }
+    ensures takes { OnOk result (Takes token.now page.old page.new) }
+    ensures falls { OnOk result (Falls Done (Symbol.End Tag.Html) page.old page.new) }
+    ensures grows { OnOk result (Grows Done page.old page.new) }
+{
+    if !page.is_fragment() {
+        page.set_mode(Mode::AfterAfterBody);
+    }
+    page.end(token, Symbol::End(Tag::Html))
+}
+
+/// The rules for the "after after body" insertion mode (13.2.6.4.22).
+#[tactic(auto, using(crate::proofs::Settled::mode_rules))]
+pub(crate) fn after_after_body(
+    page: &mut Construction,
+    token: &TokenKind,
+    symbol: Symbol,
+) -> Result<Outcome, Refusal>
+    requires symbol { symbol_of token.now ≡ symbol }
+    requires mode { page.old.mode ≡ Mode.AfterAfterBody }
+    requires fits { Fits page.old }
+    requires quiet { page.old.ledger.kept ≡ [] }
+    requires free { IsTrue (is_free page.old.ledger.history symbol) }
+    ensures fits { OnOk result (Fits page.new) }
+    ensures takes { IfOk result (λ o. Steps o token.now page.old page.new) }
+    ensures falls { IfOk result (λ o. Falls o symbol page.old page.new) }
+    ensures grows { IfOk result (λ o. Grows o page.old page.new) }
+{
+    match symbol {
+        // A character token that is one of U+0009, U+000A, U+000C, U+000D, U+0020: process the token using the rules for "in body".
+        Symbol::Char(c) if is_space(c) => body_char(page, token, c)?,
+        // A comment token: insert a comment as the last child of the Document object.
+        Symbol::Comment => page.insert_comment_at(token, Target::Document)?,
+        // A DOCTYPE token: ignore the token.
+        Symbol::Doctype => doctype(page, token)?,
+        // A start tag whose tag name is "html": process the token using the rules for "in body".
+        Symbol::Start(Tag::Html) => html_start(page, token)?,
+        // An end-of-file token: stop parsing.
+        Symbol::Eof => page.end(token, symbol)?,
+        // Anything else: switch the insertion mode to "in body", reprocess.
+        Symbol::Char(_) | Symbol::Start(_) | Symbol::End(_) => {
+            page.set_mode(Mode::InBody);
+            return Ok(Outcome::Reprocess);
+        }
+    }
+    Ok(Outcome::Done)
+}

@@ -1,0 +1,220 @@
+// The end tags of the mode in body (13.2.6.4.7).
+ghost use Rattle.std.specs.Prelude.{◌≡◌, ◌+◌, ◌<◌, ◌≤◌, IfOk, OnOk, length, true};
+ghost use Rattle.html_ledger.specs.Symbols.{symbol_of};
+ghost use Rattle.html_construction.specs.Built.{Keeps, Takes};
+ghost use Rattle.html_construction.specs.Grown.{Grown};
+ghost use Rattle.html_construction.specs.Weights.{weight};
+ghost use Rattle.html_modes.specs.Fitting.{Fits, Calls, is_loose};
+ghost use Rattle.html_modes.specs.Steps.{Steps, Falls, Grows};
+ghost use Rattle.html_modes.specs.Ranks.{top_rank};
+ghost use Rattle.html_modes.specs.declared.outcome.Outcome.TheVariants.{Done};
+
+use crate::modes::template::template_end;
+use crate::outcome::Outcome;
+use html_construction::{Construction, Mode, Refusal};
+use html_ledger::Symbol;
+use html_names::{Scope, Tag};
+use html_tokens::TokenKind;
+use html_tree::Group;
+
+/// An end tag, but that of the root.
+#[tactic(auto, using(crate::proofs::Settled::body_rules))]
+pub(crate) fn body_end(page: &mut Construction, token: &TokenKind, tag: Tag) -> Result<(), Refusal>
+    requires symbol { symbol_of token.now ≡ Symbol.End tag }
+    requires calls { Calls page.old }
+    ensures fits { OnOk result (Fits page.new) }
+    ensures takes { OnOk result (Takes token.now page.old page.new) }
+    ensures falls { OnOk result (Falls Done (Symbol.End tag) page.old page.new) }
+    ensures grows { OnOk result (Grows Done page.old page.new) }
+{
+    match tag {
+        // An end tag whose tag name is "template": process the token using the rules for "in head".
+        Tag::Template => template_end(page, token),
+        // An end tag whose tag name is "body".
+        Tag::Body => {
+            let _ = close_body(page);
+            page.end(token, Symbol::End(tag))
+        }
+        _ => {
+            element_end(page, token, tag)?;
+            page.end(token, Symbol::End(tag))
+        }
+    }
+}
+
+/// The end tag of the root.
+#[tactic(auto, using(crate::proofs::Settled::body_rules))]
+pub(crate) fn html_end(page: &mut Construction, token: &TokenKind) -> Result<Outcome, Refusal>
+    requires mode { page.old.mode ≡ Mode.InBody }
+    requires symbol { symbol_of token.now ≡ Symbol.End Tag.Html }
+    requires calls { Calls page.old }
+    ensures fits { OnOk result (Fits page.new) }
+    ensures takes { IfOk result (λ o. Steps o token.now page.old page.new) }
+    ensures falls { IfOk result (λ o. Falls o (Symbol.End Tag.Html) page.old page.new) }
+    ensures grows { IfOk result (λ o. Grows o page.old page.new) }
+{
+    if close_body(page) {
+        return Ok(Outcome::Reprocess);
+    }
+    page.end(token, Symbol::End(Tag::Html))?;
+    Ok(Outcome::Done)
+}
+
+/// Goes on after the body, where one is in scope.
+#[tactic(auto, using(crate::proofs::Settled::text_rules))]
+fn close_body(page: &mut Construction) -> bool
+    requires loose { is_loose page.old.mode ≡ true }
+    ensures rest { page.new ≡ record page.old { tree = page.new.tree; mode = page.new.mode } }
+    ensures keeps { Keeps page.old page.new }
+    ensures grown { Grown 0 0 0 page.old page.new }
+    ensures loose { is_loose page.new.mode ≡ true }
+    ensures top { top_rank page.new.mode ≤ 10 }
+    ensures closed { result ≡ true → page.new.mode ≡ Mode.AfterBody }
+{
+    if page.has_in_scope(Tag::Body, Scope::Default) {
+        page.set_mode(Mode::AfterBody);
+        return true;
+    }
+    false
+}
+
+/// What the end tag of an element in the body closes or makes.
+fn element_end(page: &mut Construction, token: &TokenKind, tag: Tag) -> Result<(), Refusal>
+    requires opened { 0 < length page.old.stack }
+    requires listed { length page.old.tree.list ≤ length page.old.ledger.fates }
+    ensures rest { OnOk result (page.new ≡ record page.old { tree = page.new.tree; stack = page.new.stack; outer_form = page.new.outer_form; frameset_ok = page.new.frameset_ok }) }
+    ensures keeps { OnOk result (Keeps page.old page.new) }
+    ensures grown { OnOk result (Grown 0 (length page.old.ledger.fates + 32) 0 page.old page.new) }
+    ensures opened { OnOk result (0 < length page.new.stack) }
+    ensures heavier { OnOk result (weight page.new.stack ≤ weight page.old.stack + 4) }
+{
+    match tag {
+        // An end tag whose tag name is "form".
+        Tag::Form => form_end(page),
+        // An end tag whose tag name is "p".
+        Tag::P => paragraph_end(page)?,
+        // An end tag whose tag name is "br": act as if this was a start tag token without attributes.
+        Tag::Br => break_end(page)?,
+        // An end tag whose tag name is one of: "a", "b", "big", .., "tt", "u".
+        _ if tag.is_formatting() => page.end_formatting(tag)?,
+        _ => plain_end(page, token, tag),
+    }
+    Ok(())
+}
+
+/// What the end tag of an element in the body closes, where no more is to be done.
+fn plain_end(page: &mut Construction, token: &TokenKind, tag: Tag)
+    requires opened { 0 < length page.old.stack }
+    ensures rest { page.new ≡ record page.old { tree = page.new.tree; stack = page.new.stack } }
+    ensures keeps { Keeps page.old page.new }
+    ensures grown { Grown 0 0 0 page.old page.new }
+    ensures lighter { weight page.new.stack ≤ weight page.old.stack }
+    ensures opened { 0 < length page.new.stack }
+{
+    match tag {
+        // An end tag whose tag name is "li".
+        Tag::Li => {
+            let _ = page.close_in_scope(tag, Scope::ListItem);
+        }
+        // An end tag whose tag name is one of: "dd", "dt"; "button".
+        Tag::Dd | Tag::Dt | Tag::Button => block_end(page, tag),
+        // An end tag whose tag name is one of: "address", "article", "aside", .., "listing", .., "pre", .., "ul".
+        _ if tag.is_block() || tag.is_preformatted() => block_end(page, tag),
+        // An end tag whose tag name is one of: "h1", "h2", "h3", "h4", "h5", "h6".
+        _ if tag.is_heading() => {
+            let _ = page.close_group_in_scope(Group::Heading, Scope::Default);
+        }
+        // An end tag whose tag name is one of: "applet", "marquee", "object".
+        _ if tag.takes_marker() => marker_end(page, tag),
+        // Any other end tag.
+        _ => other_end(page, token),
+    }
+}
+
+/// The end tag of a block, or of what is closed like one.
+fn block_end(page: &mut Construction, tag: Tag)
+    requires opened { 0 < length page.old.stack }
+    ensures rest { page.new ≡ record page.old { tree = page.new.tree; stack = page.new.stack } }
+    ensures keeps { Keeps page.old page.new }
+    ensures grown { Grown 0 0 0 page.old page.new }
+    ensures lighter { weight page.new.stack ≤ weight page.old.stack }
+    ensures opened { 0 < length page.new.stack }
+{
+    let _ = page.close_in_scope(tag, Scope::Default);
+}
+
+fn form_end(page: &mut Construction)
+    requires opened { 0 < length page.old.stack }
+    ensures rest { page.new ≡ record page.old { tree = page.new.tree; stack = page.new.stack; outer_form = page.new.outer_form } }
+    ensures keeps { Keeps page.old page.new }
+    ensures grown { Grown 0 0 0 page.old page.new }
+    ensures lighter { weight page.new.stack ≤ weight page.old.stack }
+    ensures opened { 0 < length page.new.stack }
+{
+    if page.has_template() {
+        block_end(page, Tag::Form);
+    } else {
+        page.close_form();
+    }
+}
+
+/// The end tag of a paragraph, which is made where none is open.
+fn paragraph_end(page: &mut Construction) -> Result<(), Refusal>
+    requires opened { 0 < length page.old.stack }
+    requires listed { length page.old.tree.list ≤ length page.old.ledger.fates }
+    ensures rest { OnOk result (page.new ≡ record page.old { tree = page.new.tree; stack = page.new.stack }) }
+    ensures keeps { OnOk result (Keeps page.old page.new) }
+    ensures grown { OnOk result (Grown 0 (2) 0 page.old page.new) }
+    ensures opened { OnOk result (0 < length page.new.stack) }
+    ensures heavier { OnOk result (weight page.new.stack ≤ weight page.old.stack + 4) }
+{
+    if !page.has_in_scope(Tag::P, Scope::Button) {
+        page.insert_implied(Tag::P)?;
+    }
+    let _ = page.pop_through(Tag::P);
+    Ok(())
+}
+
+/// The end tag of a br, which makes one.
+fn break_end(page: &mut Construction) -> Result<(), Refusal>
+    requires opened { 0 < length page.old.stack }
+    requires listed { length page.old.tree.list ≤ length page.old.ledger.fates }
+    ensures rest { OnOk result (page.new ≡ record page.old { tree = page.new.tree; stack = page.new.stack; frameset_ok = page.new.frameset_ok }) }
+    ensures keeps { OnOk result (Keeps page.old page.new) }
+    ensures grown { OnOk result (Grown 0 (length page.old.ledger.fates + 2) 0 page.old page.new) }
+    ensures opened { OnOk result (0 < length page.new.stack) }
+    ensures lighter { OnOk result (weight page.new.stack ≤ weight page.old.stack) }
+{
+    page.reconstruct()?;
+    page.insert_implied_void(Tag::Br)?;
+    page.frameset_off();
+    Ok(())
+}
+
+/// The end tag of an element that put a marker into the list.
+fn marker_end(page: &mut Construction, tag: Tag)
+    requires opened { 0 < length page.old.stack }
+    ensures rest { page.new ≡ record page.old { tree = page.new.tree; stack = page.new.stack } }
+    ensures keeps { Keeps page.old page.new }
+    ensures grown { Grown 0 0 0 page.old page.new }
+    ensures lighter { weight page.new.stack ≤ weight page.old.stack }
+    ensures opened { 0 < length page.new.stack }
+{
+    if page.close_in_scope(tag, Scope::Default) {
+        page.clear_to_marker();
+    }
+}
+
+/// Any other end tag.
+fn other_end(page: &mut Construction, token: &TokenKind)
+    requires opened { 0 < length page.old.stack }
+    ensures rest { page.new ≡ record page.old { tree = page.new.tree; stack = page.new.stack } }
+    ensures keeps { Keeps page.old page.new }
+    ensures grown { Grown 0 0 0 page.old page.new }
+    ensures lighter { weight page.new.stack ≤ weight page.old.stack }
+    ensures opened { 0 < length page.new.stack }
+{
+    if let TokenKind::End { name } = token {
+        page.close_named(name.as_str());
+    }
+}

@@ -1,0 +1,131 @@
+// The mode in cell (13.2.6.4.15).
+ghost use Rattle.std.specs.Prelude.{◌≡◌, ◌+◌, ◌<◌, ◌≤◌, [], IfOk, OnOk, IsTrue, length, true, if◌then◌else◌};
+ghost use Rattle.html_ledger.specs.Symbols.{symbol_of};
+ghost use Rattle.html_ledger.specs.Flags.{is_free};
+ghost use Rattle.html_construction.specs.Built.{Keeps, Takes};
+ghost use Rattle.html_construction.specs.Grown.{Grown};
+ghost use Rattle.html_construction.specs.Weights.{weight, weight_of};
+ghost use Rattle.html_modes.specs.Fitting.{Fits, Calls};
+ghost use Rattle.html_modes.specs.Steps.{Steps, Falls, Grows};
+ghost use Rattle.html_modes.specs.declared.outcome.Outcome.TheVariants.{Done};
+
+use crate::modes::body_start::body_rules;
+use crate::outcome::Outcome;
+use html_construction::{Construction, Mode, Refusal};
+use html_ledger::{Cause, Symbol};
+use html_names::{Scope, Tag};
+use html_tokens::TokenKind;
+use html_tree::{Group, TableContext};
+
+/// A cell in a row.
+#[tactic(auto, using(crate::proofs::Settled::part_rules))]
+pub(crate) fn cell_start(
+    page: &mut Construction,
+    token: &TokenKind,
+    tag: Tag,
+) -> Result<(), Refusal>
+    requires small { weight_of tag ≤ 4 }
+    requires symbol { symbol_of token.now ≡ Symbol.Start tag }
+    requires calls { Calls page.old }
+    ensures fits { OnOk result (Fits page.new) }
+    ensures takes { OnOk result (Takes token.now page.old page.new) }
+    ensures falls { OnOk result (Falls Done (Symbol.Start tag) page.old page.new) }
+    ensures grows { OnOk result (Grows Done page.old page.new) }
+{
+    page.clear_to(TableContext::Row);
+    page.insert(token, tag)?;
+    page.add_marker()?;
+    page.set_mode(Mode::InCell);
+    Ok(())
+}
+
+/// The rules for the "in cell" insertion mode (13.2.6.4.15).
+#[tactic(auto, using(crate::proofs::Settled::part_rules))]
+pub(crate) fn in_cell(
+    page: &mut Construction,
+    token: &TokenKind,
+    symbol: Symbol,
+) -> Result<Outcome, Refusal>
+    requires symbol { symbol_of token.now ≡ symbol }
+    requires mode { page.old.mode ≡ Mode.InCell }
+    requires fits { Fits page.old }
+    requires quiet { page.old.ledger.kept ≡ [] }
+    requires free { IsTrue (is_free page.old.ledger.history symbol) }
+    ensures fits { OnOk result (Fits page.new) }
+    ensures takes { IfOk result (λ o. Steps o token.now page.old page.new) }
+    ensures falls { IfOk result (λ o. Falls o symbol page.old page.new) }
+    ensures grows { IfOk result (λ o. Grows o page.old page.new) }
+{
+    match symbol {
+        // A start tag whose tag name is one of: "caption", "col", "colgroup", "tbody", "td", "tfoot", "th",
+        // "thead", "tr".
+        Symbol::Start(tag) if tag.is_table_piece() => {
+            if close_cell(page) {
+                return Ok(Outcome::Reprocess);
+            }
+            page.drop_token(token, symbol, Cause::Misplaced)?;
+        }
+        // An end tag whose tag name is one of: "td", "th".
+        Symbol::End(tag) if tag.is_cell() => {
+            let _ = close_cell_of(page, tag);
+            page.end(token, symbol)?;
+        }
+        // An end tag whose tag name is one of: "table", "tbody", "tfoot", "thead", "tr".
+        Symbol::End(tag) if tag.ends_cell() => {
+            if page.has_in_scope(tag, Scope::Table) && close_cell(page) {
+                return Ok(Outcome::Reprocess);
+            }
+            page.end(token, symbol)?;
+        }
+        // An end tag whose tag name is one of: "body", "caption", "col", "colgroup", "html": ignore the token.
+        Symbol::End(tag) if tag.is_ignored_in_table() => page.end(token, symbol)?,
+        // Anything else: process the token using the rules for "in body".
+        Symbol::Start(_)
+        | Symbol::End(_)
+        | Symbol::Char(_)
+        | Symbol::Comment
+        | Symbol::Doctype
+        | Symbol::Eof => {
+            let outcome = body_rules(page, token, symbol)?;
+            return Ok(outcome);
+        }
+    }
+    Ok(Outcome::Done)
+}
+
+/// Closes the cell that is in scope and goes back to the row, and says whether there was one.
+fn close_cell(page: &mut Construction) -> bool
+    requires opened { 0 < length page.old.stack }
+    ensures rest { page.new ≡ record page.old { tree = page.new.tree; stack = page.new.stack; mode = page.new.mode } }
+    ensures keeps { Keeps page.old page.new }
+    ensures grown { Grown 0 0 0 page.old page.new }
+    ensures lighter { weight page.new.stack ≤ weight page.old.stack }
+    ensures opened { 0 < length page.new.stack }
+    ensures mode { page.new.mode ≡ (if result then Mode.InRow else page.old.mode) }
+    ensures found { result ≡ true → weight page.new.stack + 4 ≤ weight page.old.stack }
+{
+    if !page.close_group_in_scope(Group::Cell, Scope::Table) {
+        return false;
+    }
+    page.clear_to_marker();
+    page.set_mode(Mode::InRow);
+    true
+}
+
+/// Closes the cell of this name that is in scope and goes back to the row, and says whether there was one.
+fn close_cell_of(page: &mut Construction, tag: Tag) -> bool
+    requires opened { 0 < length page.old.stack }
+    ensures rest { page.new ≡ record page.old { tree = page.new.tree; stack = page.new.stack; mode = page.new.mode } }
+    ensures keeps { Keeps page.old page.new }
+    ensures grown { Grown 0 0 0 page.old page.new }
+    ensures lighter { weight page.new.stack ≤ weight page.old.stack }
+    ensures opened { 0 < length page.new.stack }
+    ensures mode { page.new.mode ≡ (if result then Mode.InRow else page.old.mode) }
+{
+    if !page.close_in_scope(tag, Scope::Table) {
+        return false;
+    }
+    page.clear_to_marker();
+    page.set_mode(Mode::InRow);
+    true
+}

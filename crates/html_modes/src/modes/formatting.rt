@@ -1,0 +1,80 @@
+// Formatting elements (13.2.6.4.7).
+ghost use Rattle.std.specs.Prelude.{◌≡◌, ◌+◌, ◌<◌, ◌≤◌, OnOk, length, true};
+ghost use Rattle.html_names.specs.Sets.{is_formatting};
+ghost use Rattle.html_ledger.specs.Symbols.{symbol_of};
+ghost use Rattle.html_construction.specs.Built.{Keeps, Takes};
+ghost use Rattle.html_construction.specs.Grown.{Grown};
+ghost use Rattle.html_construction.specs.Weights.{weight};
+ghost use Rattle.html_modes.specs.Fitting.{Fits, Calls};
+ghost use Rattle.html_modes.specs.Steps.{Falls, Grows};
+ghost use Rattle.html_modes.specs.declared.outcome.Outcome.TheVariants.{Done};
+
+use html_construction::{Construction, Refusal};
+use html_ledger::Symbol;
+use html_names::{Scope, Tag};
+use html_tokens::TokenKind;
+
+#[tactic(auto, using(crate::proofs::Settled::body_rules))]
+pub(crate) fn formatting_start(
+    page: &mut Construction,
+    token: &TokenKind,
+    tag: Tag,
+) -> Result<(), Refusal>
+    requires formatting { is_formatting tag ≡ true }
+    requires symbol { symbol_of token.now ≡ Symbol.Start tag }
+    requires calls { Calls page.old }
+    ensures fits { OnOk result (Fits page.new) }
+    ensures takes { OnOk result (Takes token.now page.old page.new) }
+    ensures falls { OnOk result (Falls Done (Symbol.Start tag) page.old page.new) }
+    ensures grows { OnOk result (Grows Done page.old page.new) }
+{
+    page.reconstruct()?;
+    page.insert_listed(token, tag)
+}
+
+/// A link, which closes one that is listed.
+#[tactic(auto, using(crate::proofs::Settled::body_rules))]
+pub(crate) fn link_start(page: &mut Construction, token: &TokenKind) -> Result<(), Refusal>
+    requires symbol { symbol_of token.now ≡ Symbol.Start Tag.A }
+    requires calls { Calls page.old }
+    ensures fits { OnOk result (Fits page.new) }
+    ensures takes { OnOk result (Takes token.now page.old page.new) }
+    ensures falls { OnOk result (Falls Done (Symbol.Start Tag.A) page.old page.new) }
+    ensures grows { OnOk result (Grows Done page.old page.new) }
+{
+    page.close_link()?;
+    page.reconstruct()?;
+    page.insert_listed(token, Tag::A)
+}
+
+/// A nobr, which closes one that is in scope.
+#[tactic(auto, using(crate::proofs::Settled::body_rules))]
+pub(crate) fn nobr_start(page: &mut Construction, token: &TokenKind) -> Result<(), Refusal>
+    requires symbol { symbol_of token.now ≡ Symbol.Start Tag.Nobr }
+    requires calls { Calls page.old }
+    ensures fits { OnOk result (Fits page.new) }
+    ensures takes { OnOk result (Takes token.now page.old page.new) }
+    ensures falls { OnOk result (Falls Done (Symbol.Start Tag.Nobr) page.old page.new) }
+    ensures grows { OnOk result (Grows Done page.old page.new) }
+{
+    page.reconstruct()?;
+    close_nobr(page)?;
+    page.insert_listed(token, Tag::Nobr)
+}
+
+/// Closes a nobr that is in scope, and reconstructs the active formatting elements then.
+fn close_nobr(page: &mut Construction) -> Result<(), Refusal>
+    requires opened { 0 < length page.old.stack }
+    requires listed { length page.old.tree.list ≤ length page.old.ledger.fates }
+    ensures rest { OnOk result (page.new ≡ record page.old { tree = page.new.tree; stack = page.new.stack }) }
+    ensures keeps { OnOk result (Keeps page.old page.new) }
+    ensures grown { OnOk result (Grown 0 (length page.old.ledger.fates + 32) 0 page.old page.new) }
+    ensures opened { OnOk result (0 < length page.new.stack) }
+    ensures lighter { OnOk result (weight page.new.stack ≤ weight page.old.stack) }
+{
+    if !page.has_in_scope(Tag::Nobr, Scope::Default) {
+        return Ok(());
+    }
+    page.end_formatting(Tag::Nobr)?;
+    page.reconstruct()
+}

@@ -1,0 +1,167 @@
+// The modes of pages of frames (13.2.6.4.20, 13.2.6.4.21 and 13.2.6.4.23).
+ghost use Rattle.std.specs.Prelude.{◌≡◌, ◌<◌, ◌≤◌, [], IfOk, OnOk, IsTrue, length, true};
+ghost use Rattle.html_ledger.specs.Symbols.{symbol_of};
+ghost use Rattle.html_ledger.specs.Flags.{is_free};
+ghost use Rattle.html_construction.specs.Built.{Keeps};
+ghost use Rattle.html_construction.specs.Grown.{Grown};
+ghost use Rattle.html_construction.specs.Weights.{weight};
+ghost use Rattle.html_modes.specs.Fitting.{Fits, is_loose};
+ghost use Rattle.html_modes.specs.Steps.{Steps, Falls, Grows};
+ghost use Rattle.html_modes.specs.Ranks.{top_rank};
+ghost use Rattle.html_modes.specs.Guards.{is_droppable};
+
+use crate::modes::body_start::{body_char, html_start};
+use crate::modes::initial::doctype;
+use crate::modes::text::text_start;
+use crate::outcome::Outcome;
+use html_construction::{Construction, Mode, Refusal};
+use html_ledger::{Cause, Symbol, is_space};
+use html_names::Tag;
+use html_tokens::TokenKind;
+use html_tree::Target;
+
+/// The rules for the "in frameset" insertion mode (13.2.6.4.20).
+#[tactic(auto, using(crate::proofs::Settled::mode_rules))]
+pub(crate) fn in_frameset(
+    page: &mut Construction,
+    token: &TokenKind,
+    symbol: Symbol,
+) -> Result<Outcome, Refusal>
+    requires seen { is_droppable symbol ≡ true → page.old.ledger.history.frameset ≡ true }
+    requires symbol { symbol_of token.now ≡ symbol }
+    requires mode { page.old.mode ≡ Mode.InFrameset }
+    requires fits { Fits page.old }
+    requires quiet { page.old.ledger.kept ≡ [] }
+    requires free { IsTrue (is_free page.old.ledger.history symbol) }
+    ensures fits { OnOk result (Fits page.new) }
+    ensures takes { IfOk result (λ o. Steps o token.now page.old page.new) }
+    ensures falls { IfOk result (λ o. Falls o symbol page.old page.new) }
+    ensures grows { IfOk result (λ o. Grows o page.old page.new) }
+{
+    match symbol {
+        // A character token that is one of U+0009, U+000A, U+000C, U+000D, U+0020: insert the character.
+        Symbol::Char(c) if is_space(c) => page.insert_char(token, c)?,
+        // A comment token: insert a comment.
+        Symbol::Comment => page.insert_comment(token)?,
+        // A DOCTYPE token: ignore the token.
+        Symbol::Doctype => doctype(page, token)?,
+        // A start tag whose tag name is "html": process the token using the rules for "in body".
+        Symbol::Start(Tag::Html) => html_start(page, token)?,
+        // A start tag whose tag name is "frameset": insert an HTML element.
+        Symbol::Start(Tag::Frameset) => page.insert(token, Tag::Frameset)?,
+        // A start tag whose tag name is "frame": insert an HTML element, pop the current node.
+        Symbol::Start(Tag::Frame) => page.insert_void(token, Tag::Frame)?,
+        // A start tag whose tag name is "noframes": process the token using the rules for "in head".
+        Symbol::Start(Tag::Noframes) => text_start(page, token, Tag::Noframes)?,
+        // An end tag whose tag name is "frameset": pop the current node, unless it is the root html element.
+        Symbol::End(Tag::Frameset) => {
+            close_frameset(page);
+            page.end(token, symbol)?;
+        }
+        // Any other end tag: ignore the token. An end-of-file token: stop parsing.
+        Symbol::End(_) | Symbol::Eof => page.end(token, symbol)?,
+        // Anything else: ignore the token.
+        Symbol::Start(_) | Symbol::Char(_) => page.drop_token(token, symbol, Cause::InFrameset)?,
+    }
+    Ok(Outcome::Done)
+}
+
+/// Closes a frameset, and leaves the frames of a document where it was the outermost.
+fn close_frameset(page: &mut Construction)
+    requires mode { page.old.mode ≡ Mode.InFrameset }
+    requires opened { 0 < length page.old.stack }
+    ensures rest { page.new ≡ record page.old { tree = page.new.tree; stack = page.new.stack; mode = page.new.mode } }
+    ensures keeps { Keeps page.old page.new }
+    ensures grown { Grown 0 0 0 page.old page.new }
+    ensures lighter { weight page.new.stack ≤ weight page.old.stack }
+    ensures opened { 0 < length page.new.stack }
+    ensures loose { is_loose page.new.mode ≡ true }
+    ensures top { top_rank page.new.mode ≤ 2 }
+{
+    if page.depth() == 1 {
+        return;
+    }
+    page.pop();
+    if !page.is_fragment() && !page.current().is(Tag::Frameset) {
+        page.set_mode(Mode::AfterFrameset);
+    }
+}
+
+/// The rules for the "after frameset" insertion mode (13.2.6.4.21).
+#[tactic(auto, using(crate::proofs::Settled::mode_rules))]
+pub(crate) fn after_frameset(
+    page: &mut Construction,
+    token: &TokenKind,
+    symbol: Symbol,
+) -> Result<Outcome, Refusal>
+    requires seen { is_droppable symbol ≡ true → page.old.ledger.history.frameset ≡ true }
+    requires symbol { symbol_of token.now ≡ symbol }
+    requires mode { page.old.mode ≡ Mode.AfterFrameset }
+    requires fits { Fits page.old }
+    requires quiet { page.old.ledger.kept ≡ [] }
+    requires free { IsTrue (is_free page.old.ledger.history symbol) }
+    ensures fits { OnOk result (Fits page.new) }
+    ensures takes { IfOk result (λ o. Steps o token.now page.old page.new) }
+    ensures falls { IfOk result (λ o. Falls o symbol page.old page.new) }
+    ensures grows { IfOk result (λ o. Grows o page.old page.new) }
+{
+    match symbol {
+        // A character token that is one of U+0009, U+000A, U+000C, U+000D, U+0020: insert the character.
+        Symbol::Char(c) if is_space(c) => page.insert_char(token, c)?,
+        // A comment token: insert a comment.
+        Symbol::Comment => page.insert_comment(token)?,
+        // A DOCTYPE token: ignore the token.
+        Symbol::Doctype => doctype(page, token)?,
+        // A start tag whose tag name is "html": process the token using the rules for "in body".
+        Symbol::Start(Tag::Html) => html_start(page, token)?,
+        // A start tag whose tag name is "noframes": process the token using the rules for "in head".
+        Symbol::Start(Tag::Noframes) => text_start(page, token, Tag::Noframes)?,
+        // An end tag whose tag name is "html": switch the insertion mode to "after after frameset".
+        Symbol::End(Tag::Html) => {
+            page.set_mode(Mode::AfterAfterFrameset);
+            page.end(token, symbol)?;
+        }
+        // Any other end tag: ignore the token. An end-of-file token: stop parsing.
+        Symbol::End(_) | Symbol::Eof => page.end(token, symbol)?,
+        // Anything else: ignore the token.
+        Symbol::Start(_) | Symbol::Char(_) => page.drop_token(token, symbol, Cause::InFrameset)?,
+    }
+    Ok(Outcome::Done)
+}
+
+/// The rules for the "after after frameset" insertion mode (13.2.6.4.23).
+#[tactic(auto, using(crate::proofs::Settled::mode_rules))]
+pub(crate) fn after_after_frameset(
+    page: &mut Construction,
+    token: &TokenKind,
+    symbol: Symbol,
+) -> Result<Outcome, Refusal>
+    requires seen { is_droppable symbol ≡ true → page.old.ledger.history.frameset ≡ true }
+    requires symbol { symbol_of token.now ≡ symbol }
+    requires mode { page.old.mode ≡ Mode.AfterAfterFrameset }
+    requires fits { Fits page.old }
+    requires quiet { page.old.ledger.kept ≡ [] }
+    requires free { IsTrue (is_free page.old.ledger.history symbol) }
+    ensures fits { OnOk result (Fits page.new) }
+    ensures takes { IfOk result (λ o. Steps o token.now page.old page.new) }
+    ensures falls { IfOk result (λ o. Falls o symbol page.old page.new) }
+    ensures grows { IfOk result (λ o. Grows o page.old page.new) }
+{
+    match symbol {
+        // A character token that is one of U+0009, U+000A, U+000C, U+000D, U+0020: process the token using the rules for "in body".
+        Symbol::Char(c) if is_space(c) => body_char(page, token, c)?,
+        // A comment token: insert a comment as the last child of the Document object.
+        Symbol::Comment => page.insert_comment_at(token, Target::Document)?,
+        // A DOCTYPE token: ignore the token.
+        Symbol::Doctype => doctype(page, token)?,
+        // A start tag whose tag name is "html": process the token using the rules for "in body".
+        Symbol::Start(Tag::Html) => html_start(page, token)?,
+        // A start tag whose tag name is "noframes": process the token using the rules for "in head".
+        Symbol::Start(Tag::Noframes) => text_start(page, token, Tag::Noframes)?,
+        // An end tag: ignore the token. An end-of-file token: stop parsing.
+        Symbol::End(_) | Symbol::Eof => page.end(token, symbol)?,
+        // Anything else: ignore the token.
+        Symbol::Start(_) | Symbol::Char(_) => page.drop_token(token, symbol, Cause::InFrameset)?,
+    }
+    Ok(Outcome::Done)
+}

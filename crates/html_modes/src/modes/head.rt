@@ -1,0 +1,265 @@
+// The modes of the head (13.2.6.4.4 to 13.2.6.4.6).
+ghost use Rattle.std.specs.Prelude.{◌≡◌, ◌+◌, ◌<◌, ◌≤◌, [], IfOk, OnOk, IsTrue, length, true};
+ghost use Rattle.html_ledger.specs.Symbols.{symbol_of};
+ghost use Rattle.html_ledger.specs.Flags.{is_free};
+ghost use Rattle.html_construction.specs.Built.{Keeps, Takes};
+ghost use Rattle.html_construction.specs.Grown.{Grown};
+ghost use Rattle.html_construction.specs.Weights.{weight};
+ghost use Rattle.html_modes.specs.Fitting.{Fits, Calls, is_loose};
+ghost use Rattle.html_modes.specs.Steps.{Steps, Falls, Grows};
+ghost use Rattle.html_modes.specs.Ranks.{rank, top_rank};
+ghost use Rattle.html_modes.specs.declared.outcome.Outcome.TheVariants.{Done};
+
+use crate::modes::body_start::html_start;
+use crate::modes::initial::doctype;
+use crate::modes::template::{template_end, template_start_at};
+use crate::modes::text::text_start_at;
+use crate::outcome::Outcome;
+use html_construction::{Construction, Mode, Refusal};
+use html_ledger::{Cause, Symbol, is_space};
+use html_names::Tag;
+use html_tokens::TokenKind;
+use html_tree::{Group, Target};
+
+/// The rules for the "in head" insertion mode (13.2.6.4.4).
+#[tactic(auto, using(crate::proofs::Settled::mode_rules))]
+pub(crate) fn in_head(
+    page: &mut Construction,
+    token: &TokenKind,
+    symbol: Symbol,
+) -> Result<Outcome, Refusal>
+    requires symbol { symbol_of token.now ≡ symbol }
+    requires mode { page.old.mode ≡ Mode.InHead }
+    requires fits { Fits page.old }
+    requires quiet { page.old.ledger.kept ≡ [] }
+    requires free { IsTrue (is_free page.old.ledger.history symbol) }
+    ensures fits { OnOk result (Fits page.new) }
+    ensures takes { IfOk result (λ o. Steps o token.now page.old page.new) }
+    ensures falls { IfOk result (λ o. Falls o symbol page.old page.new) }
+    ensures grows { IfOk result (λ o. Grows o page.old page.new) }
+{
+    match symbol {
+        // A character token that is one of U+0009, U+000A, U+000C, U+000D, U+0020: insert the character.
+        Symbol::Char(c) if is_space(c) => page.insert_char(token, c)?,
+        // A comment token: insert a comment.
+        Symbol::Comment => page.insert_comment(token)?,
+        // A DOCTYPE token: ignore the token.
+        Symbol::Doctype => doctype(page, token)?,
+        // A start tag whose tag name is "html": process the token using the rules for "in body".
+        Symbol::Start(Tag::Html) => html_start(page, token)?,
+        // A start tag whose tag name is "noscript", if the scripting flag is disabled: insert an HTML element.
+        Symbol::Start(Tag::Noscript) => {
+            page.insert(token, Tag::Noscript)?;
+            page.set_mode(Mode::InHeadNoscript);
+        }
+        // A start tag whose tag name is "head": ignore the token.
+        Symbol::Start(Tag::Head) => page.drop_token(token, symbol, Cause::Misplaced)?,
+        // A start tag whose tag name is one of: "base", "basefont", "bgsound", "link", "meta", "title",
+        // "noframes", "style", "script", "template".
+        Symbol::Start(tag) if tag.is_headish() => head_start(page, token, tag)?,
+        // An end tag whose tag name is "head": pop the current node, switch the insertion mode to "after head".
+        Symbol::End(Tag::Head) => {
+            leave_head(page);
+            page.end(token, symbol)?;
+        }
+        // An end tag whose tag name is "template".
+        Symbol::End(Tag::Template) => template_end(page, token)?,
+        // Any other end tag than one of "body", "html", "br": ignore the token.
+        Symbol::End(tag) if !tag.is_page_part() => page.end(token, symbol)?,
+        // Anything else: pop the current node, switch the insertion mode to "after head", reprocess.
+        Symbol::Start(_) | Symbol::End(_) | Symbol::Char(_) | Symbol::Eof => {
+            leave_head(page);
+            return Ok(Outcome::Reprocess);
+        }
+    }
+    Ok(Outcome::Done)
+}
+
+/// Closes the head and goes on after it. (In a real run the head is the current node; else the rules of the body go on.)
+fn leave_head(page: &mut Construction)
+    requires mode { page.old.mode ≡ Mode.InHead }
+    requires opened { 0 < length page.old.stack }
+    ensures rest { page.new ≡ record page.old { tree = page.new.tree; stack = page.new.stack; mode = page.new.mode } }
+    ensures keeps { Keeps page.old page.new }
+    ensures grown { Grown 0 0 0 page.old page.new }
+    ensures lighter { weight page.new.stack ≤ weight page.old.stack }
+    ensures opened { 0 < length page.new.stack }
+    ensures falls { (s : Symbol) → weight page.new.stack + rank page.new.mode s < weight page.old.stack + rank page.old.mode s }
+    ensures loose { is_loose page.new.mode ≡ true }
+    ensures top { top_rank page.new.mode ≤ 6 }
+{
+    if page.pop_if(Group::Named(Tag::Head)) {
+        page.set_mode(Mode::AfterHead);
+    } else {
+        page.set_mode(Mode::InBody);
+    }
+}
+
+/// A start tag that belongs into the head.
+#[tactic(auto, using(crate::proofs::Settled::head_rules))]
+pub(crate) fn head_start(
+    page: &mut Construction,
+    token: &TokenKind,
+    tag: Tag,
+) -> Result<(), Refusal>
+    requires symbol { symbol_of token.now ≡ Symbol.Start tag }
+    requires calls { Calls page.old }
+    ensures fits { OnOk result (Fits page.new) }
+    ensures takes { OnOk result (Takes token.now page.old page.new) }
+    ensures falls { OnOk result (Falls Done (Symbol.Start tag) page.old page.new) }
+    ensures grows { OnOk result (Grows Done page.old page.new) }
+{
+    let target = page.here();
+    head_start_at(page, token, tag, target)
+}
+
+/// A start tag that belongs into the head, whose element goes to a target: last into the head, as if that were open, where it comes after
+/// the head's end.
+#[tactic(auto, using(crate::proofs::Settled::head_rules))]
+fn head_start_at(
+    page: &mut Construction,
+    token: &TokenKind,
+    tag: Tag,
+    target: Target,
+) -> Result<(), Refusal>
+    requires symbol { symbol_of token.now ≡ Symbol.Start tag }
+    requires calls { Calls page.old }
+    ensures fits { OnOk result (Fits page.new) }
+    ensures takes { OnOk result (Takes token.now page.old page.new) }
+    ensures falls { OnOk result (Falls Done (Symbol.Start tag) page.old page.new) }
+    ensures grows { OnOk result (Grows Done page.old page.new) }
+{
+    if tag.is_head_text() {
+        return text_start_at(page, token, tag, target);
+    }
+    if tag.is(Tag::Template) {
+        return template_start_at(page, token, target);
+    }
+    page.insert_void_at(token, tag, target)
+}
+
+/// The rules for the "in head noscript" insertion mode (13.2.6.4.5).
+#[tactic(auto, using(crate::proofs::Settled::mode_rules))]
+pub(crate) fn in_head_noscript(
+    page: &mut Construction,
+    token: &TokenKind,
+    symbol: Symbol,
+) -> Result<Outcome, Refusal>
+    requires symbol { symbol_of token.now ≡ symbol }
+    requires mode { page.old.mode ≡ Mode.InHeadNoscript }
+    requires fits { Fits page.old }
+    requires quiet { page.old.ledger.kept ≡ [] }
+    requires free { IsTrue (is_free page.old.ledger.history symbol) }
+    ensures fits { OnOk result (Fits page.new) }
+    ensures takes { IfOk result (λ o. Steps o token.now page.old page.new) }
+    ensures falls { IfOk result (λ o. Falls o symbol page.old page.new) }
+    ensures grows { IfOk result (λ o. Grows o page.old page.new) }
+{
+    match symbol {
+        // A character token that is one of U+0009, U+000A, U+000C, U+000D, U+0020: insert the character.
+        Symbol::Char(c) if is_space(c) => page.insert_char(token, c)?,
+        // A comment token: insert a comment.
+        Symbol::Comment => page.insert_comment(token)?,
+        // A DOCTYPE token: ignore the token.
+        Symbol::Doctype => doctype(page, token)?,
+        // A start tag whose tag name is "html": process the token using the rules for "in body".
+        Symbol::Start(Tag::Html) => html_start(page, token)?,
+        // A start tag whose tag name is one of: "head", "noscript": ignore the token.
+        Symbol::Start(Tag::Head) => page.drop_token(token, symbol, Cause::Misplaced)?,
+        Symbol::Start(Tag::Noscript) if page.history().noscript => {
+            page.drop_token(token, symbol, Cause::Misplaced)?;
+        }
+        // A start tag whose tag name is one of: "basefont", "bgsound", "link", "meta", "noframes", "style".
+        Symbol::Start(tag) if tag.is_noscript_part() => head_start(page, token, tag)?,
+        // An end tag whose tag name is "noscript": pop the current node, switch the insertion mode to "in head".
+        Symbol::End(Tag::Noscript) => {
+            leave_noscript(page);
+            page.end(token, symbol)?;
+        }
+        // Any other end tag than "br": ignore the token.
+        Symbol::End(tag) if !tag.is(Tag::Br) => page.end(token, symbol)?,
+        // Anything else: pop the current node, switch the insertion mode to "in head", reprocess.
+        Symbol::Start(_) | Symbol::End(_) | Symbol::Char(_) | Symbol::Eof => {
+            leave_noscript(page);
+            return Ok(Outcome::Reprocess);
+        }
+    }
+    Ok(Outcome::Done)
+}
+
+/// Closes the noscript and goes on in the head. (In a real run the noscript is the current node; else the rules of the body go on.)
+fn leave_noscript(page: &mut Construction)
+    requires mode { page.old.mode ≡ Mode.InHeadNoscript }
+    requires opened { 0 < length page.old.stack }
+    ensures rest { page.new ≡ record page.old { tree = page.new.tree; stack = page.new.stack; mode = page.new.mode } }
+    ensures keeps { Keeps page.old page.new }
+    ensures grown { Grown 0 0 0 page.old page.new }
+    ensures lighter { weight page.new.stack ≤ weight page.old.stack }
+    ensures opened { 0 < length page.new.stack }
+    ensures falls { (s : Symbol) → weight page.new.stack + rank page.new.mode s < weight page.old.stack + rank page.old.mode s }
+    ensures loose { is_loose page.new.mode ≡ true }
+    ensures top { top_rank page.new.mode ≤ 3 }
+{
+    if page.pop_if(Group::Named(Tag::Noscript)) {
+        page.set_mode(Mode::InHead);
+    } else {
+        page.set_mode(Mode::InBody);
+    }
+}
+
+/// The rules for the "after head" insertion mode (13.2.6.4.6).
+#[tactic(auto, using(crate::proofs::Settled::mode_rules))]
+pub(crate) fn after_head(
+    page: &mut Construction,
+    token: &TokenKind,
+    symbol: Symbol,
+) -> Result<Outcome, Refusal>
+    requires symbol { symbol_of token.now ≡ symbol }
+    requires mode { page.old.mode ≡ Mode.AfterHead }
+    requires fits { Fits page.old }
+    requires quiet { page.old.ledger.kept ≡ [] }
+    requires free { IsTrue (is_free page.old.ledger.history symbol) }
+    ensures fits { OnOk result (Fits page.new) }
+    ensures takes { IfOk result (λ o. Steps o token.now page.old page.new) }
+    ensures falls { IfOk result (λ o. Falls o symbol page.old page.new) }
+    ensures grows { IfOk result (λ o. Grows o page.old page.new) }
+{
+    match symbol {
+        // A character token that is one of U+0009, U+000A, U+000C, U+000D, U+0020: insert the character.
+        Symbol::Char(c) if is_space(c) => page.insert_char(token, c)?,
+        // A comment token: insert a comment.
+        Symbol::Comment => page.insert_comment(token)?,
+        // A DOCTYPE token: ignore the token.
+        Symbol::Doctype => doctype(page, token)?,
+        // A start tag whose tag name is "html": process the token using the rules for "in body".
+        Symbol::Start(Tag::Html) => html_start(page, token)?,
+        // A start tag whose tag name is "body": insert an HTML element, set the frameset-ok flag to "not ok".
+        Symbol::Start(Tag::Body) => {
+            page.insert(token, Tag::Body)?;
+            page.frameset_off();
+            page.set_mode(Mode::InBody);
+        }
+        // A start tag whose tag name is "frameset": insert an HTML element.
+        Symbol::Start(Tag::Frameset) => {
+            page.insert(token, Tag::Frameset)?;
+            page.set_mode(Mode::InFrameset);
+        }
+        // A start tag whose tag name is "head": ignore the token.
+        Symbol::Start(Tag::Head) => page.drop_token(token, symbol, Cause::Misplaced)?,
+        // A start tag whose tag name is one of: "base", "basefont", "bgsound", .., "title": its element goes last into the head.
+        Symbol::Start(tag) if tag.is_headish() => head_start_at(page, token, tag, Target::Head)?,
+        // An end tag whose tag name is "template": process the token using the rules for "in head".
+        Symbol::End(Tag::Template) => template_end(page, token)?,
+        // Any other end tag than one of "body", "html", "br": ignore the token.
+        Symbol::End(tag) if tag.is(Tag::Head) || !tag.is_page_part() => {
+            page.end(token, symbol)?;
+        }
+        // Anything else: insert an HTML element for a "body" start tag token with no attributes, reprocess.
+        Symbol::Start(_) | Symbol::End(_) | Symbol::Char(_) | Symbol::Eof => {
+            page.insert_implied(Tag::Body)?;
+            page.set_mode(Mode::InBody);
+            return Ok(Outcome::Reprocess);
+        }
+    }
+    Ok(Outcome::Done)
+}

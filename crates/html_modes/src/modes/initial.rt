@@ -1,0 +1,148 @@
+// The modes before the head (13.2.6.4.1 to 13.2.6.4.3). White space there is dropped before any of their rules.
+ghost use Rattle.std.specs.Prelude.{◌≡◌, [], IfOk, OnOk, IsTrue};
+ghost use Rattle.html_ledger.specs.Symbols.{symbol_of};
+ghost use Rattle.html_ledger.specs.Flags.{is_free};
+ghost use Rattle.html_construction.specs.Built.{Takes};
+ghost use Rattle.html_construction.specs.Grown.{Grown};
+ghost use Rattle.html_modes.specs.Fitting.{Fits};
+ghost use Rattle.html_modes.specs.Steps.{Steps, Falls, Grows};
+
+use crate::modes::body_start::html_start;
+use crate::outcome::Outcome;
+use crate::quirks::sets_quirks;
+use html_construction::{Construction, Mode, Refusal};
+use html_ledger::{Cause, Symbol};
+use html_names::Tag;
+use html_tokens::TokenKind;
+use html_tree::Target;
+
+/// The rules for the "initial" insertion mode (13.2.6.4.1).
+#[tactic(auto, using(crate::proofs::Settled::mode_rules))]
+pub(crate) fn initial(
+    page: &mut Construction,
+    token: &TokenKind,
+    symbol: Symbol,
+) -> Result<Outcome, Refusal>
+    requires symbol { symbol_of token.now ≡ symbol }
+    requires mode { page.old.mode ≡ Mode.Initial }
+    requires fits { Fits page.old }
+    requires quiet { page.old.ledger.kept ≡ [] }
+    requires free { IsTrue (is_free page.old.ledger.history symbol) }
+    ensures fits { OnOk result (Fits page.new) }
+    ensures takes { IfOk result (λ o. Steps o token.now page.old page.new) }
+    ensures falls { IfOk result (λ o. Falls o symbol page.old page.new) }
+    ensures grows { IfOk result (λ o. Grows o page.old page.new) }
+{
+    match symbol {
+        // A comment token: insert a comment as the last child of the Document object.
+        Symbol::Comment => page.insert_comment_at(token, Target::Document)?,
+        // A DOCTYPE token: append a DocumentType node to the Document node.
+        Symbol::Doctype => {
+            doctype(page, token)?;
+            page.set_quirks(sets_quirks(token));
+            page.set_mode(Mode::BeforeHtml);
+        }
+        // Anything else: set the Document to quirks mode, switch the insertion mode to "before html", reprocess.
+        Symbol::Start(_) | Symbol::End(_) | Symbol::Char(_) | Symbol::Eof => {
+            page.set_quirks(true);
+            page.set_mode(Mode::BeforeHtml);
+            return Ok(Outcome::Reprocess);
+        }
+    }
+    Ok(Outcome::Done)
+}
+
+/// The rules for the "before html" insertion mode (13.2.6.4.2).
+#[tactic(auto, using(crate::proofs::Settled::mode_rules))]
+pub(crate) fn before_html(
+    page: &mut Construction,
+    token: &TokenKind,
+    symbol: Symbol,
+) -> Result<Outcome, Refusal>
+    requires symbol { symbol_of token.now ≡ symbol }
+    requires mode { page.old.mode ≡ Mode.BeforeHtml }
+    requires fits { Fits page.old }
+    requires quiet { page.old.ledger.kept ≡ [] }
+    requires free { IsTrue (is_free page.old.ledger.history symbol) }
+    ensures fits { OnOk result (Fits page.new) }
+    ensures takes { IfOk result (λ o. Steps o token.now page.old page.new) }
+    ensures falls { IfOk result (λ o. Falls o symbol page.old page.new) }
+    ensures grows { IfOk result (λ o. Grows o page.old page.new) }
+{
+    match symbol {
+        // A comment token: insert a comment as the last child of the Document object.
+        Symbol::Comment => page.insert_comment_at(token, Target::Document)?,
+        // A DOCTYPE token: ignore the token.
+        Symbol::Doctype => doctype(page, token)?,
+        // A start tag whose tag name is "html": create an element, append it to the Document object.
+        Symbol::Start(Tag::Html) => {
+            page.insert_root(token)?;
+            page.set_mode(Mode::BeforeHead);
+        }
+        // Any other end tag than one of "head", "body", "html", "br": ignore the token.
+        Symbol::End(tag) if !tag.is_page_part() => page.end(token, symbol)?,
+        // Anything else: create an html element, append it to the Document object, reprocess.
+        Symbol::Start(_) | Symbol::End(_) | Symbol::Char(_) | Symbol::Eof => {
+            page.insert_implied_root()?;
+            page.set_mode(Mode::BeforeHead);
+            return Ok(Outcome::Reprocess);
+        }
+    }
+    Ok(Outcome::Done)
+}
+
+/// The rules for the "before head" insertion mode (13.2.6.4.3).
+#[tactic(auto, using(crate::proofs::Settled::mode_rules))]
+pub(crate) fn before_head(
+    page: &mut Construction,
+    token: &TokenKind,
+    symbol: Symbol,
+) -> Result<Outcome, Refusal>
+    requires symbol { symbol_of token.now ≡ symbol }
+    requires mode { page.old.mode ≡ Mode.BeforeHead }
+    requires fits { Fits page.old }
+    requires quiet { page.old.ledger.kept ≡ [] }
+    requires free { IsTrue (is_free page.old.ledger.history symbol) }
+    ensures fits { OnOk result (Fits page.new) }
+    ensures takes { IfOk result (λ o. Steps o token.now page.old page.new) }
+    ensures falls { IfOk result (λ o. Falls o symbol page.old page.new) }
+    ensures grows { IfOk result (λ o. Grows o page.old page.new) }
+{
+    match symbol {
+        // A comment token: insert a comment.
+        Symbol::Comment => page.insert_comment(token)?,
+        // A DOCTYPE token: ignore the token.
+        Symbol::Doctype => doctype(page, token)?,
+        // A start tag whose tag name is "html": process the token using the rules for "in body".
+        Symbol::Start(Tag::Html) => html_start(page, token)?,
+        // A start tag whose tag name is "head": insert an HTML element, set the head element pointer.
+        Symbol::Start(Tag::Head) => {
+            page.insert_head(token)?;
+            page.set_mode(Mode::InHead);
+        }
+        // Any other end tag than one of "head", "body", "html", "br": ignore the token.
+        Symbol::End(tag) if !tag.is_page_part() => page.end(token, symbol)?,
+        // Anything else: insert an HTML element for a "head" start tag token with no attributes, reprocess.
+        Symbol::Start(_) | Symbol::End(_) | Symbol::Char(_) | Symbol::Eof => {
+            page.insert_implied_head()?;
+            page.set_mode(Mode::InHead);
+            return Ok(Outcome::Reprocess);
+        }
+    }
+    Ok(Outcome::Done)
+}
+
+/// A DOCTYPE token: made where one is awaited, which is in the mode initial, and else ignored.
+pub(crate) fn doctype(page: &mut Construction, token: &TokenKind) -> Result<(), Refusal>
+    requires symbol { symbol_of token.now ≡ Symbol.Doctype }
+    requires quiet { page.old.ledger.kept ≡ [] }
+    ensures rest { OnOk result (page.new ≡ record page.old { tree = page.new.tree; ledger = page.new.ledger }) }
+    ensures takes { OnOk result (Takes token.now page.old page.new) }
+    ensures quiet { OnOk result (page.new.ledger.kept ≡ []) }
+    ensures grown { OnOk result (Grown 1 2 0 page.old page.new) }
+{
+    if page.history().awaits_doctype {
+        return page.insert_doctype(token);
+    }
+    page.drop_token(token, Symbol::Doctype, Cause::Misplaced)
+}

@@ -1,0 +1,297 @@
+// The modes of select (13.2.6.4.16 and 13.2.6.4.17).
+ghost use Rattle.std.specs.Prelude.{◌≡◌, ◌+◌, ◌<◌, ◌≤◌, [], IfOk, OnOk, IsTrue, length, true, false};
+ghost use Rattle.html_ledger.specs.Symbols.{symbol_of};
+ghost use Rattle.html_ledger.specs.Flags.{is_free, may_select};
+ghost use Rattle.html_construction.specs.Built.{Keeps, Takes};
+ghost use Rattle.html_construction.specs.Grown.{Grown};
+ghost use Rattle.html_construction.specs.Modes.{is_reset};
+ghost use Rattle.html_construction.specs.Weights.{weight};
+ghost use Rattle.html_modes.specs.Fitting.{Fits, Calls, is_loose};
+ghost use Rattle.html_modes.specs.Steps.{Steps, Falls, Grows};
+ghost use Rattle.html_modes.specs.Ranks.{rank};
+ghost use Rattle.html_modes.specs.declared.outcome.Outcome.TheVariants.{Done};
+ghost use Rattle.html_ledger.specs.MayDrop.{is_in_select};
+ghost use Rattle.html_modes.specs.Guards.{is_droppable};
+
+use crate::modes::body_start::{body_rules, html_start};
+use crate::modes::head::head_start;
+use crate::modes::initial::doctype;
+use crate::modes::template::template_end;
+use crate::modes::text::insert_text_char;
+use crate::outcome::Outcome;
+use html_construction::{Construction, Mode, Refusal};
+use html_ledger::{Cause, Symbol};
+use html_names::{Scope, Tag};
+use html_tokens::TokenKind;
+use html_tree::Group;
+
+/// The rules for the "in select" insertion mode (13.2.6.4.16).
+#[tactic(auto, using(crate::proofs::Settled::mode_rules))]
+pub(crate) fn in_select(
+    page: &mut Construction,
+    token: &TokenKind,
+    symbol: Symbol,
+) -> Result<Outcome, Refusal>
+    requires seen { is_droppable symbol ≡ true → may_select page.old.ledger.history ≡ true }
+    requires symbol { symbol_of token.now ≡ symbol }
+    requires mode { page.old.mode ≡ Mode.InSelect }
+    requires fits { Fits page.old }
+    requires quiet { page.old.ledger.kept ≡ [] }
+    requires free { IsTrue (is_free page.old.ledger.history symbol) }
+    ensures fits { OnOk result (Fits page.new) }
+    ensures takes { IfOk result (λ o. Steps o token.now page.old page.new) }
+    ensures falls { IfOk result (λ o. Falls o symbol page.old page.new) }
+    ensures grows { IfOk result (λ o. Grows o page.old page.new) }
+{
+    let outcome = select_rules(page, token, symbol)?;
+    Ok(outcome)
+}
+
+/// The rules that both modes share.
+#[tactic(auto, using(crate::proofs::Settled::reset_rules))]
+fn select_rules(
+    page: &mut Construction,
+    token: &TokenKind,
+    symbol: Symbol,
+) -> Result<Outcome, Refusal>
+    requires seen { is_droppable symbol ≡ true → may_select page.old.ledger.history ≡ true }
+    requires high { 7 ≤ rank page.old.mode symbol }
+    requires symbol { symbol_of token.now ≡ symbol }
+    requires calls { Calls page.old }
+    requires free { IsTrue (is_free page.old.ledger.history symbol) }
+    ensures fits { OnOk result (Fits page.new) }
+    ensures takes { IfOk result (λ o. Steps o token.now page.old page.new) }
+    ensures falls { IfOk result (λ o. Falls o symbol page.old page.new) }
+    ensures grows { IfOk result (λ o. Grows o page.old page.new) }
+{
+    match symbol {
+        // A character token: insert the token's character, unless it is U+0000 NULL.
+        Symbol::Char(c) => insert_text_char(page, token, c)?,
+        // A comment token: insert a comment.
+        Symbol::Comment => page.insert_comment(token)?,
+        // A DOCTYPE token: ignore the token.
+        Symbol::Doctype => doctype(page, token)?,
+        // A start tag.
+        Symbol::Start(tag) => {
+            let outcome = select_start_tag(page, token, tag)?;
+            return Ok(outcome);
+        }
+        // An end tag.
+        Symbol::End(tag) => select_end_tag(page, token, tag)?,
+        // An end-of-file token: process the token using the rules for "in body".
+        Symbol::Eof => {
+            let outcome = body_rules(page, token, symbol)?;
+            return Ok(outcome);
+        }
+    }
+    Ok(Outcome::Done)
+}
+
+#[tactic(auto, using(crate::proofs::Settled::reset_rules))]
+fn select_start_tag(
+    page: &mut Construction,
+    token: &TokenKind,
+    tag: Tag,
+) -> Result<Outcome, Refusal>
+    requires seen { may_select page.old.ledger.history ≡ true }
+    requires high { 7 ≤ rank page.old.mode (Symbol.Start tag) }
+    requires symbol { symbol_of token.now ≡ Symbol.Start tag }
+    requires calls { Calls page.old }
+    ensures fits { OnOk result (Fits page.new) }
+    ensures takes { IfOk result (λ o. Steps o token.now page.old page.new) }
+    ensures falls { IfOk result (λ o. Falls o (Symbol.Start tag) page.old page.new) }
+    ensures grows { IfOk result (λ o. Grows o page.old page.new) }
+{
+    match tag {
+        // A start tag whose tag name is "html": process the token using the rules for "in body".
+        Tag::Html => html_start(page, token)?,
+        // A start tag whose tag name is "option".
+        Tag::Option => {
+            let _ = page.pop_if(Group::Named(Tag::Option));
+            page.insert(token, Tag::Option)?;
+        }
+        // A start tag whose tag name is "optgroup".
+        Tag::Optgroup => {
+            close_options(page);
+            page.insert(token, Tag::Optgroup)?;
+        }
+        // A start tag whose tag name is "hr".
+        Tag::Hr => {
+            close_options(page);
+            page.insert_void(token, Tag::Hr)?;
+        }
+        // A start tag whose tag name is one of: "script", "template": process the token using the rules for "in head".
+        Tag::Script | Tag::Template => head_start(page, token, tag)?,
+        // A start tag whose tag name is "select": it gets treated like an end tag.
+        Tag::Select => {
+            let _ = close_select(page);
+            page.drop_token(token, Symbol::Start(Tag::Select), Cause::InSelect)?;
+        }
+        // A start tag whose tag name is one of: "input", "keygen", "textarea".
+        _ if tag.ends_select() => {
+            let outcome = leave_select(page, token, tag)?;
+            return Ok(outcome);
+        }
+        // Anything else: ignore the token.
+        _ => page.drop_token(token, Symbol::Start(tag), Cause::InSelect)?,
+    }
+    Ok(Outcome::Done)
+}
+
+#[tactic(auto, using(crate::proofs::Settled::reset_rules))]
+fn select_end_tag(page: &mut Construction, token: &TokenKind, tag: Tag) -> Result<(), Refusal>
+    requires symbol { symbol_of token.now ≡ Symbol.End tag }
+    requires calls { Calls page.old }
+    ensures fits { OnOk result (Fits page.new) }
+    ensures takes { OnOk result (Takes token.now page.old page.new) }
+    ensures falls { OnOk result (Falls Done (Symbol.End tag) page.old page.new) }
+    ensures grows { OnOk result (Grows Done page.old page.new) }
+{
+    match tag {
+        // An end tag whose tag name is "template": process the token using the rules for "in head".
+        Tag::Template => template_end(page, token),
+        // An end tag whose tag name is "option".
+        Tag::Option => {
+            let _ = page.pop_if(Group::Named(Tag::Option));
+            page.end(token, Symbol::End(Tag::Option))
+        }
+        // An end tag whose tag name is "optgroup".
+        Tag::Optgroup => {
+            close_group(page);
+            page.end(token, Symbol::End(Tag::Optgroup))
+        }
+        // An end tag whose tag name is "select".
+        Tag::Select => {
+            let _ = close_select(page);
+            page.end(token, Symbol::End(Tag::Select))
+        }
+        // Anything else: ignore the token.
+        _ => page.end(token, Symbol::End(tag)),
+    }
+}
+
+/// Closes a current option, and then a current group of them.
+fn close_options(page: &mut Construction)
+    requires opened { 0 < length page.old.stack }
+    ensures rest { page.new ≡ record page.old { tree = page.new.tree; stack = page.new.stack } }
+    ensures keeps { Keeps page.old page.new }
+    ensures grown { Grown 0 0 0 page.old page.new }
+    ensures lighter { weight page.new.stack ≤ weight page.old.stack }
+    ensures opened { 0 < length page.new.stack }
+{
+    let _ = page.pop_if(Group::Named(Tag::Option));
+    let _ = page.pop_if(Group::Named(Tag::Optgroup));
+}
+
+/// Closes a current group of options, and the current option in it.
+fn close_group(page: &mut Construction)
+    requires opened { 0 < length page.old.stack }
+    ensures rest { page.new ≡ record page.old { tree = page.new.tree; stack = page.new.stack } }
+    ensures keeps { Keeps page.old page.new }
+    ensures grown { Grown 0 0 0 page.old page.new }
+    ensures lighter { weight page.new.stack ≤ weight page.old.stack }
+    ensures opened { 0 < length page.new.stack }
+{
+    close_grouped_option(page);
+    let _ = page.pop_if(Group::Named(Tag::Optgroup));
+}
+
+/// Closes a current option that stands on a group of options.
+fn close_grouped_option(page: &mut Construction)
+    requires opened { 0 < length page.old.stack }
+    ensures rest { page.new ≡ record page.old { tree = page.new.tree; stack = page.new.stack } }
+    ensures keeps { Keeps page.old page.new }
+    ensures grown { Grown 0 0 0 page.old page.new }
+    ensures lighter { weight page.new.stack ≤ weight page.old.stack }
+    ensures opened { 0 < length page.new.stack }
+{
+    if page.is_option_in_group() {
+        page.pop();
+    }
+}
+
+/// A start tag that closes the select, and is dropped where none is in scope.
+#[tactic(auto, using(crate::proofs::Settled::reset_rules))]
+fn leave_select(page: &mut Construction, token: &TokenKind, tag: Tag) -> Result<Outcome, Refusal>
+    requires seen { may_select page.old.ledger.history ≡ true }
+    requires high { 7 ≤ rank page.old.mode (Symbol.Start tag) }
+    requires outside { is_in_select tag ≡ false }
+    requires symbol { symbol_of token.now ≡ Symbol.Start tag }
+    requires calls { Calls page.old }
+    ensures fits { OnOk result (Fits page.new) }
+    ensures takes { IfOk result (λ o. Steps o token.now page.old page.new) }
+    ensures falls { IfOk result (λ o. Falls o (Symbol.Start tag) page.old page.new) }
+    ensures grows { IfOk result (λ o. Grows o page.old page.new) }
+{
+    if close_select(page) {
+        return Ok(Outcome::Reprocess);
+    }
+    page.drop_token(token, Symbol::Start(tag), Cause::InSelect)?;
+    Ok(Outcome::Done)
+}
+
+/// Closes the select that is in scope, sets the mode that the elements outside call for, and says whether there was one.
+#[tactic(auto, using(crate::proofs::Settled::reset_rules))]
+fn close_select(page: &mut Construction) -> bool
+    requires loose { is_loose page.old.mode ≡ true }
+    requires opened { 0 < length page.old.stack }
+    ensures rest { page.new ≡ record page.old { tree = page.new.tree; stack = page.new.stack; mode = page.new.mode } }
+    ensures keeps { Keeps page.old page.new }
+    ensures grown { Grown 0 0 0 page.old page.new }
+    ensures lighter { weight page.new.stack ≤ weight page.old.stack }
+    ensures opened { 0 < length page.new.stack }
+    ensures loose { is_loose page.new.mode ≡ true }
+    ensures found { result ≡ true → weight page.new.stack + 4 ≤ weight page.old.stack }
+    ensures reset { result ≡ true → is_reset page.new.mode ≡ true }
+{
+    if !page.close_in_scope(Tag::Select, Scope::Select) {
+        return false;
+    }
+    page.reset();
+    true
+}
+
+/// The rules for the "in select in table" insertion mode (13.2.6.4.17).
+#[tactic(auto, using(crate::proofs::Settled::select_rules))]
+pub(crate) fn in_select_in_table(
+    page: &mut Construction,
+    token: &TokenKind,
+    symbol: Symbol,
+) -> Result<Outcome, Refusal>
+    requires seen { is_droppable symbol ≡ true → may_select page.old.ledger.history ≡ true }
+    requires symbol { symbol_of token.now ≡ symbol }
+    requires mode { page.old.mode ≡ Mode.InSelectInTable }
+    requires fits { Fits page.old }
+    requires quiet { page.old.ledger.kept ≡ [] }
+    requires free { IsTrue (is_free page.old.ledger.history symbol) }
+    ensures fits { OnOk result (Fits page.new) }
+    ensures takes { IfOk result (λ o. Steps o token.now page.old page.new) }
+    ensures falls { IfOk result (λ o. Falls o symbol page.old page.new) }
+    ensures grows { IfOk result (λ o. Grows o page.old page.new) }
+{
+    match symbol {
+        // A start tag whose tag name is one of: "caption", "table", "tbody", "tfoot", "thead", "tr", "td", "th".
+        Symbol::Start(tag) if tag.ends_select_in_table() => {
+            let outcome = leave_select(page, token, tag)?;
+            Ok(outcome)
+        }
+        // An end tag whose tag name is one of: "caption", "table", "tbody", "tfoot", "thead", "tr", "td", "th".
+        Symbol::End(tag) if tag.ends_select_in_table() => {
+            if page.has_in_scope(tag, Scope::Table) && close_select(page) {
+                return Ok(Outcome::Reprocess);
+            }
+            page.end(token, symbol)?;
+            Ok(Outcome::Done)
+        }
+        // Anything else: process the token using the rules for "in select".
+        Symbol::Start(_)
+        | Symbol::End(_)
+        | Symbol::Char(_)
+        | Symbol::Comment
+        | Symbol::Doctype
+        | Symbol::Eof => {
+            let outcome = select_rules(page, token, symbol)?;
+            Ok(outcome)
+        }
+    }
+}

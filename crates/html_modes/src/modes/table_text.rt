@@ -1,0 +1,117 @@
+// The mode in table text (13.2.6.4.10).
+ghost use Rattle.std.specs.Prelude.{◌≡◌, ◌+◌, ◌<◌, ◌≤◌, [], IfOk, OnOk, length};
+ghost use Rattle.html_ledger.specs.Symbols.{symbol_of};
+ghost use Rattle.html_construction.specs.Built.{Keeps, Takes};
+ghost use Rattle.html_construction.specs.Grown.{Grown};
+ghost use Rattle.html_construction.specs.Weights.{weight};
+ghost use Rattle.html_modes.specs.Fitting.{Fits};
+ghost use Rattle.html_modes.specs.Steps.{Steps, Falls, Spends, Settles};
+
+use crate::modes::body_start::body_char;
+use crate::outcome::Outcome;
+use html_construction::{Construction, Mode, Refusal};
+use html_ledger::{Cause, Symbol, is_space};
+use html_tokens::TokenKind;
+
+/// The rules for the "in table text" insertion mode (13.2.6.4.10): code points are kept until another token comes.
+#[tactic(auto, using(crate::proofs::Settled::table_text_rules))]
+pub(crate) fn in_table_text(
+    page: &mut Construction,
+    token: &TokenKind,
+    symbol: Symbol,
+) -> Result<Outcome, Refusal>
+    requires symbol { symbol_of token.now ≡ symbol }
+    requires mode { page.old.mode ≡ Mode.InTableText }
+    requires fits { Fits page.old }
+    ensures fits { OnOk result (Fits page.new) }
+    ensures takes { IfOk result (λ o. Steps o token.now page.old page.new) }
+    ensures falls { IfOk result (λ o. Falls o symbol page.old page.new) }
+    ensures spends { OnOk result (Spends 2 page.old page.new) }
+    ensures settles { IfOk result (λ o. Settles o symbol page.old page.new) }
+{
+    match symbol {
+        // A character token: append the character token to the pending table character tokens list.
+        Symbol::Char(c) => {
+            page.keep(token, c)?;
+            Ok(Outcome::Done)
+        }
+        // Anything else: settle the pending table character tokens, switch the insertion mode to the original
+        // insertion mode, reprocess.
+        Symbol::Start(_) | Symbol::End(_) | Symbol::Comment | Symbol::Doctype | Symbol::Eof => {
+            flush(page)?;
+            page.begin_own_part();
+            page.leave();
+            Ok(Outcome::Reprocess)
+        }
+    }
+}
+
+/// Gives the kept code points their fates: they stay in the table where all are white space, and are put before it else.
+fn flush(page: &mut Construction) -> Result<(), Refusal>
+    requires opened { 0 < length page.old.stack }
+    requires listed { length page.old.tree.list ≤ length page.old.ledger.fates }
+    ensures rest { OnOk result (page.new ≡ record page.old { tree = page.new.tree; ledger = page.new.ledger; stack = page.new.stack; frameset_ok = page.new.frameset_ok; fostering = page.new.fostering }) }
+    ensures keeps { OnOk result (Keeps page.old page.new) }
+    ensures quiet { OnOk result (page.new.ledger.kept ≡ []) }
+    ensures spends { OnOk result (Spends 0 page.old page.new) }
+    ensures listed { OnOk result (length page.new.tree.list ≤ length page.new.ledger.fates) }
+    ensures lighter { OnOk result (weight page.new.stack ≤ weight page.old.stack) }
+    ensures opened { OnOk result (0 < length page.new.stack) }
+{
+    let kept = page.take_kept();
+    let stays = kept.iter().all(|c| *c == '\0' || is_space(*c));
+    'flushing: for c in &kept {
+        settle_kept(page, *c, stays)?;
+    }
+    Ok(())
+}
+
+/// Gives one kept code point its fate.
+fn settle_kept(page: &mut Construction, c: char, stays: bool) -> Result<(), Refusal>
+    requires opened { 0 < length page.old.stack }
+    requires quiet { page.old.ledger.kept ≡ [] }
+    requires listed { length page.old.tree.list ≤ length page.old.ledger.fates }
+    ensures rest { OnOk result (page.new ≡ record page.old { tree = page.new.tree; ledger = page.new.ledger; stack = page.new.stack; frameset_ok = page.new.frameset_ok; fostering = page.new.fostering }) }
+    ensures takes { OnOk result (Takes (TokenKind.Char c) page.old page.new) }
+    ensures quiet { OnOk result (page.new.ledger.kept ≡ []) }
+    ensures grown { OnOk result (Grown 1 (length page.old.ledger.fates + 1) 0 page.old page.new) }
+    ensures lighter { OnOk result (weight page.new.stack ≤ weight page.old.stack) }
+    ensures opened { OnOk result (0 < length page.new.stack) }
+{
+    let token = TokenKind::Char(c);
+    settle_char(page, &token, c, stays)?;
+    Ok(())
+}
+
+/// Gives a kept code point, as a token, its fate.
+fn settle_char(
+    page: &mut Construction,
+    token: &TokenKind,
+    c: char,
+    stays: bool,
+) -> Result<(), Refusal>
+    requires symbol { symbol_of token.now ≡ Symbol.Char c }
+    requires opened { 0 < length page.old.stack }
+    requires quiet { page.old.ledger.kept ≡ [] }
+    requires listed { length page.old.tree.list ≤ length page.old.ledger.fates }
+    ensures rest { OnOk result (page.new ≡ record page.old { tree = page.new.tree; ledger = page.new.ledger; stack = page.new.stack; frameset_ok = page.new.frameset_ok; fostering = page.new.fostering }) }
+    ensures takes { OnOk result (Takes token.now page.old page.new) }
+    ensures quiet { OnOk result (page.new.ledger.kept ≡ []) }
+    ensures grown { OnOk result (Grown 1 (length page.old.ledger.fates + 1) 0 page.old page.new) }
+    ensures lighter { OnOk result (weight page.new.stack ≤ weight page.old.stack) }
+    ensures opened { OnOk result (0 < length page.new.stack) }
+{
+    if let Some(cause) = page.must_drop(Symbol::Char(c)) {
+        return page.drop_token(token, Symbol::Char(c), cause);
+    }
+    if c == '\0' {
+        return page.drop_token(token, Symbol::Char(c), Cause::Null);
+    }
+    if stays {
+        return page.insert_char(token, c);
+    }
+    page.foster_on();
+    body_char(page, token, c)?;
+    page.foster_off();
+    Ok(())
+}

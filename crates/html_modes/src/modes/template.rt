@@ -1,0 +1,165 @@
+// Templates: their tags (13.2.6.4.4) and the mode in template (13.2.6.4.18).
+ghost use Rattle.std.specs.Prelude.{◌≡◌, ◌+◌, ◌<◌, ◌≤◌, [], IfOk, OnOk, IsTrue, length, true, false};
+ghost use Rattle.html_ledger.specs.Symbols.{symbol_of};
+ghost use Rattle.html_ledger.specs.Flags.{is_free};
+ghost use Rattle.html_construction.specs.Built.{Keeps, Takes};
+ghost use Rattle.html_construction.specs.Grown.{Grown};
+ghost use Rattle.html_construction.specs.Modes.{is_reset};
+ghost use Rattle.html_construction.specs.Weights.{weight};
+ghost use Rattle.html_modes.specs.Fitting.{Fits, Calls, is_loose};
+ghost use Rattle.html_modes.specs.Steps.{Steps, Falls, Grows};
+ghost use Rattle.html_modes.specs.Ranks.{rank};
+ghost use Rattle.html_modes.specs.declared.outcome.Outcome.TheVariants.{Done};
+
+use crate::modes::body_start::body_rules;
+use crate::modes::head::head_start;
+use crate::outcome::Outcome;
+use html_construction::{Construction, Mode, Refusal};
+use html_ledger::Symbol;
+use html_names::Tag;
+use html_tokens::TokenKind;
+use html_tree::Target;
+
+/// The start tag of a template, whose element goes to a target.
+#[tactic(auto, using(crate::proofs::Settled::mode_rules))]
+pub(crate) fn template_start_at(
+    page: &mut Construction,
+    token: &TokenKind,
+    target: Target,
+) -> Result<(), Refusal>
+    requires symbol { symbol_of token.now ≡ Symbol.Start Tag.Template }
+    requires calls { Calls page.old }
+    ensures fits { OnOk result (Fits page.new) }
+    ensures takes { OnOk result (Takes token.now page.old page.new) }
+    ensures falls { OnOk result (Falls Done (Symbol.Start Tag.Template) page.old page.new) }
+    ensures grows { OnOk result (Grows Done page.old page.new) }
+{
+    page.insert_at(token, Tag::Template, target)?;
+    page.add_marker()?;
+    page.frameset_off();
+    page.push_template_mode(Mode::InTemplate)?;
+    page.set_mode(Mode::InTemplate);
+    Ok(())
+}
+
+/// The end tag of a template.
+#[tactic(auto, using(crate::proofs::Settled::template_rules))]
+pub(crate) fn template_end(page: &mut Construction, token: &TokenKind) -> Result<(), Refusal>
+    requires symbol { symbol_of token.now ≡ Symbol.End Tag.Template }
+    requires calls { Calls page.old }
+    ensures fits { OnOk result (Fits page.new) }
+    ensures takes { OnOk result (Takes token.now page.old page.new) }
+    ensures falls { OnOk result (Falls Done (Symbol.End Tag.Template) page.old page.new) }
+    ensures grows { OnOk result (Grows Done page.old page.new) }
+{
+    if page.has_template() {
+        let _ = close_template(page);
+    }
+    page.end(token, Symbol::End(Tag::Template))
+}
+
+/// Closes the last open template, sets the mode that the elements outside call for, and says whether there was one.
+#[tactic(auto, using(crate::proofs::Settled::reset_rules))]
+fn close_template(page: &mut Construction) -> bool
+    requires opened { 0 < length page.old.stack }
+    ensures rest { page.new ≡ record page.old { tree = page.new.tree; stack = page.new.stack; mode = page.new.mode; templates = page.new.templates } }
+    ensures keeps { Keeps page.old page.new }
+    ensures grown { Grown 0 0 0 page.old page.new }
+    ensures lighter { weight page.new.stack ≤ weight page.old.stack }
+    ensures opened { 0 < length page.new.stack }
+    ensures found { result ≡ true → weight page.new.stack + 10 ≤ weight page.old.stack }
+    ensures reset { result ≡ true → is_reset page.new.mode ≡ true }
+    ensures same { result ≡ false → page.new.mode ≡ page.old.mode }
+{
+    if !page.pop_through(Tag::Template) {
+        return false;
+    }
+    page.clear_to_marker();
+    page.pop_template_mode();
+    page.reset();
+    true
+}
+
+/// The rules for the "in template" insertion mode (13.2.6.4.18).
+#[tactic(auto, using(crate::proofs::Settled::template_rules))]
+pub(crate) fn in_template(
+    page: &mut Construction,
+    token: &TokenKind,
+    symbol: Symbol,
+) -> Result<Outcome, Refusal>
+    requires symbol { symbol_of token.now ≡ symbol }
+    requires mode { page.old.mode ≡ Mode.InTemplate }
+    requires fits { Fits page.old }
+    requires quiet { page.old.ledger.kept ≡ [] }
+    requires free { IsTrue (is_free page.old.ledger.history symbol) }
+    ensures fits { OnOk result (Fits page.new) }
+    ensures takes { IfOk result (λ o. Steps o token.now page.old page.new) }
+    ensures falls { IfOk result (λ o. Falls o symbol page.old page.new) }
+    ensures grows { IfOk result (λ o. Grows o page.old page.new) }
+{
+    match symbol {
+        // A character token, a comment token, a DOCTYPE token: process the token using the rules for the "in
+        // body" insertion mode.
+        Symbol::Char(_) | Symbol::Comment | Symbol::Doctype => {
+            let outcome = body_rules(page, token, symbol)?;
+            return Ok(outcome);
+        }
+        // A start tag whose tag name is one of: "base", "basefont", "bgsound", "link", "meta", "noframes",
+        // "script", "style", "template", "title".
+        Symbol::Start(tag) if tag.is_headish() => head_start(page, token, tag)?,
+        // Any other start tag: switch the current template insertion mode and the insertion mode to those for the
+        // tag, reprocess.
+        Symbol::Start(tag) => {
+            let mode = mode_in_template(tag);
+            page.replace_template_mode(mode)?;
+            page.set_mode(mode);
+            return Ok(Outcome::Reprocess);
+        }
+        // An end tag whose tag name is "template": process the token using the rules for "in head".
+        Symbol::End(Tag::Template) => template_end(page, token)?,
+        // Any other end tag: ignore the token.
+        Symbol::End(_) => page.end(token, symbol)?,
+        // An end-of-file token.
+        Symbol::Eof => {
+            let outcome = template_eof(page, token)?;
+            return Ok(outcome);
+        }
+    }
+    Ok(Outcome::Done)
+}
+
+/// The end of the page, which closes the open templates one by one.
+#[tactic(auto, using(crate::proofs::Settled::template_rules))]
+pub(crate) fn template_eof(page: &mut Construction, token: &TokenKind) -> Result<Outcome, Refusal>
+    requires symbol { symbol_of token.now ≡ Symbol.Eof }
+    requires calls { Calls page.old }
+    ensures fits { OnOk result (Fits page.new) }
+    ensures takes { IfOk result (λ o. Steps o token.now page.old page.new) }
+    ensures falls { IfOk result (λ o. Falls o (Symbol.Eof) page.old page.new) }
+    ensures grows { IfOk result (λ o. Grows o page.old page.new) }
+{
+    if page.has_template() && close_template(page) {
+        return Ok(Outcome::Reprocess);
+    }
+    page.end(token, Symbol::Eof)?;
+    Ok(Outcome::Done)
+}
+
+/// The mode in which the content of a template goes on.
+fn mode_in_template(tag: Tag) -> Mode
+    ensures reset { is_reset result ≡ true }
+    ensures loose { is_loose result ≡ true }
+    ensures low { rank result (Symbol.Start tag) < 2 }
+{
+    if tag.is_table_part() {
+        Mode::InTable
+    } else if tag.is(Tag::Col) {
+        Mode::InColumnGroup
+    } else if tag.is(Tag::Tr) {
+        Mode::InTableBody
+    } else if tag.is_cell() {
+        Mode::InRow
+    } else {
+        Mode::InBody
+    }
+}

@@ -1,0 +1,133 @@
+// The mode text (13.2.6.4.8), and how the text of an element is read.
+ghost use Rattle.std.specs.Prelude.{◌≡◌, ◌<◌, ◌≤◌, [], IfOk, OnOk, IsTrue, length};
+ghost use Rattle.html_ledger.specs.Symbols.{symbol_of};
+ghost use Rattle.html_ledger.specs.Flags.{is_free};
+ghost use Rattle.html_construction.specs.Built.{Takes};
+ghost use Rattle.html_construction.specs.Grown.{Grown};
+ghost use Rattle.html_construction.specs.Weights.{weight_of};
+ghost use Rattle.html_modes.specs.Fitting.{Fits, Calls};
+ghost use Rattle.html_modes.specs.Steps.{Steps, Falls, Grows};
+ghost use Rattle.html_modes.specs.Switches.{switch_of};
+ghost use Rattle.html_modes.specs.declared.outcome.Outcome.TheVariants.{Done};
+
+use crate::outcome::Outcome;
+use html_construction::{Construction, Mode, Refusal};
+use html_ledger::{Cause, Symbol};
+use html_names::Tag;
+use html_tokens::{TextMode, TokenKind};
+use html_tree::Target;
+
+/// How the text of an element is read, where it is not read as data.
+pub(crate) fn text_mode_of(tag: Tag) -> Option<TextMode>
+    ensures value { result ≡ switch_of tag }
+{
+    if tag.is_rcdata() {
+        Some(TextMode::Rcdata)
+    } else if tag.is_rawtext() {
+        Some(TextMode::Rawtext)
+    } else if tag.is(Tag::Script) {
+        Some(TextMode::Script)
+    } else if tag.is(Tag::Plaintext) {
+        Some(TextMode::Plaintext)
+    } else {
+        None
+    }
+}
+
+/// A start tag of an element that holds text alone.
+#[tactic(auto, using(crate::proofs::Settled::head_rules))]
+pub(crate) fn text_start(
+    page: &mut Construction,
+    token: &TokenKind,
+    tag: Tag,
+) -> Result<(), Refusal>
+    requires small { weight_of tag ≤ 4 }
+    requires symbol { symbol_of token.now ≡ Symbol.Start tag }
+    requires calls { Calls page.old }
+    ensures fits { OnOk result (Fits page.new) }
+    ensures takes { OnOk result (Takes token.now page.old page.new) }
+    ensures falls { OnOk result (Falls Done (Symbol.Start tag) page.old page.new) }
+    ensures grown { OnOk result (Grown 1 2 0 page.old page.new) }
+{
+    let target = page.here();
+    text_start_at(page, token, tag, target)
+}
+
+/// The same, with the element at a target.
+#[tactic(auto, using(crate::proofs::Settled::head_rules))]
+pub(crate) fn text_start_at(
+    page: &mut Construction,
+    token: &TokenKind,
+    tag: Tag,
+    target: Target,
+) -> Result<(), Refusal>
+    requires small { weight_of tag ≤ 4 }
+    requires symbol { symbol_of token.now ≡ Symbol.Start tag }
+    requires calls { Calls page.old }
+    ensures fits { OnOk result (Fits page.new) }
+    ensures takes { OnOk result (Takes token.now page.old page.new) }
+    ensures falls { OnOk result (Falls Done (Symbol.Start tag) page.old page.new) }
+    ensures grown { OnOk result (Grown 1 2 0 page.old page.new) }
+{
+    page.insert_at(token, tag, target)?;
+    page.enter(Mode::Text);
+    Ok(())
+}
+
+/// The rules for the "text" insertion mode (13.2.6.4.8).
+#[tactic(auto, using(crate::proofs::Settled::text_rules))]
+pub(crate) fn text(
+    page: &mut Construction,
+    token: &TokenKind,
+    symbol: Symbol,
+) -> Result<Outcome, Refusal>
+    requires symbol { symbol_of token.now ≡ symbol }
+    requires mode { page.old.mode ≡ Mode.Text }
+    requires fits { Fits page.old }
+    requires quiet { page.old.ledger.kept ≡ [] }
+    requires free { IsTrue (is_free page.old.ledger.history symbol) }
+    ensures fits { OnOk result (Fits page.new) }
+    ensures takes { IfOk result (λ o. Steps o token.now page.old page.new) }
+    ensures falls { IfOk result (λ o. Falls o symbol page.old page.new) }
+    ensures grows { IfOk result (λ o. Grows o page.old page.new) }
+{
+    match symbol {
+        // A character token: insert the token's character. (No tokenizer gives U+0000 here.)
+        Symbol::Char(c) => insert_text_char(page, token, c)?,
+        // Any other end tag: pop the current node, switch the insertion mode to the original insertion mode.
+        Symbol::End(_) => {
+            page.pop();
+            page.leave();
+            page.end(token, symbol)?;
+        }
+        // An end-of-file token: pop the current node, switch the insertion mode to the original insertion mode,
+        // reprocess. (Of these a tokenizer gives the end alone.)
+        Symbol::Start(_) | Symbol::Comment | Symbol::Doctype | Symbol::Eof => {
+            page.pop();
+            page.leave();
+            return Ok(Outcome::Reprocess);
+        }
+    }
+    Ok(Outcome::Done)
+}
+
+/// A code point of text, which is dropped where it is U+0000.
+pub(crate) fn insert_text_char(
+    page: &mut Construction,
+    token: &TokenKind,
+    c: char,
+) -> Result<(), Refusal>
+    requires opened { 0 < length page.old.stack }
+    requires free { IsTrue (is_free page.old.ledger.history (Symbol.Char c)) }
+    requires symbol { symbol_of token.now ≡ Symbol.Char c }
+    requires quiet { page.old.ledger.kept ≡ [] }
+    ensures rest { OnOk result (page.new ≡ record page.old { tree = page.new.tree; ledger = page.new.ledger }) }
+    ensures takes { OnOk result (Takes token.now page.old page.new) }
+    ensures quiet { OnOk result (page.new.ledger.kept ≡ []) }
+    ensures grown { OnOk result (Grown 1 1 0 page.old page.new) }
+{
+    if c == '\0' {
+        return page.drop_token(token, Symbol::Char(c), Cause::Null);
+    }
+    page.insert_char(token, c)
+}

@@ -1,0 +1,141 @@
+// The entries of a token into the rules of the modes (13.2.6).
+ghost use Rattle.std.specs.Prelude.{◌≡◌, ◌≤◌, [], IfOk, OnOk, IsTrue, true, false};
+ghost use Rattle.html_ledger.specs.Symbols.{symbol_of};
+ghost use Rattle.html_ledger.specs.Flags.{is_free, may_select};
+ghost use Rattle.html_construction.specs.Built.{Keeps, Takes};
+ghost use Rattle.html_modes.specs.Fitting.{Fits};
+ghost use Rattle.html_modes.specs.Steps.{Steps, Falls, Spends, Settles};
+ghost use Rattle.html_modes.specs.Ranks.{top_rank};
+ghost use Rattle.html_construction.specs.Built.{Handed, IsBuilt};
+ghost use Rattle.html_modes.specs.Guards.{is_droppable, is_of_frames, is_of_selects, is_table_text, takes_runs};
+ghost use Rattle.html_modes.specs.Steps.{Pays, is_code_point};
+
+use crate::guards::{is_astray, is_table_text, is_unfounded};
+use crate::modes::after::{after_after_body, after_body};
+use crate::modes::body_start::in_body;
+use crate::modes::cell::in_cell;
+use crate::modes::frameset::{after_after_frameset, after_frameset, in_frameset};
+use crate::modes::head::{after_head, in_head, in_head_noscript};
+use crate::modes::initial::{before_head, before_html, initial};
+use crate::modes::select::{in_select, in_select_in_table};
+use crate::modes::table::in_table;
+use crate::modes::table_parts::{in_caption, in_column_group};
+use crate::modes::table_rows::{in_row, in_table_body};
+use crate::modes::table_text::in_table_text;
+use crate::modes::template::in_template;
+use crate::modes::text::text;
+use crate::outcome::Outcome;
+use html_construction::{Construction, Mode, Refusal};
+use html_ledger::Symbol;
+use html_tokens::TokenKind;
+
+/// Takes a token through all its entries.
+#[tactic(auto, using(crate::proofs::Settled::take_rules))]
+pub(crate) fn take(
+    page: &mut Construction,
+    token: &TokenKind,
+    symbol: Symbol,
+) -> Result<(), Refusal>
+    requires symbol { symbol_of token.now ≡ symbol }
+    requires fits { Fits page.old }
+    ensures fits { OnOk result (Fits page.new) }
+    ensures takes { OnOk result (Takes token.now page.old page.new) }
+    ensures pays { OnOk result (Pays page.old page.new) }
+    ensures quiet { OnOk result (is_code_point symbol ≡ false → (h : Handed) → IsBuilt h page.old → page.new.ledger.kept ≡ []) }
+{
+    page.begin_call();
+    'steps: loop {
+        page.count_steps(1);
+        match step(page, token, symbol)? {
+            Outcome::Done => {
+                settle(page);
+                return Ok(());
+            }
+            Outcome::Reprocess => {}
+        }
+    }
+}
+
+/// Leaves a mode to which nothing that was seen leads.
+#[tactic(auto, using(crate::proofs::Settled::step_rules))]
+fn settle(page: &mut Construction)
+    requires fits { Fits page.old }
+    ensures rest { page.new ≡ record page.old { mode = page.new.mode } }
+    ensures keeps { Keeps page.old page.new }
+    ensures fits { Fits page.new }
+    ensures top { top_rank page.new.mode ≤ top_rank page.old.mode }
+{
+    if is_unfounded(page) {
+        page.set_mode(Mode::InBody);
+    }
+}
+
+/// One entry: the text of a table, what every mode drops, or the rules of the mode that is set.
+#[tactic(auto, using(crate::proofs::Settled::step_rules))]
+fn step(page: &mut Construction, token: &TokenKind, symbol: Symbol) -> Result<Outcome, Refusal>
+    requires symbol { symbol_of token.now ≡ symbol }
+    requires fits { Fits page.old }
+    ensures fits { OnOk result (Fits page.new) }
+    ensures takes { IfOk result (λ o. Steps o token.now page.old page.new) }
+    ensures falls { IfOk result (λ o. Falls o symbol page.old page.new) }
+    ensures spends { OnOk result (Spends 2 page.old page.new) }
+    ensures settles { IfOk result (λ o. Settles o symbol page.old page.new) }
+{
+    if is_table_text(page.mode()) {
+        let outcome = in_table_text(page, token, symbol)?;
+        return Ok(outcome);
+    }
+    if let Some(cause) = page.must_drop(symbol) {
+        page.drop_token(token, symbol, cause)?;
+        return Ok(Outcome::Done);
+    }
+    if is_astray(page, symbol) {
+        page.set_mode(Mode::InBody);
+        return Ok(Outcome::Reprocess);
+    }
+    let outcome = rules(page, token, symbol)?;
+    Ok(outcome)
+}
+
+/// The rules of the mode that is set.
+#[tactic(auto, using(crate::proofs::Settled::rules_rules))]
+fn rules(page: &mut Construction, token: &TokenKind, symbol: Symbol) -> Result<Outcome, Refusal>
+    requires symbol { symbol_of token.now ≡ symbol }
+    requires fits { Fits page.old }
+    requires quiet { page.old.ledger.kept ≡ [] }
+    requires free { IsTrue (is_free page.old.ledger.history symbol) }
+    requires other { is_table_text page.old.mode ≡ false }
+    requires select { is_droppable symbol ≡ true → is_of_selects page.old.mode ≡ true → may_select page.old.ledger.history ≡ true }
+    requires frameset { is_droppable symbol ≡ true → is_of_frames page.old.mode ≡ true → page.old.ledger.history.frameset ≡ true }
+    ensures fits { OnOk result (Fits page.new) }
+    ensures takes { IfOk result (λ o. Steps o token.now page.old page.new) }
+    ensures falls { IfOk result (λ o. Falls o symbol page.old page.new) }
+    ensures spends { OnOk result (Spends 2 page.old page.new) }
+    ensures settles { IfOk result (λ o. Settles o symbol page.old page.new) }
+{
+    match page.mode() {
+        Mode::Initial => initial(page, token, symbol),
+        Mode::BeforeHtml => before_html(page, token, symbol),
+        Mode::BeforeHead => before_head(page, token, symbol),
+        Mode::InHead => in_head(page, token, symbol),
+        Mode::InHeadNoscript => in_head_noscript(page, token, symbol),
+        Mode::AfterHead => after_head(page, token, symbol),
+        Mode::InBody => in_body(page, token, symbol),
+        Mode::Text => text(page, token, symbol),
+        Mode::InTable => in_table(page, token, symbol),
+        Mode::InTableText => in_table_text(page, token, symbol),
+        Mode::InCaption => in_caption(page, token, symbol),
+        Mode::InColumnGroup => in_column_group(page, token, symbol),
+        Mode::InTableBody => in_table_body(page, token, symbol),
+        Mode::InRow => in_row(page, token, symbol),
+        Mode::InCell => in_cell(page, token, symbol),
+        Mode::InSelect => in_select(page, token, symbol),
+        Mode::InSelectInTable => in_select_in_table(page, token, symbol),
+        Mode::InTemplate => in_template(page, token, symbol),
+        Mode::AfterBody => after_body(page, token, symbol),
+        Mode::InFrameset => in_frameset(page, token, symbol),
+        Mode::AfterFrameset => after_frameset(page, token, symbol),
+        Mode::AfterAfterBody => after_after_body(page, token, symbol),
+        Mode::AfterAfterFrameset => after_after_frameset(page, token, symbol),
+    }
+}

@@ -1,0 +1,110 @@
+// Text that is taken in runs (13.2.6.1).
+ghost use Rattle.std.specs.Prelude.{◌≡◌, ◌<◌, ◌≤◌, ◌==◌, IfOk, OnOk, IsTrue, length, true, false, take, Some};
+ghost use Rattle.html_ledger.specs.Flags.{may_text_run};
+ghost use Rattle.html_construction.specs.Built.{Takes, TakesRun};
+ghost use Rattle.html_modes.specs.Fitting.{Fits, is_loose};
+ghost use Rattle.html_ledger.specs.Flags.{is_not_null};
+ghost use Rattle.html_modes.specs.Guards.{is_text, takes_runs};
+ghost use Rattle.std.specs.List.{list_all};
+ghost use Rattle.std.specs.Prelude.{ℕ, slice_get};
+
+use crate::guards::{is_text, takes_run};
+use crate::modes::body_start::body_run;
+use crate::process::take;
+use html_construction::{Construction, Refusal};
+use html_ledger::Symbol;
+use html_tokens::TokenKind;
+
+/// Takes a front of a text that isn't empty, and answers its length: a run where the mode takes one, else one code point.
+pub(crate) fn take_front(page: &mut Construction, text: &[char]) -> Result<usize, Refusal>
+    requires fits { Fits page.old }
+    requires some { 0 < length text.now }
+    ensures fits { OnOk result (Fits page.new) }
+    ensures takes { IfOk result (λ n. TakesRun (take n text.now) page.old page.new) }
+    ensures count { IfOk result (λ n. (0 < n) × (n ≤ length text.now)) }
+{
+    if takes_run(page, text[0]) {
+        let end = null_index(text);
+        let count = take_run(page, &text[..end])?;
+        return Ok(count);
+    }
+    take_char(page, text[0])?;
+    Ok(1)
+}
+
+/// Takes one code point.
+fn take_char(page: &mut Construction, c: char) -> Result<(), Refusal>
+    requires fits { Fits page.old }
+    ensures fits { OnOk result (Fits page.new) }
+    ensures takes { OnOk result (Takes (TokenKind.Char c) page.old page.new) }
+{
+    let token = TokenKind::Char(c);
+    take(page, &token, Symbol::Char(c))?;
+    Ok(())
+}
+
+/// Takes the longest front of a run that the limits take.
+#[tactic(auto, using(crate::proofs::Settled::run_rules))]
+fn take_run(page: &mut Construction, run: &[char]) -> Result<usize, Refusal>
+    requires fits { Fits page.old }
+    requires mode { takes_runs page.old.mode ≡ true }
+    requires some { 0 < length run.now }
+    requires may { IsTrue (may_text_run page.old.ledger.history run.now) }
+    ensures fits { OnOk result (Fits page.new) }
+    ensures takes { IfOk result (λ n. TakesRun (take n run.now) page.old page.new) }
+    ensures count { IfOk result (λ n. (0 < n) × (n ≤ length run.now)) }
+{
+    if is_text(page.mode()) {
+        let count = take_text_run(page, run)?;
+        return Ok(count);
+    }
+    let count = take_body_run(page, run)?;
+    Ok(count)
+}
+
+/// The same, in the mode text.
+#[tactic(auto, using(crate::proofs::Settled::run_rules))]
+fn take_text_run(page: &mut Construction, run: &[char]) -> Result<usize, Refusal>
+    requires fits { Fits page.old }
+    requires mode { is_text page.old.mode ≡ true }
+    requires some { 0 < length run.now }
+    requires may { IsTrue (may_text_run page.old.ledger.history run.now) }
+    ensures fits { OnOk result (Fits page.new) }
+    ensures takes { IfOk result (λ n. TakesRun (take n run.now) page.old page.new) }
+    ensures count { IfOk result (λ n. (0 < n) × (n ≤ length run.now)) }
+{
+    page.begin_call();
+    let count = page.insert_run(run)?;
+    page.count_steps(count);
+    Ok(count)
+}
+
+/// The same, in modes that go by the rules of the body.
+#[tactic(auto, using(crate::proofs::Settled::run_rules))]
+fn take_body_run(page: &mut Construction, run: &[char]) -> Result<usize, Refusal>
+    requires fits { Fits page.old }
+    requires loose { is_loose page.old.mode ≡ true }
+    requires some { 0 < length run.now }
+    requires may { IsTrue (may_text_run page.old.ledger.history run.now) }
+    ensures fits { OnOk result (Fits page.new) }
+    ensures takes { IfOk result (λ n. TakesRun (take n run.now) page.old page.new) }
+    ensures count { IfOk result (λ n. (0 < n) × (n ≤ length run.now)) }
+{
+    page.begin_call();
+    let count = body_run(page, run)?;
+    page.count_steps(count);
+    Ok(count)
+}
+
+/// The index of the first U+0000, or the length.
+fn null_index(text: &[char]) -> usize
+    ensures visible { list_all is_not_null (take result text.now) ≡ true }
+    ensures most { result ≤ length text.now }
+    ensures some { (c : ℕ) → slice_get text.now 0 ≡ Some c → (c == 0) ≡ false → 0 < result }
+{
+    let mut index = 0;
+    'looking: while index < text.len() && text[index] != '\0' {
+        index += 1;
+    }
+    index
+}
