@@ -27,6 +27,7 @@ mod listing;
 mod merging;
 mod searching;
 mod text;
+mod whole;
 
 /// A tree under construction: its nodes, which of them are open, which are listed, and the element pointers.
 #[derive(Drop)]

@@ -1,0 +1,70 @@
+// What tree construction remembers besides its tree and its ledger.
+
+use crate::context::Context;
+use crate::mode::Mode;
+use html_names::Tag;
+use std::alloc::Global;
+
+/// The rules for a token under way.
+#[derive(Clone, Copy, Debug)]
+pub(crate) struct Call {
+    /// The mode in which they began.
+    pub began: Mode,
+    /// How many elements were open, and how many nodes there were, when they came to the token itself.
+    pub depth: usize,
+    pub nodes: u64,
+}
+
+/// The registers of tree construction (13.2.4.1, 13.2.4.5).
+#[derive(Drop)]
+pub(crate) struct Registers {
+    pub mode: Mode,
+    /// The mode to come back to from text and from table text: the original insertion mode.
+    pub original: Mode,
+    /// The stack of template insertion modes.
+    pub template_modes: Vec<Mode>,
+    /// The name of the element around a fragment.
+    pub context: Option<Tag>,
+    pub quirks: bool,
+    /// The frameset-ok flag.
+    pub frameset_ok: bool,
+    /// Whether what can't stand in a table is put before it: foster parenting.
+    pub fostering: bool,
+    /// The form element pointer is at a form around the fragment.
+    pub outer_form: bool,
+    pub call: Call,
+    /// Whether a token was refused.
+    pub stopped: bool,
+}
+
+impl Registers {
+    /// Before the first token of a document.
+    pub(crate) fn document(alloc: Global) -> Registers {
+        Registers::new(alloc, None, false, false)
+    }
+
+    /// Before the first token of a fragment; the mode is set by the context later on.
+    pub(crate) fn fragment(alloc: Global, context: &Context) -> Registers {
+        let tag = context.tag();
+        Registers::new(alloc, Some(tag), context.quirks, context.has_form())
+    }
+
+    fn new(alloc: Global, context: Option<Tag>, quirks: bool, outer_form: bool) -> Registers {
+        Registers {
+            mode: Mode::Initial,
+            original: Mode::Initial,
+            template_modes: Vec::new(alloc),
+            context,
+            quirks,
+            frameset_ok: true,
+            fostering: false,
+            outer_form,
+            call: Call {
+                began: Mode::Initial,
+                depth: 0,
+                nodes: 0,
+            },
+            stopped: false,
+        }
+    }
+}

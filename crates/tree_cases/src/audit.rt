@@ -1,0 +1,111 @@
+// What became of each token, and how large a page is.
+
+use crate::page::Page;
+use html_arena::NodeId;
+use html_ledger::{Cause, Fate};
+use html_tokens::TokenKind;
+use std::alloc::{AllocError, Global};
+
+/// A line for each token: its span, what it is, and its fate; a line for each error; and the counts.
+pub fn audit_text(alloc: Global, page: &Page) -> Result<String, AllocError> {
+    let mut out = String::new(alloc);
+    for (index, token) in page.tokens.iter().enumerate() {
+        let start = token.span.start;
+        let end = token.span.end;
+        write!(out, "{start} {end} ")?;
+        print_kind(&mut out, &token.kind)?;
+        match page.fates.get(index) {
+            Some(fate) => print_fate(&mut out, *fate)?,
+            None => writeln!(out, " no fate")?,
+        }
+    }
+    for number in &page.errors {
+        match page.tokens.get(*number as usize) {
+            Some(token) => {
+                let place = token.span.start;
+                writeln!(out, "{place} tree-construction")?;
+            }
+            None => writeln!(out, "no token")?,
+        }
+    }
+    print_counts(&mut out, page)?;
+    Ok(out)
+}
+
+/// The counts, and the steps.
+pub fn counts_text(alloc: Global, page: &Page) -> Result<String, AllocError> {
+    let mut out = String::new(alloc);
+    print_counts(&mut out, page)?;
+    let steps = page.arena.meter().steps;
+    writeln!(out, "steps {steps}")?;
+    Ok(out)
+}
+
+fn print_counts(out: &mut String, page: &Page) -> Result<(), AllocError> {
+    let count = page.count;
+    let tokens = page.tokens.len();
+    let fates = page.fates.len();
+    let nodes = page.arena.len();
+    let held = page.arena.held();
+    let mut clones = 0;
+    for index in 0..nodes as usize {
+        if page.arena.is_clone(NodeId::at(index)) {
+            clones += 1;
+        }
+    }
+    writeln!(
+        out,
+        "n {count}\ntokens {tokens}\nnodes {nodes}\nclones {clones}\nheld {held}"
+    )?;
+    let steps = page.arena.meter().steps;
+    let most = 1024 * (count as u128 + 32) * (count as u128 + 32) * (count as u128 + 32);
+    if steps > most || tokens != fates {
+        writeln!(out, "too many steps or fates: {steps}, {fates}")?;
+    }
+    Ok(())
+}
+
+fn print_kind(out: &mut String, kind: &TokenKind) -> Result<(), AllocError> {
+    match kind {
+        TokenKind::Start { name, .. } => write!(out, "start {name}"),
+        TokenKind::End { name } => write!(out, "end {name}"),
+        TokenKind::Char(c) => {
+            let code = *c as u32;
+            write!(out, "char U+{code:04X}")
+        }
+        TokenKind::Comment(_) => write!(out, "comment"),
+        TokenKind::Doctype { .. } => write!(out, "doctype"),
+        TokenKind::Eof => write!(out, "eof"),
+    }
+}
+
+fn print_fate(out: &mut String, fate: Fate) -> Result<(), AllocError> {
+    match fate {
+        Fate::Made(node) => {
+            let number = node.index();
+            writeln!(out, " made {number}")
+        }
+        Fate::Merged => writeln!(out, " merged"),
+        Fate::Text(node) => {
+            let number = node.index();
+            writeln!(out, " text {number}")
+        }
+        Fate::Dropped(cause) => {
+            let name = name_of(cause);
+            writeln!(out, " dropped {name}")
+        }
+        Fate::Ended => writeln!(out, " ended"),
+    }
+}
+
+fn name_of(cause: Cause) -> &'static str {
+    match cause {
+        Cause::PrologSpace => "PrologSpace",
+        Cause::Null => "Null",
+        Cause::LeadingNewline => "LeadingNewline",
+        Cause::InSelect => "InSelect",
+        Cause::InFrameset => "InFrameset",
+        Cause::Misplaced => "Misplaced",
+        Cause::InColumnGroup => "InColumnGroup",
+    }
+}
