@@ -1,12 +1,12 @@
 // A file of cases, run and counted.
 
 use crate::dat::{Case, cases_of};
-use crate::page::{PageFault, Reading, page_of};
+use crate::page::{Ask, Reading, page_of};
 use crate::tree::tree_text;
 use anyhow::Result;
 use html_arena::NodeId;
 use html_charref::EntityTable;
-use html_modes::BuildError;
+use html_parser::ParseError;
 
 /// How a case went.
 #[derive(Clone, Copy)]
@@ -58,11 +58,11 @@ fn run_case(
     if case.script_on || is_foreign(context) {
         return Ok(Outcome::Skipped);
     }
-    let tree = match page_of(rt.alloc(), table, reading, context, case.input) {
+    let tree = match page_of(rt.alloc(), table, reading, Ask::of(context), case.input) {
         Ok(page) => tree_text(rt.alloc(), &page.arena, NodeId::at(0))?,
-        Err(PageFault::Build(BuildError::ForeignContent { .. })) => return Ok(Outcome::Skipped),
+        Err(ParseError::ForeignContent { .. }) => return Ok(Outcome::Skipped),
         Err(fault) => {
-            println!(rt; "case {number} failed: {fault:?}")?;
+            println!(rt; "case {number} failed: {fault}")?;
             return Ok(Outcome::Failed);
         }
     };

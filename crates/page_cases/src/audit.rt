@@ -1,48 +1,55 @@
 // What became of each token, and how large a page is.
 
-use crate::page::Page;
 use html_arena::NodeId;
-use html_ledger::{Cause, Fate};
-use html_tokens::TokenKind;
+use html_parser::{Cause, Fate, Page, TokenRef};
+use html_tokens::{Span, TokenKind};
 use std::alloc::{AllocError, Global};
 
 /// A line for each token: its span, what it is, and its fate; a line for each error; and the counts.
 pub fn audit_text(alloc: Global, page: &Page) -> Result<String, AllocError> {
     let mut out = String::new(alloc);
-    for (index, token) in page.tokens.iter().enumerate() {
-        let start = token.span.start;
-        let end = token.span.end;
-        write!(out, "{start} {end} ")?;
-        print_kind(&mut out, &token.kind)?;
-        match page.fates.get(index) {
-            Some(fate) => print_fate(&mut out, *fate)?,
+    let mut fates = page.fates.iter();
+    for token in page.tokens.iter() {
+        print_token(&mut out, token)?;
+        match fates.next() {
+            Some(fate) => print_fate(&mut out, fate)?,
             None => writeln!(out, " no fate")?,
         }
     }
-    for number in &page.errors {
-        match page.tokens.get(*number as usize) {
-            Some(token) => {
-                let place = token.span.start;
-                writeln!(out, "{place} tree-construction")?;
-            }
-            None => writeln!(out, "no token")?,
-        }
+    for error in &page.errors {
+        let place = error.place;
+        let name = error.name;
+        writeln!(out, "{place} {name}")?;
     }
     print_counts(&mut out, page)?;
     Ok(out)
 }
-
 /// The counts, and the steps.
 pub fn counts_text(alloc: Global, page: &Page) -> Result<String, AllocError> {
     let mut out = String::new(alloc);
     print_counts(&mut out, page)?;
-    let steps = page.arena.meter().steps;
+    let steps = page.steps;
     writeln!(out, "steps {steps}")?;
     Ok(out)
 }
 
+fn print_token(out: &mut String, token: TokenRef<'_>) -> Result<(), AllocError> {
+    match token {
+        TokenRef::Char { c, place } => {
+            let end = place + 1;
+            write!(out, "{place} {end} ")?;
+            print_kind(out, &TokenKind::Char(c))
+        }
+        TokenRef::Other(token) => {
+            let Span { start, end } = token.span;
+            write!(out, "{start} {end} ")?;
+            print_kind(out, &token.kind)
+        }
+    }
+}
+
 fn print_counts(out: &mut String, page: &Page) -> Result<(), AllocError> {
-    let count = page.count;
+    let count = page.n;
     let tokens = page.tokens.len();
     let fates = page.fates.len();
     let nodes = page.arena.len();
@@ -57,7 +64,7 @@ fn print_counts(out: &mut String, page: &Page) -> Result<(), AllocError> {
         out,
         "n {count}\ntokens {tokens}\nnodes {nodes}\nclones {clones}\nheld {held}"
     )?;
-    let steps = page.arena.meter().steps;
+    let steps = page.steps;
     let most = 1024 * (count as u128 + 32) * (count as u128 + 32) * (count as u128 + 32);
     if steps > most || tokens != fates {
         writeln!(out, "too many steps or fates: {steps}, {fates}")?;

@@ -1,0 +1,107 @@
+//! A page from a reader.
+
+use crate::error::ParseError;
+use crate::page::{Page, Tree};
+use crate::parser::Parser;
+use crate::tree_parser::TreeParser;
+use html_charref::EntityTable;
+use html_device::{FeedAllError, Pieces, Source, feed_all};
+use std::alloc::Global;
+
+/// The page of all that a reader has. Any fault of the reader is `Read`, an interruption too.
+///
+/// # Errors
+///
+/// `Read` where the reader failed; those of `Parser::feed`.
+pub fn parse_from<S: Source>(
+    alloc: Global,
+    table: &EntityTable,
+    reader: &mut S,
+) -> Result<Page, ParseError> {
+    let mut parser = Parser::document(alloc, table)?;
+    parser.feed_from(reader)?;
+    parser.finish()
+}
+
+/// The tree of all that a reader has, without its ledger. Any fault of the reader is `Read`, an interruption too.
+///
+/// # Errors
+///
+/// Those of `parse_from`.
+pub fn parse_tree_from<S: Source>(
+    alloc: Global,
+    table: &EntityTable,
+    reader: &mut S,
+) -> Result<Tree, ParseError> {
+    let parser = Parser::document(alloc, table)?;
+    let mut parser = parser.without_ledger();
+    parser.feed_from(reader)?;
+    parser.finish()
+}
+
+impl Parser<'_> {
+    /// Takes all that a reader has, by a parser that was fed nothing.
+    ///
+    /// # Errors
+    ///
+    /// `Read` where the reader failed; those of `feed`.
+    pub fn feed_from<S: Source>(&mut self, reader: &mut S) -> Result<(), ParseError> {
+        told(feed_all(reader, self))
+    }
+}
+
+impl TreeParser<'_> {
+    /// Takes all that a reader has, by a parser that was fed nothing.
+    ///
+    /// # Errors
+    ///
+    /// `Read` where the reader failed; those of `feed`.
+    pub fn feed_from<S: Source>(&mut self, reader: &mut S) -> Result<(), ParseError> {
+        told(feed_all(reader, self))
+    }
+}
+
+/// How feeding ended, in the parser's words.
+fn told(outcome: Result<(), FeedAllError<ParseError>>) -> Result<(), ParseError> {
+    match outcome {
+        Ok(()) => Ok(()),
+        Err(FeedAllError::Read) => Err(ParseError::Read),
+        Err(FeedAllError::Refused(error)) => Err(error),
+    }
+}
+
+impl Pieces for Parser<'_> {
+    ghost use Rattle.html_parser.specs.Start.{Start as StartType};
+    ghost use Rattle.html_parser.specs.Fed.{IsFed};
+    ghost use Rattle.html_parser.specs.Causes.{IsFeedCause};
+
+    type Refusal = ParseError;
+
+    ghost Start = { StartType };
+
+    ghost Fed = { λ start parser bytes. IsFed start parser.stages bytes };
+
+    ghost Refuses = { λ start bytes error. IsFeedCause start bytes error };
+
+    fn feed(&mut self, piece: &[u8]) -> Result<(), ParseError> {
+        Parser::feed(self, piece)
+    }
+}
+
+impl Pieces for TreeParser<'_> {
+    ghost use Rattle.html_parser.specs.Start.{Start as StartType};
+    ghost use Rattle.html_parser.specs.Fed.{IsFed};
+    ghost use Rattle.html_parser.specs.Causes.{IsFeedCause};
+
+    type Refusal = ParseError;
+
+    ghost Start = { StartType };
+
+    ghost Fed = { λ start parser bytes. IsFed start parser.stages bytes };
+
+    ghost Refuses = { λ start bytes error. IsFeedCause start bytes error };
+
+    fn feed(&mut self, piece: &[u8]) -> Result<(), ParseError> {
+        TreeParser::feed(self, piece)
+    }
+}
