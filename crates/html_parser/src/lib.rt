@@ -4,6 +4,7 @@
 
 mod error;
 mod faults;
+mod normalising;
 mod page;
 mod parser;
 mod parsing;
@@ -14,13 +15,16 @@ mod tree_parser;
 
 pub use error::ParseError;
 pub use faults::{PageFault, PageFaultName};
-pub use html_arena::{Arena, Limits, NodeId};
-pub use html_charref::EntityTable;
-pub use html_device::Source;
+pub use html_arena::{Arena, Kind, Limits, NodeData, NodeId};
+pub use html_charref::{EntityError, EntityTable, Str};
+pub use html_device::{DeviceFault, FailAt, OverRead, OverWrite, Sink, Source};
+pub use html_input::LIMIT;
 pub use html_ledger::{Cause, Fate, Fates};
 pub use html_modes::{Context, Foreign};
+pub use html_page::Profile;
 pub use html_token_list::{TokenRef, Tokens};
-pub use page::{Page, Tree};
+pub use normalising::normalise;
+pub use page::{Page, Tree, serialise};
 pub use parser::Parser;
 pub use parsing::{parse, parse_fragment, parse_tree, parse_within};
 pub use reading::{parse_from, parse_tree_from};

@@ -1,8 +1,11 @@
 //! What parsing gives.
 
+use crate::error::ParseError;
 use crate::faults::PageFault;
 use html_arena::{Arena, NodeId};
+use html_device::{DeviceFault, Sink};
 use html_ledger::Fates;
+use html_page::{Profile, serialise_tree};
 use html_token_list::Tokens;
 
 /// A page with its ledger.
@@ -39,4 +42,32 @@ pub struct Tree {
     pub n: u64,
     /// The counted steps of the tokenizer and of tree construction, up to the greatest number of 128 bits.
     pub steps: u128,
+}
+
+/// Writes the trees below the root of a page, as text in UTF-8. It takes no memory, and goes through the nodes by their links.
+///
+/// # Errors
+///
+/// `Write` where the writer failed, or took no bytes. A front of the text was written then.
+pub fn serialise<W: Sink>(page: &Page, profile: Profile, writer: &mut W) -> Result<(), ParseError> {
+    written(serialise_tree(&page.arena, page.root, profile, writer))
+}
+
+impl Tree {
+    /// Writes the trees below the root, as `serialise` does for a page.
+    ///
+    /// # Errors
+    ///
+    /// Those of `serialise`.
+    pub fn serialise<W: Sink>(&self, profile: Profile, writer: &mut W) -> Result<(), ParseError> {
+        written(serialise_tree(&self.arena, self.root, profile, writer))
+    }
+}
+
+/// What a failed write is for the caller.
+fn written(answer: Result<(), DeviceFault>) -> Result<(), ParseError> {
+    match answer {
+        Ok(()) => Ok(()),
+        Err(DeviceFault) => Err(ParseError::Write),
+    }
 }
