@@ -42,18 +42,33 @@ pub enum ParseError {
 }
 
 impl From<AllocError> for ParseError {
+    ghost use Rattle.std.specs.Prelude.{◌≡◌};
+    ghost use Rattle.html_parser.specs.declared.error.ParseError.TheVariants.{OutOfMemory};
+
+    ghost from_gives = { λ _ e. e ≡ OutOfMemory };
+
     fn from(_error: AllocError) -> Self {
         ParseError::OutOfMemory
     }
 }
 
 impl<T: Drop> From<AllocFailed<T>> for ParseError {
+    ghost use Rattle.std.specs.Prelude.{◌≡◌};
+    ghost use Rattle.html_parser.specs.declared.error.ParseError.TheVariants.{OutOfMemory};
+
+    ghost from_gives = { λ _ e. e ≡ OutOfMemory };
+
     fn from(_error: AllocFailed<T>) -> Self {
         ParseError::OutOfMemory
     }
 }
 
 impl From<InputError> for ParseError {
+    ghost use Rattle.std.specs.Prelude.{◌≡◌};
+    ghost use Rattle.html_parser.specs.Causes.{input_cause};
+
+    ghost from_gives = { λ e f. f ≡ input_cause e };
+
     fn from(error: InputError) -> Self {
         match error {
             InputError::OutOfMemory => ParseError::OutOfMemory,
@@ -64,6 +79,11 @@ impl From<InputError> for ParseError {
 }
 
 impl From<TokenError> for ParseError {
+    ghost use Rattle.std.specs.Prelude.{◌≡◌};
+    ghost use Rattle.html_parser.specs.Causes.{token_cause};
+
+    ghost from_gives = { λ e f. f ≡ token_cause e };
+
     fn from(error: TokenError) -> Self {
         match error {
             TokenError::OutOfMemory => ParseError::OutOfMemory,
@@ -73,6 +93,11 @@ impl From<TokenError> for ParseError {
 }
 
 impl From<BuildError> for ParseError {
+    ghost use Rattle.std.specs.Prelude.{◌≡◌};
+    ghost use Rattle.html_parser.specs.Causes.{build_cause};
+
+    ghost from_gives = { λ e f. f ≡ build_cause e };
+
     fn from(error: BuildError) -> Self {
         match error {
             BuildError::OutOfMemory => ParseError::OutOfMemory,

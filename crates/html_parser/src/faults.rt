@@ -1,5 +1,8 @@
 //! The parse errors of a page.
 
+ghost use Rattle.std.specs.Prelude.{◌≡◌, ◌≤◌, ◌++◌, IfOk, OnOk, drop, length, map};
+ghost use Rattle.html_parser.specs.Faults.{construction_fault, fault_list, front_below, places_of, rest_from, told_fault};
+
 use crate::starts::Starts;
 use html_tokens::{Fault, FaultName};
 use std::alloc::{AllocError, Global};
@@ -38,42 +41,70 @@ pub(crate) fn merged(
     told: &[Fault],
     numbers: &[u64],
     starts: &Starts,
-) -> Result<Vec<PageFault>, AllocError> {
+) -> Result<Vec<PageFault>, AllocError>
+    ensures list { IfOk result (λ v. v.items ≡ fault_list told.now (places_of starts.now numbers.now)) }
+{
     let mut faults = Vec::new(alloc);
-    let mut rest = told;
-    'numbers: for number in numbers {
-        if let Some(place) = starts.get(*number) {
-            let count = front_up_to(rest, place);
-            push_told(&mut faults, &rest[..count])?;
-            rest = &rest[count..];
-            faults.push(PageFault {
-                name: PageFaultName::TreeConstruction,
-                place,
-            })?;
-        }
+    let mut rest = numbers;
+    'told: for fault in told {
+        let count = push_before(&mut faults, rest, starts, fault.place)?;
+        rest = &rest[count..];
+        faults.push(of_tokenizer(*fault))?;
     }
-    push_told(&mut faults, rest)?;
+    push_all(&mut faults, rest, starts)?;
     Ok(faults)
 }
 
-/// How many errors at the front stand at this place or before it.
-fn front_up_to(told: &[Fault], place: u64) -> usize {
-    let mut count = 0;
-    'front: while count < told.len() && told[count].place <= place {
-        count += 1;
+/// An error of the tokenizer.
+fn of_tokenizer(fault: Fault) -> PageFault
+    ensures value { result ≡ told_fault fault }
+{
+    let Fault { name, place } = fault;
+    PageFault {
+        name: PageFaultName::Tokenizer(name),
+        place,
     }
-    count
 }
 
-/// Adds errors of the tokenizer.
-fn push_told(faults: &mut Vec<PageFault>, told: &[Fault]) -> Result<(), AllocError> {
-    faults.reserve(told.len())?;
-    'told: for fault in told {
-        let Fault { name, place } = *fault;
-        faults.push(PageFault {
-            name: PageFaultName::Tokenizer(name),
-            place,
-        })?;
+/// An error of tree construction.
+fn of_construction(place: u64) -> PageFault
+    ensures value { result ≡ construction_fault place }
+{
+    PageFault {
+        name: PageFaultName::TreeConstruction,
+        place,
+    }
+}
+
+/// Adds an error for each token at the front that begins before a place, and answers how many.
+fn push_before(
+    faults: &mut Vec<PageFault>,
+    numbers: &[u64],
+    starts: &Starts,
+    place: u64,
+) -> Result<usize, AllocError>
+    ensures count { IfOk result (λ k. k ≤ length numbers.now) }
+    ensures added { OnOk result (faults.new.items ≡ faults.old.items ++ map construction_fault (front_below place (places_of starts.now numbers.now))) }
+    ensures rest { IfOk result (λ k. places_of starts.now (drop k numbers.now) ≡ rest_from place (places_of starts.now numbers.now)) }
+{
+    let mut count = 0;
+    'front: while count < numbers.len() {
+        let start = starts.at(numbers[count]);
+        if start >= place {
+            return Ok(count);
+        }
+        faults.push(of_construction(start))?;
+        count += 1;
+    }
+    Ok(count)
+}
+
+/// Adds an error for each token.
+fn push_all(faults: &mut Vec<PageFault>, numbers: &[u64], starts: &Starts) -> Result<(), AllocError>
+    ensures added { OnOk result (faults.new.items ≡ faults.old.items ++ map construction_fault (places_of starts.now numbers.now)) }
+{
+    'numbers: for number in numbers {
+        faults.push(of_construction(starts.at(*number)))?;
     }
     Ok(())
 }

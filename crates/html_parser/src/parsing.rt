@@ -1,5 +1,14 @@
 //! A page from its bytes.
 
+ghost use Rattle.std.specs.Prelude.{◌≡◌, ◌≢◌, ◌<◌, ◌≤◌, ◌⊎◌, ℕ, [], List, None, Some, IfErr, IfOk, OnErr, OnOk, length, min};
+ghost use Rattle.html_input.specs.Decode.{code_points};
+ghost use Rattle.html_input.specs.declared.decoder.TheConstants.{LIMIT};
+ghost use Rattle.html_modes.specs.Contexts.{IsGood};
+ghost use Rattle.html_parser.specs.Causes.{IsCause};
+ghost use Rattle.html_parser.specs.Fed.{IsFed, KeepsTokens};
+ghost use Rattle.html_parser.specs.Parsed.{IsPageOf, IsTreeOf};
+ghost use Rattle.html_parser.specs.Start.{Start, document_start, fragment_start, most_input};
+
 use crate::error::ParseError;
 use crate::page::{Page, Tree};
 use crate::parser::Parser;
@@ -14,7 +23,11 @@ use std::alloc::Global;
 /// # Errors
 ///
 /// Those of `Parser::feed`.
-pub fn parse(alloc: Global, table: &EntityTable, bytes: &[u8]) -> Result<Page, ParseError> {
+pub fn parse(alloc: Global, table: &EntityTable, bytes: &[u8]) -> Result<Page, ParseError>
+    ensures page { IfOk result (IsPageOf (document_start table.now None) bytes.now) }
+    ensures cause { IfErr result (IsCause (document_start table.now None) bytes.now) }
+    ensures within { IfErr result (λ e. e ≢ ParseError.InputTooLong → length (code_points bytes.now) ≤ LIMIT) }
+{
     check_length(bytes, LIMIT)?;
     let parser = Parser::document(alloc, table)?;
     page_of(parser, bytes)
@@ -30,7 +43,12 @@ pub fn parse_within(
     table: &EntityTable,
     limits: Limits,
     bytes: &[u8],
-) -> Result<Page, ParseError> {
+) -> Result<Page, ParseError>
+    ensures page { IfOk result (IsPageOf (document_start table.now (Some limits)) bytes.now) }
+    ensures cause { IfErr result (λ e. IsCause (document_start table.now (Some limits)) bytes.now e
+        ⊎ ((e ≡ ParseError.NodeBudget 0) × (limits.nodes < 1))) }
+    ensures within { IfErr result (λ e. e ≢ ParseError.InputTooLong → length (code_points bytes.now) ≤ min limits.code_points LIMIT) }
+{
     check_length(bytes, limits.code_points.min(LIMIT))?;
     let parser = Parser::document_within(alloc, table, limits)?;
     page_of(parser, bytes)
@@ -46,7 +64,12 @@ pub fn parse_fragment(
     table: &EntityTable,
     context: &Context,
     bytes: &[u8],
-) -> Result<Page, ParseError> {
+) -> Result<Page, ParseError>
+    ensures page { IfOk result (IsPageOf (fragment_start table.now context.now None) bytes.now) }
+    ensures good { OnOk result (IsGood context.now) }
+    ensures cause { IfErr result (λ e. IsCause (fragment_start table.now context.now None) bytes.now e
+        ⊎ ((e ≡ ParseError.BadContext) × (IsGood context.now → ⊥))) }
+{
     let parser = Parser::fragment(alloc, table, context)?;
     check_length(bytes, LIMIT)?;
     page_of(parser, bytes)
@@ -57,7 +80,11 @@ pub fn parse_fragment(
 /// # Errors
 ///
 /// Those of `parse`.
-pub fn parse_tree(alloc: Global, table: &EntityTable, bytes: &[u8]) -> Result<Tree, ParseError> {
+pub fn parse_tree(alloc: Global, table: &EntityTable, bytes: &[u8]) -> Result<Tree, ParseError>
+    ensures tree { IfOk result (IsTreeOf (document_start table.now None) bytes.now) }
+    ensures cause { IfErr result (IsCause (document_start table.now None) bytes.now) }
+    ensures within { IfErr result (λ e. e ≢ ParseError.InputTooLong → length (code_points bytes.now) ≤ LIMIT) }
+{
     check_length(bytes, LIMIT)?;
     let parser = Parser::document(alloc, table)?;
     let mut parser = parser.without_ledger();
@@ -66,13 +93,21 @@ pub fn parse_tree(alloc: Global, table: &EntityTable, bytes: &[u8]) -> Result<Tr
 }
 
 /// The page of an input by a parser that was fed nothing.
-fn page_of(mut parser: Parser<'_>, bytes: &[u8]) -> Result<Page, ParseError> {
+fn page_of(parser: Parser<'_>, bytes: &[u8]) -> Result<Page, ParseError>
+    ensures page { IfOk result (λ page. (start : Start) → IsFed start parser.entry.stages [] → KeepsTokens parser.entry.stages → IsPageOf start bytes.now page) }
+    ensures cause { IfErr result (λ e. (start : Start) → IsFed start parser.entry.stages [] → length (code_points bytes.now) ≤ most_input start
+        → IsCause start bytes.now e) }
+{
+    let mut parser = parser;
     parser.feed(bytes)?;
     parser.finish()
 }
 
 /// Refuses an input of more code points than the limit. A code point takes at least one byte.
-fn check_length(bytes: &[u8], limit: u64) -> Result<(), ParseError> {
+fn check_length(bytes: &[u8], limit: u64) -> Result<(), ParseError>
+    ensures within { OnOk result (length (code_points bytes.now) ≤ limit) }
+    ensures too_long { IfErr result (λ e. (e ≡ ParseError.InputTooLong) × (limit < length (code_points bytes.now))) }
+{
     if bytes.len() as u64 > limit && count_code_points(bytes) as u64 > limit {
         return Err(ParseError::InputTooLong);
     }

@@ -1,5 +1,11 @@
 //! A page from a reader.
 
+ghost use Rattle.std.specs.Prelude.{◌≡◌, ◌++◌, ◌⊎◌, ℕ, [], List, None, true, IfErr, IfOk, OnErr, OnOk};
+ghost use Rattle.std.specs.Io.KnownBytes.{Consumes, IsAtEnd};
+ghost use Rattle.html_parser.specs.Parsed.{IsPageOf, IsTreeOf};
+ghost use Rattle.html_parser.specs.Reading.{IsPieceCause, IsReaderCause};
+ghost use Rattle.html_parser.specs.Start.{Start, document_start};
+
 use crate::error::ParseError;
 use crate::page::{Page, Tree};
 use crate::parser::Parser;
@@ -17,7 +23,12 @@ pub fn parse_from<S: Source>(
     alloc: Global,
     table: &EntityTable,
     reader: &mut S,
-) -> Result<Page, ParseError> {
+) -> Result<Page, ParseError>
+    ensures page { IfOk result (λ page. (bytes : List ℕ) × Consumes (S.remaining reader.old) (S.remaining reader.new) bytes
+        × IsPageOf (document_start table.now None) bytes page) }
+    ensures end { OnOk result (IsAtEnd (S.remaining reader.new)) }
+    ensures cause { IfErr result (IsReaderCause (document_start table.now None) (S.remaining reader.old) (S.remaining reader.new) (S.failed reader.new)) }
+{
     let mut parser = Parser::document(alloc, table)?;
     parser.feed_from(reader)?;
     parser.finish()
@@ -32,7 +43,12 @@ pub fn parse_tree_from<S: Source>(
     alloc: Global,
     table: &EntityTable,
     reader: &mut S,
-) -> Result<Tree, ParseError> {
+) -> Result<Tree, ParseError>
+    ensures tree { IfOk result (λ tree. (bytes : List ℕ) × Consumes (S.remaining reader.old) (S.remaining reader.new) bytes
+        × IsTreeOf (document_start table.now None) bytes tree) }
+    ensures end { OnOk result (IsAtEnd (S.remaining reader.new)) }
+    ensures cause { IfErr result (IsReaderCause (document_start table.now None) (S.remaining reader.old) (S.remaining reader.new) (S.failed reader.new)) }
+{
     let parser = Parser::document(alloc, table)?;
     let mut parser = parser.without_ledger();
     parser.feed_from(reader)?;
@@ -40,23 +56,41 @@ pub fn parse_tree_from<S: Source>(
 }
 
 impl Parser<'_> {
+    ghost use Rattle.html_parser.specs.Fed.{IsFed};
+
     /// Takes all that a reader has, by a parser that was fed nothing.
     ///
     /// # Errors
     ///
     /// `Read` where the reader failed; those of `feed`.
-    pub fn feed_from<S: Source>(&mut self, reader: &mut S) -> Result<(), ParseError> {
+    pub fn feed_from<S: Source>(&mut self, reader: &mut S) -> Result<(), ParseError>
+        requires new { (start : Start) × IsFed start self.old.stages [] }
+        ensures fed { OnOk result ((bytes : List ℕ) × Consumes (S.remaining reader.old) (S.remaining reader.new) bytes
+            × ((start : Start) → IsFed start self.old.stages [] → IsFed start self.new.stages bytes)) }
+        ensures end { OnOk result (IsAtEnd (S.remaining reader.new)) }
+        ensures cause { IfErr result (λ e. (start : Start) → IsFed start self.old.stages []
+            → IsPieceCause start (S.remaining reader.old) (S.remaining reader.new) (S.failed reader.new) e) }
+    {
         told(feed_all(reader, self))
     }
 }
 
 impl TreeParser<'_> {
+    ghost use Rattle.html_parser.specs.Fed.{IsFed};
+
     /// Takes all that a reader has, by a parser that was fed nothing.
     ///
     /// # Errors
     ///
     /// `Read` where the reader failed; those of `feed`.
-    pub fn feed_from<S: Source>(&mut self, reader: &mut S) -> Result<(), ParseError> {
+    pub fn feed_from<S: Source>(&mut self, reader: &mut S) -> Result<(), ParseError>
+        requires new { (start : Start) × IsFed start self.old.stages [] }
+        ensures fed { OnOk result ((bytes : List ℕ) × Consumes (S.remaining reader.old) (S.remaining reader.new) bytes
+            × ((start : Start) → IsFed start self.old.stages [] → IsFed start self.new.stages bytes)) }
+        ensures end { OnOk result (IsAtEnd (S.remaining reader.new)) }
+        ensures cause { IfErr result (λ e. (start : Start) → IsFed start self.old.stages []
+            → IsPieceCause start (S.remaining reader.old) (S.remaining reader.new) (S.failed reader.new) e) }
+    {
         told(feed_all(reader, self))
     }
 }

@@ -1,5 +1,15 @@
 //! The stages of parsing, one behind the other: the decoder, the tokenizer, tree construction.
 
+ghost use Rattle.std.specs.Prelude.{◌≡◌, ◌≢◌, ◌↔◌, ◌++◌, ◌≤◌, ◌^◌, ◌⊎◌, ℕ, Bool, List, [], true, false, Err, IfErr, IfOk, OnErr, OnOk, length};
+ghost use Rattle.html_input.specs.Fed.{Fed as Decodes};
+ghost use Rattle.html_tokens.specs.Stream.{Run};
+ghost use Rattle.html_tokens.specs.declared.token.Token.{Token as TokenType};
+ghost use Rattle.html_modes.specs.Handed.{Handed, fates_of, is_stopped as builder_stopped};
+ghost use Rattle.html_parser.specs.Causes.{Anything, IsCause, IsFeedCause, Nothing};
+ghost use Rattle.html_parser.specs.Feeding.{AreHandedOn};
+ghost use Rattle.html_parser.specs.Parsed.{IsPageOf, IsTreeOf};
+ghost use Rattle.html_parser.specs.Start.{Start, most_input, text_start};
+
 use crate::error::ParseError;
 use crate::faults::merged;
 use crate::page::{Page, Tree};
@@ -33,6 +43,8 @@ pub(crate) struct Stages<'a> {
 }
 
 impl<'a> Stages<'a> {
+    ghost use Rattle.html_parser.specs.Fed.{IsFed, IsRun, IsStopped, IsEnded, KeepsTokens};
+
     /// Stages that were fed nothing. The text begins to be read in this mode.
     pub(crate) fn new(
         alloc: Global,
@@ -40,7 +52,15 @@ impl<'a> Stages<'a> {
         decoder: Decoder,
         mode: TextMode,
         builder: Builder,
-    ) -> Result<Stages<'a>, ParseError> {
+    ) -> Result<Stages<'a>, ParseError>
+        requires builder { fates_of builder ≡ [] }
+        requires going { builder_stopped builder ≡ false }
+        ensures begun { IfOk result (λ p. (start : Start) → start.rows ≡ table.entry.now → start.mode ≡ mode
+            → Decodes (most_input start) false decoder [] [] → Handed start.setting start.limits [] builder → IsFed start p []) }
+        ensures keeps { IfOk result (λ p. KeepsTokens p) }
+        ensures empty { IfOk result (λ p. p.tokens ≡ []) }
+        ensures cause { IfErr result (λ e. e ≡ ParseError.OutOfMemory) }
+    {
         Ok(Stages {
             decoder,
             tokenizer: Tokenizer::new(alloc, table, mode, None)?,
@@ -56,17 +76,31 @@ impl<'a> Stages<'a> {
     }
 
     /// Keeps no more tokens.
-    pub(crate) fn keep_no_tokens(&mut self) {
+    pub(crate) fn keep_no_tokens(&mut self)
+        ensures fed { (start : Start) (bytes : List ℕ) → IsFed start self.old bytes → IsFed start self.new bytes }
+        ensures stopped { IsStopped self.new ↔ IsStopped self.old }
+    {
         self.keeps_tokens = false;
     }
 
     /// The tokens that were kept, all of which tree construction took.
-    pub(crate) fn tokens(&self) -> &Tokens {
+    pub(crate) fn tokens(&self) -> &Tokens
+        ensures value { result.now ≡ self.now.tokens }
+    {
         &self.tokens
     }
 
     /// Takes a piece of the input. After a refusal each later call answers `Stopped`.
-    pub(crate) fn feed(&mut self, piece: &[u8]) -> Result<(), ParseError> {
+    pub(crate) fn feed(&mut self, piece: &[u8]) -> Result<(), ParseError>
+        ensures fed { OnOk result ((start : Start) (bytes : List ℕ) → IsFed start self.old bytes → IsFed start self.new (bytes ++ piece.now)) }
+        ensures few { OnOk result ((start : Start) (bytes : List ℕ) → IsFed start self.old bytes → length (bytes ++ piece.now) ≤ 2 ^ 33) }
+        ensures keeps { OnOk result (KeepsTokens self.old → KeepsTokens self.new) }
+        ensures prompt { OnOk result ((start : Start) (bytes : List ℕ) → IsFed start self.old bytes → KeepsTokens self.old
+            → AreHandedOn start (bytes ++ piece.now) self.new.tokens) }
+        ensures cause { IfErr result (λ e. (start : Start) (bytes : List ℕ) → IsFed start self.old bytes → IsFeedCause start (bytes ++ piece.now) e) }
+        ensures refused { OnErr result (IsStopped self.new) }
+        ensures stopped { (result ≡ Err ParseError.Stopped) ↔ IsStopped self.old }
+    {
         if self.is_stopped {
             return Err(ParseError::Stopped);
         }
@@ -76,7 +110,12 @@ impl<'a> Stages<'a> {
     }
 
     /// Ends the input.
-    pub(crate) fn end(&mut self) -> Result<(), ParseError> {
+    pub(crate) fn end(&mut self) -> Result<(), ParseError>
+        ensures ended { OnOk result ((start : Start) (bytes : List ℕ) → IsFed start self.old bytes → IsEnded start self.new bytes) }
+        ensures keeps { OnOk result (KeepsTokens self.old → KeepsTokens self.new) }
+        ensures cause { IfErr result (λ e. (start : Start) (bytes : List ℕ) → IsFed start self.old bytes → IsCause start bytes e) }
+        ensures stopped { (result ≡ Err ParseError.Stopped) ↔ IsStopped self.old }
+    {
         if self.is_stopped {
             return Err(ParseError::Stopped);
         }
@@ -145,7 +184,11 @@ impl<'a> Stages<'a> {
     }
 
     /// What was made of an input that was ended.
-    pub(crate) fn into_page(self) -> Result<Page, ParseError> {
+    pub(crate) fn into_page(self) -> Result<Page, ParseError>
+        requires ended { (start : Start) × (bytes : List ℕ) × IsEnded start self.entry bytes }
+        ensures page { IfOk result (λ page. (start : Start) (bytes : List ℕ) → IsEnded start self.entry bytes → KeepsTokens self.entry → IsPageOf start bytes page) }
+        ensures cause { IfErr result (λ e. e ≡ ParseError.OutOfMemory) }
+    {
         let Stages {
             decoder,
             tokenizer,
@@ -170,7 +213,11 @@ impl<'a> Stages<'a> {
     }
 
     /// What was made of an input that was ended, without its ledger.
-    pub(crate) fn into_tree(self) -> Result<Tree, ParseError> {
+    pub(crate) fn into_tree(self) -> Result<Tree, ParseError>
+        requires ended { (start : Start) × (bytes : List ℕ) × IsEnded start self.entry bytes }
+        ensures tree { IfOk result (λ tree. (start : Start) (bytes : List ℕ) → IsEnded start self.entry bytes → IsTreeOf start bytes tree) }
+        ensures cause { IfErr result (λ e. e ≡ ParseError.OutOfMemory) }
+    {
         let Stages {
             decoder,
             tokenizer,

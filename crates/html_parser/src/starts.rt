@@ -1,6 +1,10 @@
 //! Where the tokens of a page begin.
 
+ghost use Rattle.std.specs.Prelude.{◌≡◌, ◌++◌, [], OnOk, OnErr, length, slice_index_or};
+ghost use Rattle.std.specs.List.{range_with_len};
+
 use std::alloc::{AllocError, Global};
+use std::marker::Model;
 
 /// Tokens of which each begins one place after the one before it: the number and the place of the first.
 #[derive(Clone, Copy, Debug)]
@@ -16,9 +20,22 @@ pub(crate) struct Starts {
     len: u64,
 }
 
+impl Model for Starts {
+    ghost use Rattle.std.specs.Prelude.{ℕ, List};
+    ghost use Rattle.html_parser.specs.Stretches.{AreStretches, starts_in};
+
+    ghost Value = { List ℕ };
+
+    ghost view = { λ s. starts_in s.stretches.items s.len };
+
+    ghost invariant = { λ s. AreStretches s.stretches.items s.len };
+}
+
 impl Starts {
     /// No places, which takes no memory.
-    pub(crate) fn new(alloc: Global) -> Starts {
+    pub(crate) fn new(alloc: Global) -> Starts
+        ensures value { result ≡ [] }
+    {
         Starts {
             stretches: Vec::new(alloc),
             len: 0,
@@ -26,12 +43,17 @@ impl Starts {
     }
 
     /// The number of tokens.
-    pub(crate) fn len(&self) -> u64 {
+    pub(crate) fn len(&self) -> u64
+        ensures value { result ≡ length self.now }
+    {
         self.len
     }
 
     /// Adds so many tokens, of which the first begins at a place and each other one at the next, or leaves the list as it was.
-    pub(crate) fn push_run(&mut self, place: u64, count: u64) -> Result<(), AllocError> {
+    pub(crate) fn push_run(&mut self, place: u64, count: u64) -> Result<(), AllocError>
+        ensures added { OnOk result (self.new ≡ self.old ++ range_with_len place count) }
+        ensures refused { OnErr result (self.new ≡ self.old) }
+    {
         let Some(len) = self.len.checked_add(count) else {
             return Err(AllocError);
         };
@@ -46,12 +68,14 @@ impl Starts {
         Ok(())
     }
 
-    /// Where the token of this number begins, if there is one.
-    pub(crate) fn get(&self, number: u64) -> Option<u64> {
+    /// Where the token of this number begins; 0 where there is none.
+    pub(crate) fn at(&self, number: u64) -> u64
+        ensures value { result ≡ slice_index_or self.now number 0 }
+    {
         if number < self.len {
             place_in(self.stretches.as_slice(), number)
         } else {
-            None
+            0
         }
     }
 }
@@ -60,17 +84,20 @@ impl Starts {
 fn goes_on(stretches: &[Stretch], number: u64, place: u64) -> bool {
     match stretches.last() {
         Some(last) => {
-            last.first <= number
-                && last.place <= place
-                && number - last.first == place - last.place
+            last.first <= number && last.place <= place && number - last.first == place - last.place
         }
         None => false,
     }
 }
 
 /// Where the token of a number begins, by the last stretch whose first token is not after it.
-fn place_in(stretches: &[Stretch], number: u64) -> Option<u64> {
+fn place_in(stretches: &[Stretch], number: u64) -> u64 {
     let above = stretches.partition_point(|stretch| stretch.first <= number);
-    let stretch = stretches.get(above.checked_sub(1)?)?;
-    stretch.place.checked_add(number.checked_sub(stretch.first)?)
+    match stretches.get(above.saturating_sub(1)) {
+        Some(stretch) => {
+            let further = number.saturating_sub(stretch.first);
+            stretch.place.saturating_add(further)
+        }
+        None => 0,
+    }
 }

@@ -1,0 +1,86 @@
+-- Why an input was refused.
+use Rattle.std.specs.Prelude.{◌≡◌, ◌≢◌, ℕ, ◌<◌, List, [], ◌∷◌, ◌++◌, length, Option, Some, None}
+use Rattle.html_input.specs.Decode.{decode, code_points}
+use Rattle.html_input.specs.declared.error.InputError.{InputError}
+use Rattle.html_input.specs.declared.error.InputError.TheVariants as input
+use Rattle.html_tokens.specs.Stream.{tokens_of}
+use Rattle.html_tokens.specs.declared.token.TextMode.{TextMode}
+use Rattle.html_tokens.specs.declared.token.Token.{Token}
+use Rattle.html_tokens.specs.declared.tokenizer.TokenError.{TokenError}
+use Rattle.html_tokens.specs.declared.tokenizer.TokenError.TheVariants as tokens
+use Rattle.html_ledger.specs.declared.fate.Fate.{Fate}
+use Rattle.html_ledger.specs.Fated.{Fated}
+use Rattle.html_modes.specs.Handed.{Starts, foreign_tag, switches_by, symbols}
+use Rattle.html_modes.specs.declared.error.BuildError.{BuildError}
+use Rattle.html_modes.specs.declared.error.BuildError.TheVariants as build
+use Rattle.html_modes.specs.declared.error.Foreign.{Foreign}
+use Rattle.html_parser.specs.Fed.{kinds}
+use Rattle.html_parser.specs.Start.{Start, most_input, text_start}
+use Rattle.html_parser.specs.declared.error.ParseError.{ParseError}
+use Rattle.html_parser.specs.declared.error.ParseError.TheVariants.{OutOfMemory, InputTooLong, ForeignContent, BadContext, Read, Write, Stopped, NodeBudget, HeldBudget, StepBudget}
+
+-- REFUSALS OF THE LAYERS BELOW, AS THE PARSER TELLS THEM
+
+abbrev pub input_cause : InputError → ParseError
+input_cause input.OutOfMemory = OutOfMemory
+input_cause input.InputTooLong = InputTooLong
+input_cause input.Stopped = Stopped
+
+abbrev pub token_cause : TokenError → ParseError
+token_cause tokens.OutOfMemory = OutOfMemory
+token_cause tokens.Stopped = Stopped
+
+abbrev pub build_cause : BuildError → ParseError
+build_cause build.OutOfMemory = OutOfMemory
+build_cause (build.ForeignContent name at) = ForeignContent name at
+build_cause build.BadContext = BadContext
+build_cause build.Stopped = Stopped
+build_cause (build.NodeBudget at) = NodeBudget at
+build_cause (build.HeldBudget at) = HeldBudget at
+
+-- WHAT THEY SAY OF THE INPUT
+
+-- A token of a text that begins at a place, behind tokens with fates that they may have; however the text goes on, where it does.
+pub record IsTokenAt (start : Start) (Rest : List ℕ → Type 0) (text : List ℕ) (at : ℕ) : Type 0 where
+  pub before : List Token
+  pub fates : List Fate
+  pub token : Token
+  pub fated : Fated start.setting (symbols (kinds before)) fates
+  pub listed : (more : List ℕ) (switches : List (Option TextMode)) → Rest more
+      → (later : List Token) × (tokens_of (text ++ more) (switches_by (kinds before) fates ++ None ∷ switches) (text_start start) ≡ before ++ token ∷ later)
+  pub place : token.span.start ≡ at
+
+-- The same, a start tag of foreign content.
+pub record IsForeignAt (start : Start) (Rest : List ℕ → Type 0) (text : List ℕ) (name : Foreign) (at : ℕ) : Type 0 where
+  pub token : IsTokenAt start Rest text at
+  pub foreign : Starts (foreign_tag name) token.token.kind
+
+-- a text with which the text of the bytes begins, however they go on
+abbrev pub IsFront : List ℕ → List ℕ → Type 0
+IsFront bytes text = (more : List ℕ) → (rest : List ℕ) × (decode (bytes ++ more) ≡ text ++ rest)
+
+-- whatever follows
+abbrev pub Anything : List ℕ → Type 0
+Anything more = Unit {0}
+
+-- nothing follows
+abbrev pub Nothing : List ℕ → Type 0
+Nothing more = more ≡ []
+
+-- Why a piece was refused, by the bytes so far, that piece's included.
+abbrev pub IsFeedCause : Start → List ℕ → ParseError → Type 0
+IsFeedCause start bytes OutOfMemory = Unit {0}
+IsFeedCause start bytes InputTooLong = (more : List ℕ) → most_input start < length (code_points (bytes ++ more))
+IsFeedCause start bytes (ForeignContent name at) = (text : List ℕ) × IsFront bytes text × IsForeignAt start Anything text name at
+IsFeedCause start bytes (NodeBudget at) = (start.limits ≢ None) × ((text : List ℕ) × IsFront bytes text × IsTokenAt start Anything text at)
+IsFeedCause start bytes (HeldBudget at) = (start.limits ≢ None) × ((text : List ℕ) × IsFront bytes text × IsTokenAt start Anything text at)
+IsFeedCause start bytes _ = ⊥
+
+-- Why an input was refused, by all its bytes.
+abbrev pub IsCause : Start → List ℕ → ParseError → Type 0
+IsCause start bytes OutOfMemory = Unit {0}
+IsCause start bytes InputTooLong = most_input start < length (code_points bytes)
+IsCause start bytes (ForeignContent name at) = IsForeignAt start Nothing (decode bytes) name at
+IsCause start bytes (NodeBudget at) = (start.limits ≢ None) × IsTokenAt start Nothing (decode bytes) at
+IsCause start bytes (HeldBudget at) = (start.limits ≢ None) × IsTokenAt start Nothing (decode bytes) at
+IsCause start bytes _ = ⊥

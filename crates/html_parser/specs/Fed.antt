@@ -1,0 +1,53 @@
+-- A parser, and the bytes that it was fed, however they were cut.
+use Rattle.std.specs.Prelude.{◌≡◌, ◌⊎◌, ℕ, Bool, true, false, IsTrue, List, [], ◌++◌, map}
+use Rattle.html_input.specs.Fed.{Fed as Decodes}
+use Rattle.html_tokens.specs.Given.{Fed as Tokenizes, is_stopped as tokenizer_stopped}
+use Rattle.html_tokens.specs.Stream.{Run, tokens_of}
+use Rattle.html_tokens.specs.declared.token.Token.{Token}
+use Rattle.html_tokens.specs.declared.token.TokenKind.{TokenKind}
+use Rattle.html_modes.specs.Handed.{Handed, fates_of, switches_by, is_stopped as builder_stopped}
+use Rattle.html_parser.specs.Start.{Start, most_input, text_start}
+use Rattle.html_parser.specs.declared.stages.Stages.{Stages}
+
+-- what tokens are, their spans aside
+abbrev pub kinds : List Token → List TokenKind
+kinds tokens = map (λ t. t.kind) tokens
+
+-- where tokens begin
+abbrev pub starts_of : List Token → List ℕ
+starts_of tokens = map (λ t. t.span.start) tokens
+
+-- The stages after some bytes: the decoder has put out a text, of which the tokenizer was fed all and gave some tokens, which are those
+-- that tree construction took, and for each of which the tokenizer was told what its fate says of the text after it.
+pub record IsRun (start : Start) (finished : Bool) (p : Stages) (bytes : List ℕ) (run : Run) : Type 0 where
+  pub begun : run.start ≡ text_start start
+  pub ended : run.finished ≡ finished
+  pub decoded : Decodes (most_input start) finished p.decoder bytes run.text
+  pub tokenized : Tokenizes p.tokenizer run
+  pub handed : Handed start.setting start.limits (kinds run.given) p.builder
+  pub switched : run.switches ≡ switches_by (kinds run.given) (fates_of p.builder)
+  -- what is kept of the tokens
+  pub starts : p.starts ≡ starts_of run.given
+  pub tokens : p.keeps_tokens ≡ true → p.tokens ≡ run.given
+  pub running : tokenizer_stopped p.tokenizer ≡ false
+  pub building : builder_stopped p.builder ≡ false
+
+-- It was made so, was fed these bytes, and refused none; it keeps its tokens, or does not.
+pub record IsFed (start : Start) (p : Stages) (bytes : List ℕ) : Type 0 where
+  pub run : Run
+  pub is_run : IsRun start false p bytes run
+  pub going : p.is_stopped ≡ false
+
+-- The input was ended, and the tokenizer has given all.
+pub record IsEnded (start : Start) (p : Stages) (bytes : List ℕ) : Type 0 where
+  pub run : Run
+  pub is_run : IsRun start true p bytes run
+  pub all : tokens_of run.text run.switches run.start ≡ run.given
+
+-- It keeps the tokens.
+abbrev pub KeepsTokens : Stages → Type 0
+KeepsTokens p = p.keeps_tokens ≡ true
+
+-- It refused a piece, or was ended.
+abbrev pub IsStopped : Stages → Type 0
+IsStopped p = p.is_stopped ≡ true
