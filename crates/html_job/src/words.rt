@@ -3,7 +3,7 @@
 ghost use Rattle.std.specs.Prelude.{◌≡◌, ◌≢◌, [], true, IfOk, IfErr, OnErr, OnOk, map, option_map, unwrap_or, codes};
 ghost use Rattle.clap.specs.Words.{all_of, first_of, found_of, kind_of, rows_of, fault_of, subcommand_of, subcommand_rows_of, has_subcommand};
 ghost use Rattle.html_job.specs.Line.{line};
-ghost use Rattle.html_job.specs.Read.{IsJobOf, Reads, IsWords, IsBadProfile, IsRefused, profile_text};
+ghost use Rattle.html_job.specs.Read.{HasBadValue, IsBadNumber, IsBadProfile, IsJobOf, IsNumber, IsRefused, IsWords, Reads, profile_text};
 
 use crate::jobs::{Command, Job, JobFault, Profile};
 use crate::line::line;
@@ -57,7 +57,7 @@ fn job_of<'a>(
 ) -> Result<Job<'a>, JobFault>
     ensures command { IfOk result (λ j. j.command ≡ command) }
     ensures reads { IfOk result (λ j. Reads j (rows_of (found_of matches.entry.now))) }
-    ensures refused { IfErr result (λ e. IsWords e → IsBadProfile (first_of (codes "profile") (rows_of (found_of matches.entry.now)))) }
+    ensures refused { IfErr result (λ e. IsWords e → HasBadValue (rows_of (found_of matches.entry.now))) }
 {
     let profile = profile(alloc, matches)?;
     let max_nodes = number(alloc, matches, "max-nodes")?;
@@ -91,11 +91,7 @@ fn profile(alloc: Global, matches: &ArgMatches<'_>) -> Result<Profile, JobFault>
 }
 
 /// The number that stands at an option.
-fn number(
-    alloc: Global,
-    matches: &ArgMatches<'_>,
-    name: &str,
-) -> Result<Option<u64>, JobFault>
+fn number(alloc: Global, matches: &ArgMatches<'_>, name: &str) -> Result<Option<u64>, JobFault>
     ensures ok { IfOk result (λ n. IsNumber n (first_of name.now (rows_of (found_of matches.now)))) }
     ensures refused { OnErr result (IsBadNumber (first_of name.now (rows_of (found_of matches.now)))) }
 {

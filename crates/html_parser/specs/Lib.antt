@@ -2,7 +2,9 @@ pub mod Causes
 pub mod Faults
 pub mod Fed
 pub mod Feeding
+pub mod Normalised
 pub mod Parsed
+pub mod Plain
 pub mod Reading
 pub mod Start
 pub mod Stretches

@@ -8,12 +8,14 @@ use Rattle.html_tokens.specs.declared.faults.Fault.{Fault}
 use Rattle.html_arena.specs.Tree.{Tree as Nodes}
 use Rattle.html_arena.specs.declared.arena.Limits.{Limits}
 use Rattle.html_ledger.specs.declared.fate.Fate.{Fate}
+use Rattle.html_ledger.specs.declared.setting.Setting.TheVariants.{Document}
 use Rattle.html_modes.specs.Handed.{IsWithin, switches_by}
 use Rattle.html_modes.specs.Outcome.{IsOutcome, most_held, most_nodes}
 use Rattle.html_arena.specs.Weight.{weight}
 use Rattle.std.specs.List.{sum_by}
 use Rattle.html_parser.specs.Faults.{fault_list, places_of}
 use Rattle.html_parser.specs.Fed.{kinds, starts_of}
+use Rattle.html_parser.specs.Plain.{IsOwnTree}
 use Rattle.html_parser.specs.Start.{Start, most_input, text_start}
 use Rattle.html_parser.specs.declared.faults.PageFault.{PageFault}
 use Rattle.html_parser.specs.declared.page.Page.{Page}
@@ -43,21 +45,23 @@ pub record AreFaults (tokens : List Token) (numbers : List ℕ) (faults : List P
 -- A tree of an input of these bytes, with the tokens and fates that it accounts for.
 pub record IsParsed (start : Start) (bytes : List ℕ) (tokens : List Token) (fates : List Fate) (t : Nodes) (root : ℕ) (errors : List PageFault) (n steps : ℕ) : Type 0 where
   -- each token of the input, and no other
-  pub tokens : AreTokensOf start (decode bytes) tokens fates
+  pub tokens_are : AreTokensOf start (decode bytes) tokens fates
   -- a well-formed tree, its one fate for each token, and each node with its origin
   pub numbers : List ℕ
   pub outcome : IsOutcome start.setting (kinds tokens) fates numbers t
   pub root_is : root ≡ 0
   pub faults : AreFaults tokens numbers errors
+  -- the page's own tree, where a document is a plain page
+  pub own : start.setting ≡ Document → IsOwnTree start.rows bytes t root
   -- how many code points there are
   pub n_is : n ≡ length (code_points bytes)
   pub within : n ≤ most_input start
   pub limited : IsWithinLimits start.limits t
   -- how large it is
-  pub nodes : length t.labels ≤ most_nodes n
-  pub held : sum_by weight t.labels ≤ most_held n
-  pub steps : steps ≤ most_steps n
-  pub few : length errors ≤ most_errors n
+  pub few_nodes : length t.labels ≤ most_nodes n
+  pub few_held : sum_by weight t.labels ≤ most_held n
+  pub few_steps : steps ≤ most_steps n
+  pub few_errors : length errors ≤ most_errors n
 
 -- the page of an input
 abbrev pub IsPageOf : Start → List ℕ → Page → Type 0

@@ -1,5 +1,12 @@
 //! What parsing gives.
 
+ghost use Rattle.std.specs.Prelude.{◌≡◌, ◌⊎◌, true, OnOk, OnErr, IfErr};
+ghost use Rattle.std.specs.Io.KnownBytes.{Appends};
+ghost use Rattle.std.specs.Str.{encode_utf8_all};
+ghost use Rattle.html_arena.specs.Walking.{IsRoot};
+ghost use Rattle.html_device.specs.Device.{AppendsFront};
+ghost use Rattle.html_page.specs.Serialised.{html_below};
+
 use crate::error::ParseError;
 use crate::faults::PageFault;
 use html_arena::{Arena, NodeId};
@@ -49,7 +56,17 @@ pub struct Tree {
 /// # Errors
 ///
 /// `Write` where the writer failed, or took no bytes. A front of the text was written then.
-pub fn serialise<W: Sink>(page: &Page, profile: Profile, writer: &mut W) -> Result<(), ParseError> {
+pub fn serialise<W: Sink>(page: &Page, profile: Profile, writer: &mut W) -> Result<(), ParseError>
+    requires root { IsRoot page.now.arena page.now.root }
+
+    // All of the text was written, or a front of it.
+    ensures ok { OnOk result (Appends (W.taken writer.old) (W.taken writer.new) (encode_utf8_all (html_below profile page.now.arena page.now.root))) }
+    ensures err { OnErr result (AppendsFront (W.taken writer.old) (W.taken writer.new) (encode_utf8_all (html_below profile page.now.arena page.now.root))) }
+
+    // It is the writer that failed, or took no bytes.
+    ensures cause { IfErr result (λ e. e ≡ ParseError.Write) }
+    ensures fault { OnErr result ((W.failed writer.new ≡ true) ⊎ (W.stalled writer.new ≡ true)) }
+{
     written(serialise_tree(&page.arena, page.root, profile, writer))
 }
 
@@ -59,13 +76,25 @@ impl Tree {
     /// # Errors
     ///
     /// Those of `serialise`.
-    pub fn serialise<W: Sink>(&self, profile: Profile, writer: &mut W) -> Result<(), ParseError> {
+    pub fn serialise<W: Sink>(&self, profile: Profile, writer: &mut W) -> Result<(), ParseError>
+        requires root { IsRoot self.now.arena self.now.root }
+
+        // All of the text was written, or a front of it.
+        ensures ok { OnOk result (Appends (W.taken writer.old) (W.taken writer.new) (encode_utf8_all (html_below profile self.now.arena self.now.root))) }
+        ensures err { OnErr result (AppendsFront (W.taken writer.old) (W.taken writer.new) (encode_utf8_all (html_below profile self.now.arena self.now.root))) }
+
+        // It is the writer that failed, or took no bytes.
+        ensures cause { IfErr result (λ e. e ≡ ParseError.Write) }
+        ensures fault { OnErr result ((W.failed writer.new ≡ true) ⊎ (W.stalled writer.new ≡ true)) }
+    {
         written(serialise_tree(&self.arena, self.root, profile, writer))
     }
 }
 
 /// What a failed write is for the caller.
-fn written(answer: Result<(), DeviceFault>) -> Result<(), ParseError> {
+fn written(answer: Result<(), DeviceFault>) -> Result<(), ParseError>
+    ensures value { result ≡ map_err (λ _. ParseError.Write) answer }
+{
     match answer {
         Ok(()) => Ok(()),
         Err(DeviceFault) => Err(ParseError::Write),

@@ -185,7 +185,6 @@ impl<'a> Stages<'a> {
 
     /// What was made of an input that was ended.
     pub(crate) fn into_page(self) -> Result<Page, ParseError>
-        requires ended { (start : Start) × (bytes : List ℕ) × IsEnded start self.entry bytes }
         ensures page { IfOk result (λ page. (start : Start) (bytes : List ℕ) → IsEnded start self.entry bytes → KeepsTokens self.entry → IsPageOf start bytes page) }
         ensures cause { IfErr result (λ e. e ≡ ParseError.OutOfMemory) }
     {
@@ -214,7 +213,6 @@ impl<'a> Stages<'a> {
 
     /// What was made of an input that was ended, without its ledger.
     pub(crate) fn into_tree(self) -> Result<Tree, ParseError>
-        requires ended { (start : Start) × (bytes : List ℕ) × IsEnded start self.entry bytes }
         ensures tree { IfOk result (λ tree. (start : Start) (bytes : List ℕ) → IsEnded start self.entry bytes → IsTreeOf start bytes tree) }
         ensures cause { IfErr result (λ e. e ≡ ParseError.OutOfMemory) }
     {

@@ -54,7 +54,13 @@ impl Starts {
         ensures added { OnOk result (self.new ≡ self.old ++ range_with_len place count) }
         ensures refused { OnErr result (self.new ≡ self.old) }
     {
+        if count == 0 {
+            return Ok(());
+        }
         let Some(len) = self.len.checked_add(count) else {
+            return Err(AllocError);
+        };
+        let Some(_end) = place.checked_add(count) else {
             return Err(AllocError);
         };
         if !goes_on(self.stretches.as_slice(), self.len, place) {

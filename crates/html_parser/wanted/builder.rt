@@ -2,9 +2,7 @@
 // answered; so html_parser can be checked over it before html_modes is proved. Never to land.
 ghost use Rattle.std.specs.Prelude.{◌≡◌, ◌↔◌, ◌⊎◌, ◌<◌, ◌+◌, ◌++◌, ◌∷◌, ℕ, List, [], Option, None, Some, true, false, length, Err, IfOk, IfErr, OnOk, OnErr, IfSome};
 ghost use Rattle.html_arena.specs.declared.arena.Limits.{Limits};
-ghost use Rattle.html_tokens.specs.Cost.{HasNames};
 ghost use Rattle.html_tokens.specs.declared.token.TokenKind.{TokenKind};
-ghost use Rattle.html_tokens.specs.declared.token.TokenKind.TheVariants as kind;
 ghost use Rattle.html_ledger.specs.declared.setting.Setting.{Setting};
 ghost use Rattle.html_ledger.specs.declared.setting.Setting.TheVariants.{Document};
 ghost use Rattle.html_ledger.specs.declared.fate.Fate.{Fate};
@@ -28,7 +26,7 @@ pub struct Builder {
 }
 
 impl Builder {
-    ghost use Rattle.html_modes.specs.Handed.{CostAtMost, Handed, IsBuildCause, IsTextCause, IsWithin, chars_of, fates_of, is_stopped, switch_after};
+    ghost use Rattle.html_modes.specs.Handed.{CostAtMost, EndsAtEof, Handed, IsBuildCause, IsTextCause, IsWithin, chars_of, fates_of, is_stopped, switch_after};
     ghost use Rattle.html_modes.specs.Contexts.{IsGood, setting_of};
 
     pub fn document(alloc: Global) -> Result<Builder, BuildError>
@@ -82,7 +80,6 @@ impl Builder {
 
     #[tactic(auto, unfolding(crate::specs::Handed::Handed, crate::specs::Handed::fates_of, crate::specs::Handed::is_stopped))]
     pub fn process(&mut self, token: &Token) -> Result<Option<TextMode>, BuildError>
-        requires names { HasNames token.now.kind }
         ensures takes { OnOk result ((s : Setting) (l : Option Limits) (tokens : List TokenKind) → Handed s l tokens self.old
             → Handed s l (tokens ++ token.now.kind ∷ []) self.new) }
         ensures grows { OnOk result ((later : List Fate) × (fates_of self.new ≡ fates_of self.old ++ later)) }
@@ -125,9 +122,8 @@ impl Builder {
 
     #[tactic(auto, unfolding(crate::specs::Handed::Handed, crate::specs::Handed::fates_of, crate::specs::Handed::is_stopped))]
     pub fn finish(self) -> (Arena, Fates, Vec<u64>)
-        requires whole { (s : Setting) × (l : Option Limits) × (tokens : List TokenKind) × Handed s l (tokens ++ kind.Eof ∷ []) self }
         ensures fates { result.1 ≡ fates_of self }
-        ensures outcome { (s : Setting) (l : Option Limits) (tokens : List TokenKind) → Handed s l tokens self
+        ensures outcome { (s : Setting) (l : Option Limits) (tokens : List TokenKind) → Handed s l tokens self → EndsAtEof tokens
             → IsOutcome s tokens result.1 result.2.items result.0 }
         ensures bounds { (s : Setting) (l : Option Limits) (tokens : List TokenKind) → Handed s l tokens self → (n : ℕ) → CostAtMost n tokens → IsBounded n result.0 }
         ensures limits { (s : Setting) (l : Limits) (tokens : List TokenKind) → Handed s (Some l) tokens self → IsWithin l result.0 }

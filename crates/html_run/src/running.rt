@@ -1,7 +1,12 @@
 //! One job, over any reader and writers.
 
-ghost use Rattle.std.specs.Prelude.{◌≡◌, ◌≢◌, ◌<◌, IfOk, IfErr, MatchOption, Ok, Err};
+ghost use Rattle.std.specs.Prelude.{◌≡◌, ◌≢◌, ◌<◌, ◌⊎◌, List, IfOk, IfErr, MatchOption, Ok, Err};
+ghost use Rattle.std.specs.Io.KnownBytes.{Appends};
 ghost use Rattle.html_charref.specs.Entities.{core_rows, entities_of};
+ghost use Rattle.html_charref.specs.declared.table.Row.{Row};
+ghost use Rattle.html_device.specs.Device.{AppendsFront};
+ghost use Rattle.html_parser.specs.Normalised.{IsNormalised};
+ghost use Rattle.html_run.specs.Jobs.{IsRead, start_for};
 ghost use Rattle.html_run.specs.Outcome.{status_of};
 ghost use Rattle.html_run.specs.Profiles.{profile_of};
 
@@ -31,6 +36,15 @@ pub fn run<R: Source, W: Sink, F: Write>(
     writer: &mut W,
     faults: &mut F,
 ) -> u8
+    ensures done { result ≡ DONE → (rows : List Row) × MatchOption entities.entry (rows ≡ core_rows) (λ bytes. entities_of bytes.now ≡ Ok rows)
+        × IsRead (start_for job.now rows) (R.remaining reader.old) (R.remaining reader.new) }
+    ensures normalised { job.now.command ≡ Command.Normalise → result ≡ DONE
+        → (rows : List Row) × MatchOption entities.entry (rows ≡ core_rows) (λ bytes. entities_of bytes.now ≡ Ok rows)
+        × IsNormalised (start_for job.now rows) (profile_of job.now.profile) (Appends (W.taken writer.old) (W.taken writer.new)) (R.remaining reader.old) (R.remaining reader.new) }
+    ensures refused { job.now.command ≡ Command.Normalise → result ≡ REFUSED → W.taken writer.new ≡ W.taken writer.old }
+    ensures failed { job.now.command ≡ Command.Normalise → result ≡ FILE_FAULT → (W.taken writer.new ≡ W.taken writer.old)
+        ⊎ ((rows : List Row) × MatchOption entities.entry (rows ≡ core_rows) (λ bytes. entities_of bytes.now ≡ Ok rows)
+        × IsNormalised (start_for job.now rows) (profile_of job.now.profile) (AppendsFront (W.taken writer.old) (W.taken writer.new)) (R.remaining reader.old) (R.remaining reader.new)) }
     ensures status { result < 4 }
 {
     let input = job.input.unwrap_or("-");

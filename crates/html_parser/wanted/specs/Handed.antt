@@ -74,6 +74,10 @@ is_stopped b = b.is_stopped
 unfoldable pub Handed : Setting → Option Limits → List TokenKind → Builder → Type 0
 Handed s limits tokens b = ⊥
 
+-- the last of them is the end of the page
+abbrev pub EndsAtEof : List TokenKind → Type 0
+EndsAtEof tokens = (front : List TokenKind) × (tokens ≡ front ++ kind.Eof ∷ [])
+
 -- WHY A TOKEN IS REFUSED
 
 abbrev pub foreign_tag : Foreign → Tag
