@@ -1,8 +1,9 @@
 -- Why an input was refused.
-use Rattle.std.specs.Prelude.{◌≡◌, ◌≢◌, ℕ, ◌<◌, List, [], ◌∷◌, ◌++◌, length, Option, Some, None}
+use Rattle.std.specs.Prelude.{◌≡◌, ◌≢◌, ℕ, ◌<◌, Bool, true, false, List, [], ◌∷◌, ◌++◌, length, Option, Some, None}
 use Rattle.html_input.specs.Decode.{decode, code_points}
 use Rattle.html_input.specs.declared.error.InputError.{InputError}
 use Rattle.html_input.specs.declared.error.InputError.TheVariants as input
+use Rattle.html_tokens.specs.Input.{MayFollow}
 use Rattle.html_tokens.specs.Stream.{tokens_of}
 use Rattle.html_tokens.specs.declared.token.TextMode.{TextMode}
 use Rattle.html_tokens.specs.declared.token.Token.{Token}
@@ -40,47 +41,39 @@ build_cause (build.HeldBudget at) = HeldBudget at
 
 -- WHAT THEY SAY OF THE INPUT
 
--- A token of a text that begins at a place, behind tokens with fates that they may have; however the text goes on, where it does.
-pub record IsTokenAt (start : Start) (Rest : List ℕ → Type 0) (text : List ℕ) (at : ℕ) : Type 0 where
+-- A token of a text that begins at a place, behind tokens with fates that they may have; however the text goes on, unless it is whole.
+pub record IsTokenAt (start : Start) (finished : Bool) (text : List ℕ) (at : ℕ) : Type 0 where
   pub before : List Token
   pub fates : List Fate
   pub token : Token
   pub fated : Fated start.setting (symbols (kinds before)) fates
-  pub listed : (more : List ℕ) (switches : List (Option TextMode)) → Rest more
+  pub listed : (more : List ℕ) (switches : List (Option TextMode)) → MayFollow finished more
       → (later : List Token) × (tokens_of (text ++ more) (switches_by (kinds before) fates ++ None ∷ switches) (text_start start) ≡ before ++ token ∷ later)
   pub place : token.span.start ≡ at
 
 -- The same, a start tag of foreign content.
-pub record IsForeignAt (start : Start) (Rest : List ℕ → Type 0) (text : List ℕ) (name : Foreign) (at : ℕ) : Type 0 where
-  pub token : IsTokenAt start Rest text at
+pub record IsForeignAt (start : Start) (finished : Bool) (text : List ℕ) (name : Foreign) (at : ℕ) : Type 0 where
+  pub token : IsTokenAt start finished text at
   pub foreign : Starts (foreign_tag name) token.token.kind
 
 -- a text with which the text of the bytes begins, however they go on
 abbrev pub IsFront : List ℕ → List ℕ → Type 0
 IsFront bytes text = (more : List ℕ) → (rest : List ℕ) × (decode (bytes ++ more) ≡ text ++ rest)
 
--- whatever follows
-abbrev pub Anything : List ℕ → Type 0
-Anything more = Unit {0}
-
--- nothing follows
-abbrev pub Nothing : List ℕ → Type 0
-Nothing more = more ≡ []
+-- Why a token of a text, which is whole or goes on, was refused: for want of memory, for foreign content, or for a limit that there is.
+abbrev pub IsTokenCause : Start → Bool → List ℕ → ParseError → Type 0
+IsTokenCause start finished text OutOfMemory = Unit {0}
+IsTokenCause start finished text (ForeignContent name at) = IsForeignAt start finished text name at
+IsTokenCause start finished text (NodeBudget at) = (start.limits ≢ None) × IsTokenAt start finished text at
+IsTokenCause start finished text (HeldBudget at) = (start.limits ≢ None) × IsTokenAt start finished text at
+IsTokenCause start finished text _ = ⊥
 
 -- Why a piece was refused, by the bytes so far, that piece's included.
 abbrev pub IsFeedCause : Start → List ℕ → ParseError → Type 0
-IsFeedCause start bytes OutOfMemory = Unit {0}
 IsFeedCause start bytes InputTooLong = (more : List ℕ) → most_input start < length (code_points (bytes ++ more))
-IsFeedCause start bytes (ForeignContent name at) = (text : List ℕ) × IsFront bytes text × IsForeignAt start Anything text name at
-IsFeedCause start bytes (NodeBudget at) = (start.limits ≢ None) × ((text : List ℕ) × IsFront bytes text × IsTokenAt start Anything text at)
-IsFeedCause start bytes (HeldBudget at) = (start.limits ≢ None) × ((text : List ℕ) × IsFront bytes text × IsTokenAt start Anything text at)
-IsFeedCause start bytes _ = ⊥
+IsFeedCause start bytes e = (text : List ℕ) × IsFront bytes text × IsTokenCause start false text e
 
 -- Why an input was refused, by all its bytes.
 abbrev pub IsCause : Start → List ℕ → ParseError → Type 0
-IsCause start bytes OutOfMemory = Unit {0}
 IsCause start bytes InputTooLong = most_input start < length (code_points bytes)
-IsCause start bytes (ForeignContent name at) = IsForeignAt start Nothing (decode bytes) name at
-IsCause start bytes (NodeBudget at) = (start.limits ≢ None) × IsTokenAt start Nothing (decode bytes) at
-IsCause start bytes (HeldBudget at) = (start.limits ≢ None) × IsTokenAt start Nothing (decode bytes) at
-IsCause start bytes _ = ⊥
+IsCause start bytes e = IsTokenCause start true (decode bytes) e

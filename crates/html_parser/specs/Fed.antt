@@ -2,7 +2,7 @@
 use Rattle.std.specs.Prelude.{◌≡◌, ◌⊎◌, ℕ, Bool, true, false, IsTrue, List, [], ◌++◌, map}
 use Rattle.html_input.specs.Fed.{Fed as Decodes}
 use Rattle.html_tokens.specs.Given.{Fed as Tokenizes, is_stopped as tokenizer_stopped}
-use Rattle.html_tokens.specs.Stream.{Run, tokens_of}
+use Rattle.html_tokens.specs.Stream.{IsPrompt, Run, tokens_of}
 use Rattle.html_tokens.specs.declared.token.Token.{Token}
 use Rattle.html_tokens.specs.declared.token.TokenKind.{TokenKind}
 use Rattle.html_modes.specs.Handed.{Handed, fates_of, switches_by, is_stopped as builder_stopped}
@@ -31,6 +31,18 @@ pub record IsRun (start : Start) (finished : Bool) (p : Stages) (bytes : List �
   pub tokens : p.keeps_tokens ≡ true → p.tokens ≡ run.given
   pub running : tokenizer_stopped p.tokenizer ≡ false
   pub building : builder_stopped p.builder ≡ false
+
+-- The same text, of which some more tokens were given and taken.
+pub record IsFurther (start : Start) (finished : Bool) (p : Stages) (bytes text : List ℕ) : Type 0 where
+  pub run : Run
+  pub is_run : IsRun start finished p bytes run
+  pub text_is : run.text ≡ text
+
+-- Of the text, all tokens were given and taken but those that end near its end; all of them, where it is whole.
+pub record IsHandedOn (start : Start) (finished : Bool) (p : Stages) (bytes text : List ℕ) : Type 0 where
+  pub further : IsFurther start finished p bytes text
+  pub prompt : IsPrompt further.run
+  pub all : finished ≡ true → tokens_of text further.run.switches further.run.start ≡ further.run.given
 
 -- It was made so, was fed these bytes, and refused none; it keeps its tokens, or does not.
 pub record IsFed (start : Start) (p : Stages) (bytes : List ℕ) : Type 0 where

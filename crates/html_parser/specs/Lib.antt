@@ -8,3 +8,4 @@ pub mod Plain
 pub mod Reading
 pub mod Start
 pub mod Stretches
+pub mod Tokenizing

@@ -1,14 +1,16 @@
 //! The stages of parsing, one behind the other: the decoder, the tokenizer, tree construction.
 
-ghost use Rattle.std.specs.Prelude.{◌≡◌, ◌≢◌, ◌↔◌, ◌++◌, ◌≤◌, ◌^◌, ◌⊎◌, ℕ, Bool, List, [], true, false, Err, IfErr, IfOk, OnErr, OnOk, length};
+ghost use Rattle.std.specs.Prelude.{◌≡◌, ◌≢◌, ◌↔◌, ◌++◌, ◌≤◌, ◌^◌, ◌⊎◌, ◌<◌, ◌∷◌, ℕ, Bool, List, [], true, false, Err, IfErr, IfOk, OnErr, OnOk, length};
 ghost use Rattle.html_input.specs.Fed.{Fed as Decodes};
+ghost use Rattle.html_tokens.specs.Runs.{plain_tokens};
 ghost use Rattle.html_tokens.specs.Stream.{Run};
 ghost use Rattle.html_tokens.specs.declared.token.Token.{Token as TokenType};
 ghost use Rattle.html_modes.specs.Handed.{Handed, fates_of, is_stopped as builder_stopped};
-ghost use Rattle.html_parser.specs.Causes.{Anything, IsCause, IsFeedCause, Nothing};
+ghost use Rattle.html_parser.specs.Causes.{IsCause, IsFeedCause, IsTokenCause};
 ghost use Rattle.html_parser.specs.Feeding.{AreHandedOn};
 ghost use Rattle.html_parser.specs.Parsed.{IsPageOf, IsTreeOf};
 ghost use Rattle.html_parser.specs.Start.{Start, most_input, text_start};
+ghost use Rattle.html_parser.specs.Tokenizing.{IsTokenizing};
 
 use crate::error::ParseError;
 use crate::faults::merged;
@@ -20,7 +22,7 @@ use html_input::Decoder;
 use html_modes::Builder;
 use html_token_list::Tokens;
 use html_tokens::{TextMode, Token, Tokenizer};
-use std::alloc::Global;
+use std::alloc::{AllocError, Global};
 
 /// How many bytes are decoded at once, so that the text on its way takes little room however long a piece is.
 pub(crate) const PIECE: usize = 4096;
@@ -40,10 +42,11 @@ pub(crate) struct Stages<'a> {
     keeps_tokens: bool,
     is_stopped: bool,
     alloc: Global,
+    ghost tokenizing: { IsTokenizing tokenizer starts },
 }
 
 impl<'a> Stages<'a> {
-    ghost use Rattle.html_parser.specs.Fed.{IsFed, IsRun, IsStopped, IsEnded, KeepsTokens};
+    ghost use Rattle.html_parser.specs.Fed.{IsEnded, IsFed, IsFurther, IsHandedOn, IsRun, IsStopped, KeepsTokens, starts_of};
 
     /// Stages that were fed nothing. The text begins to be read in this mode.
     pub(crate) fn new(
@@ -147,23 +150,62 @@ impl<'a> Stages<'a> {
     }
 
     /// Hands on each token that is decided.
-    fn hand_on(&mut self) -> Result<(), ParseError> {
+    fn hand_on(&mut self) -> Result<(), ParseError>
+        ensures handed { OnOk result ((start : Start) (finished : Bool) (bytes : List ℕ) (run : Run) → IsRun start finished self.old bytes run → IsHandedOn start finished self.new bytes run.text) }
+        ensures cause { IfErr result (λ e. (start : Start) (finished : Bool) (bytes : List ℕ) (run : Run) → IsRun start finished self.old bytes run → IsTokenCause start finished run.text e) }
+        ensures keeps { self.new.keeps_tokens ≡ self.old.keeps_tokens }
+        ensures stopped { self.new.is_stopped ≡ self.old.is_stopped }
+    {
         'tokens: loop {
-            self.run.clear();
-            if let Some(place) = self.tokenizer.next_run(&mut self.run)? {
-                self.hand_run(place)?;
-            } else {
-                let Some(token) = self.tokenizer.next()? else {
-                    return Ok(());
-                };
-                self.hand_token(token)?;
+            let is_text = self.hand_run()?;
+            if !is_text && !self.hand_token()? {
+                return Ok(());
             }
         }
     }
 
-    /// Hands on plain text that begins at a place.
-    fn hand_run(&mut self, place: u64) -> Result<(), ParseError> {
+    /// Hands on the plain text that comes next: whether there was any.
+    fn hand_run(&mut self) -> Result<bool, ParseError>
+        ensures further { OnOk result ((start : Start) (finished : Bool) (bytes : List ℕ) (run : Run) → IsRun start finished self.old bytes run → IsFurther start finished self.new bytes run.text) }
+        ensures more { IfOk result (λ some. some ≡ true → length self.old.starts < length self.new.starts) }
+        ensures cause { IfErr result (λ e. (start : Start) (finished : Bool) (bytes : List ℕ) (run : Run) → IsRun start finished self.old bytes run → IsTokenCause start finished run.text e) }
+        ensures keeps { self.new.keeps_tokens ≡ self.old.keeps_tokens }
+        ensures stopped { self.new.is_stopped ≡ self.old.is_stopped }
+    {
+        self.run.clear();
+        let Some(place) = self.tokenizer.next_run(&mut self.run)? else {
+            return Ok(false);
+        };
         self.builder.process_text(self.run.as_slice(), place)?;
+        self.keep_run(place)?;
+        Ok(!self.run.is_empty())
+    }
+
+    /// Hands on the token that comes next: whether there was one.
+    fn hand_token(&mut self) -> Result<bool, ParseError>
+        ensures further { OnOk result ((start : Start) (finished : Bool) (bytes : List ℕ) (run : Run) → IsRun start finished self.old bytes run → IsFurther start finished self.new bytes run.text) }
+        ensures more { IfOk result (λ some. some ≡ true → length self.old.starts < length self.new.starts) }
+        ensures none { IfOk result (λ some. some ≡ false → (start : Start) (finished : Bool) (bytes : List ℕ) (run : Run) → IsRun start finished self.old bytes run → IsHandedOn start finished self.new bytes run.text) }
+        ensures cause { IfErr result (λ e. (start : Start) (finished : Bool) (bytes : List ℕ) (run : Run) → IsRun start finished self.old bytes run → IsTokenCause start finished run.text e) }
+        ensures keeps { self.new.keeps_tokens ≡ self.old.keeps_tokens }
+        ensures stopped { self.new.is_stopped ≡ self.old.is_stopped }
+    {
+        let Some(token) = self.tokenizer.next()? else {
+            return Ok(false);
+        };
+        if let Some(mode) = self.builder.process(&token)? {
+            self.tokenizer.switch(mode);
+        }
+        self.keep_token(token)?;
+        Ok(true)
+    }
+
+    /// Keeps what is wanted of the run.
+    fn keep_run(&mut self, place: u64) -> Result<(), AllocError>
+        ensures starts { OnOk result (self.new.starts ≡ self.old.starts ++ starts_of (plain_tokens place self.old.run.items)) }
+        ensures tokens { OnOk result (KeepsTokens self.old → self.new.tokens ≡ self.old.tokens ++ plain_tokens place self.old.run.items) }
+        ensures rest { OnOk result (self.new ≡ record self.old { starts = self.new.starts; tokens = self.new.tokens }) }
+    {
         self.starts.push_run(place, self.run.len() as u64)?;
         if self.keeps_tokens {
             self.tokens.push_text(self.run.as_slice(), place)?;
@@ -171,11 +213,12 @@ impl<'a> Stages<'a> {
         Ok(())
     }
 
-    /// Hands on a token, and tells the tokenizer how the text after it is read.
-    fn hand_token(&mut self, token: Token) -> Result<(), ParseError> {
-        if let Some(mode) = self.builder.process(&token)? {
-            self.tokenizer.switch(mode);
-        }
+    /// Keeps what is wanted of a token.
+    fn keep_token(&mut self, token: Token) -> Result<(), AllocError>
+        ensures starts { OnOk result (self.new.starts ≡ self.old.starts ++ starts_of (token ∷ [])) }
+        ensures tokens { OnOk result (KeepsTokens self.old → self.new.tokens ≡ self.old.tokens ++ token ∷ []) }
+        ensures rest { OnOk result (self.new ≡ record self.old { starts = self.new.starts; tokens = self.new.tokens }) }
+    {
         self.starts.push_run(token.span.start, 1)?;
         if self.keeps_tokens {
             self.tokens.push(token)?;
