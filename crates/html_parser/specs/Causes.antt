@@ -15,7 +15,7 @@ use Rattle.html_modes.specs.Handed.{Starts, foreign_tag, switches_by, symbols}
 use Rattle.html_modes.specs.declared.error.BuildError.{BuildError}
 use Rattle.html_modes.specs.declared.error.BuildError.TheVariants as build
 use Rattle.html_modes.specs.declared.error.Foreign.{Foreign}
-use Rattle.html_parser.specs.Fed.{kinds}
+use Rattle.html_parser.specs.Kinds.{kinds}
 use Rattle.html_parser.specs.Start.{Start, most_input, text_start}
 use Rattle.html_parser.specs.declared.error.ParseError.{ParseError}
 use Rattle.html_parser.specs.declared.error.ParseError.TheVariants.{OutOfMemory, InputTooLong, ForeignContent, BadContext, Read, Write, Stopped, NodeBudget, HeldBudget, StepBudget}

@@ -1,21 +1,12 @@
 -- A parser, and the bytes that it was fed, however they were cut.
-use Rattle.std.specs.Prelude.{◌≡◌, ◌⊎◌, ℕ, Bool, true, false, IsTrue, List, [], ◌++◌, map}
+use Rattle.std.specs.Prelude.{◌≡◌, ℕ, Bool, true, false, List}
 use Rattle.html_input.specs.Fed.{Fed as Decodes}
 use Rattle.html_tokens.specs.Given.{Fed as Tokenizes, is_stopped as tokenizer_stopped}
 use Rattle.html_tokens.specs.Stream.{IsPrompt, Run, tokens_of}
-use Rattle.html_tokens.specs.declared.token.Token.{Token}
-use Rattle.html_tokens.specs.declared.token.TokenKind.{TokenKind}
 use Rattle.html_modes.specs.Handed.{Handed, fates_of, switches_by, is_stopped as builder_stopped}
+use Rattle.html_parser.specs.Kinds.{kinds, starts_of}
 use Rattle.html_parser.specs.Start.{Start, most_input, text_start}
 use Rattle.html_parser.specs.declared.stages.Stages.{Stages}
-
--- what tokens are, their spans aside
-abbrev pub kinds : List Token → List TokenKind
-kinds tokens = map (λ t. t.kind) tokens
-
--- where tokens begin
-abbrev pub starts_of : List Token → List ℕ
-starts_of tokens = map (λ t. t.span.start) tokens
 
 -- The stages after some bytes: the decoder has put out a text, of which the tokenizer was fed all and gave some tokens, which are those
 -- that tree construction took, and for each of which the tokenizer was told what its fate says of the text after it.

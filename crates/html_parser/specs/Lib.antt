@@ -2,6 +2,7 @@ pub mod Causes
 pub mod Faults
 pub mod Fed
 pub mod Feeding
+pub mod Kinds
 pub mod Normalised
 pub mod Parsed
 pub mod Plain

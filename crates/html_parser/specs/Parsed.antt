@@ -14,7 +14,7 @@ use Rattle.html_modes.specs.Outcome.{IsOutcome, most_held, most_nodes}
 use Rattle.html_arena.specs.Weight.{weight}
 use Rattle.std.specs.List.{sum_by}
 use Rattle.html_parser.specs.Faults.{fault_list, places_of}
-use Rattle.html_parser.specs.Fed.{kinds, starts_of}
+use Rattle.html_parser.specs.Kinds.{kinds, starts_of}
 use Rattle.html_parser.specs.Plain.{IsOwnTree}
 use Rattle.html_parser.specs.Start.{Start, most_input, text_start}
 use Rattle.html_parser.specs.declared.faults.PageFault.{PageFault}

@@ -10,7 +10,7 @@ ghost use Rattle.html_page.specs.Serialised.{html_below};
 use crate::error::ParseError;
 use crate::faults::PageFault;
 use html_arena::{Arena, NodeId};
-use html_device::{DeviceFault, Sink};
+use html_device::Sink;
 use html_ledger::Fates;
 use html_page::{Profile, serialise_tree};
 use html_token_list::Tokens;
@@ -67,7 +67,10 @@ pub fn serialise<W: Sink>(page: &Page, profile: Profile, writer: &mut W) -> Resu
     ensures cause { IfErr result (λ e. e ≡ ParseError.Write) }
     ensures fault { OnErr result ((W.failed writer.new ≡ true) ⊎ (W.stalled writer.new ≡ true)) }
 {
-    written(serialise_tree(&page.arena, page.root, profile, writer))
+    match serialise_tree(&page.arena, page.root, profile, writer) {
+        Ok(()) => Ok(()),
+        Err(_) => Err(ParseError::Write),
+    }
 }
 
 impl Tree {
@@ -87,16 +90,9 @@ impl Tree {
         ensures cause { IfErr result (λ e. e ≡ ParseError.Write) }
         ensures fault { OnErr result ((W.failed writer.new ≡ true) ⊎ (W.stalled writer.new ≡ true)) }
     {
-        written(serialise_tree(&self.arena, self.root, profile, writer))
-    }
-}
-
-/// What a failed write is for the caller.
-fn written(answer: Result<(), DeviceFault>) -> Result<(), ParseError>
-    ensures value { result ≡ map_err (λ _. ParseError.Write) answer }
-{
-    match answer {
-        Ok(()) => Ok(()),
-        Err(DeviceFault) => Err(ParseError::Write),
+        match serialise_tree(&self.arena, self.root, profile, writer) {
+            Ok(()) => Ok(()),
+            Err(_) => Err(ParseError::Write),
+        }
     }
 }

@@ -8,6 +8,7 @@ ghost use Rattle.html_tokens.specs.declared.token.Token.{Token as TokenType};
 ghost use Rattle.html_modes.specs.Handed.{Handed, fates_of, is_stopped as builder_stopped};
 ghost use Rattle.html_parser.specs.Causes.{IsCause, IsFeedCause, IsTokenCause};
 ghost use Rattle.html_parser.specs.Feeding.{AreHandedOn};
+ghost use Rattle.html_parser.specs.Kinds.{starts_of};
 ghost use Rattle.html_parser.specs.Parsed.{IsPageOf, IsTreeOf};
 ghost use Rattle.html_parser.specs.Start.{Start, most_input, text_start};
 ghost use Rattle.html_parser.specs.Tokenizing.{IsTokenizing};
@@ -46,7 +47,7 @@ pub(crate) struct Stages<'a> {
 }
 
 impl<'a> Stages<'a> {
-    ghost use Rattle.html_parser.specs.Fed.{IsEnded, IsFed, IsFurther, IsHandedOn, IsRun, IsStopped, KeepsTokens, starts_of};
+    ghost use Rattle.html_parser.specs.Fed.{IsEnded, IsFed, IsFurther, IsHandedOn, IsRun, IsStopped, KeepsTokens};
 
     /// Stages that were fed nothing. The text begins to be read in this mode.
     pub(crate) fn new(
@@ -204,7 +205,12 @@ impl<'a> Stages<'a> {
     fn keep_run(&mut self, place: u64) -> Result<(), AllocError>
         ensures starts { OnOk result (self.new.starts ≡ self.old.starts ++ starts_of (plain_tokens place self.old.run.items)) }
         ensures tokens { OnOk result (KeepsTokens self.old → self.new.tokens ≡ self.old.tokens ++ plain_tokens place self.old.run.items) }
-        ensures rest { OnOk result (self.new ≡ record self.old { starts = self.new.starts; tokens = self.new.tokens }) }
+        ensures decoder { self.new.decoder ≡ self.old.decoder }
+        ensures tokenizer { self.new.tokenizer ≡ self.old.tokenizer }
+        ensures builder { self.new.builder ≡ self.old.builder }
+        ensures run { self.new.run.items ≡ self.old.run.items }
+        ensures keeps { self.new.keeps_tokens ≡ self.old.keeps_tokens }
+        ensures stopped { self.new.is_stopped ≡ self.old.is_stopped }
     {
         self.starts.push_run(place, self.run.len() as u64)?;
         if self.keeps_tokens {
@@ -217,7 +223,12 @@ impl<'a> Stages<'a> {
     fn keep_token(&mut self, token: Token) -> Result<(), AllocError>
         ensures starts { OnOk result (self.new.starts ≡ self.old.starts ++ starts_of (token ∷ [])) }
         ensures tokens { OnOk result (KeepsTokens self.old → self.new.tokens ≡ self.old.tokens ++ token ∷ []) }
-        ensures rest { OnOk result (self.new ≡ record self.old { starts = self.new.starts; tokens = self.new.tokens }) }
+        ensures decoder { self.new.decoder ≡ self.old.decoder }
+        ensures tokenizer { self.new.tokenizer ≡ self.old.tokenizer }
+        ensures builder { self.new.builder ≡ self.old.builder }
+        ensures run { self.new.run.items ≡ self.old.run.items }
+        ensures keeps { self.new.keeps_tokens ≡ self.old.keeps_tokens }
+        ensures stopped { self.new.is_stopped ≡ self.old.is_stopped }
     {
         self.starts.push_run(token.span.start, 1)?;
         if self.keeps_tokens {
