@@ -1,5 +1,5 @@
 -- Places of tokens, kept as stretches in each of which the places follow one another.
-use Rattle.std.specs.Prelude.{◌≡◌, ℕ, ◌+◌, ◌-◌, ◌<◌, ◌^◌, List, [], ◌∷◌, ◌++◌}
+use Rattle.std.specs.Prelude.{◌≡◌, ◌⊎◌, ℕ, ◌+◌, ◌-◌, ◌<◌, ◌≤◌, ◌^◌, List, [], ◌∷◌, ◌++◌}
 use Rattle.std.specs.List.{range_with_len}
 use Rattle.html_parser.specs.declared.starts.Stretch.{Stretch}
 
@@ -21,3 +21,15 @@ AreFrom number (s ∷ ss) len =
 
 abbrev pub AreStretches : List Stretch → ℕ → Type 0
 AreStretches stretches len = AreFrom 0 stretches len × (len < 2 ^ 64)
+
+-- A token of this number that begins at this place belongs to the last stretch.
+pub record GoesOn (stretches : List Stretch) (number place : ℕ) : Type 0 where
+  pub front : List Stretch
+  pub last : Stretch
+  pub split : stretches ≡ front ++ last ∷ []
+  pub starts : last.first ≤ number
+  pub place_is : last.place + (number - last.first) ≡ place
+
+-- The next token, of this number and at this place, belongs to the last stretch, or begins one.
+abbrev pub Adds : List Stretch → List Stretch → ℕ → ℕ → Type 0
+Adds old new number place = (GoesOn old number place × (new ≡ old)) ⊎ (new ≡ old ++ record { first = number; place = place } ∷ [])

@@ -1,7 +1,8 @@
 //! Where the tokens of a page begin.
 
-ghost use Rattle.std.specs.Prelude.{◌≡◌, ◌++◌, [], OnOk, OnErr, length, slice_index_or};
+ghost use Rattle.std.specs.Prelude.{◌≡◌, ◌++◌, [], IsTrue, OnOk, OnErr, length, slice_index_or};
 ghost use Rattle.std.specs.List.{range_with_len};
+ghost use Rattle.html_parser.specs.Stretches.{Adds, GoesOn};
 
 use std::alloc::{AllocError, Global};
 use std::marker::Model;
@@ -63,13 +64,7 @@ impl Starts {
         let Some(_end) = place.checked_add(count) else {
             return Err(AllocError);
         };
-        if !goes_on(self.stretches.as_slice(), self.len, place) {
-            let stretch = Stretch {
-                first: self.len,
-                place,
-            };
-            self.stretches.push(stretch)?;
-        }
+        add(&mut self.stretches, self.len, place)?;
         self.len = len;
         Ok(())
     }
@@ -86,8 +81,23 @@ impl Starts {
     }
 }
 
+/// Makes room for a token of this number that begins at this place.
+fn add(stretches: &mut Vec<Stretch>, number: u64, place: u64) -> Result<(), AllocError>
+    ensures added { OnOk result (Adds stretches.old.items stretches.new.items number place) }
+    ensures refused { OnErr result (stretches.new.items ≡ stretches.old.items) }
+{
+    if goes_on(stretches.as_slice(), number, place) {
+        return Ok(());
+    }
+    let first = number;
+    stretches.push(Stretch { first, place })?;
+    Ok(())
+}
+
 /// Whether a token of this number that begins at this place belongs to the last stretch.
-fn goes_on(stretches: &[Stretch], number: u64, place: u64) -> bool {
+fn goes_on(stretches: &[Stretch], number: u64, place: u64) -> bool
+    ensures last { IsTrue result → GoesOn stretches.now number place }
+{
     match stretches.last() {
         Some(last) => {
             last.first <= number && last.place <= place && number - last.first == place - last.place
