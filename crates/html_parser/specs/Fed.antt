@@ -18,8 +18,8 @@ pub record IsRun (start : Start) (finished : Bool) (p : Stages) (bytes : List �
   pub handed : Handed start.setting start.limits (kinds run.given) p.builder
   pub switched : run.switches ≡ switches_by (kinds run.given) (fates_of p.builder)
   -- what is kept of the tokens
-  pub starts : p.starts ≡ starts_of run.given
-  pub tokens : p.keeps_tokens ≡ true → p.tokens ≡ run.given
+  pub starts : p.kept.starts ≡ starts_of run.given
+  pub tokens : p.kept.keeps_tokens ≡ true → p.kept.tokens ≡ run.given
   pub running : tokenizer_stopped p.tokenizer ≡ false
   pub building : builder_stopped p.builder ≡ false
 
@@ -49,7 +49,7 @@ pub record IsEnded (start : Start) (p : Stages) (bytes : List ℕ) : Type 0 wher
 
 -- It keeps the tokens.
 abbrev pub KeepsTokens : Stages → Type 0
-KeepsTokens p = p.keeps_tokens ≡ true
+KeepsTokens p = p.kept.keeps_tokens ≡ true
 
 -- It refused a piece, or was ended.
 abbrev pub IsStopped : Stages → Type 0

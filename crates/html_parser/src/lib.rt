@@ -4,6 +4,7 @@
 
 mod error;
 mod faults;
+mod kept;
 mod normalising;
 mod page;
 mod parser;

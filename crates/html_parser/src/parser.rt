@@ -38,7 +38,7 @@ impl<'a> Parser<'a> {
     pub fn document(alloc: Global, table: &'a EntityTable) -> Result<Parser<'a>, ParseError>
         ensures begun { IfOk result (λ p. IsFed (document_start table.entry.now None) p.stages []) }
         ensures keeps { IfOk result (λ p. KeepsTokens p.stages) }
-        ensures empty { IfOk result (λ p. p.stages.tokens ≡ []) }
+        ensures empty { IfOk result (λ p. p.stages.kept.tokens ≡ []) }
         ensures cause { IfErr result (λ e. e ≡ ParseError.OutOfMemory) }
     {
         let builder = Builder::document(alloc)?;
@@ -58,7 +58,7 @@ impl<'a> Parser<'a> {
     ) -> Result<Parser<'a>, ParseError>
         ensures begun { IfOk result (λ p. IsFed (document_start table.entry.now (Some limits)) p.stages []) }
         ensures keeps { IfOk result (λ p. KeepsTokens p.stages) }
-        ensures empty { IfOk result (λ p. p.stages.tokens ≡ []) }
+        ensures empty { IfOk result (λ p. p.stages.kept.tokens ≡ []) }
         ensures cause { IfErr result (λ e. (e ≡ ParseError.OutOfMemory) ⊎ ((e ≡ ParseError.NodeBudget 0) × (limits.nodes < 1))) }
     {
         let decoder = Decoder::with_limit(limits.code_points);
@@ -79,7 +79,7 @@ impl<'a> Parser<'a> {
     ) -> Result<Parser<'a>, ParseError>
         ensures begun { IfOk result (λ p. IsFed (fragment_start table.entry.now context.now None) p.stages []) }
         ensures keeps { IfOk result (λ p. KeepsTokens p.stages) }
-        ensures empty { IfOk result (λ p. p.stages.tokens ≡ []) }
+        ensures empty { IfOk result (λ p. p.stages.kept.tokens ≡ []) }
         ensures good { OnOk result (IsGood context.now) }
         ensures cause { IfErr result (λ e. (e ≡ ParseError.OutOfMemory) ⊎ ((e ≡ ParseError.BadContext) × (IsGood context.now → ⊥))) }
     {
@@ -102,7 +102,7 @@ impl<'a> Parser<'a> {
     ) -> Result<Parser<'a>, ParseError>
         ensures begun { IfOk result (λ p. IsFed (fragment_start table.entry.now context.now (Some limits)) p.stages []) }
         ensures keeps { IfOk result (λ p. KeepsTokens p.stages) }
-        ensures empty { IfOk result (λ p. p.stages.tokens ≡ []) }
+        ensures empty { IfOk result (λ p. p.stages.kept.tokens ≡ []) }
         ensures good { OnOk result (IsGood context.now) }
         ensures cause { IfErr result (λ e. (e ≡ ParseError.OutOfMemory) ⊎ ((e ≡ ParseError.BadContext) × (IsGood context.now → ⊥))
             ⊎ ((e ≡ ParseError.NodeBudget 0) × (limits.nodes < 1)) ⊎ ((e ≡ ParseError.HeldBudget 0) × (limits.held < 4))) }
@@ -137,7 +137,7 @@ impl<'a> Parser<'a> {
 
         // At most three bytes are undecoded, and each token that ends far enough before the end of the decoded text is among the tokens.
         ensures prompt { OnOk result ((start : Start) (bytes : List ℕ) → IsFed start self.old.stages bytes → KeepsTokens self.old.stages
-            → AreHandedOn start (bytes ++ piece.now) self.new.stages.tokens) }
+            → AreHandedOn start (bytes ++ piece.now) self.new.stages.kept.tokens) }
         ensures cause { IfErr result (λ e. (start : Start) (bytes : List ℕ) → IsFed start self.old.stages bytes → IsFeedCause start (bytes ++ piece.now) e) }
         ensures refused { OnErr result (IsStopped self.new.stages) }
         ensures stopped { (result ≡ Err ParseError.Stopped) ↔ IsStopped self.old.stages }
@@ -147,7 +147,7 @@ impl<'a> Parser<'a> {
 
     /// The tokens that were processed.
     pub fn tokens(&self) -> &Tokens
-        ensures value { result.now ≡ self.now.stages.tokens }
+        ensures value { result.now ≡ self.now.stages.kept.tokens }
     {
         self.stages.tokens()
     }

@@ -2,28 +2,26 @@
 
 ghost use Rattle.std.specs.Prelude.{◌≡◌, ◌≢◌, ◌↔◌, ◌++◌, ◌≤◌, ◌^◌, ◌⊎◌, ◌<◌, ◌∷◌, ℕ, Bool, List, [], true, false, Err, IfErr, IfOk, OnErr, OnOk, length};
 ghost use Rattle.html_input.specs.Fed.{Fed as Decodes};
-ghost use Rattle.html_tokens.specs.Runs.{plain_tokens};
 ghost use Rattle.html_tokens.specs.Stream.{Run};
 ghost use Rattle.html_tokens.specs.declared.token.Token.{Token as TokenType};
 ghost use Rattle.html_modes.specs.Handed.{Handed, fates_of, is_stopped as builder_stopped};
 ghost use Rattle.html_parser.specs.Causes.{IsCause, IsFeedCause, IsTokenCause};
 ghost use Rattle.html_parser.specs.Feeding.{AreHandedOn};
-ghost use Rattle.html_parser.specs.Kinds.{starts_of};
 ghost use Rattle.html_parser.specs.Parsed.{IsPageOf, IsTreeOf};
 ghost use Rattle.html_parser.specs.Start.{Start, most_input, text_start};
 ghost use Rattle.html_parser.specs.Tokenizing.{IsTokenizing};
 
 use crate::error::ParseError;
 use crate::faults::merged;
+use crate::kept::Kept;
 use crate::page::{Page, Tree};
-use crate::starts::Starts;
 use html_arena::{Arena, NodeId};
 use html_charref::EntityTable;
 use html_input::Decoder;
 use html_modes::Builder;
 use html_token_list::Tokens;
 use html_tokens::{TextMode, Token, Tokenizer};
-use std::alloc::{AllocError, Global};
+use std::alloc::Global;
 
 /// How many bytes are decoded at once, so that the text on its way takes little room however long a piece is.
 pub(crate) const PIECE: usize = 4096;
@@ -38,12 +36,10 @@ pub(crate) struct Stages<'a> {
     text: Vec<char>,
     /// The plain text that the tokenizer last gave, which tree construction has.
     run: Vec<char>,
-    starts: Starts,
-    tokens: Tokens,
-    keeps_tokens: bool,
+    kept: Kept,
     is_stopped: bool,
     alloc: Global,
-    ghost tokenizing: { IsTokenizing tokenizer starts },
+    ghost tokenizing: { IsTokenizing tokenizer kept.starts },
 }
 
 impl<'a> Stages<'a> {
@@ -62,7 +58,7 @@ impl<'a> Stages<'a> {
         ensures begun { IfOk result (λ p. (start : Start) → start.rows ≡ table.entry.now → start.mode ≡ mode
             → Decodes (most_input start) false decoder [] [] → Handed start.setting start.limits [] builder → IsFed start p []) }
         ensures keeps { IfOk result (λ p. KeepsTokens p) }
-        ensures empty { IfOk result (λ p. p.tokens ≡ []) }
+        ensures empty { IfOk result (λ p. p.kept.tokens ≡ []) }
         ensures cause { IfErr result (λ e. e ≡ ParseError.OutOfMemory) }
     {
         Ok(Stages {
@@ -71,9 +67,7 @@ impl<'a> Stages<'a> {
             builder,
             text: Vec::new(alloc),
             run: Vec::new(alloc),
-            starts: Starts::new(alloc),
-            tokens: Tokens::new(alloc),
-            keeps_tokens: true,
+            kept: Kept::new(alloc),
             is_stopped: false,
             alloc,
         })
@@ -84,14 +78,14 @@ impl<'a> Stages<'a> {
         ensures fed { (start : Start) (bytes : List ℕ) → IsFed start self.old bytes → IsFed start self.new bytes }
         ensures stopped { IsStopped self.new ↔ IsStopped self.old }
     {
-        self.keeps_tokens = false;
+        self.kept.keeps_tokens = false;
     }
 
     /// The tokens that were kept, all of which tree construction took.
     pub(crate) fn tokens(&self) -> &Tokens
-        ensures value { result.now ≡ self.now.tokens }
+        ensures value { result.now ≡ self.now.kept.tokens }
     {
-        &self.tokens
+        &self.kept.tokens
     }
 
     /// Takes a piece of the input. After a refusal each later call answers `Stopped`.
@@ -100,7 +94,7 @@ impl<'a> Stages<'a> {
         ensures few { OnOk result ((start : Start) (bytes : List ℕ) → IsFed start self.old bytes → length (bytes ++ piece.now) ≤ 2 ^ 33) }
         ensures keeps { OnOk result (KeepsTokens self.old → KeepsTokens self.new) }
         ensures prompt { OnOk result ((start : Start) (bytes : List ℕ) → IsFed start self.old bytes → KeepsTokens self.old
-            → AreHandedOn start (bytes ++ piece.now) self.new.tokens) }
+            → AreHandedOn start (bytes ++ piece.now) self.new.kept.tokens) }
         ensures cause { IfErr result (λ e. (start : Start) (bytes : List ℕ) → IsFed start self.old bytes → IsFeedCause start (bytes ++ piece.now) e) }
         ensures refused { OnErr result (IsStopped self.new) }
         ensures stopped { (result ≡ Err ParseError.Stopped) ↔ IsStopped self.old }
@@ -154,7 +148,7 @@ impl<'a> Stages<'a> {
     fn hand_on(&mut self) -> Result<(), ParseError>
         ensures handed { OnOk result ((start : Start) (finished : Bool) (bytes : List ℕ) (run : Run) → IsRun start finished self.old bytes run → IsHandedOn start finished self.new bytes run.text) }
         ensures cause { IfErr result (λ e. (start : Start) (finished : Bool) (bytes : List ℕ) (run : Run) → IsRun start finished self.old bytes run → IsTokenCause start finished run.text e) }
-        ensures keeps { self.new.keeps_tokens ≡ self.old.keeps_tokens }
+        ensures keeps { self.new.kept.keeps_tokens ≡ self.old.kept.keeps_tokens }
         ensures stopped { self.new.is_stopped ≡ self.old.is_stopped }
     {
         'tokens: loop {
@@ -168,9 +162,9 @@ impl<'a> Stages<'a> {
     /// Hands on the plain text that comes next: whether there was any.
     fn hand_run(&mut self) -> Result<bool, ParseError>
         ensures further { OnOk result ((start : Start) (finished : Bool) (bytes : List ℕ) (run : Run) → IsRun start finished self.old bytes run → IsFurther start finished self.new bytes run.text) }
-        ensures more { IfOk result (λ some. some ≡ true → length self.old.starts < length self.new.starts) }
+        ensures more { IfOk result (λ some. some ≡ true → length self.old.kept.starts < length self.new.kept.starts) }
         ensures cause { IfErr result (λ e. (start : Start) (finished : Bool) (bytes : List ℕ) (run : Run) → IsRun start finished self.old bytes run → IsTokenCause start finished run.text e) }
-        ensures keeps { self.new.keeps_tokens ≡ self.old.keeps_tokens }
+        ensures keeps { self.new.kept.keeps_tokens ≡ self.old.kept.keeps_tokens }
         ensures stopped { self.new.is_stopped ≡ self.old.is_stopped }
     {
         self.run.clear();
@@ -178,17 +172,17 @@ impl<'a> Stages<'a> {
             return Ok(false);
         };
         self.builder.process_text(self.run.as_slice(), place)?;
-        self.keep_run(place)?;
+        self.kept.push_run(self.run.as_slice(), place)?;
         Ok(!self.run.is_empty())
     }
 
     /// Hands on the token that comes next: whether there was one.
     fn hand_token(&mut self) -> Result<bool, ParseError>
         ensures further { OnOk result ((start : Start) (finished : Bool) (bytes : List ℕ) (run : Run) → IsRun start finished self.old bytes run → IsFurther start finished self.new bytes run.text) }
-        ensures more { IfOk result (λ some. some ≡ true → length self.old.starts < length self.new.starts) }
+        ensures more { IfOk result (λ some. some ≡ true → length self.old.kept.starts < length self.new.kept.starts) }
         ensures none { IfOk result (λ some. some ≡ false → (start : Start) (finished : Bool) (bytes : List ℕ) (run : Run) → IsRun start finished self.old bytes run → IsHandedOn start finished self.new bytes run.text) }
         ensures cause { IfErr result (λ e. (start : Start) (finished : Bool) (bytes : List ℕ) (run : Run) → IsRun start finished self.old bytes run → IsTokenCause start finished run.text e) }
-        ensures keeps { self.new.keeps_tokens ≡ self.old.keeps_tokens }
+        ensures keeps { self.new.kept.keeps_tokens ≡ self.old.kept.keeps_tokens }
         ensures stopped { self.new.is_stopped ≡ self.old.is_stopped }
     {
         let Some(token) = self.tokenizer.next()? else {
@@ -197,44 +191,8 @@ impl<'a> Stages<'a> {
         if let Some(mode) = self.builder.process(&token)? {
             self.tokenizer.switch(mode);
         }
-        self.keep_token(token)?;
+        self.kept.push(token)?;
         Ok(true)
-    }
-
-    /// Keeps what is wanted of the run.
-    fn keep_run(&mut self, place: u64) -> Result<(), AllocError>
-        ensures starts { OnOk result (self.new.starts ≡ self.old.starts ++ starts_of (plain_tokens place self.old.run.items)) }
-        ensures tokens { OnOk result (KeepsTokens self.old → self.new.tokens ≡ self.old.tokens ++ plain_tokens place self.old.run.items) }
-        ensures decoder { self.new.decoder ≡ self.old.decoder }
-        ensures tokenizer { self.new.tokenizer ≡ self.old.tokenizer }
-        ensures builder { self.new.builder ≡ self.old.builder }
-        ensures run { self.new.run.items ≡ self.old.run.items }
-        ensures keeps { self.new.keeps_tokens ≡ self.old.keeps_tokens }
-        ensures stopped { self.new.is_stopped ≡ self.old.is_stopped }
-    {
-        self.starts.push_run(place, self.run.len() as u64)?;
-        if self.keeps_tokens {
-            self.tokens.push_text(self.run.as_slice(), place)?;
-        }
-        Ok(())
-    }
-
-    /// Keeps what is wanted of a token.
-    fn keep_token(&mut self, token: Token) -> Result<(), AllocError>
-        ensures starts { OnOk result (self.new.starts ≡ self.old.starts ++ starts_of (token ∷ [])) }
-        ensures tokens { OnOk result (KeepsTokens self.old → self.new.tokens ≡ self.old.tokens ++ token ∷ []) }
-        ensures decoder { self.new.decoder ≡ self.old.decoder }
-        ensures tokenizer { self.new.tokenizer ≡ self.old.tokenizer }
-        ensures builder { self.new.builder ≡ self.old.builder }
-        ensures run { self.new.run.items ≡ self.old.run.items }
-        ensures keeps { self.new.keeps_tokens ≡ self.old.keeps_tokens }
-        ensures stopped { self.new.is_stopped ≡ self.old.is_stopped }
-    {
-        self.starts.push_run(token.span.start, 1)?;
-        if self.keeps_tokens {
-            self.tokens.push(token)?;
-        }
-        Ok(())
     }
 
     /// What was made of an input that was ended.
@@ -246,11 +204,11 @@ impl<'a> Stages<'a> {
             decoder,
             tokenizer,
             builder,
-            starts,
-            tokens,
+            kept,
             alloc,
             ..
         } = self;
+        let Kept { starts, tokens, .. } = kept;
         let (arena, fates, numbers) = builder.finish();
         let errors = merged(alloc, tokenizer.errors(), numbers.as_slice(), &starts)?;
         let steps = all_steps(&tokenizer, &arena);
@@ -274,10 +232,11 @@ impl<'a> Stages<'a> {
             decoder,
             tokenizer,
             builder,
-            starts,
+            kept,
             alloc,
             ..
         } = self;
+        let Kept { starts, .. } = kept;
         let (arena, _, numbers) = builder.finish();
         let errors = merged(alloc, tokenizer.errors(), numbers.as_slice(), &starts)?;
         let steps = all_steps(&tokenizer, &arena);
