@@ -1,2 +1,3 @@
 pub mod Stretches
 pub mod Taken
+pub mod Tokenizing
