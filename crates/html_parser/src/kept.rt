@@ -1,6 +1,6 @@
 //! What is kept of the tokens that were taken.
 
-ghost use Rattle.std.specs.Prelude.{◌≡◌, ◌++◌, ◌∷◌, [], true, OnOk};
+ghost use Rattle.std.specs.Prelude.{◌≡◌, ◌⊎◌, ◌++◌, ◌∷◌, [], true, OnOk};
 ghost use Rattle.html_tokens.specs.Runs.{plain_tokens};
 ghost use Rattle.html_parser.specs.Kinds.{starts_of};
 
@@ -34,6 +34,7 @@ impl Kept {
     /// Adds a token for each of these code points, the first at a place and each other one at the next.
     pub(crate) fn push_run(&mut self, text: &[char], place: u64) -> Result<(), AllocError>
         ensures starts { OnOk result (self.new.starts ≡ self.old.starts ++ starts_of (plain_tokens place text.now)) }
+        ensures either { (self.new.starts ≡ self.old.starts) ⊎ (self.new.starts ≡ self.old.starts ++ starts_of (plain_tokens place text.now)) }
         ensures tokens { OnOk result (self.old.keeps_tokens ≡ true → self.new.tokens ≡ self.old.tokens ++ plain_tokens place text.now) }
         ensures keeps { self.new.keeps_tokens ≡ self.old.keeps_tokens }
     {
@@ -47,6 +48,7 @@ impl Kept {
     /// Adds a token.
     pub(crate) fn push(&mut self, token: Token) -> Result<(), AllocError>
         ensures starts { OnOk result (self.new.starts ≡ self.old.starts ++ starts_of (token ∷ [])) }
+        ensures either { (self.new.starts ≡ self.old.starts) ⊎ (self.new.starts ≡ self.old.starts ++ starts_of (token ∷ [])) }
         ensures tokens { OnOk result (self.old.keeps_tokens ≡ true → self.new.tokens ≡ self.old.tokens ++ token ∷ []) }
         ensures keeps { self.new.keeps_tokens ≡ self.old.keeps_tokens }
     {
