@@ -1,3 +1,4 @@
 pub mod Stretches
+pub mod Switching
 pub mod Taken
 pub mod Tokenizing

@@ -120,6 +120,15 @@ impl Builder {
         Err(BuildError::OutOfMemory)
     }
 
+    /// A law: the tokens without a fate are code points, and the last ones.
+    #[tactic(auto, unfolding(crate::specs::Handed::Handed, crate::specs::Handed::fates_of, crate::specs::Handed::is_stopped))]
+    pub fn counted(&self)
+        ensures counted { (s : Setting) (l : Option Limits) (tokens : List TokenKind) → Handed s l tokens self.now
+            → (front : List TokenKind) × (kept : List ℕ) × (tokens ≡ front ++ chars_of kept) × (length (fates_of self.now) ≡ length front) }
+    {
+        let _ = &self.errors;
+    }
+
     #[tactic(auto, unfolding(crate::specs::Handed::Handed, crate::specs::Handed::fates_of, crate::specs::Handed::is_stopped))]
     pub fn finish(self) -> (Arena, Fates, Vec<u64>)
         ensures fates { result.1 ≡ fates_of self }

@@ -2,6 +2,7 @@ use Rattle.std.proofs.Common.{◌≡◌, ◌⊎◌, ◌++◌, ◌∙◌, ap, inl
 use Rattle.html_parser.specs.Kinds.{starts_of}
 use Rattle.html_tokens.specs.Given.{plain_next}
 use Rattle.html_tokens.specs.Runs.{plain_tokens}
+use Rattle.html_parser.proofs.Switching.{chars-none, switches-split}
 use Rattle.html_parser.proofs.Tokenizing.{not_stopped, run_either, same_run}
 use Rattle.html_parser.proofs.stages.Stages.hand_run.Goals as goal
 
