@@ -7,6 +7,7 @@ pub mod Normalised
 pub mod Parsed
 pub mod Plain
 pub mod Reading
+pub mod Saying
 pub mod Start
 pub mod Stretches
 pub mod Tokenizing

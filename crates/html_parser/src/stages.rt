@@ -1,14 +1,16 @@
 //! The stages of parsing, one behind the other: the decoder, the tokenizer, tree construction.
 
-ghost use Rattle.std.specs.Prelude.{◌≡◌, ◌≢◌, ◌↔◌, ◌++◌, ◌≤◌, ◌^◌, ◌⊎◌, ◌<◌, ◌∷◌, ℕ, Bool, List, [], true, false, Err, IfErr, IfOk, OnErr, OnOk, length};
+ghost use Rattle.std.specs.Prelude.{◌≡◌, ◌≢◌, ◌↔◌, ◌++◌, ◌≤◌, ◌^◌, ◌⊎◌, ◌<◌, ◌∷◌, ℕ, Bool, List, [], None, true, false, Err, IfErr, IfOk, OnErr, OnOk, length};
 ghost use Rattle.html_input.specs.Fed.{Fed as Decodes};
-ghost use Rattle.html_tokens.specs.Stream.{Run};
+ghost use Rattle.html_tokens.specs.Given.{Awaits, Fed, fed_len, is_stopped as tokenizer_stopped};
+ghost use Rattle.html_tokens.specs.Stream.{Run, gave};
 ghost use Rattle.html_tokens.specs.declared.token.Token.{Token as TokenType};
 ghost use Rattle.html_modes.specs.Handed.{Handed, fates_of, is_stopped as builder_stopped};
 ghost use Rattle.html_parser.specs.Causes.{IsCause, IsFeedCause, IsTokenCause};
 ghost use Rattle.html_parser.specs.Feeding.{AreHandedOn};
 ghost use Rattle.html_parser.specs.Parsed.{IsPageOf, IsTreeOf};
 ghost use Rattle.html_parser.specs.Start.{Start, most_input, text_start};
+ghost use Rattle.html_parser.specs.Saying.{MaySay};
 ghost use Rattle.html_parser.specs.Tokenizing.{IsTokenizing};
 
 use crate::error::ParseError;
@@ -188,9 +190,8 @@ impl<'a> Stages<'a> {
         let Some(token) = self.tokenizer.next()? else {
             return Ok(false);
         };
-        if let Some(mode) = self.builder.process(&token)? {
-            self.tokenizer.switch(mode);
-        }
+        let mode = self.builder.process(&token)?;
+        tell(&mut self.tokenizer, mode);
         self.kept.push(token)?;
         Ok(true)
     }
@@ -248,6 +249,18 @@ impl<'a> Stages<'a> {
             n: decoder.count(),
             steps,
         })
+    }
+}
+
+/// Tells the tokenizer how the text after the token just given is read, where that token changes it.
+fn tell(tokenizer: &mut Tokenizer<'_>, mode: Option<TextMode>)
+    ensures told { (run : Run) (token : TokenType) → Fed tokenizer.old (gave run token None) → Awaits tokenizer.old run token → MaySay token.kind mode
+        → Fed tokenizer.new (gave run token mode) }
+    ensures stopped { tokenizer_stopped tokenizer.new ≡ tokenizer_stopped tokenizer.old }
+    ensures count { fed_len tokenizer.new ≡ fed_len tokenizer.old }
+{
+    if let Some(mode) = mode {
+        tokenizer.switch(mode);
     }
 }
 
