@@ -1,3 +1,4 @@
+pub mod MaySaying
 pub mod Stretches
 pub mod Switching
 pub mod Taken
