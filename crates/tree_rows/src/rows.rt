@@ -5,6 +5,7 @@ use crate::page::Page;
 use crate::refusal::Refusal;
 use crate::shown::push_open;
 use crate::words::Word;
+use html_tree::OpenError;
 use std::alloc::{AllocError, Global};
 
 /// Makes the calls of a row on a document of its own, and writes what those after the last `|` answer, or why a call was not made.
@@ -20,6 +21,26 @@ pub(crate) fn answer(alloc: Global, row: &str, out: &mut String) -> Result<(), A
 
 fn tell(page: &mut Page, alloc: Global, row: &str, out: &mut String) -> Result<(), AllocError> {
     match follow(page, alloc, row, out) {
+        Ok(()) => Ok(()),
+        Err(refusal) => {
+            tell_refusal(refusal, out)?;
+            if refusal == Refusal::Open(OpenError::OutOfMemory) {
+                go_on(page, alloc, out)?;
+            }
+            Ok(())
+        }
+    }
+}
+
+/// After memory was refused, writes what is open, opens an element that no token asked for, and writes what is open then.
+fn go_on(page: &mut Page, alloc: Global, out: &mut String) -> Result<(), AllocError> {
+    out.push_str(" ")?;
+    let words = if page.depth() == 0 {
+        "open implied-root open"
+    } else {
+        "open implied:p open"
+    };
+    match follow(page, alloc, words, out) {
         Ok(()) => Ok(()),
         Err(refusal) => tell_refusal(refusal, out),
     }
