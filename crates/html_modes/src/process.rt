@@ -2,13 +2,11 @@
 ghost use Rattle.std.specs.Prelude.{◌≡◌, ◌≤◌, [], IfOk, OnOk, IsTrue, true, false};
 ghost use Rattle.html_ledger.specs.Symbols.{symbol_of};
 ghost use Rattle.html_ledger.specs.Flags.{is_free, may_select};
-ghost use Rattle.html_construction.specs.Built.{Keeps, Takes};
+ghost use Rattle.html_construction.specs.Built.{Handed, IsBuilt, Keeps, Takes};
 ghost use Rattle.html_modes.specs.Fitting.{Fits};
-ghost use Rattle.html_modes.specs.Steps.{Steps, Falls, Spends, Settles};
+ghost use Rattle.html_modes.specs.Steps.{Falls, Pays, Settles, Spends, Steps, is_code_point};
 ghost use Rattle.html_modes.specs.Ranks.{top_rank};
-ghost use Rattle.html_construction.specs.Built.{Handed, IsBuilt};
-ghost use Rattle.html_modes.specs.Guards.{is_droppable, is_of_frames, is_of_selects, is_table_text, takes_runs};
-ghost use Rattle.html_modes.specs.Steps.{Pays, is_code_point};
+ghost use Rattle.html_modes.specs.Guards.{is_droppable, is_of_frames, is_of_selects, is_table_text};
 
 use crate::guards::{is_astray, is_table_text, is_unfounded};
 use crate::modes::after::{after_after_body, after_body};

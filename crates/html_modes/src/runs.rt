@@ -1,12 +1,10 @@
 // Text that is taken in runs (13.2.6.1).
-ghost use Rattle.std.specs.Prelude.{◌≡◌, ◌<◌, ◌≤◌, ◌==◌, IfOk, OnOk, IsTrue, length, true, false, take, Some};
-ghost use Rattle.html_ledger.specs.Flags.{may_text_run};
+ghost use Rattle.std.specs.Prelude.{◌≡◌, ◌<◌, ◌≤◌, ◌==◌, ℕ, IfOk, IsTrue, OnOk, Some, false, length, slice_get, take, true};
+ghost use Rattle.std.specs.List.{list_all};
+ghost use Rattle.html_ledger.specs.Flags.{is_not_null, may_text_run};
 ghost use Rattle.html_construction.specs.Built.{Takes, TakesRun};
 ghost use Rattle.html_modes.specs.Fitting.{Fits, is_loose};
-ghost use Rattle.html_ledger.specs.Flags.{is_not_null};
 ghost use Rattle.html_modes.specs.Guards.{is_text, takes_runs};
-ghost use Rattle.std.specs.List.{list_all};
-ghost use Rattle.std.specs.Prelude.{ℕ, slice_get};
 
 use crate::guards::{is_text, takes_run};
 use crate::modes::body_start::body_run;
