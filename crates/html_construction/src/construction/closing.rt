@@ -1,12 +1,11 @@
 // Elements that are closed. The first element never is. No call gives a token its fate.
-ghost use Rattle.std.specs.Prelude.{◌≡◌, ◌+◌, ◌<◌, ◌≤◌, drop, false, length, true};
+ghost use Rattle.std.specs.Prelude.{◌≡◌, ◌+◌, ◌<◌, ◌≤◌, drop, false, length, true, ◌&&◌, is_some, nat_lt};
 ghost use Rattle.html_names.specs.declared.tag.Tag.TheVariants as html;
 ghost use Rattle.html_names.specs.Tags.{is_same};
 ghost use Rattle.html_tree.specs.Groups.{in_group};
 ghost use Rattle.html_construction.specs.Built.{Keeps};
 ghost use Rattle.html_construction.specs.Grown.{Grown};
 ghost use Rattle.html_construction.specs.Weights.{group_weight, weight, weight_of};
-ghost use Rattle.std.specs.Prelude.{◌&&◌, is_some, nat_lt};
 ghost use Rattle.std.specs.Str.{chars};
 ghost use Rattle.html_names.specs.declared.sets.Scope.TheVariants as scope;
 ghost use Rattle.html_open.specs.Lists.{up_to};

@@ -1,5 +1,5 @@
 // The fates of tokens, which the ledger keeps. Each call gives the next token its one fate, and asks that none is kept without one.
-ghost use Rattle.std.specs.Prelude.{◌≡◌, ◌+◌, ◌≤◌, ◌∷◌, [], ◌++◌, IfOk, IfSome, IsTrue, OnErr, OnOk, None, true};
+ghost use Rattle.std.specs.Prelude.{◌≡◌, ◌+◌, ◌≤◌, ◌∷◌, [], ◌++◌, IfOk, IfSome, IsTrue, OnErr, OnOk, None, true, length};
 ghost use Rattle.html_ledger.specs.Symbols.{symbol_of};
 ghost use Rattle.html_ledger.specs.Entries.{Takes as LedgerTakes, ended, given, number_of};
 ghost use Rattle.html_ledger.specs.Fated.{is_end};
@@ -9,7 +9,6 @@ ghost use Rattle.html_ledger.specs.declared.symbol.Symbol.TheVariants.{Char};
 ghost use Rattle.html_tokens.specs.declared.token.TokenKind.TheVariants as kind;
 ghost use Rattle.html_construction.specs.Built.{Keeps, Releases, Takes, ends_made};
 ghost use Rattle.html_construction.specs.Grown.{Grown};
-ghost use Rattle.std.specs.Prelude.{length};
 ghost use Rattle.html_ledger.specs.declared.fate.Fate.TheVariants.{Dropped, Made};
 ghost use Rattle.html_construction.specs.Calls.{HasFate, is_idle};
 

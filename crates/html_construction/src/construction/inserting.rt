@@ -1,18 +1,16 @@
 // Nodes that are made of tokens, or implied by them. A token gets its fate first, and then its node is made: so no node comes from a token
 // without a fate, also where the node is refused.
-ghost use Rattle.std.specs.Prelude.{◌≡◌, ◌+◌, ◌<◌, ◌≤◌, ◌∷◌, [], IfOk, IsTrue, OnOk, false, length, true};
+ghost use Rattle.std.specs.Prelude.{◌≡◌, ◌+◌, ◌<◌, ◌≤◌, ◌∷◌, [], IfOk, IsTrue, OnOk, false, length, true, slice_index};
 ghost use Rattle.html_names.specs.declared.tag.Tag.TheVariants as tag;
 ghost use Rattle.html_names.specs.Groups.{is_outermost};
 ghost use Rattle.html_names.specs.Sets.{is_formatting};
-ghost use Rattle.html_arena.specs.Tree.{tag_at};
+ghost use Rattle.html_arena.specs.Tree.{tag_at, with_merged};
 ghost use Rattle.html_ledger.specs.Symbols.{symbol_of};
 ghost use Rattle.html_ledger.specs.declared.symbol.Symbol.TheVariants.{Comment, Doctype, Start};
 ghost use Rattle.html_construction.specs.Built.{Keeps, Takes};
 ghost use Rattle.html_construction.specs.Grown.{Grown};
 ghost use Rattle.html_construction.specs.Targets.{CanTarget};
 ghost use Rattle.html_construction.specs.Weights.{weight};
-ghost use Rattle.std.specs.Prelude.{slice_index};
-ghost use Rattle.html_arena.specs.Tree.{with_merged};
 ghost use Rattle.html_open.specs.Marking.{bare};
 ghost use Rattle.html_tree.specs.declared.groups.Target.TheVariants.{Current, Document};
 ghost use Rattle.html_ledger.specs.declared.fate.Fate.TheVariants.{Made, Merged};

@@ -1,10 +1,9 @@
 // The list of active formatting elements (13.2.4.3). No call gives a token its fate.
-ghost use Rattle.std.specs.Prelude.{◌≡◌, ◌<◌, ◌≤◌, IfSome, OnOk, length, true};
+ghost use Rattle.std.specs.Prelude.{◌≡◌, ◌<◌, ◌≤◌, IfSome, OnOk, length, true, ◌++◌, ◌∷◌, [], IfOk};
 ghost use Rattle.html_names.specs.Sets.{is_formatting};
 ghost use Rattle.html_construction.specs.Built.{Keeps};
 ghost use Rattle.html_construction.specs.Grown.{Grown};
 ghost use Rattle.html_construction.specs.Weights.{weight};
-ghost use Rattle.std.specs.Prelude.{◌++◌, ◌∷◌, [], IfOk};
 ghost use Rattle.html_open.specs.declared.entry.Entry.TheVariants.{Marker};
 ghost use Rattle.html_open.specs.Entries.{is_marker, last_named, without_node};
 ghost use Rattle.html_open.specs.Lists.{below};

@@ -1,6 +1,6 @@
 // The element pointers (13.2.4.4), the body that a frameset takes the place of, and how many elements and nodes there were when the rules for a
 // token began.
-ghost use Rattle.std.specs.Prelude.{◌≡◌, ◌+◌, ◌<◌, ◌≤◌, ◌∷◌, [], IfSome, None, OnOk, false, length, slice_index, true};
+ghost use Rattle.std.specs.Prelude.{◌≡◌, ◌+◌, ◌<◌, ◌≤◌, ◌∷◌, [], IfSome, None, OnOk, false, length, slice_index, true, ◌||◌, Some, is_some};
 ghost use Rattle.html_names.specs.declared.tag.Tag.TheVariants as tag;
 ghost use Rattle.html_arena.specs.Tree.{named, tag_at};
 ghost use Rattle.html_ledger.specs.Symbols.{symbol_of};
@@ -8,7 +8,6 @@ ghost use Rattle.html_ledger.specs.declared.symbol.Symbol.TheVariants.{Start};
 ghost use Rattle.html_construction.specs.Built.{Keeps, Takes};
 ghost use Rattle.html_construction.specs.Grown.{Grown};
 ghost use Rattle.html_construction.specs.Weights.{weight};
-ghost use Rattle.std.specs.Prelude.{◌||◌, Some, is_some};
 ghost use Rattle.html_construction.specs.Calls.{IsTree, is_idle};
 
 use super::Construction;

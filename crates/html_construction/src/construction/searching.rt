@@ -1,10 +1,9 @@
 // Questions about the open elements. They count steps; all else stays.
-ghost use Rattle.std.specs.Prelude.{◌≡◌, ◌+◌, ◌<◌, ◌≤◌, Some, drop, length, slice_get, slice_index, true};
+ghost use Rattle.std.specs.Prelude.{◌≡◌, ◌+◌, ◌<◌, ◌≤◌, Some, drop, length, slice_get, slice_index, true, ◌&&◌, is_some};
 ghost use Rattle.html_arena.specs.Tree.{tag_at};
 ghost use Rattle.html_construction.specs.Built.{Keeps};
 ghost use Rattle.html_construction.specs.Grown.{Grown};
 ghost use Rattle.html_construction.specs.Weights.{group_weight, weight};
-ghost use Rattle.std.specs.Prelude.{◌&&◌, is_some};
 ghost use Rattle.html_names.specs.declared.tag.Tag.TheVariants as html;
 ghost use Rattle.html_tree.specs.declared.groups.Group.TheVariants as group;
 ghost use Rattle.html_tree.specs.declared.groups.Stop.TheVariants as stop;

@@ -1,11 +1,10 @@
 // Text at the place for the current node (13.2.6.1, insert a character).
-ghost use Rattle.std.specs.Prelude.{◌≡◌, ◌==◌, ◌+◌, ◌<◌, ◌≤◌, [], false, IfOk, IsTrue, OnOk, length, take};
+ghost use Rattle.std.specs.Prelude.{◌≡◌, ◌==◌, ◌+◌, ◌<◌, ◌≤◌, [], false, IfOk, IsTrue, OnOk, length, take, ◌∷◌};
 ghost use Rattle.html_ledger.specs.Symbols.{symbol_of};
 ghost use Rattle.html_ledger.specs.Flags.{is_free, may_text_run};
 ghost use Rattle.html_ledger.specs.declared.symbol.Symbol.TheVariants.{Char};
 ghost use Rattle.html_construction.specs.Built.{Takes, TakesRun};
 ghost use Rattle.html_construction.specs.Grown.{Grown};
-ghost use Rattle.std.specs.Prelude.{◌∷◌};
 ghost use Rattle.html_tree.specs.Texts.{text_node, with_text};
 ghost use Rattle.html_ledger.specs.declared.fate.Fate.TheVariants.{Text};
 ghost use Rattle.html_ledger.specs.Entries.{given_run};
