@@ -1,16 +1,30 @@
 -- The tokens handed in, after each call.
-use Rattle.std.proofs.Common.{ℕ, ◌≡◌, ◌<◌, ◌≤◌, ◌⊎◌, List, [], ◌∷◌, ◌++◌, length, inl, inr, refl, sym, ap, subst, ◌∙◌, arith}
+use Rattle.std.proofs.Common.{ℕ, ◌≡◌, ◌<◌, ◌≤◌, ◌⊎◌, List, [], ◌∷◌, ◌++◌, length, inl, inr, refl, sym, ap, subst, ◌∙◌, arith, Bool, true, false}
+use Rattle.std.proofs.lemmas.List.{append-nil}
+use Rattle.html_open.specs.Marking.{bare}
+use Rattle.html_arena.specs.declared.data.NewNode.TheVariants.{Text}
 use Rattle.std.specs.Prelude.{Option, Some, None}
 use Rattle.html_arena.specs.declared.data.NodeData.{NodeData}
 use Rattle.html_arena.specs.declared.data.NodeData.TheVariants as node
-use Rattle.html_arena.specs.Data.{host_in}
-use Rattle.html_arena.specs.Tree.{host_at, label_of, parent_of}
+use Rattle.html_arena.specs.declared.data.NewNode.{NewNode}
+use Rattle.html_arena.specs.Data.{host_in, name_in, origin_in}
+use Rattle.html_arena.specs.Make.{has_contents, made}
+use Rattle.html_arena.specs.Tree.{Tree as Nodes, detached, host_at, label_of, parent_of, texted_run}
+use Rattle.html_open.specs.declared.places.Place.{Place}
+use Rattle.html_open.specs.Placing.{put}
 use Rattle.html_tokens.specs.declared.token.TokenKind.{TokenKind}
 use Rattle.html_tokens.specs.declared.token.TokenKind.TheVariants as kind
 use Rattle.html_tree.specs.States.{State as Tree}
+use Rattle.html_tree.specs.Inserting.{with_new}
+use Rattle.html_tree.specs.Listing.{HasCloned}
+use Rattle.html_tree.specs.Texts.{place_here, text_before, text_node, tree_or_new, with_text, with_text_node}
+use Rattle.html_tree.proofs.Texted.{put-limits}
 use Rattle.html_tree.specs.Since.{IsContents, Keeps as TreeKeeps, Since, essence}
 use Rattle.html_ledger.specs.declared.symbol.Symbol.TheVariants.{Char}
 use Rattle.html_ledger.specs.Symbols.{symbol_of, chars_of as symbol_chars}
+use Rattle.html_ledger.specs.declared.setting.Setting.{Setting}
+use Rattle.html_ledger.specs.declared.setting.Setting.TheVariants as setting
+use Rattle.html_construction.specs.Origins.{HasRoot, IsRootLabel}
 use Rattle.html_construction.specs.Built.{IsRooted, chars_of, symbols}
 
 pub symbols-push : (ts : List TokenKind) (t : TokenKind) → symbols (ts ++ t ∷ []) ≡ symbols ts ++ symbol_of t ∷ []
@@ -73,3 +87,90 @@ rooted-since a b w r = λ x l e. free-linked a b x w r (w.linked x l e)
 
 pub rooted-keeps : (a b : Tree) → TreeKeeps a b → IsRooted a → IsRooted b
 rooted-keeps a b k r = rooted-since a b (k a (Since-same a)) r
+
+-- what stays of a node tells whether it is the root
+document-essence : (d : NodeData) → essence d ≡ node.Document → d ≡ node.Document
+document-essence node.Document e = refl
+document-essence (node.Contents h) e = absurd (let k = e in cc)
+document-essence (node.Element r) e = absurd (let k = e in cc)
+document-essence (node.Text s) e = absurd (let k = e in cc)
+document-essence (node.Comment s i) e = absurd (let k = e in cc)
+document-essence (node.Doctype n p s i) e = absurd (let k = e in cc)
+
+name-essence : (d : NodeData) → name_in (essence d) ≡ name_in d
+name-essence node.Document = refl
+name-essence (node.Contents h) = refl
+name-essence (node.Element e) = refl
+name-essence (node.Text s) = refl
+name-essence (node.Comment s i) = refl
+name-essence (node.Doctype n p s i) = refl
+
+origin-essence : (d : NodeData) → origin_in (essence d) ≡ origin_in d
+origin-essence node.Document = refl
+origin-essence (node.Contents h) = refl
+origin-essence (node.Element e) = refl
+origin-essence (node.Text s) = refl
+origin-essence (node.Comment s i) = refl
+origin-essence (node.Doctype n p s i) = refl
+
+root-essence : (s : Setting) (d e : NodeData) → essence e ≡ essence d → IsRootLabel s d → IsRootLabel s e
+root-essence setting.Document d e q r = document-essence e (q ∙ ap essence r)
+root-essence (setting.Fragment g f) d e q r =
+    (sym (name-essence e) ∙ ap name_in q ∙ name-essence d ∙ r.0, sym (origin-essence e) ∙ ap origin_in q ∙ origin-essence d ∙ r.1)
+
+-- the root stays
+pub root-keeps : (s : Setting) (a b : Tree) → TreeKeeps a b → HasRoot s a.tree → HasRoot s b.tree
+root-keeps s a b k r =
+    let w : Since a b = k a (Since-same a) in
+    let some = r.some_node in
+    let more = w.no_fewer in
+    record {
+      some_node = omega (arith, some, more);
+      label = root-essence s (label_of a.tree 0) (label_of b.tree 0) (w.labels 0 some) r.label;
+      alone = w.root r.alone;
+    }
+
+-- the same nodes
+pub as-was : (a b : Tree) → b.tree ≡ a.tree → HasCloned a b
+as-was a b e = record {
+  elements = [];
+  listed = λ x h. absurd (let k = h in cc);
+  labels_are = ap (λ (t : Nodes). t.labels) e ∙ sym (append-nil a.tree.labels);
+  limits_are = ap (λ (t : Nodes). t.limits) e;
+}
+
+-- a node that left its parent
+detached-labels : (t : Nodes) (x : ℕ) (o : Option ℕ) → (detached t x o).labels ≡ t.labels
+detached-labels t x None = refl
+detached-labels t x (Some p) = refl
+
+detached-limits : (t : Nodes) (x : ℕ) (o : Option ℕ) → (detached t x o).limits ≡ t.limits
+detached-limits t x None = refl
+detached-limits t x (Some p) = refl
+
+pub as-detached : (a b : Tree) (x : ℕ) (o : Option ℕ) → b.tree ≡ bare (detached a.tree x o) → HasCloned a b
+as-detached a b x o e = record {
+  elements = [];
+  listed = λ y h. absurd (let k = h in cc);
+  labels_are = ap (λ (t : Nodes). t.labels) e ∙ detached-labels a.tree x o ∙ sym (append-nil a.tree.labels);
+  limits_are = ap (λ (t : Nodes). t.limits) e ∙ detached-limits a.tree x o;
+}
+
+-- a new node keeps the limits
+made-limits : (t : Nodes) (d : NewNode) → (made t d).limits ≡ t.limits
+made-limits t d = by (has_contents d) refl
+  where
+    by : (b : Bool) → has_contents d ≡ b → (made t d).limits ≡ t.limits
+    by true h = rw h refl
+    by false h = rw h refl
+
+pub new-limits : (t : Nodes) (at : Place) (d : NewNode) → (with_new t at d).limits ≡ t.limits
+new-limits t at d = put-limits (made t d) at (length t.labels) ∙ made-limits t d
+
+-- and so does text
+pub text-limits : (a : Tree) (foster : Bool) (run : List ℕ) → (with_text a foster run).limits ≡ a.tree.limits
+text-limits a foster run = by (text_before a.tree (place_here a foster))
+  where
+    by : (o : Option ℕ) → (tree_or_new a.tree (place_here a foster) o).limits ≡ a.tree.limits
+    by None = new-limits a.tree (place_here a foster) Text
+    by (Some x) = refl

@@ -9,6 +9,11 @@ use Rattle.html_names.specs.Sets.{is_formatting}
 use Rattle.html_tokens.specs.declared.attributes.Attr.{Attr}
 use Rattle.html_tokens.specs.declared.token.TokenKind.{TokenKind}
 use Rattle.html_tree.specs.declared.groups.Group.{Group}
+use Rattle.html_arena.specs.declared.data.NewNode.{NewNode}
+use Rattle.html_arena.specs.Tree.{Tree as Nodes}
+use Rattle.html_open.specs.declared.places.Place.{Place}
+use Rattle.html_tree.specs.Inserting.{with_new}
+use Rattle.html_tree.specs.Listing.{HasCloned}
 use Rattle.html_tree.specs.States.{State as Tree}
 use Rattle.html_tree.specs.Since.{Keeps as TreeKeeps}
 use Rattle.html_tree.specs.OpenTags.{HasClosed, HasReopened, IsLighter, IsLighterBesides, open_tags}
@@ -20,14 +25,14 @@ use Rattle.html_ledger.specs.Flags.{is_free_run, is_not_null, may_text_run}
 use Rattle.html_ledger.specs.declared.symbol.Symbol.{Symbol}
 use Rattle.html_ledger.specs.Symbols.{symbol_of, chars_of as symbol_chars}
 use Rattle.html_ledger.specs.Entries.{Entries, Fed, Releases as LedgerReleases, Takes as LedgerTakes, TakesRun as LedgerTakesRun, given, given_run, number_of}
-use Rattle.html_construction.specs.Calls.{HasFate, IsTree, listed_at}
+use Rattle.html_construction.specs.Calls.{HasFate, IsTree, implied_of, listed_at}
 use Rattle.html_construction.specs.States.{State}
 use Rattle.html_construction.specs.declared.mode.Mode.{Mode}
 use Rattle.html_construction.specs.Built.{BeginsWith, Handed, IsBuilt, Keeps, Releases, Takes, TakesRun, chars_of, symbols, with_tokens}
 use Rattle.html_construction.specs.Modes.{is_reset}
 use Rattle.html_construction.specs.UnderWay.{IsUnderWay}
 use Rattle.html_construction.specs.Weights.{group_weight, weight, weight_of}
-use Rattle.html_construction.proofs.Building.{rooted-keeps, symbols-append, symbols-chars, symbols-push}
+use Rattle.html_construction.proofs.Building.{new-limits, root-keeps, rooted-keeps, symbols-append, symbols-chars, symbols-push}
 use Rattle.html_construction.proofs.Weighing.{group-weighs, weight-le, weight-less, weight_of-formatting}
 
 -- both of two tests
@@ -74,32 +79,49 @@ longer : (fs gs hs ks : List Fate) → ks ≡ gs ++ hs → BeginsWith fs gs → 
 longer fs gs hs ks e b = (b.0 ++ hs, e ∙ ap (λ xs. xs ++ hs) b.1 ∙ append_assoc fs b.0 hs)
 
 -- the tree changed, and the ledger did not
-pub kept : (v n z : State) → v ≡ n → z.ledger ≡ v.ledger → TreeKeeps v.tree z.tree → Keeps n z
-kept v n z e f k = λ h w.
+pub kept : (v n z : State) → v ≡ n → z.ledger ≡ v.ledger → TreeKeeps v.tree z.tree → HasCloned v.tree z.tree → Keeps n z
+kept v n z e f k c = λ h w.
     let u : IsBuilt h v = subst (λ x. IsBuilt h x) (sym e) w in record {
       fed = subst (λ l. Fed h.setting l (symbols h.tokens)) (sym f) u.fed;
       known = subst (λ (l : Entries). BeginsWith h.known l.fates) (sym f) u.known;
       rooted = rooted-keeps v.tree z.tree k u.rooted;
+      limits = c.limits_are ∙ u.limits;
+      root = root-keeps h.setting v.tree z.tree k u.root;
+    }
+
+-- an element that no token asked for was made
+pub implied : (v n z : State) (at : Place) (g : Tag) → v ≡ n → z.ledger ≡ v.ledger → TreeKeeps v.tree z.tree → z.tree.tree ≡ with_new v.tree.tree at (implied_of g) → Keeps n z
+implied v n z at g e f k q = λ h w.
+    let u : IsBuilt h v = subst (λ x. IsBuilt h x) (sym e) w in record {
+      fed = subst (λ l. Fed h.setting l (symbols h.tokens)) (sym f) u.fed;
+      known = subst (λ (l : Entries). BeginsWith h.known l.fates) (sym f) u.known;
+      rooted = rooted-keeps v.tree z.tree k u.rooted;
+      limits = ap (λ (t : Nodes). t.limits) q ∙ new-limits v.tree.tree at (implied_of g) ∙ u.limits;
+      root = root-keeps h.setting v.tree z.tree k u.root;
     }
 
 -- the ledger took a token, and the tree may have changed
-pub taken : (v n z : State) (t : TokenKind) (y : Symbol) → v ≡ n → symbol_of t ≡ y → LedgerTakes y v.ledger z.ledger → AddsFates v.ledger z.ledger → TreeKeeps v.tree z.tree → Takes t n z
+pub taken : (v n z : State) (t : TokenKind) (y : Symbol) → v ≡ n → symbol_of t ≡ y → LedgerTakes y v.ledger z.ledger → AddsFates v.ledger z.ledger → TreeKeeps v.tree z.tree → z.tree.tree.limits ≡ v.tree.tree.limits → Takes t n z
 unfolding with_tokens
-taken v n z t y e f g m k = λ h w.
+taken v n z t y e f g m k l = λ h w.
     let u : IsBuilt h v = subst (λ x. IsBuilt h x) (sym e) w in record {
       fed = subst (λ us. Fed h.setting z.ledger us) (sym (symbols-push h.tokens t ∙ ap (λ x. symbols h.tokens ++ x ∷ []) f)) (g h.setting (symbols h.tokens) u.fed);
       known = longer h.known v.ledger.fates m.more z.ledger.fates m.fates_are u.known;
       rooted = rooted-keeps v.tree z.tree k u.rooted;
+      limits = l ∙ u.limits;
+      root = root-keeps h.setting v.tree z.tree k u.root;
     }
 
 -- the ledger took code points
-pub taken-run : (v n z : State) (cs : List ℕ) → v ≡ n → LedgerTakesRun cs v.ledger z.ledger → AddsFates v.ledger z.ledger → TreeKeeps v.tree z.tree → TakesRun cs n z
+pub taken-run : (v n z : State) (cs : List ℕ) → v ≡ n → LedgerTakesRun cs v.ledger z.ledger → AddsFates v.ledger z.ledger → TreeKeeps v.tree z.tree → z.tree.tree.limits ≡ v.tree.tree.limits → TakesRun cs n z
 unfolding with_tokens
-taken-run v n z cs e g m k = λ h w.
+taken-run v n z cs e g m k l = λ h w.
     let u : IsBuilt h v = subst (λ x. IsBuilt h x) (sym e) w in record {
       fed = subst (λ us. Fed h.setting z.ledger us) (sym (symbols-append h.tokens (chars_of cs) ∙ ap (λ x. symbols h.tokens ++ x) (symbols-chars cs))) (g h.setting (symbols h.tokens) u.fed);
       known = longer h.known v.ledger.fates m.more z.ledger.fates m.fates_are u.known;
       rooted = rooted-keeps v.tree z.tree k u.rooted;
+      limits = l ∙ u.limits;
+      root = root-keeps h.setting v.tree z.tree k u.root;
     }
 
 -- the tree is as it was
@@ -124,12 +146,13 @@ pub stack-is : (v n : State) → v ≡ n → v.stack ≡ n.stack
 stack-is v n e = ap (λ (x : State). x.stack) e
 
 -- the ledger took a token first, and then the tree changed
-pub taken-made : (v g n z : State) (t : TokenKind) (y : Symbol) → v ≡ g → g ≡ record n { ledger = g.ledger } → z.ledger ≡ v.ledger → symbol_of t ≡ y → LedgerTakes y n.ledger g.ledger → AddsFates n.ledger g.ledger → TreeKeeps v.tree z.tree → Takes t n z
-taken-made v g n z t y e r p f k q j =
+pub taken-made : (v g n z : State) (t : TokenKind) (y : Symbol) → v ≡ g → g ≡ record n { ledger = g.ledger } → z.ledger ≡ v.ledger → symbol_of t ≡ y → LedgerTakes y n.ledger g.ledger → AddsFates n.ledger g.ledger → TreeKeeps v.tree z.tree → (at : Place) (d : NewNode) → z.tree.tree ≡ with_new v.tree.tree at d → Takes t n z
+taken-made v g n z t y e r p f k q j at d l =
     taken n n z t y refl f
     (subst (λ m. LedgerTakes y n.ledger m) (sym (p ∙ ap (λ (x : State). x.ledger) e)) k)
     (subst (λ m. AddsFates n.ledger m) (sym (p ∙ ap (λ (x : State). x.ledger) e)) q)
     (subst (λ x. TreeKeeps x z.tree) (ap (λ (x : State). x.tree) e ∙ ap (λ (x : State). x.tree) r) j)
+    (ap (λ (t : Nodes). t.limits) l ∙ new-limits v.tree.tree at d ∙ ap (λ (x : State). x.tree.tree.limits) e ∙ ap (λ (x : State). x.tree.tree.limits) r)
 
 -- formatting elements were opened anew
 formatting-weighs : (ts : List Tag) → list_all is_formatting ts ≡ true → weight ts ≡ 0
@@ -197,14 +220,14 @@ split-symbols [] (y ∷ ys) cs e = absurd cc
 split-symbols (t ∷ ts) (y ∷ ys) cs e = let p = split-symbols ts ys cs (ap rest e) in
     (t ∷ p.0, ap (λ z. z ∷ symbols p.0) (ap first e) ∙ ap (λ zs. y ∷ zs) p.1, ap (λ us. t ∷ us) p.2)
 
-pub released : (v n z : State) (cs : List ℕ) → v ≡ n → LedgerReleases cs v.ledger z.ledger → AddsFates v.ledger z.ledger → TreeKeeps v.tree z.tree → Releases cs n z
+pub released : (v n z : State) (cs : List ℕ) → v ≡ n → LedgerReleases cs v.ledger z.ledger → AddsFates v.ledger z.ledger → TreeKeeps v.tree z.tree → z.tree.tree.limits ≡ v.tree.tree.limits → Releases cs n z
 unfolding with_tokens
-released v n z cs e r m k = λ h w.
+released v n z cs e r m k l = λ h w.
     let u : IsBuilt h v = subst (λ x. IsBuilt h x) (sym e) w in
     let p = r h.setting (symbols h.tokens) u.fed in
     let q = split-symbols h.tokens p.0 cs p.2 in (
       record h { tokens = q.0 },
-      record { fed = subst (λ ys. Fed h.setting z.ledger ys) (sym q.1) p.1; known = longer h.known v.ledger.fates m.more z.ledger.fates m.fates_are u.known; rooted = rooted-keeps v.tree z.tree k u.rooted },
+      record { fed = subst (λ ys. Fed h.setting z.ledger ys) (sym q.1) p.1; known = longer h.known v.ledger.fates m.more z.ledger.fates m.fates_are u.known; rooted = rooted-keeps v.tree z.tree k u.rooted; limits = l ∙ u.limits; root = root-keeps h.setting v.tree z.tree k u.root },
       ap (λ vs. record h { tokens = vs }) q.2,
     )
 

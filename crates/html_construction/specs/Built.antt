@@ -1,5 +1,6 @@
 -- Tokens against what was built of them.
 use Rattle.std.specs.Prelude.{◌≡◌, ℕ, ◌<◌, ◌⊎◌, ◌+◌, ◌≤◌, List, [], ◌∷◌, ◌++◌, length, Option, Some, None}
+use Rattle.html_arena.specs.declared.arena.Limits.{Limits}
 use Rattle.html_arena.specs.Tree.{host_at, parent_of}
 use Rattle.html_tokens.specs.declared.token.TokenKind.{TokenKind}
 use Rattle.html_tokens.specs.declared.token.TokenKind.TheVariants as kind
@@ -12,6 +13,7 @@ use Rattle.html_ledger.specs.Entries.{Entries, Fed}
 use Rattle.html_ledger.specs.Fates.{is_made}
 use Rattle.std.specs.Prelude.{Bool, false}
 use Rattle.html_ledger.specs.Runs.{last_of}
+use Rattle.html_construction.specs.Origins.{HasRoot}
 use Rattle.html_construction.specs.States.{State}
 
 -- tokens as the rules tell them apart
@@ -30,15 +32,16 @@ IsRooted t =
     (x : ℕ) → x < length t.tree.labels → parent_of t.tree x ≡ None
     → (x ≡ 0) ⊎ (((h : ℕ) × (host_at t.tree x ≡ Some h)) ⊎ (t.detached ≡ Some x))
 
--- What is parsed, the tokens that were handed in, and fates that the first of them are known to have.
+-- What is parsed, the limits to which the tree keeps, the tokens that were handed in, and fates that the first of them are known to have.
 pub record Handed : Type 0 where
   pub setting : Setting
+  pub limits : Option Limits
   pub tokens : List TokenKind
   pub known : List Fate
 
 -- before the first token
-abbrev pub nothing_of : Setting → Handed
-nothing_of s = record { setting = s; tokens = []; known = [] }
+abbrev pub nothing_of : Setting → Option Limits → Handed
+nothing_of s l = record { setting = s; limits = l; tokens = []; known = [] }
 
 -- after more tokens
 unfoldable pub with_tokens : Handed → List TokenKind → Handed
@@ -53,6 +56,8 @@ pub record IsBuilt (h : Handed) (a : State) : Type 0 where
   pub fed : Fed h.setting a.ledger (symbols h.tokens)
   pub known : BeginsWith h.known a.ledger.fates
   pub rooted : IsRooted a.tree
+  pub limits : a.tree.tree.limits ≡ h.limits
+  pub root : HasRoot h.setting a.tree.tree
 
 -- From one state to a later one: the tokens handed in are the same.
 abbrev pub Keeps : State → State → Type 0

@@ -1,5 +1,6 @@
 pub mod States
 pub mod Weights
+pub mod Origins
 pub mod Built
 pub mod Calls
 pub mod Grown

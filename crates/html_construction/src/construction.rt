@@ -1,5 +1,5 @@
 // The state of tree construction.
-ghost use Rattle.std.specs.Prelude.{◌≡◌, ℕ, ◌∷◌, [], IfOk, OnOk, Option, true};
+ghost use Rattle.std.specs.Prelude.{◌≡◌, ℕ, ◌∷◌, [], IfOk, None, OnOk, Option, Some, true};
 ghost use Rattle.html_arena.specs.declared.arena.Limits.{Limits};
 ghost use Rattle.html_ledger.specs.declared.setting.Setting.TheVariants.{Document, Fragment};
 ghost use Rattle.html_names.specs.declared.tag.Tag.TheVariants as tag;
@@ -76,7 +76,7 @@ impl Construction {
     ///
     /// `OutOfMemory`.
     pub fn document(alloc: Global) -> Result<Construction, Refusal>
-        ensures built { IfOk result (λ b. IsBuilt (nothing_of Document) b) }
+        ensures built { IfOk result (λ b. IsBuilt (nothing_of Document None) b) }
         ensures mode { IfOk result (λ b. b.mode ≡ Mode.Initial) }
         ensures stack { IfOk result (λ b. b.stack ≡ []) }
         ensures quiet { IfOk result (λ b. b.ledger.kept ≡ []) }
@@ -92,7 +92,7 @@ impl Construction {
     ///
     /// `NodeBudget` where not even the document is within them; `OutOfMemory`.
     pub fn document_within(alloc: Global, limits: Limits) -> Result<Construction, Refusal>
-        ensures built { IfOk result (λ b. IsBuilt (nothing_of Document) b) }
+        ensures built { IfOk result (λ b. IsBuilt (nothing_of Document (Some limits)) b) }
         ensures mode { IfOk result (λ b. b.mode ≡ Mode.Initial) }
         ensures stack { IfOk result (λ b. b.stack ≡ []) }
         ensures quiet { IfOk result (λ b. b.ledger.kept ≡ []) }
@@ -113,7 +113,7 @@ impl Construction {
         in_form: bool,
         quirks: bool,
     ) -> Result<Construction, Refusal>
-        ensures built { IfOk result (λ b. IsBuilt (nothing_of (Fragment context in_form)) b) }
+        ensures built { IfOk result (λ b. IsBuilt (nothing_of (Fragment context in_form) None) b) }
         ensures reset { IfOk result (λ b. is_reset b.mode ≡ true) }
         ensures stack { IfOk result (λ b. b.stack ≡ tag.Html ∷ []) }
         ensures quiet { IfOk result (λ b. b.ledger.kept ≡ []) }
@@ -135,7 +135,7 @@ impl Construction {
         quirks: bool,
         limits: Limits,
     ) -> Result<Construction, Refusal>
-        ensures built { IfOk result (λ b. IsBuilt (nothing_of (Fragment context in_form)) b) }
+        ensures built { IfOk result (λ b. IsBuilt (nothing_of (Fragment context in_form) (Some limits)) b) }
         ensures reset { IfOk result (λ b. is_reset b.mode ≡ true) }
         ensures stack { IfOk result (λ b. b.stack ≡ tag.Html ∷ []) }
         ensures quiet { IfOk result (λ b. b.ledger.kept ≡ []) }
@@ -163,7 +163,7 @@ impl Construction {
     /// A document, before the first token.
     fn of_document(alloc: Global, tree: OpenTree) -> Construction
         requires begun { (l : Option Limits) × (k : ℕ) × (tree ≡ document_state l k) }
-        ensures built { IsBuilt (nothing_of Document) result }
+        ensures built { (l : Option Limits) (k : ℕ) → tree ≡ document_state l k → IsBuilt (nothing_of Document l) result }
         ensures mode { result.mode ≡ Mode.Initial }
         ensures stack { result.stack ≡ [] }
         ensures quiet { result.ledger.kept ≡ [] }
@@ -185,7 +185,7 @@ impl Construction {
         quirks: bool,
     ) -> Result<Construction, Refusal>
         requires begun { (l : Option Limits) × (k : ℕ) × (tree ≡ fragment_state l k) }
-        ensures built { IfOk result (λ b. IsBuilt (nothing_of (Fragment context in_form)) b) }
+        ensures built { (l : Option Limits) (k : ℕ) → tree ≡ fragment_state l k → IfOk result (λ b. IsBuilt (nothing_of (Fragment context in_form) l) b) }
         ensures reset { IfOk result (λ b. is_reset b.mode ≡ true) }
         ensures stack { IfOk result (λ b. b.stack ≡ tag.Html ∷ []) }
         ensures quiet { IfOk result (λ b. b.ledger.kept ≡ []) }

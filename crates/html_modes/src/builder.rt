@@ -1,5 +1,5 @@
 // Tree construction, token by token.
-ghost use Rattle.std.specs.Prelude.{◌≡◌, ◌<◌, ◌≤◌, IfOk, IfErr, OnOk, OnErr, [], length, take, true, false};
+ghost use Rattle.std.specs.Prelude.{◌≡◌, ◌<◌, ◌≤◌, IfOk, IfErr, None, OnOk, OnErr, Some, [], length, take, true, false};
 ghost use Rattle.html_ledger.specs.Symbols.{symbol_of};
 ghost use Rattle.html_ledger.specs.declared.setting.Setting.TheVariants.{Document, Fragment};
 ghost use Rattle.html_names.specs.Names.{tag_of};
@@ -51,7 +51,7 @@ impl Builder {
     ///
     /// `OutOfMemory`.
     pub fn document(alloc: Global) -> Result<Builder, BuildError>
-        ensures built { IfOk result (λ b. IsBuilt (nothing_of Document) b.page) }
+        ensures built { IfOk result (λ b. IsBuilt (nothing_of Document None) b.page) }
         ensures ready { IfOk result (λ b. b.stopped ≡ false) }
         ensures begin { IfErr result (λ e. is_begin e ≡ true) }
     {
@@ -70,7 +70,7 @@ impl Builder {
     ///
     /// `NodeBudget` at 0 where not even the document is within them; `OutOfMemory`.
     pub fn document_within(alloc: Global, limits: Limits) -> Result<Builder, BuildError>
-        ensures built { IfOk result (λ b. IsBuilt (nothing_of Document) b.page) }
+        ensures built { IfOk result (λ b. IsBuilt (nothing_of Document (Some limits)) b.page) }
         ensures ready { IfOk result (λ b. b.stopped ≡ false) }
         ensures begin { IfErr result (λ e. is_begin e ≡ true) }
     {
@@ -89,7 +89,7 @@ impl Builder {
     ///
     /// `BadContext` where no start tag can have the name of the context, or the name is `svg` or `math`; `OutOfMemory`.
     pub fn fragment(alloc: Global, context: &Context) -> Result<Builder, BuildError>
-        ensures built { IfOk result (λ b. IsBuilt (nothing_of (Fragment (tag_of context.now.name) context.now.in_form)) b.page) }
+        ensures built { IfOk result (λ b. IsBuilt (nothing_of (Fragment (tag_of context.now.name) context.now.in_form) None) b.page) }
         ensures ready { IfOk result (λ b. b.stopped ≡ false) }
         ensures good { OnOk result (is_good context.now.name ≡ true) }
         ensures bad { IfErr result (λ e. is_begin_in (is_good context.now.name) e ≡ true) }
@@ -117,7 +117,7 @@ impl Builder {
         context: &Context,
         limits: Limits,
     ) -> Result<Builder, BuildError>
-        ensures built { IfOk result (λ b. IsBuilt (nothing_of (Fragment (tag_of context.now.name) context.now.in_form)) b.page) }
+        ensures built { IfOk result (λ b. IsBuilt (nothing_of (Fragment (tag_of context.now.name) context.now.in_form) (Some limits)) b.page) }
         ensures ready { IfOk result (λ b. b.stopped ≡ false) }
         ensures good { OnOk result (is_good context.now.name ≡ true) }
         ensures bad { IfErr result (λ e. is_begin_in (is_good context.now.name) e ≡ true) }

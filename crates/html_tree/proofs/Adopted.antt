@@ -115,6 +115,10 @@ pub if-ok : {A E : Type 0} {P Q : A → Type 0} (r : Result A E) → IfOk r P �
 if-ok (Ok x) p f = f x p
 if-ok (Err e) p f = tt
 
+pub on-if-ok : {A E Q : Type 0} {P : A → Type 0} (r : Result A E) → IfOk r P → ((x : A) → P x → Q) → OnOk r Q
+on-if-ok (Ok x) p f = f x p
+on-if-ok (Err e) p f = tt
+
 pub always : {A E P : Type 0} (r : Result A E) → P → OnOk r P
 always (Ok x) p = p
 always (Err e) p = tt

@@ -11,6 +11,7 @@ use Rattle.html_open.specs.Adopting.{MadeClones}
 use Rattle.html_open.specs.Opened.{IsOpen, open_at}
 use Rattle.html_open.specs.Reopening.{KeepsClosed}
 use Rattle.html_open.proofs.Inserted.{cloned-origin, get-before}
+use Rattle.html_tree.specs.Listing.{HasCloned}
 use Rattle.html_tree.specs.Since.{Grown, Since, essence}
 use Rattle.html_tree.specs.States.{State, IsUnderWay, state_of}
 use Rattle.html_tree.proofs.Kept.{same-first-under_way, some-first}
@@ -69,3 +70,7 @@ module _ (s s' : List ℕ) (l l' : List Entry) (t u : Tree) (n : ℕ) (h f d : O
       let more_nodes = clones-more in
       let o = some-first s s' j in
       subst (λ (b : State). Grown k m e w b (state_of s' l' u n h f d)) i (record { nodes_least = omega arith; nodes_most = omega arith; open_most = omega arith; entries_most = omega arith; held_most = omega arith; open_least = omega arith })
+
+  -- what is told of it
+  pub has-cloned : (a : State) → state_of s l t n h f d ≡ a → u.limits ≡ t.limits → HasCloned a (state_of s' l' u n h f d)
+  has-cloned a i e = subst (λ (b : State). HasCloned b (state_of s' l' u n h f d)) i (record { elements = c.elements; listed = c.listed; labels_are = c.labels_are; limits_are = e })

@@ -88,7 +88,7 @@ pub text-own : (m i : ℕ) → Nothing ≡ Token i → i < m
 text-own m i e = absurd (let q : Nothing ≡ Token i = e in cc)
 
 -- the budget of the first code point of a new text
-put-limits : (t : Tree) (p : Place) (c : ℕ) → (put t p c).limits ≡ t.limits
+pub put-limits : (t : Tree) (p : Place) (c : ℕ) → (put t p c).limits ≡ t.limits
 put-limits t (Last q) c = refl
 put-limits t (Before b) c = by (parent_of t b)
   where

@@ -4,7 +4,7 @@ ghost use Rattle.html_names.specs.Sets.{is_formatting};
 ghost use Rattle.html_open.specs.Entries.{is_marker, last_named, push_steps, pushed, without_node};
 ghost use Rattle.html_open.specs.Opened.{CanList, open_at};
 ghost use Rattle.html_open.specs.Lists.{below};
-ghost use Rattle.html_tree.specs.Listing.{IsAdoptRefused, IsAdopted, IsReopenRefused, IsReopened, listed_weight};
+ghost use Rattle.html_tree.specs.Listing.{HasCloned, IsAdoptRefused, IsAdopted, IsReopenRefused, IsReopened, listed_weight};
 ghost use Rattle.html_tree.specs.OpenTags.{HasReopened, IsLighterBesides, open_tags};
 ghost use Rattle.html_tree.specs.Seats.{AreSeated};
 ghost use Rattle.html_tree.specs.Since.{Grown, Keeps};
@@ -97,6 +97,7 @@ impl OpenTree {
         requires { 0 < length self.old.stack }
         ensures rest { self.new ≡ record self.old { stack = self.new.stack; list = self.new.list; tree = self.new.tree; steps = self.new.steps } }
         ensures exact { OnOk result (IsReopened foster self.old self.new) }
+        ensures clones { OnOk result (HasCloned self.old self.new) }
         ensures steps { self.new.steps ≤ self.old.steps + length self.old.list * (length self.old.stack + length self.old.list + 7) }
         ensures keeps { OnOk result (Keeps self.old self.new) }
         ensures grown { OnOk result (Grown (length self.old.list) (length self.old.list) 0 (listed_weight self.old) self.old self.new) }
@@ -120,6 +121,7 @@ impl OpenTree {
         requires formatting { is_formatting name ≡ true }
         ensures rest { self.new ≡ record self.old { stack = self.new.stack; list = self.new.list; tree = self.new.tree; steps = self.new.steps } }
         ensures exact { IfOk result (λ end. IsAdopted name foster end self.old self.new) }
+        ensures clones { OnOk result (HasCloned self.old self.new) }
         ensures steps { self.new.steps ≤ self.old.steps + (32 * ((length self.old.stack + length self.old.list + 4) * (length self.old.stack + length self.old.list + 4)) + 8 * length self.new.tree.labels) }
         ensures keeps { OnOk result (Keeps self.old self.new) }
         ensures grown { OnOk result (Grown 32 0 0 (32 * listed_weight self.old) self.old self.new) }

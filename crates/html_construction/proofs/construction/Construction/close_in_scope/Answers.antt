@@ -1,10 +1,13 @@
 use Rattle.html_tree.specs.declared.groups.Group.TheVariants as group
 use Rattle.std.proofs.Common.{refl}
 use Rattle.html_construction.proofs.Kept.{closed, kept, lighter, stack-is}
+use Rattle.html_construction.proofs.Building.{as-was}
+use Rattle.html_tree.specs.States.{State as Tree}
+use Rattle.std.proofs.Common.{ap}
 use Rattle.html_construction.proofs.construction.Construction.close_in_scope.Goals as goal
 
 pub returns-clause-keeps : goal.returns-clause-keeps
-returns-clause-keeps c = kept _ c.args.self.now _ c.self.view_is refl c.close.ensures.keeps
+returns-clause-keeps c = kept _ c.args.self.now _ c.self.view_is refl c.close.ensures.keeps (as-was _ _ (ap (λ (x : Tree). x.tree) c.close.ensures.exact))
 
 pub returns-clause-lighter : goal.returns-clause-lighter
 returns-clause-lighter c = lighter c.args.self.now c.self.inside.tree c.close.new.self (stack-is _ c.args.self.now c.self.view_is) c.close.ensures.lighter

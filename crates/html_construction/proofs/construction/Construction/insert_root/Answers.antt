@@ -2,6 +2,8 @@ use Rattle.html_ledger.specs.declared.symbol.Symbol.TheVariants.{Start}
 use Rattle.html_names.specs.declared.tag.Tag.TheVariants as tag
 use Rattle.std.proofs.Common.{refl}
 use Rattle.html_construction.proofs.Kept.{adds-made, behind, made-next, taken-made}
+use Rattle.html_tree.specs.States.{State as Tree}
+use Rattle.std.proofs.Common.{ap}
 use Rattle.html_construction.proofs.construction.Construction.insert_root.Goals as goal
 
 pub insert_root-requires : goal.insert_root-requires
@@ -11,4 +13,4 @@ pub invariant_of-self : goal.invariant_of-self
 invariant_of-self c = made-next _ _ c.args.self.now c.in_ok-number.number _ c.self.inside.registers.templates.items c.self.view_is c.in_ok-number.ensures.number c.in_ok-number.ensures.counted c.insert_root.ensures.tokens_most c.self.invariant.templates_fit
 
 pub returns-clause-takes : goal.returns-clause-takes
-returns-clause-takes c = taken-made _ _ c.args.self.now _ c.args.token.now (Start tag.Html) c.self.view_is c.in_ok-number.ensures.rest refl c.requires.symbol c.in_ok-number.ensures.takes (adds-made _ _ _ _ c.in_ok-number.ensures.fate) c.in_ok-insert_root.ensures.keeps
+returns-clause-takes c = taken-made _ _ c.args.self.now _ c.args.token.now (Start tag.Html) c.self.view_is c.in_ok-number.ensures.rest refl c.requires.symbol c.in_ok-number.ensures.takes (adds-made _ _ _ _ c.in_ok-number.ensures.fate) c.in_ok-insert_root.ensures.keeps _ _ (ap (λ (x : Tree). x.tree) c.in_ok-insert_root.ensures.exact)

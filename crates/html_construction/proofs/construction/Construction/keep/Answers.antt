@@ -5,4 +5,4 @@ use Rattle.html_construction.proofs.Kept.{adds-none, taken, unchanged}
 use Rattle.html_construction.proofs.construction.Construction.keep.Goals as goal
 
 pub returns-clause-takes : goal.returns-clause-takes
-returns-clause-takes c = taken _ c.args.self.now _ c.args.token.now (Char c.args.c) c.self.view_is c.requires.symbol c.in_ok-keep.ensures.takes (adds-none _ _ (ap (λ (x : Entries). x.fates) c.in_ok-keep.ensures.kept)) (unchanged _)
+returns-clause-takes c = taken _ c.args.self.now _ c.args.token.now (Char c.args.c) c.self.view_is c.requires.symbol c.in_ok-keep.ensures.takes (adds-none _ _ (ap (λ (x : Entries). x.fates) c.in_ok-keep.ensures.kept)) (unchanged _) refl

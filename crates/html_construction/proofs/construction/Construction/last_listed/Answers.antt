@@ -2,10 +2,12 @@ use Rattle.std.proofs.Common.{refl, ap, ◌∙◌}
 use Rattle.html_open.specs.Entries.{last_named}
 use Rattle.html_construction.specs.States.{State}
 use Rattle.html_construction.proofs.Kept.{kept}
+use Rattle.html_construction.proofs.Building.{as-was}
+use Rattle.html_tree.specs.States.{State as Tree}
 use Rattle.html_construction.proofs.construction.Construction.last_listed.Goals as goal
 
 pub returns-clause-keeps : goal.returns-clause-keeps
-returns-clause-keeps c = kept _ c.args.self.now _ c.self.view_is refl c.last_listed.ensures.keeps
+returns-clause-keeps c = kept _ c.args.self.now _ c.self.view_is refl c.last_listed.ensures.keeps (as-was _ _ (ap (λ (x : Tree). x.tree) c.last_listed.ensures.rest))
 
 pub returns-clause-listed : goal.returns-clause-listed
 returns-clause-listed c = c.last_listed.ensures.node ∙ ap (λ (x : State). last_named x.tree.tree c.args.tag x.tree.list) c.self.view_is

@@ -1,6 +1,9 @@
 use Rattle.std.proofs.Common.{refl}
 use Rattle.html_construction.proofs.Kept.{kept}
+use Rattle.html_construction.proofs.Building.{as-was}
+use Rattle.html_tree.specs.States.{State as Tree}
+use Rattle.std.proofs.Common.{ap}
 use Rattle.html_construction.proofs.construction.Construction.set_head.Goals as goal
 
 pub returns-clause-keeps : goal.returns-clause-keeps
-returns-clause-keeps c = kept _ c.args.self.now _ c.self.view_is refl c.set_head.ensures.keeps
+returns-clause-keeps c = kept _ c.args.self.now _ c.self.view_is refl c.set_head.ensures.keeps (as-was _ _ (ap (λ (x : Tree). x.tree) c.set_head.ensures.exact))

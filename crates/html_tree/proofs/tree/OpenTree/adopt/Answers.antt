@@ -3,8 +3,9 @@ use Rattle.html_open.specs.Leaving.{listed_weight as open_weight}
 use Rattle.html_tree.specs.Listing.{IsAdoptRefused, IsAdopted, listed_weight}
 use Rattle.html_tree.specs.Since.{Grown}
 use Rattle.html_tree.specs.States.{State, state_of}
-use Rattle.html_tree.proofs.Adopted.{adopted-keeps, adopted-under_way, always, first-equal, first-free, if-ok, formatting-plain}
-use Rattle.html_tree.proofs.Clones.{clones-grown}
+use Rattle.html_tree.proofs.Adopted.{adopted-keeps, adopted-under_way, always, first-equal, first-free, if-ok, formatting-plain, on-if-ok}
+use Rattle.html_tree.proofs.Clones.{clones-grown, has-cloned}
+use Rattle.html_tree.proofs.Limited.{adopted-limits}
 use Rattle.html_tree.proofs.Inserted.{on-ok, under-way-place}
 use Rattle.html_tree.proofs.Spelled.{if-err}
 use Rattle.html_tree.proofs.OpenTags.{adopted-lighter}
@@ -64,3 +65,9 @@ pub returns-clause-seated : goal.returns-clause-seated
 returns-clause-seated c = λ h.
     adopted-seated c.args.name c.args.foster c.adopt-end.result (open_at c.self.inside.stack c.self.inside.list c.self.inside.arena) (open_at c.adopt-end.new.stack c.adopt-end.new.list c.adopt-end.new.arena) c.self.invariant.0.is_open c.adopt-end.ensures.adopted c.adopt-end.ensures.cause
     (subst (λ (a : State). AreSeated (open_tags a)) (sym c.self.view_is) h)
+
+pub returns-clause-clones : goal.returns-clause-clones
+returns-clause-clones c =
+    on-if-ok c.adopt-end.result c.adopt-end.ensures.adopted
+    (λ end r. has-cloned c.self.inside.stack c.adopt-end.new.stack c.self.inside.list c.adopt-end.new.list c.self.inside.arena c.adopt-end.new.arena c.self.inside.tokens c.self.inside.head c.self.inside.form c.self.inside.detached c.adopt-end.ensures.made c.args.self.now c.self.view_is
+    (adopted-limits c.args.name c.args.foster end (open_at c.self.inside.stack c.self.inside.list c.self.inside.arena) (open_at c.adopt-end.new.stack c.adopt-end.new.list c.adopt-end.new.arena) r))

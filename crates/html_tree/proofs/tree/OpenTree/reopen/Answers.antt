@@ -4,7 +4,9 @@ use Rattle.html_tree.specs.Listing.{IsReopenRefused, IsReopened, listed_weight}
 use Rattle.html_tree.specs.Since.{Grown, Keeps}
 use Rattle.html_tree.specs.States.{State, state_of}
 use Rattle.html_tree.proofs.Adopted.{always, off, parents-linked}
-use Rattle.html_tree.proofs.Clones.{clones-grown, clones-since, clones-under_way}
+use Rattle.html_tree.proofs.Clones.{clones-grown, clones-since, clones-under_way, has-cloned}
+use Rattle.html_tree.proofs.Limited.{reopened-limits}
+use Rattle.html_open.specs.Opened.{open_at}
 use Rattle.html_tree.proofs.Inserted.{on-ok, under-way-place}
 use Rattle.html_tree.proofs.Spelled.{if-err}
 use Rattle.html_tree.proofs.Kept.{keeps-since}
@@ -61,3 +63,9 @@ returns-clause-opened c =
 
 pub returns-clause-seated : goal.returns-clause-seated
 returns-clause-seated c = reopened-seated c.args.self.now (state_of c.reopen-reopened.new.stack c.reopen-reopened.new.self c.reopen-reopened.new.arena c.self.inside.tokens c.self.inside.head c.self.inside.form c.self.inside.detached) (returns-clause-opened c)
+
+pub returns-clause-clones : goal.returns-clause-clones
+returns-clause-clones c =
+    on-ok c.reopen-reopened.result c.reopen-reopened.ensures.reopened
+    (λ r. has-cloned c.self.inside.stack c.reopen-reopened.new.stack c.self.inside.list c.reopen-reopened.new.self c.self.inside.arena c.reopen-reopened.new.arena c.self.inside.tokens c.self.inside.head c.self.inside.form c.self.inside.detached c.reopen-reopened.ensures.made c.args.self.now c.self.view_is
+    (reopened-limits c.args.foster (open_at c.self.inside.stack c.self.inside.list c.self.inside.arena) (open_at c.reopen-reopened.new.stack c.reopen-reopened.new.self c.reopen-reopened.new.arena) r))
