@@ -157,7 +157,7 @@ as-detached a b x o e = record {
 }
 
 -- a new node keeps the limits
-made-limits : (t : Nodes) (d : NewNode) → (made t d).limits ≡ t.limits
+pub made-limits : (t : Nodes) (d : NewNode) → (made t d).limits ≡ t.limits
 made-limits t d = by (has_contents d) refl
   where
     by : (b : Bool) → has_contents d ≡ b → (made t d).limits ≡ t.limits
@@ -168,8 +168,8 @@ pub new-limits : (t : Nodes) (at : Place) (d : NewNode) → (with_new t at d).li
 new-limits t at d = put-limits (made t d) at (length t.labels) ∙ made-limits t d
 
 -- and so does text
-pub text-limits : (a : Tree) (foster : Bool) (run : List ℕ) → (with_text a foster run).limits ≡ a.tree.limits
-text-limits a foster run = by (text_before a.tree (place_here a foster))
+pub text-limits : (a : Tree) (foster : Bool) → (with_text_node a foster).limits ≡ a.tree.limits
+text-limits a foster = by (text_before a.tree (place_here a foster))
   where
     by : (o : Option ℕ) → (tree_or_new a.tree (place_here a foster) o).limits ≡ a.tree.limits
     by None = new-limits a.tree (place_here a foster) Text

@@ -28,7 +28,13 @@ use Rattle.html_ledger.specs.Entries.{Entries, Fed, Releases as LedgerReleases, 
 use Rattle.html_construction.specs.Calls.{HasFate, IsTree, implied_of, listed_at}
 use Rattle.html_construction.specs.States.{State}
 use Rattle.html_construction.specs.declared.mode.Mode.{Mode}
-use Rattle.html_construction.specs.Built.{BeginsWith, Handed, IsBuilt, Keeps, Releases, Takes, TakesRun, chars_of, symbols, with_tokens}
+use Rattle.std.proofs.Common.{Option}
+use Rattle.html_arena.specs.declared.arena.Limits.{Limits}
+use Rattle.html_ledger.specs.declared.setting.Setting.TheVariants as setting
+use Rattle.html_tree.specs.States.{fragment_state}
+use Rattle.html_construction.specs.Origins.{HasRoot}
+use Rattle.html_construction.proofs.Beginning.{fragment-limits, fragment-root, fragment-rooted}
+use Rattle.html_construction.specs.Built.{BeginsWith, Handed, IsBuilt, IsRooted, nothing_of, Keeps, Releases, Takes, TakesRun, chars_of, symbols, with_tokens}
 use Rattle.html_construction.specs.Modes.{is_reset}
 use Rattle.html_construction.specs.UnderWay.{IsUnderWay}
 use Rattle.html_construction.specs.Weights.{group_weight, weight, weight_of}
@@ -77,6 +83,16 @@ adds-made n g y f h = record { more = f ∷ []; fates_are = ap (λ (x : Entries)
 -- more fates
 longer : (fs gs hs ks : List Fate) → ks ≡ gs ++ hs → BeginsWith fs gs → BeginsWith fs ks
 longer fs gs hs ks e b = (b.0 ++ hs, e ∙ ap (λ xs. xs ++ hs) b.1 ∙ append_assoc fs b.0 hs)
+
+-- before the first token of a fragment
+pub begun-fragment : (g : Tag) (f : Bool) (l : Option Limits) (k : ℕ) (a : State) → a.tree ≡ fragment_state l k → Fed (setting.Fragment g f) a.ledger [] → IsBuilt (nothing_of (setting.Fragment g f) l) a
+begun-fragment g f l k a e d = record {
+  fed = d;
+  known = (a.ledger.fates, refl);
+  rooted = subst IsRooted (sym e) (fragment-rooted l k);
+  limits = ap (λ (t : Tree). t.tree.limits) e ∙ fragment-limits l k;
+  root = subst (λ (t : Tree). HasRoot (setting.Fragment g f) t.tree) (sym e) (fragment-root g f l k);
+}
 
 -- the tree changed, and the ledger did not
 pub kept : (v n z : State) → v ≡ n → z.ledger ≡ v.ledger → TreeKeeps v.tree z.tree → HasCloned v.tree z.tree → Keeps n z

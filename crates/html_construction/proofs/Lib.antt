@@ -1,3 +1,4 @@
+pub mod Beginning
 pub mod Building
 pub mod Kept
 pub mod Results

@@ -1,6 +1,7 @@
 use Rattle.std.proofs.Common.{ap}
 use Rattle.html_ledger.specs.Entries.{Entries}
 use Rattle.html_construction.proofs.Kept.{adds, taken, unchanged}
+use Rattle.std.proofs.Common.{refl}
 use Rattle.html_construction.proofs.construction.Construction.drop_token.Goals as goal
 
 pub returns-clause-takes : goal.returns-clause-takes

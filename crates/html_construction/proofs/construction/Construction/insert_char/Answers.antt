@@ -11,4 +11,4 @@ pub invariant_of-self : goal.invariant_of-self
 invariant_of-self c = still _ _ c.self.inside.ledger c.self.inside.registers.templates.items c.append_run.ensures.tokens c.self.invariant
 
 pub returns-clause-takes : goal.returns-clause-takes
-returns-clause-takes c = taken _ c.args.self.now _ c.args.token.now (Char c.args.c) c.self.view_is c.requires.symbol c.in_ok-give.ensures.takes (adds _ _ _ (ap (λ (x : Entries). x.fates) c.in_ok-give.ensures.given)) c.in_ok-node.ensures.keeps (ap (λ (x : Tree). x.tree.limits) c.in_ok-node.ensures.exact ∙ text-limits _ _ _)
+returns-clause-takes c = taken _ c.args.self.now _ c.args.token.now (Char c.args.c) c.self.view_is c.requires.symbol c.in_ok-give.ensures.takes (adds _ _ _ (ap (λ (x : Entries). x.fates) c.in_ok-give.ensures.given)) c.in_ok-node.ensures.keeps (ap (λ (x : Tree). x.tree.limits) c.in_ok-node.ensures.exact ∙ text-limits c.self.inside.tree c.self.inside.registers.fostering)

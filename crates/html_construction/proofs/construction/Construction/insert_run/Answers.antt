@@ -18,4 +18,4 @@ pub give_run-requires-clause-may : goal.give_run-requires-clause-may
 give_run-requires-clause-may c = front-run c.self.inside.ledger.history c.args.run.now c.in_ok-node.count (subst (λ (x : State). IsTrue (may_text_run x.ledger.history c.args.run.now)) (sym c.self.view_is) c.requires.may)
 
 pub returns-clause-takes : goal.returns-clause-takes
-returns-clause-takes c = taken-run _ c.args.self.now _ (take c.in_ok-node.count c.args.run.now) c.self.view_is c.in_ok-give_run.ensures.takes (adds-run _ _ (take c.in_ok-node.count c.args.run.now) (Text c.in_ok-node.node) c.in_ok-give_run.ensures.given) c.in_ok-node.ensures.keeps (ap (λ (x : Tree). x.tree.limits) c.in_ok-node.ensures.exact ∙ text-limits _ _ _)
+returns-clause-takes c = taken-run _ c.args.self.now _ (take c.in_ok-node.count c.args.run.now) c.self.view_is c.in_ok-give_run.ensures.takes (adds-run _ _ (take c.in_ok-node.count c.args.run.now) (Text c.in_ok-node.node) c.in_ok-give_run.ensures.given) c.in_ok-node.ensures.keeps (ap (λ (x : Tree). x.tree.limits) c.in_ok-node.ensures.exact ∙ text-limits c.self.inside.tree c.self.inside.registers.fostering)

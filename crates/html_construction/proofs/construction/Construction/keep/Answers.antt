@@ -2,6 +2,7 @@ use Rattle.html_ledger.specs.declared.symbol.Symbol.TheVariants.{Char}
 use Rattle.std.proofs.Common.{ap}
 use Rattle.html_ledger.specs.Entries.{Entries}
 use Rattle.html_construction.proofs.Kept.{adds-none, taken, unchanged}
+use Rattle.std.proofs.Common.{refl}
 use Rattle.html_construction.proofs.construction.Construction.keep.Goals as goal
 
 pub returns-clause-takes : goal.returns-clause-takes

@@ -1,6 +1,7 @@
 use Rattle.std.proofs.Common.{ap}
 use Rattle.html_ledger.specs.Entries.{Entries}
 use Rattle.html_construction.proofs.Kept.{adds-none, released, unchanged}
+use Rattle.std.proofs.Common.{refl}
 use Rattle.html_construction.proofs.construction.Construction.take_kept.Goals as goal
 
 pub returns-clause-releases : goal.returns-clause-releases

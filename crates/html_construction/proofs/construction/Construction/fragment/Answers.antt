@@ -1,0 +1,5 @@
+use Rattle.std.proofs.Common.{None}
+use Rattle.html_construction.proofs.construction.Construction.fragment.Goals as goal
+
+pub returns-clause-built : goal.returns-clause-built
+returns-clause-built c = c.of_fragment.ensures.built None _ c.in_ok-tree.ensures.state
