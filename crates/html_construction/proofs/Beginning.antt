@@ -1,5 +1,5 @@
--- The root of a fragment, before the first token.
-use Rattle.std.proofs.Common.{ℕ, zero, suc, ◌≡◌, ◌<◌, ◌⊎◌, Bool, true, false, List, [], ◌∷◌, ◌++◌, length, Option, Some, None, inl, inr, refl, sym, ap, subst, ◌∙◌, arith}
+-- The root of a document and of a fragment, before the first token.
+use Rattle.std.proofs.Common.{ℕ, zero, suc, ◌≡◌, ◌<◌, ◌⊎◌, Bool, true, false, List, [], ◌∷◌, length, Option, Some, None, inl, inr, refl, sym, ap, subst, ◌∙◌, arith}
 use Rattle.html_names.specs.Names.{name_of, tag_of}
 use Rattle.html_names.specs.Sets.{is_template}
 use Rattle.html_names.specs.declared.tag.Tag.{Tag}
@@ -10,16 +10,18 @@ use Rattle.html_arena.specs.declared.data.NewNode.{NewNode}
 use Rattle.html_arena.specs.declared.data.NewNode.TheVariants as new
 use Rattle.html_arena.specs.declared.data.NodeData.{NodeData}
 use Rattle.html_arena.specs.declared.data.Origin.{Origin}
-use Rattle.html_arena.specs.declared.data.Origin.TheVariants.{Implied}
-use Rattle.html_arena.specs.Data.{host_in, label_in, name_in, origin_in}
+use Rattle.html_arena.specs.declared.data.NodeData.TheVariants as node
+use Rattle.html_arena.specs.declared.data.Origin.TheVariants.{Implied, Nothing, Token}
+use Rattle.html_arena.specs.Data.{host_in, is_clone_in, is_text, label_in, name_in, origin_in}
 use Rattle.html_arena.specs.Make.{has_contents, label_for, made}
-use Rattle.html_arena.specs.Tree.{Tree as Nodes, empty_tree, label_of, parent_of}
+use Rattle.html_arena.specs.Tree.{Tree as Nodes, empty_tree, parent_of}
 use Rattle.html_ledger.specs.declared.setting.Setting.TheVariants as setting
 use Rattle.html_tree.specs.Inserting.{rest_of}
-use Rattle.html_tree.specs.States.{State as Tree, fragment_state}
+use Rattle.html_tree.specs.States.{document_state, fragment_state}
 use Rattle.html_tree.proofs.Inserted.{element-origin, made-labels}
 use Rattle.html_construction.specs.Built.{IsRooted}
-use Rattle.html_construction.specs.Origins.{HasRoot}
+use Rattle.html_construction.specs.Origins.{HasOrigin, HasRoot}
+use Rattle.html_construction.proofs.Accounting.{Told, told-alone, told-none}
 use Rattle.html_construction.proofs.Building.{made-limits}
 
 abbrev root : NewNode
@@ -67,3 +69,36 @@ fragment-root g f l k = record {
 
 pub fragment-limits : (l : Option Limits) (k : ℕ) → (fragment_state l k).tree.limits ≡ l
 fragment-limits l k = made-limits (empty_tree l) root
+
+pub fragment-told : (l : Option Limits) (k : ℕ) → Told [] [] (fragment_state l k).tree.labels
+fragment-told l k = subst (λ ls. Told [] [] ls) (sym (labels l k)) (told-alone (empty_tree l) tag.Html refl 0 (has_contents root))
+
+-- the document
+pub document-rooted : (l : Option Limits) (k : ℕ) → IsRooted (document_state l k)
+document-rooted l k = λ x h e. inl (let b : x < 1 = h in omega (arith, b))
+
+pub document-root : (l : Option Limits) (k : ℕ) → HasRoot setting.Document (document_state l k).tree
+document-root l k = record { some_node = (let b : 0 < 1 = omega arith in b); label = refl; alone = refl }
+
+pub document-told : (l : Option Limits) (k : ℕ) → Told [] [] (document_state l k).tree.labels
+document-told l k = told-none (node.Document ∷ [])
+    (λ x i e. absurd (no-token x i e))
+    (λ x. no-text x)
+    (λ x. no-clone x)
+    (λ x. any-origin x)
+  where
+    no-token : (x i : ℕ) → origin_in (label_in (node.Document ∷ []) x) ≡ Token i → ⊥
+    no-token zero i e = absurd (let q : Nothing ≡ Token i = e in cc)
+    no-token (suc x) i e = absurd (let q : Nothing ≡ Token i = e in cc)
+
+    no-text : (x : ℕ) → is_text (label_in (node.Document ∷ []) x) ≡ false
+    no-text zero = refl
+    no-text (suc x) = refl
+
+    no-clone : (x : ℕ) → is_clone_in (label_in (node.Document ∷ []) x) ≡ false
+    no-clone zero = refl
+    no-clone (suc x) = refl
+
+    any-origin : (x : ℕ) → HasOrigin x [] [] (label_in (node.Document ∷ []) x)
+    any-origin zero = tt
+    any-origin (suc x) = tt

@@ -1,5 +1,5 @@
 -- The tokens handed in, after each call.
-use Rattle.std.proofs.Common.{ℕ, ◌≡◌, ◌<◌, ◌≤◌, ◌⊎◌, List, [], ◌∷◌, ◌++◌, length, inl, inr, refl, sym, ap, subst, ◌∙◌, arith, Bool, true, false}
+use Rattle.std.proofs.Common.{ℕ, ◌≡◌, ◌<◌, ◌⊎◌, List, [], ◌∷◌, ◌++◌, length, inl, inr, refl, sym, ap, ◌∙◌, arith, Bool, true, false}
 use Rattle.std.proofs.lemmas.List.{append-nil}
 use Rattle.html_open.specs.Marking.{bare}
 use Rattle.html_arena.specs.declared.data.NewNode.TheVariants.{Text}
@@ -9,15 +9,13 @@ use Rattle.html_arena.specs.declared.data.NodeData.TheVariants as node
 use Rattle.html_arena.specs.declared.data.NewNode.{NewNode}
 use Rattle.html_arena.specs.Data.{host_in, name_in, origin_in}
 use Rattle.html_arena.specs.Make.{has_contents, made}
-use Rattle.html_arena.specs.Tree.{Tree as Nodes, detached, host_at, label_of, parent_of, texted_run}
+use Rattle.html_arena.specs.Tree.{Tree as Nodes, detached, host_at, label_of, parent_of}
 use Rattle.html_open.specs.declared.places.Place.{Place}
-use Rattle.html_open.specs.Placing.{put}
 use Rattle.html_tokens.specs.declared.token.TokenKind.{TokenKind}
-use Rattle.html_tokens.specs.declared.token.TokenKind.TheVariants as kind
 use Rattle.html_tree.specs.States.{State as Tree}
 use Rattle.html_tree.specs.Inserting.{with_new}
 use Rattle.html_tree.specs.Listing.{HasCloned}
-use Rattle.html_tree.specs.Texts.{place_here, text_before, text_node, tree_or_new, with_text, with_text_node}
+use Rattle.html_tree.specs.Texts.{place_here, text_before, tree_or_new, with_text_node}
 use Rattle.html_tree.proofs.Texted.{put-limits}
 use Rattle.html_tree.specs.Since.{IsContents, Keeps as TreeKeeps, Since, essence}
 use Rattle.html_ledger.specs.declared.symbol.Symbol.TheVariants.{Char}
@@ -135,6 +133,8 @@ pub as-was : (a b : Tree) → b.tree ≡ a.tree → HasCloned a b
 as-was a b e = record {
   elements = [];
   listed = λ x h. absurd (let k = h in cc);
+  node_in = λ x h. absurd (let k = h in cc);
+  formatting = λ x h. absurd (let k = h in cc);
   labels_are = ap (λ (t : Nodes). t.labels) e ∙ sym (append-nil a.tree.labels);
   limits_are = ap (λ (t : Nodes). t.limits) e;
 }
@@ -152,6 +152,8 @@ pub as-detached : (a b : Tree) (x : ℕ) (o : Option ℕ) → b.tree ≡ bare (d
 as-detached a b x o e = record {
   elements = [];
   listed = λ y h. absurd (let k = h in cc);
+  node_in = λ y h. absurd (let k = h in cc);
+  formatting = λ y h. absurd (let k = h in cc);
   labels_are = ap (λ (t : Nodes). t.labels) e ∙ detached-labels a.tree x o ∙ sym (append-nil a.tree.labels);
   limits_are = ap (λ (t : Nodes). t.limits) e ∙ detached-limits a.tree x o;
 }

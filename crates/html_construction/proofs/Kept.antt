@@ -3,23 +3,23 @@ use Rattle.std.specs.List.{list_all}
 use Rattle.std.specs.Bool.{IsTrue}
 use Rattle.std.proofs.lemmas.Bool.{false≢true}
 use Rattle.std.proofs.lemmas.List.{append-nil}
-use Rattle.std.proofs.Common.{ℕ, zero, suc, ◌&&◌, not, take, append_assoc, ◌≡◌, ◌+◌, ◌<◌, ◌≤◌, Bool, true, false, List, [], ◌∷◌, ◌++◌, length, refl, sym, ap, subst, ◌∙◌, arith}
+use Rattle.std.proofs.Common.{ℕ, zero, suc, ◌&&◌, not, take, append_assoc, ◌≡◌, ◌+◌, ◌<◌, ◌≤◌, Bool, true, false, List, [], ◌∷◌, ◌++◌, length, refl, sym, ap, subst, ◌∙◌, arith, Option, ◌≢◌, replicate}
 use Rattle.html_names.specs.declared.tag.Tag.{Tag}
 use Rattle.html_names.specs.Sets.{is_formatting}
 use Rattle.html_tokens.specs.declared.attributes.Attr.{Attr}
 use Rattle.html_tokens.specs.declared.token.TokenKind.{TokenKind}
 use Rattle.html_tree.specs.declared.groups.Group.{Group}
 use Rattle.html_arena.specs.declared.data.NewNode.{NewNode}
-use Rattle.html_arena.specs.Tree.{Tree as Nodes}
+use Rattle.html_arena.specs.Tree.{Tree as Nodes, label_of, named, with_merged}
 use Rattle.html_open.specs.declared.places.Place.{Place}
 use Rattle.html_tree.specs.Inserting.{with_new}
 use Rattle.html_tree.specs.Listing.{HasCloned}
-use Rattle.html_tree.specs.States.{State as Tree}
+use Rattle.html_tree.specs.States.{State as Tree, document_state, fragment_state}
 use Rattle.html_tree.specs.Since.{Keeps as TreeKeeps}
 use Rattle.html_tree.specs.OpenTags.{HasClosed, HasReopened, IsLighter, IsLighterBesides, open_tags}
 use Rattle.html_tokens.specs.declared.token.TokenKind.TheVariants as kind
 use Rattle.html_ledger.specs.declared.history.History.{History}
-use Rattle.html_ledger.specs.declared.symbol.Symbol.TheVariants.{Char, Eof}
+use Rattle.html_ledger.specs.declared.symbol.Symbol.TheVariants.{Char, Eof, Comment, Doctype, Start}
 use Rattle.html_ledger.specs.declared.fate.Fate.{Fate}
 use Rattle.html_ledger.specs.Flags.{is_free_run, is_not_null, may_text_run}
 use Rattle.html_ledger.specs.declared.symbol.Symbol.{Symbol}
@@ -28,18 +28,26 @@ use Rattle.html_ledger.specs.Entries.{Entries, Fed, Releases as LedgerReleases, 
 use Rattle.html_construction.specs.Calls.{HasFate, IsTree, implied_of, listed_at}
 use Rattle.html_construction.specs.States.{State}
 use Rattle.html_construction.specs.declared.mode.Mode.{Mode}
-use Rattle.std.proofs.Common.{Option}
 use Rattle.html_arena.specs.declared.arena.Limits.{Limits}
 use Rattle.html_ledger.specs.declared.setting.Setting.TheVariants as setting
-use Rattle.html_tree.specs.States.{fragment_state}
-use Rattle.html_construction.specs.Origins.{HasRoot}
-use Rattle.html_construction.proofs.Beginning.{fragment-limits, fragment-root, fragment-rooted}
+use Rattle.html_construction.specs.Origins.{HasRoot, is_made_alone}
+use Rattle.html_construction.proofs.Beginning.{document-root, document-rooted, document-told, fragment-limits, fragment-root, fragment-rooted, fragment-told}
 use Rattle.html_construction.specs.Built.{BeginsWith, Handed, IsBuilt, IsRooted, nothing_of, Keeps, Releases, Takes, TakesRun, chars_of, symbols, with_tokens}
 use Rattle.html_construction.specs.Modes.{is_reset}
 use Rattle.html_construction.specs.UnderWay.{IsUnderWay}
 use Rattle.html_construction.specs.Weights.{group_weight, weight, weight_of}
+use Rattle.html_names.specs.Groups.{is_outermost}
+use Rattle.html_arena.specs.declared.data.NewNode.TheVariants as new
+use Rattle.html_arena.specs.declared.data.Origin.TheVariants.{Token}
+use Rattle.html_arena.specs.Data.{tag_in}
+use Rattle.html_arena.specs.Make.{label_for}
+use Rattle.html_open.specs.Marking.{bare}
+use Rattle.html_ledger.specs.declared.fate.Fate.TheVariants.{Dropped, Ended, Made, Merged, Text}
+use Rattle.html_tree.specs.Texts.{text_node, with_text}
+use Rattle.html_construction.specs.Tokens.{attrs_of, data_of, element_name, name_id, public_id, system_id}
+use Rattle.html_construction.proofs.Accounting.{IsNext, Told, fed-most, fed-none, fed-same, next-comment, next-doctype, next-element, told-besides, told-clones, told-implied, told-kept, told-merged, told-next, told-released, told-text}
+use Rattle.html_construction.proofs.Weighing.{same-tag, group-weighs, weight-le, weight-less, weight_of-formatting}
 use Rattle.html_construction.proofs.Building.{new-limits, root-keeps, rooted-keeps, symbols-append, symbols-chars, symbols-push}
-use Rattle.html_construction.proofs.Weighing.{group-weighs, weight-le, weight-less, weight_of-formatting}
 
 -- both of two tests
 both : (a b : Bool) → (a && b) ≡ true → (a ≡ true) × (b ≡ true)
@@ -84,6 +92,22 @@ adds-made n g y f h = record { more = f ∷ []; fates_are = ap (λ (x : Entries)
 longer : (fs gs hs ks : List Fate) → ks ≡ gs ++ hs → BeginsWith fs gs → BeginsWith fs ks
 longer fs gs hs ks e b = (b.0 ++ hs, e ∙ ap (λ xs. xs ++ hs) b.1 ∙ append_assoc fs b.0 hs)
 
+-- before the first token of a document
+pub begun-document : (l : Option Limits) (k : ℕ) (a : State) → a.tree ≡ document_state l k → Fed setting.Document a.ledger [] → IsBuilt (nothing_of setting.Document l) a
+begun-document l k a e d = record {
+  fed = d;
+  known = (a.ledger.fates, refl);
+  rooted = subst IsRooted (sym e) (document-rooted l k);
+  limits = ap (λ (t : Tree). t.tree.limits) e;
+  root = subst (λ (t : Tree). HasRoot setting.Document t.tree) (sym e) (document-root l k);
+  origins = told.origins;
+  made = told.made;
+  texts = told.texts;
+}
+  where
+    told : Told [] a.ledger.fates a.tree.tree.labels
+    told = subst (λ (t : Tree). Told [] a.ledger.fates t.tree.labels) (sym e) (subst (λ fs. Told [] fs (document_state l k).tree.labels) (sym (fed-none setting.Document a.ledger d)) (document-told l k))
+
 -- before the first token of a fragment
 pub begun-fragment : (g : Tag) (f : Bool) (l : Option Limits) (k : ℕ) (a : State) → a.tree ≡ fragment_state l k → Fed (setting.Fragment g f) a.ledger [] → IsBuilt (nothing_of (setting.Fragment g f) l) a
 begun-fragment g f l k a e d = record {
@@ -92,7 +116,140 @@ begun-fragment g f l k a e d = record {
   rooted = subst IsRooted (sym e) (fragment-rooted l k);
   limits = ap (λ (t : Tree). t.tree.limits) e ∙ fragment-limits l k;
   root = subst (λ (t : Tree). HasRoot (setting.Fragment g f) t.tree) (sym e) (fragment-root g f l k);
+  origins = told.origins;
+  made = told.made;
+  texts = told.texts;
 }
+  where
+    told : Told [] a.ledger.fates a.tree.tree.labels
+    told = subst (λ (t : Tree). Told [] a.ledger.fates t.tree.labels) (sym e) (subst (λ fs. Told [] fs (fragment_state l k).tree.labels) (sym (fed-none (setting.Fragment g f) a.ledger d)) (fragment-told l k))
+
+-- a token that is a code point to the rules
+abbrev token_of : Symbol → TokenKind
+token_of (Char x) = kind.Char x
+token_of _ = kind.Eof
+
+char-is : (t : TokenKind) (c : ℕ) → symbol_of t ≡ Char c → t ≡ kind.Char c
+char-is (kind.Char d) c e = ap token_of e
+char-is _ c e = absurd cc
+
+-- the tokens, their fates and the nodes fit together
+told-built : (h : Handed) (a : State) → IsBuilt h a → Told h.tokens a.ledger.fates a.tree.tree.labels
+told-built h a u = record { origins = u.origins; made = u.made; texts = u.texts }
+
+-- and they do so after more tokens
+pub record Tells (us : List TokenKind) (v z : State) : Type 0 where
+  pub told : (h : Handed) → Fed h.setting v.ledger (symbols h.tokens) → Told h.tokens v.ledger.fates v.tree.tree.labels → Told (h.tokens ++ us) z.ledger.fates z.tree.tree.labels
+
+-- a token that is dropped, or over at once
+abbrev is_idle_fate : Fate → Bool
+is_idle_fate (Dropped c) = true
+is_idle_fate Ended = true
+is_idle_fate _ = false
+
+pub told-idle : (v z : State) (t : TokenKind) (f : Fate) → is_idle_fate f ≡ true → v.ledger.kept ≡ [] → z.ledger.fates ≡ v.ledger.fates ++ f ∷ [] → z.tree ≡ v.tree → Tells (t ∷ []) v z
+told-idle v z t f i k e q = record {
+  told = λ h d w.
+      subst (λ fs. Told (h.tokens ++ t ∷ []) fs z.tree.tree.labels) (sym e)
+      (subst (λ (b : Tree). Told (h.tokens ++ t ∷ []) (v.ledger.fates ++ f ∷ []) b.tree.labels) (sym q) (by f i h.tokens (fed-same h.setting v.ledger h.tokens k d) w));
+}
+  where
+    by : (f : Fate) → is_idle_fate f ≡ true → (ts : List TokenKind) → length v.ledger.fates ≡ length ts → Told ts v.ledger.fates v.tree.tree.labels → Told (ts ++ t ∷ []) (v.ledger.fates ++ f ∷ []) v.tree.tree.labels
+    by (Dropped c) i ts l w = told-besides ts t v.ledger.fates (Dropped c) v.tree.tree.labels l refl refl (λ z. absurd (let r : Dropped c ≡ Merged = z in cc)) w
+    by Ended i ts l w = told-besides ts t v.ledger.fates Ended v.tree.tree.labels l refl refl (λ z. absurd (let r : Ended ≡ Merged = z in cc)) w
+    by (Made d) i ts l w = absurd (false≢true i)
+    by (Text d) i ts l w = absurd (false≢true i)
+    by Merged i ts l w = absurd (false≢true i)
+
+-- a code point that is kept
+pub told-keep : (v z : State) (t : TokenKind) → z.ledger.fates ≡ v.ledger.fates → z.tree ≡ v.tree → Tells (t ∷ []) v z
+told-keep v z t e q = record {
+  told = λ h d w.
+      subst (λ fs. Told (h.tokens ++ t ∷ []) fs z.tree.tree.labels) (sym e)
+      (subst (λ (b : Tree). Told (h.tokens ++ t ∷ []) v.ledger.fates b.tree.labels) (sym q) (told-kept h.tokens (t ∷ []) v.ledger.fates v.tree.tree.labels (fed-most h.setting v.ledger h.tokens d) w));
+}
+
+-- a tag that was merged into an element of its name
+pub told-merge : (v z : State) (t : TokenKind) (g : Tag) (y : ℕ) → symbol_of t ≡ Start g → is_outermost g ≡ true → v.ledger.kept ≡ [] → z.ledger.fates ≡ v.ledger.fates ++ Merged ∷ [] → y < length v.tree.tree.labels
+    → named v.tree.tree g y ≡ true → z.tree.tree ≡ bare (with_merged v.tree.tree y (attrs_of t)) → Tells (t ∷ []) v z
+told-merge v z t g y s o k e b n q = record {
+  told = λ h d w.
+      let i : tag_in (label_of v.tree.tree y) ≡ g = same-tag (tag_in (label_of v.tree.tree y)) g n in
+      subst (λ fs. Told (h.tokens ++ t ∷ []) fs z.tree.tree.labels) (sym e)
+      (told-merged h.tokens t v.ledger.fates v.tree.tree z.tree.tree y (fed-same h.setting v.ledger h.tokens k d) b (s ∙ ap Start (sym i)) (ap is_outermost i ∙ o) q w);
+}
+
+-- code points that were added to a text
+run-given : (l : Entries) (cs : List ℕ) (f : Fate) → (given_run l cs f).fates ≡ l.fates ++ replicate (length cs) f
+run-given l [] f = sym (append-nil l.fates)
+run-given l (c ∷ cs) f = run-given (given l (Char c) f) cs f ∙ append_assoc l.fates (f ∷ []) (replicate (length cs) f)
+
+some-run : (cs : List ℕ) → 0 < length cs → cs ≢ []
+some-run [] h e = absurd (omega arith)
+some-run (c ∷ cs) h e = absurd (let k = e in cc)
+
+taken-some : (n : ℕ) (cs : List ℕ) → 0 < n → n ≤ length cs → 0 < length (take n cs)
+taken-some zero cs h l = absurd (omega arith)
+taken-some (suc n) [] h l = absurd (omega arith)
+taken-some (suc n) (c ∷ cs) h l = omega arith
+
+pub told-run-text : (v z : State) (foster : Bool) (n : ℕ) (cs : List ℕ) → 0 < n → n ≤ length cs → v.ledger.kept ≡ [] → z.tree.tree ≡ with_text v.tree foster (take n cs)
+    → z.ledger ≡ given_run v.ledger (take n cs) (Text (text_node v.tree foster)) → Tells (chars_of (take n cs)) v z
+told-run-text v z foster n cs a b k q e = record {
+  told = λ h d w.
+      told-text h.tokens v.ledger.fates z.ledger.fates v.tree z.tree.tree foster (take n cs) (fed-same h.setting v.ledger h.tokens k d) (some-run (take n cs) (taken-some n cs a b)) q
+      (ap (λ (x : Entries). x.fates) e ∙ run-given v.ledger (take n cs) (Text (text_node v.tree foster))) w;
+}
+
+taken-none : (n : ℕ) → take {A = ℕ} n [] ≡ []
+taken-none zero = refl
+taken-none (suc n) = refl
+
+one-taken : (n c : ℕ) → 0 < n → take n (c ∷ []) ≡ c ∷ []
+one-taken zero c h = absurd (let k : 0 < 0 = h in omega arith)
+one-taken (suc n) c h = ap (λ (ds : List ℕ). c ∷ ds) (taken-none n)
+
+pub told-char : (v z : State) (foster : Bool) (t : TokenKind) (n c : ℕ) (run : List ℕ) → symbol_of t ≡ Char c → run ≡ c ∷ [] → 0 < n → v.ledger.kept ≡ [] → z.tree.tree ≡ with_text v.tree foster (take n run)
+    → z.ledger ≡ given v.ledger (Char c) (Text (text_node v.tree foster)) → Tells (t ∷ []) v z
+told-char v z foster t n c run s r a k q e = record {
+  told = λ h d w.
+      subst (λ u. Told (h.tokens ++ u ∷ []) z.ledger.fates z.tree.tree.labels) (sym (char-is t c s))
+      (told-text h.tokens v.ledger.fates z.ledger.fates v.tree z.tree.tree foster (c ∷ []) (fed-same h.setting v.ledger h.tokens k d) (some-run (c ∷ []) (omega arith))
+      (q ∙ ap (λ ds. with_text v.tree foster (take n ds)) r ∙ ap (λ ds. with_text v.tree foster ds) (one-taken n c a)) (ap (λ (x : Entries). x.fates) e) w);
+}
+
+-- the next node was made of the token
+pub told-made : (n g v z : State) (t : TokenKind) (y : Symbol) (at : Place) (d : NewNode) → v ≡ g → g ≡ record n { ledger = g.ledger } → z.ledger ≡ v.ledger → HasFate y (Made (length n.tree.tree.labels)) n g → n.ledger.kept ≡ []
+    → ((ts : List TokenKind) → number_of n.ledger ≡ length ts → IsNext (label_for v.tree.tree d) (ts ++ t ∷ []) (number_of n.ledger)) → z.tree.tree ≡ with_new v.tree.tree at d → Tells (t ∷ []) n z
+told-made n g v z t y at d e r p f k i q = record {
+  told = λ h b w.
+      let l : length n.ledger.fates ≡ length h.tokens = fed-same h.setting n.ledger h.tokens k b in
+      let same : v.tree.tree ≡ n.tree.tree = ap (λ (x : State). x.tree.tree) e ∙ ap (λ (x : State). x.tree.tree) r in
+      let fates : z.ledger.fates ≡ n.ledger.fates ++ Made (length v.tree.tree.labels) ∷ [] =
+      ap (λ (x : Entries). x.fates) (p ∙ ap (λ (x : State). x.ledger) e) ∙ ap (λ (x : Entries). x.fates) f.ledger_is ∙ ap (λ (b : Nodes). n.ledger.fates ++ Made (length b.labels) ∷ []) (sym same) in
+      subst (λ fs. Told (h.tokens ++ t ∷ []) fs z.tree.tree.labels) (sym fates)
+      (told-next h.tokens t n.ledger.fates v.tree.tree z.tree.tree at d l (i h.tokens l) q (subst (λ (b : Nodes). Told h.tokens n.ledger.fates b.labels) (sym same) w));
+}
+
+pub made-element : (b : Nodes) (t : TokenKind) (g : Tag) (name : List ℕ) (own : List Attr) (k m : ℕ) → symbol_of t ≡ Start g → name ≡ element_name g t → own ≡ attrs_of t → k ≡ m
+    → (ts : List TokenKind) → m ≡ length ts → IsNext (label_for b (new.Element name own (Token k))) (ts ++ t ∷ []) m
+made-element b t g name own k m s e f i ts l =
+    subst (λ j. IsNext (label_for b (new.Element name own (Token j))) (ts ++ t ∷ []) m) (sym i)
+    (subst (λ ds. IsNext (label_for b (new.Element ds own (Token m))) (ts ++ t ∷ []) m) (sym e)
+    (subst (λ ds. IsNext (label_for b (new.Element (element_name g t) ds (Token m))) (ts ++ t ∷ []) m) (sym f) (next-element b ts t g m l s)))
+
+pub made-comment : (b : Nodes) (t : TokenKind) (text : List ℕ) (k m : ℕ) → symbol_of t ≡ Comment → text ≡ data_of t → k ≡ m → (ts : List TokenKind) → m ≡ length ts → IsNext (label_for b (new.Comment text k)) (ts ++ t ∷ []) m
+made-comment b t text k m s e i ts l =
+    subst (λ j. IsNext (label_for b (new.Comment text j)) (ts ++ t ∷ []) m) (sym i)
+    (subst (λ ds. IsNext (label_for b (new.Comment ds m)) (ts ++ t ∷ []) m) (sym e) (next-comment b ts t m l s))
+
+pub made-doctype : (b : Nodes) (t : TokenKind) (x y z : Option (List ℕ)) (k m : ℕ) → symbol_of t ≡ Doctype → x ≡ name_id t → y ≡ public_id t → z ≡ system_id t → k ≡ m
+    → (ts : List TokenKind) → m ≡ length ts → IsNext (label_for b (new.Doctype x y z k)) (ts ++ t ∷ []) m
+made-doctype b t x y z k m s e f g i ts l =
+    subst (λ j. IsNext (label_for b (new.Doctype x y z j)) (ts ++ t ∷ []) m) (sym i)
+    (subst (λ d. IsNext (label_for b (new.Doctype d y z m)) (ts ++ t ∷ []) m) (sym e)
+    (subst (λ d. IsNext (label_for b (new.Doctype (name_id t) d z m)) (ts ++ t ∷ []) m) (sym f)
+    (subst (λ d. IsNext (label_for b (new.Doctype (name_id t) (public_id t) d m)) (ts ++ t ∷ []) m) (sym g) (next-doctype b ts t m l s))))
 
 -- the tree changed, and the ledger did not
 pub kept : (v n z : State) → v ≡ n → z.ledger ≡ v.ledger → TreeKeeps v.tree z.tree → HasCloned v.tree z.tree → Keeps n z
@@ -103,41 +260,59 @@ kept v n z e f k c = λ h w.
       rooted = rooted-keeps v.tree z.tree k u.rooted;
       limits = c.limits_are ∙ u.limits;
       root = root-keeps h.setting v.tree z.tree k u.root;
+      origins = (all h u).origins;
+      made = (all h u).made;
+      texts = (all h u).texts;
     }
+  where
+    all : (h : Handed) → IsBuilt h v → Told h.tokens z.ledger.fates z.tree.tree.labels
+    all h u = subst (λ (l : Entries). Told h.tokens l.fates z.tree.tree.labels) (sym f) (told-clones h.tokens v.ledger.fates v.tree z.tree c (told-built h v u))
 
 -- an element that no token asked for was made
-pub implied : (v n z : State) (at : Place) (g : Tag) → v ≡ n → z.ledger ≡ v.ledger → TreeKeeps v.tree z.tree → z.tree.tree ≡ with_new v.tree.tree at (implied_of g) → Keeps n z
-implied v n z at g e f k q = λ h w.
+pub implied : (v n z : State) (at : Place) (g : Tag) → v ≡ n → z.ledger ≡ v.ledger → TreeKeeps v.tree z.tree → z.tree.tree ≡ with_new v.tree.tree at (implied_of g) → is_made_alone g ≡ true → Keeps n z
+implied v n z at g e f k q a = λ h w.
     let u : IsBuilt h v = subst (λ x. IsBuilt h x) (sym e) w in record {
       fed = subst (λ l. Fed h.setting l (symbols h.tokens)) (sym f) u.fed;
       known = subst (λ (l : Entries). BeginsWith h.known l.fates) (sym f) u.known;
       rooted = rooted-keeps v.tree z.tree k u.rooted;
       limits = ap (λ (t : Nodes). t.limits) q ∙ new-limits v.tree.tree at (implied_of g) ∙ u.limits;
       root = root-keeps h.setting v.tree z.tree k u.root;
+      origins = (all h u).origins;
+      made = (all h u).made;
+      texts = (all h u).texts;
     }
+  where
+    all : (h : Handed) → IsBuilt h v → Told h.tokens z.ledger.fates z.tree.tree.labels
+    all h u = subst (λ (l : Entries). Told h.tokens l.fates z.tree.tree.labels) (sym f) (told-implied h.tokens v.ledger.fates v.tree.tree z.tree.tree at g a q (told-built h v u))
 
 -- the ledger took a token, and the tree may have changed
-pub taken : (v n z : State) (t : TokenKind) (y : Symbol) → v ≡ n → symbol_of t ≡ y → LedgerTakes y v.ledger z.ledger → AddsFates v.ledger z.ledger → TreeKeeps v.tree z.tree → z.tree.tree.limits ≡ v.tree.tree.limits → Takes t n z
+pub taken : (v n z : State) (t : TokenKind) (y : Symbol) → v ≡ n → symbol_of t ≡ y → LedgerTakes y v.ledger z.ledger → AddsFates v.ledger z.ledger → TreeKeeps v.tree z.tree → z.tree.tree.limits ≡ v.tree.tree.limits → Tells (t ∷ []) v z → Takes t n z
 unfolding with_tokens
-taken v n z t y e f g m k l = λ h w.
+taken v n z t y e f g m k l x = λ h w.
     let u : IsBuilt h v = subst (λ x. IsBuilt h x) (sym e) w in record {
       fed = subst (λ us. Fed h.setting z.ledger us) (sym (symbols-push h.tokens t ∙ ap (λ x. symbols h.tokens ++ x ∷ []) f)) (g h.setting (symbols h.tokens) u.fed);
       known = longer h.known v.ledger.fates m.more z.ledger.fates m.fates_are u.known;
       rooted = rooted-keeps v.tree z.tree k u.rooted;
       limits = l ∙ u.limits;
       root = root-keeps h.setting v.tree z.tree k u.root;
+      origins = (x.told h u.fed (told-built h v u)).origins;
+      made = (x.told h u.fed (told-built h v u)).made;
+      texts = (x.told h u.fed (told-built h v u)).texts;
     }
 
 -- the ledger took code points
-pub taken-run : (v n z : State) (cs : List ℕ) → v ≡ n → LedgerTakesRun cs v.ledger z.ledger → AddsFates v.ledger z.ledger → TreeKeeps v.tree z.tree → z.tree.tree.limits ≡ v.tree.tree.limits → TakesRun cs n z
+pub taken-run : (v n z : State) (cs : List ℕ) → v ≡ n → LedgerTakesRun cs v.ledger z.ledger → AddsFates v.ledger z.ledger → TreeKeeps v.tree z.tree → z.tree.tree.limits ≡ v.tree.tree.limits → Tells (chars_of cs) v z → TakesRun cs n z
 unfolding with_tokens
-taken-run v n z cs e g m k l = λ h w.
+taken-run v n z cs e g m k l x = λ h w.
     let u : IsBuilt h v = subst (λ x. IsBuilt h x) (sym e) w in record {
       fed = subst (λ us. Fed h.setting z.ledger us) (sym (symbols-append h.tokens (chars_of cs) ∙ ap (λ x. symbols h.tokens ++ x) (symbols-chars cs))) (g h.setting (symbols h.tokens) u.fed);
       known = longer h.known v.ledger.fates m.more z.ledger.fates m.fates_are u.known;
       rooted = rooted-keeps v.tree z.tree k u.rooted;
       limits = l ∙ u.limits;
       root = root-keeps h.setting v.tree z.tree k u.root;
+      origins = (x.told h u.fed (told-built h v u)).origins;
+      made = (x.told h u.fed (told-built h v u)).made;
+      texts = (x.told h u.fed (told-built h v u)).texts;
     }
 
 -- the tree is as it was
@@ -162,13 +337,14 @@ pub stack-is : (v n : State) → v ≡ n → v.stack ≡ n.stack
 stack-is v n e = ap (λ (x : State). x.stack) e
 
 -- the ledger took a token first, and then the tree changed
-pub taken-made : (v g n z : State) (t : TokenKind) (y : Symbol) → v ≡ g → g ≡ record n { ledger = g.ledger } → z.ledger ≡ v.ledger → symbol_of t ≡ y → LedgerTakes y n.ledger g.ledger → AddsFates n.ledger g.ledger → TreeKeeps v.tree z.tree → (at : Place) (d : NewNode) → z.tree.tree ≡ with_new v.tree.tree at d → Takes t n z
-taken-made v g n z t y e r p f k q j at d l =
+pub taken-made : (v g n z : State) (t : TokenKind) (y : Symbol) → v ≡ g → g ≡ record n { ledger = g.ledger } → z.ledger ≡ v.ledger → symbol_of t ≡ y → LedgerTakes y n.ledger g.ledger → AddsFates n.ledger g.ledger → TreeKeeps v.tree z.tree → (at : Place) (d : NewNode) → z.tree.tree ≡ with_new v.tree.tree at d → Tells (t ∷ []) n z → Takes t n z
+taken-made v g n z t y e r p f k q j at d l x =
     taken n n z t y refl f
     (subst (λ m. LedgerTakes y n.ledger m) (sym (p ∙ ap (λ (x : State). x.ledger) e)) k)
     (subst (λ m. AddsFates n.ledger m) (sym (p ∙ ap (λ (x : State). x.ledger) e)) q)
     (subst (λ x. TreeKeeps x z.tree) (ap (λ (x : State). x.tree) e ∙ ap (λ (x : State). x.tree) r) j)
     (ap (λ (t : Nodes). t.limits) l ∙ new-limits v.tree.tree at d ∙ ap (λ (x : State). x.tree.tree.limits) e ∙ ap (λ (x : State). x.tree.tree.limits) r)
+    x
 
 -- formatting elements were opened anew
 formatting-weighs : (ts : List Tag) → list_all is_formatting ts ≡ true → weight ts ≡ 0
@@ -215,15 +391,6 @@ next-settled a b d c cs r t = λ h w. let p = r h w in
 pub all-settled : (a b : State) → Releases [] a b → Keeps a b
 all-settled a b r = λ h w. let p = r h w in subst (λ x. IsBuilt x b) (sym (p.2 ∙ with-none p.0)) p.1
 
--- a token that is a code point to the rules
-abbrev token_of : Symbol → TokenKind
-token_of (Char x) = kind.Char x
-token_of _ = kind.Eof
-
-char-is : (t : TokenKind) (c : ℕ) → symbol_of t ≡ Char c → t ≡ kind.Char c
-char-is (kind.Char d) c e = ap token_of e
-char-is _ c e = absurd cc
-
 chars-back : (ts : List TokenKind) (cs : List ℕ) → symbols ts ≡ symbol_chars cs → ts ≡ chars_of cs
 chars-back [] [] e = refl
 chars-back [] (c ∷ cs) e = absurd cc
@@ -236,16 +403,32 @@ split-symbols [] (y ∷ ys) cs e = absurd cc
 split-symbols (t ∷ ts) (y ∷ ys) cs e = let p = split-symbols ts ys cs (ap rest e) in
     (t ∷ p.0, ap (λ z. z ∷ symbols p.0) (ap first e) ∙ ap (λ zs. y ∷ zs) p.1, ap (λ us. t ∷ us) p.2)
 
-pub released : (v n z : State) (cs : List ℕ) → v ≡ n → LedgerReleases cs v.ledger z.ledger → AddsFates v.ledger z.ledger → TreeKeeps v.tree z.tree → z.tree.tree.limits ≡ v.tree.tree.limits → Releases cs n z
+pub released : (v n z : State) (cs : List ℕ) → v ≡ n → LedgerReleases cs v.ledger z.ledger → z.ledger.fates ≡ v.ledger.fates → z.tree ≡ v.tree → Releases cs n z
 unfolding with_tokens
-released v n z cs e r m k l = λ h w.
+released v n z cs e r m k = λ h w.
     let u : IsBuilt h v = subst (λ x. IsBuilt h x) (sym e) w in
     let p = r h.setting (symbols h.tokens) u.fed in
     let q = split-symbols h.tokens p.0 cs p.2 in (
       record h { tokens = q.0 },
-      record { fed = subst (λ ys. Fed h.setting z.ledger ys) (sym q.1) p.1; known = longer h.known v.ledger.fates m.more z.ledger.fates m.fates_are u.known; rooted = rooted-keeps v.tree z.tree k u.rooted; limits = l ∙ u.limits; root = root-keeps h.setting v.tree z.tree k u.root },
+      subst (λ (b : Tree). IsBuilt (record h { tokens = q.0 }) (record z { tree = b })) (sym k) (front h u q.0 q.2 (subst (λ ys. Fed h.setting z.ledger ys) (sym q.1) p.1)),
       ap (λ vs. record h { tokens = vs }) q.2,
     )
+  where
+    front : (h : Handed) → IsBuilt h v → (ts : List TokenKind) → h.tokens ≡ ts ++ chars_of cs → Fed h.setting z.ledger (symbols ts) → IsBuilt (record h { tokens = ts }) (record z { tree = v.tree })
+    front h u ts q d =
+        let x : Told ts v.ledger.fates v.tree.tree.labels =
+        told-released ts (chars_of cs) v.ledger.fates v.tree.tree.labels (subst (λ fs. length fs ≤ length ts) m (fed-most h.setting z.ledger ts d)) (subst (λ us. Told us v.ledger.fates v.tree.tree.labels) q (told-built h v u)) in
+        let y : Told ts z.ledger.fates v.tree.tree.labels = subst (λ fs. Told ts fs v.tree.tree.labels) (sym m) x in
+        record {
+          fed = d;
+          known = subst (λ fs. BeginsWith h.known fs) (sym m) u.known;
+          rooted = u.rooted;
+          limits = u.limits;
+          root = u.root;
+          origins = y.origins;
+          made = y.made;
+          texts = y.texts;
+        }
 
 -- a front of code points that may become text in one go
 all-front : (cs : List ℕ) (n : ℕ) → list_all is_not_null cs ≡ true → list_all is_not_null (take n cs) ≡ true

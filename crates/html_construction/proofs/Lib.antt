@@ -1,5 +1,10 @@
 pub mod Beginning
 pub mod Building
+pub mod Labels
+pub mod Making
+pub mod Wording
+pub mod Originating
+pub mod Accounting
 pub mod Kept
 pub mod Results
 pub mod Weighing

@@ -1,19 +1,18 @@
 -- What open elements count.
-use Rattle.std.proofs.Common.{ℕ, zero, suc, ◌≡◌, ◌+◌, ◌<◌, ◌≤◌, Bool, true, false, List, [], ◌∷◌, ◌++◌, length, drop, refl, sym, ap, subst, ◌∙◌, arith, if◌then◌else◌}
-use Rattle.std.specs.List.{list_all, sum_by}
+use Rattle.std.proofs.Common.{ℕ, zero, suc, ◌≡◌, ◌+◌, ◌≤◌, true, List, [], ◌∷◌, drop, refl, sym, ap, subst, ◌∙◌, arith}
+use Rattle.std.specs.List.{sum_by}
 use Rattle.std.specs.Prelude.{Option, None, Some, slice_get}
 use Rattle.std.proofs.lemmas.Bool.{false≢true}
 use Rattle.std.proofs.lemmas.Bool.Decides.{Decides-eqb}
-use Rattle.std.proofs.lemmas.List.Sums.{sum_by-cons, sum_by-append}
+use Rattle.std.proofs.lemmas.List.Sums.{sum_by-cons}
 use Rattle.html_names.specs.declared.tag.Tag.{Tag}
 use Rattle.html_names.specs.declared.tag.Tag.TheVariants as tag
 use Rattle.html_names.specs.Sets.{is_formatting, is_heading, is_section, is_cell}
 use Rattle.html_names.specs.Groups.{is_definition}
-use Rattle.html_names.specs.Tags.{is_same}
+use Rattle.html_names.specs.Tags.{is_same, number}
 use Rattle.html_tree.specs.declared.groups.Group.{Group}
 use Rattle.html_tree.specs.declared.groups.Group.TheVariants as group
 use Rattle.html_tree.specs.Groups.{in_group}
-use Rattle.html_names.specs.Tags.{number}
 use Rattle.html_names.proofs.Numbers.{number_injective}
 use Rattle.html_construction.specs.Weights.{group_weight, weight, weight_of}
 
@@ -37,7 +36,7 @@ weight-drop zero s = omega arith
 weight-drop (suc k) [] = omega arith
 weight-drop (suc k) (t ∷ s) = omega (arith, weight-drop k s)
 
-same-tag : (g h : Tag) → is_same g h ≡ true → g ≡ h
+pub same-tag : (g h : Tag) → is_same g h ≡ true → g ≡ h
 same-tag g h e = number_injective g h ((Decides-eqb (number g) (number h)).0 e)
 
 same-name : (g h : Tag) → is_same h g ≡ true → weight_of g ≤ weight_of h

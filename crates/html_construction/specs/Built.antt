@@ -1,5 +1,5 @@
 -- Tokens against what was built of them.
-use Rattle.std.specs.Prelude.{◌≡◌, ℕ, ◌<◌, ◌⊎◌, ◌+◌, ◌≤◌, List, [], ◌∷◌, ◌++◌, length, Option, Some, None}
+use Rattle.std.specs.Prelude.{◌≡◌, ℕ, ◌<◌, ◌⊎◌, List, [], ◌∷◌, ◌++◌, length, Option, Some, None, Bool, false}
 use Rattle.html_arena.specs.declared.arena.Limits.{Limits}
 use Rattle.html_arena.specs.Tree.{host_at, parent_of}
 use Rattle.html_tokens.specs.declared.token.TokenKind.{TokenKind}
@@ -9,11 +9,11 @@ use Rattle.html_ledger.specs.declared.setting.Setting.{Setting}
 use Rattle.html_ledger.specs.declared.symbol.Symbol.{Symbol}
 use Rattle.html_ledger.specs.Symbols.{symbol_of}
 use Rattle.html_ledger.specs.declared.fate.Fate.{Fate}
-use Rattle.html_ledger.specs.Entries.{Entries, Fed}
+use Rattle.html_ledger.specs.Entries.{Fed}
 use Rattle.html_ledger.specs.Fates.{is_made}
-use Rattle.std.specs.Prelude.{Bool, false}
 use Rattle.html_ledger.specs.Runs.{last_of}
-use Rattle.html_construction.specs.Origins.{HasRoot}
+use Rattle.html_construction.specs.Accounts.{AreMade, AreTexts}
+use Rattle.html_construction.specs.Origins.{AreOrigins, HasRoot}
 use Rattle.html_construction.specs.States.{State}
 
 -- tokens as the rules tell them apart
@@ -58,6 +58,9 @@ pub record IsBuilt (h : Handed) (a : State) : Type 0 where
   pub rooted : IsRooted a.tree
   pub limits : a.tree.tree.limits ≡ h.limits
   pub root : HasRoot h.setting a.tree.tree
+  pub origins : AreOrigins h.tokens a.ledger.fates a.tree.tree.labels
+  pub made : AreMade a.ledger.fates a.tree.tree.labels
+  pub texts : AreTexts (symbols h.tokens) a.ledger.fates a.tree.tree.labels
 
 -- From one state to a later one: the tokens handed in are the same.
 abbrev pub Keeps : State → State → Type 0

@@ -1,10 +1,11 @@
 pub mod States
 pub mod Weights
+pub mod Tokens
 pub mod Origins
+pub mod Accounts
 pub mod Built
 pub mod Calls
 pub mod Grown
 pub mod Modes
 pub mod Targets
-pub mod Tokens
 pub mod UnderWay

@@ -1,7 +1,7 @@
 -- Kinds of insertion modes (13.2.4.1).
 use Rattle.std.specs.Prelude.{Bool, true, false}
 use Rattle.html_construction.specs.declared.mode.Mode.{Mode}
-use Rattle.html_construction.specs.declared.mode.Mode.TheVariants.{Initial, BeforeHtml, BeforeHead, InHead, InHeadNoscript, AfterHead, InBody, Text, InTable, InTableText, InCaption, InColumnGroup, InTableBody, InRow, InCell, InSelect, InSelectInTable, InTemplate, AfterBody, InFrameset, AfterFrameset, AfterAfterBody, AfterAfterFrameset}
+use Rattle.html_construction.specs.declared.mode.Mode.TheVariants.{BeforeHead, InHead, AfterHead, InBody, InTable, InCaption, InColumnGroup, InTableBody, InRow, InCell, InSelect, InSelectInTable, InTemplate, InFrameset}
 
 -- a mode that the open elements may call for: one that "reset the insertion mode appropriately" chooses, or a template insertion mode
 abbrev pub is_reset : Mode → Bool

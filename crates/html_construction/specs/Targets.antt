@@ -1,5 +1,5 @@
 -- Where a new node may go (13.2.6.1).
-use Rattle.std.specs.Prelude.{ℕ, ◌<◌, List, length}
+use Rattle.std.specs.Prelude.{◌<◌, List, length}
 use Rattle.html_names.specs.declared.tag.Tag.{Tag}
 use Rattle.html_tree.specs.declared.groups.Target.{Target}
 use Rattle.html_tree.specs.declared.groups.Target.TheVariants as target

@@ -2,7 +2,7 @@
 use Rattle.std.specs.Prelude.{ℕ, List, [], Option, None, if◌then◌else◌}
 use Rattle.html_names.specs.declared.tag.Tag.{Tag}
 use Rattle.html_names.specs.declared.tag.Tag.TheVariants as tag
-use Rattle.html_names.specs.Names.{name_of}
+use Rattle.html_names.specs.Names.{name_of, tag_of}
 use Rattle.html_names.specs.Tags.{is_same}
 use Rattle.html_tokens.specs.declared.attributes.Attr.{Attr}
 use Rattle.html_tokens.specs.declared.token.TokenKind.{TokenKind}
@@ -40,3 +40,7 @@ public_id _ = None
 abbrev pub system_id : TokenKind → Option (List ℕ)
 system_id (kind.Doctype name public_text system_text force_quirks) = system_text
 system_id _ = None
+
+-- the same, by the name of the tag alone
+abbrev pub node_name : List ℕ → List ℕ
+node_name name = if is_same (tag_of name) tag.Image then name_of tag.Img else name

@@ -1,5 +1,5 @@
 -- What open elements count, so that a token can't be reprocessed without end (13.2.6).
-use Rattle.std.specs.Prelude.{ℕ, ◌+◌, Bool, if◌then◌else◌, List, [], ◌∷◌}
+use Rattle.std.specs.Prelude.{ℕ, ◌+◌, if◌then◌else◌, List, [], ◌∷◌}
 use Rattle.html_names.specs.declared.tag.Tag.{Tag}
 use Rattle.html_names.specs.declared.tag.Tag.TheVariants as tag
 use Rattle.html_names.specs.Sets.{is_formatting}

@@ -40,6 +40,34 @@ plain-other _ e = refl
 pub small-other : (t : Tag) → is_headish t ≡ false → weight_of t ≤ 4
 small-other t e = weight_of-plain t (plain-other t e)
 
+pub named-is_block : (t : Tag) → is_block t ≡ true → is_same t tag.Image ≡ false
+named-is_block tag.Image e = absurd (false≢true e)
+named-is_block _ e = refl
+
+pub named-is_heading : (t : Tag) → is_heading t ≡ true → is_same t tag.Image ≡ false
+named-is_heading tag.Image e = absurd (false≢true e)
+named-is_heading _ e = refl
+
+pub named-is_preformatted : (t : Tag) → is_preformatted t ≡ true → is_same t tag.Image ≡ false
+named-is_preformatted tag.Image e = absurd (false≢true e)
+named-is_preformatted _ e = refl
+
+pub named-takes_marker : (t : Tag) → takes_marker t ≡ true → is_same t tag.Image ≡ false
+named-takes_marker tag.Image e = absurd (false≢true e)
+named-takes_marker _ e = refl
+
+pub named-is_head_text : (t : Tag) → is_head_text t ≡ true → is_same t tag.Image ≡ false
+named-is_head_text tag.Image e = absurd (false≢true e)
+named-is_head_text _ e = refl
+
+pub named-is_section : (t : Tag) → is_section t ≡ true → is_same t tag.Image ≡ false
+named-is_section tag.Image e = absurd (false≢true e)
+named-is_section _ e = refl
+
+pub named-is_cell : (t : Tag) → is_cell t ≡ true → is_same t tag.Image ≡ false
+named-is_cell tag.Image e = absurd (false≢true e)
+named-is_cell _ e = refl
+
 pub plain-is_block : (t : Tag) → is_block t ≡ true → is_same t tag.Template ≡ false
 plain-is_block tag.Template e = absurd (false≢true e)
 plain-is_block _ e = refl

@@ -72,5 +72,12 @@ module _ (s s' : List ℕ) (l l' : List Entry) (t u : Tree) (n : ℕ) (h f d : O
       subst (λ (b : State). Grown k m e w b (state_of s' l' u n h f d)) i (record { nodes_least = omega arith; nodes_most = omega arith; open_most = omega arith; entries_most = omega arith; held_most = omega arith; open_least = omega arith })
 
   -- what is told of it
-  pub has-cloned : (a : State) → state_of s l t n h f d ≡ a → u.limits ≡ t.limits → HasCloned a (state_of s' l' u n h f d)
-  has-cloned a i e = subst (λ (b : State). HasCloned b (state_of s' l' u n h f d)) i (record { elements = c.elements; listed = c.listed; labels_are = c.labels_are; limits_are = e })
+  pub has-cloned : (a : State) → state_of s l t n h f d ≡ a → IsOpen (open_at s l t) → u.limits ≡ t.limits → HasCloned a (state_of s' l' u n h f d)
+  has-cloned a i o e = subst (λ (b : State). HasCloned b (state_of s' l' u n h f d)) i (record {
+    elements = c.elements;
+    listed = c.listed;
+    node_in = λ x b. o.list_in x (c.listed x b);
+    formatting = λ x b. o.formatting x (c.listed x b);
+    labels_are = c.labels_are;
+    limits_are = e;
+  })

@@ -69,7 +69,7 @@ made-labels t new = by (has_contents new) refl
     by true h = rw h refl
     by false h = rw h refl
 
-put-labels : (t : Tree) (p : Place) (c : ℕ) → (put t p c).labels ≡ t.labels
+pub put-labels : (t : Tree) (p : Place) (c : ℕ) → (put t p c).labels ≡ t.labels
 put-labels t (Last q) c = refl
 put-labels t (Before b) c = by (parent_of t b)
   where

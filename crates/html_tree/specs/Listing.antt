@@ -1,10 +1,11 @@
 -- Reopening (13.2.4.3) and adoption (13.2.6.4.7) of a tree under construction.
-use Rattle.std.specs.Prelude.{◌≡◌, ℕ, ◌++◌, Bool, true, List, map}
+use Rattle.std.specs.Prelude.{◌≡◌, ℕ, ◌++◌, ◌<◌, Bool, true, List, length, map}
 use Rattle.std.specs.List.{sum_by}
+use Rattle.html_names.specs.Sets.{is_formatting}
 use Rattle.html_names.specs.declared.tag.Tag.{Tag}
 use Rattle.html_arena.specs.Data.{cloned}
 use Rattle.html_arena.specs.Siblings.{has}
-use Rattle.html_arena.specs.Tree.{Tree, label_of}
+use Rattle.html_arena.specs.Tree.{Tree, label_of, tag_at}
 use Rattle.html_arena.specs.Weight.{weight}
 use Rattle.html_open.specs.declared.adoption.AdoptEnd.{AdoptEnd}
 use Rattle.html_open.specs.declared.error.OpenError.{OpenError}
@@ -35,11 +36,13 @@ pub record IsAdopted (name : Tag) (foster : Bool) (end : AdoptEnd) (a b : State)
   pub new_is : bare new ≡ b.tree
   pub adopted : Adopted name foster end (open_at a.stack a.list old) (open_at b.stack b.list new)
 
--- all nodes that there were keep their labels, and those that were made are clones of listed elements: the name, the attributes and the
--- token of each are those of its original
+-- all nodes that there were keep their labels, and those that were made are clones of listed elements, which are formatting elements: the
+-- name, the attributes and the token of each are those of its original
 pub record HasCloned (a b : State) : Type 0 where
   pub elements : List ℕ
   pub listed : (x : ℕ) → has x elements ≡ true → has_node x a.list ≡ true
+  pub node_in : (x : ℕ) → has x elements ≡ true → x < length a.tree.labels
+  pub formatting : (x : ℕ) → has x elements ≡ true → is_formatting (tag_at a.tree x) ≡ true
   pub labels_are : b.tree.labels ≡ a.tree.labels ++ map (λ x. cloned (label_of a.tree x)) elements
   pub limits_are : b.tree.limits ≡ a.tree.limits
 

@@ -2,9 +2,12 @@
 // without a fate, also where the node is refused.
 ghost use Rattle.std.specs.Prelude.{◌≡◌, ◌+◌, ◌<◌, ◌≤◌, ◌∷◌, [], IfOk, IsTrue, OnOk, false, length, true, slice_index};
 ghost use Rattle.html_names.specs.declared.tag.Tag.TheVariants as tag;
+ghost use Rattle.html_names.specs.declared.tag.Tag.TheVariants.{Image};
 ghost use Rattle.html_names.specs.Groups.{is_outermost};
 ghost use Rattle.html_names.specs.Sets.{is_formatting};
-ghost use Rattle.html_arena.specs.Tree.{tag_at, with_merged};
+ghost use Rattle.html_arena.specs.Tree.{named, tag_at, with_merged};
+ghost use Rattle.html_names.specs.Tags.{is_same};
+ghost use Rattle.html_construction.specs.Origins.{is_made_alone};
 ghost use Rattle.html_ledger.specs.Symbols.{symbol_of};
 ghost use Rattle.html_ledger.specs.declared.symbol.Symbol.TheVariants.{Comment, Doctype, Start};
 ghost use Rattle.html_construction.specs.Built.{Keeps, Takes};
@@ -31,6 +34,7 @@ impl Construction {
     /// Makes the element of a start tag, puts it at the place for the current node and opens it. Its fate is Made, of that node.
     pub fn insert(&mut self, token: &TokenKind, tag: Tag) -> Result<(), Refusal>
         requires symbol { symbol_of token.now ≡ Start tag }
+        requires named { is_same tag Image ≡ false }
         requires opened { 0 < length self.old.stack }
         requires quiet { self.old.ledger.kept ≡ [] }
         ensures rest { OnOk result (self.new ≡ record self.old { tree = self.new.tree; ledger = self.new.ledger; stack = tag ∷ self.old.stack }) }
@@ -47,6 +51,7 @@ impl Construction {
     /// Makes the element of a start tag, puts it at a target and opens it.
     pub fn insert_at(&mut self, token: &TokenKind, tag: Tag, target: Target) -> Result<(), Refusal>
         requires symbol { symbol_of token.now ≡ Start tag }
+        requires named { is_same tag Image ≡ false }
         requires opened { 0 < length self.old.stack }
         requires quiet { self.old.ledger.kept ≡ [] }
         ensures rest { OnOk result (self.new ≡ record self.old { tree = self.new.tree; ledger = self.new.ledger; stack = tag ∷ self.old.stack }) }
@@ -68,6 +73,7 @@ impl Construction {
         target: Target,
     ) -> Result<NodeId, Refusal>
         requires symbol { symbol_of token.now ≡ Start tag }
+        requires named { is_same tag Image ≡ false }
         requires opened { 0 < length self.old.stack }
         requires quiet { self.old.ledger.kept ≡ [] }
         ensures rest { OnOk result (self.new ≡ record self.old { tree = self.new.tree; ledger = self.new.ledger; stack = tag ∷ self.old.stack }) }
@@ -238,11 +244,45 @@ impl Construction {
         Ok(())
     }
 
-    /// Adds the attributes of a start tag html or body, whose names it lacks, to the open element at an index. Its fate is Merged.
-    pub fn merge_into(&mut self, token: &TokenKind, tag: Tag, index: usize) -> Result<(), Refusal>
+    /// Adds the attributes of a start tag html, whose names it lacks, to the first open element, which is an html. Its fate is Merged.
+    pub fn merge_into_root(&mut self, token: &TokenKind) -> Result<(), Refusal>
+        requires symbol { symbol_of token.now ≡ Start tag.Html }
+        requires opened { 0 < length self.old.stack }
+        requires quiet { self.old.ledger.kept ≡ [] }
+        ensures rest { OnOk result (self.new ≡ record self.old { tree = self.new.tree; ledger = self.new.ledger }) }
+        ensures takes { OnOk result (Takes token.now self.old self.new) }
+        ensures quiet { OnOk result (self.new.ledger.kept ≡ []) }
+        ensures grown { OnOk result (Grown 1 0 0 self.old self.new) }
+        ensures exact { OnOk result (IsTree (record self.old.tree { tree = bare (with_merged self.old.tree.tree (slice_index self.old.tree.stack 0) (attrs_of token.now)) }) self.new) }
+        ensures fate { OnOk result (HasFate (Start tag.Html) Merged self.old self.new) }
+    {
+        self.tree.laws();
+        self.merge_into(token, Tag::Html, 0)
+    }
+
+    /// Adds the attributes of a start tag body, whose names it lacks, to the second open element, a body. Its fate is Merged.
+    pub fn merge_into_body(&mut self, token: &TokenKind) -> Result<(), Refusal>
+        requires symbol { symbol_of token.now ≡ Start tag.Body }
+        requires second { 1 < length self.old.stack }
+        requires body { named self.old.tree.tree tag.Body (slice_index self.old.tree.stack 1) ≡ true }
+        requires quiet { self.old.ledger.kept ≡ [] }
+        ensures rest { OnOk result (self.new ≡ record self.old { tree = self.new.tree; ledger = self.new.ledger }) }
+        ensures takes { OnOk result (Takes token.now self.old self.new) }
+        ensures quiet { OnOk result (self.new.ledger.kept ≡ []) }
+        ensures grown { OnOk result (Grown 1 0 0 self.old self.new) }
+        ensures exact { OnOk result (IsTree (record self.old.tree { tree = bare (with_merged self.old.tree.tree (slice_index self.old.tree.stack 1) (attrs_of token.now)) }) self.new) }
+        ensures fate { OnOk result (HasFate (Start tag.Body) Merged self.old self.new) }
+    {
+        self.merge_into(token, Tag::Body, 1)
+    }
+
+    /// Adds the attributes of a start tag html or body, whose names it lacks, to the open element of its name at an index. Its
+    /// fate is Merged.
+    fn merge_into(&mut self, token: &TokenKind, tag: Tag, index: usize) -> Result<(), Refusal>
         requires symbol { symbol_of token.now ≡ Start tag }
         requires outermost { is_outermost tag ≡ true }
         requires index { index < length self.old.stack }
+        requires own { named self.old.tree.tree tag (slice_index self.old.tree.stack index) ≡ true }
         requires quiet { self.old.ledger.kept ≡ [] }
         ensures rest { OnOk result (self.new ≡ record self.old { tree = self.new.tree; ledger = self.new.ledger }) }
         ensures takes { OnOk result (Takes token.now self.old self.new) }
@@ -261,6 +301,7 @@ impl Construction {
 impl Construction {
     /// Makes an element that no token asked for, puts it at the place for the current node and opens it. No token gets a fate.
     pub fn insert_implied(&mut self, tag: Tag) -> Result<(), Refusal>
+        requires alone { is_made_alone tag ≡ true }
         requires opened { 0 < length self.old.stack }
         ensures rest { OnOk result (self.new ≡ record self.old { tree = self.new.tree; stack = tag ∷ self.old.stack }) }
         ensures keeps { OnOk result (Keeps self.old self.new) }
@@ -273,6 +314,7 @@ impl Construction {
 
     /// Makes an element that no token asked for, puts it at the place for the current node and opens it, and answers it.
     pub(super) fn open_implied(&mut self, tag: Tag) -> Result<NodeId, Refusal>
+        requires alone { is_made_alone tag ≡ true }
         requires opened { 0 < length self.old.stack }
         ensures rest { OnOk result (self.new ≡ record self.old { tree = self.new.tree; stack = tag ∷ self.old.stack }) }
         ensures keeps { OnOk result (Keeps self.old self.new) }
@@ -286,6 +328,7 @@ impl Construction {
 
     /// Makes an element that no token asked for and puts it at the place for the current node; it is not opened. No token gets a fate.
     pub fn insert_implied_void(&mut self, tag: Tag) -> Result<(), Refusal>
+        requires alone { is_made_alone tag ≡ true }
         requires opened { 0 < length self.old.stack }
         ensures rest { OnOk result (self.new ≡ record self.old { tree = self.new.tree }) }
         ensures keeps { OnOk result (Keeps self.old self.new) }

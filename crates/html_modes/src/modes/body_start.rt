@@ -1,5 +1,5 @@
 // The mode in body (13.2.6.4.7), but for end tags.
-ghost use Rattle.std.specs.Prelude.{◌≡◌, ◌+◌, ◌<◌, ◌≤◌, [], IfOk, OnOk, IsTrue, length, take};
+ghost use Rattle.std.specs.Prelude.{◌≡◌, ◌+◌, ◌<◌, ◌≤◌, [], IfOk, OnOk, IsTrue, length, take, false};
 ghost use Rattle.html_ledger.specs.Symbols.{symbol_of};
 ghost use Rattle.html_ledger.specs.Flags.{is_free, may_text_run};
 ghost use Rattle.html_construction.specs.Built.{Keeps, Takes, TakesRun};
@@ -8,6 +8,7 @@ ghost use Rattle.html_construction.specs.Weights.{weight, weight_of};
 ghost use Rattle.html_modes.specs.Fitting.{Fits, Calls};
 ghost use Rattle.html_modes.specs.Steps.{Steps, Falls, Grows};
 ghost use Rattle.html_modes.specs.declared.outcome.Outcome.TheVariants.{Done};
+ghost use Rattle.html_names.specs.Tags.{is_same as same_tag};
 
 use crate::guards::has_form;
 use crate::modes::body_end::{body_end, html_end};
@@ -231,7 +232,7 @@ fn phrase_start(page: &mut Construction, token: &TokenKind, tag: Tag) -> Result<
         // A start tag whose tag name is "input".
         Tag::Input => input_start(page, token),
         // A start tag whose tag name is "image": change the token's tag name to "img" and reprocess it.
-        Tag::Image => void_start(page, token, Tag::Image),
+        _ if tag.is(Tag::Image) => void_start(page, token, tag),
         // A start tag whose tag name is one of: "rb", "rtc".
         Tag::Rb => ruby_start(page, token, Tag::Rb, None),
         Tag::Rtc => ruby_start(page, token, Tag::Rtc, None),
@@ -254,6 +255,7 @@ fn phrase_start(page: &mut Construction, token: &TokenKind, tag: Tag) -> Result<
 #[tactic(auto, using(crate::proofs::Settled::body_rules))]
 fn other_start(page: &mut Construction, token: &TokenKind, tag: Tag) -> Result<(), Refusal>
     requires small { weight_of tag ≤ 4 }
+    requires named { same_tag tag Tag.Image ≡ false }
     requires symbol { symbol_of token.now ≡ Symbol.Start tag }
     requires calls { Calls page.old }
     ensures fits { OnOk result (Fits page.new) }
@@ -299,7 +301,7 @@ pub(crate) fn html_start(page: &mut Construction, token: &TokenKind) -> Result<(
     if page.has_template() {
         return page.drop_token(token, Symbol::Start(Tag::Html), Cause::Misplaced);
     }
-    page.merge_into(token, Tag::Html, 0)
+    page.merge_into_root(token)
 }
 
 /// A body after the first: its attributes are merged, unless a template is open or none is the second open element. (In a document
@@ -313,9 +315,9 @@ fn second_body_start(page: &mut Construction, token: &TokenKind) -> Result<(), R
     ensures falls { OnOk result (Falls Done (Symbol.Start Tag.Body) page.old page.new) }
     ensures grows { OnOk result (Grows Done page.old page.new) }
 {
-    if page.has_body() && !page.has_template() {
+    if !page.has_template() && page.has_body() {
         page.frameset_off();
-        return page.merge_into(token, Tag::Body, 1);
+        return page.merge_into_body(token);
     }
     if page.history().may_misplace(Tag::Body) {
         return page.drop_token(token, Symbol::Start(Tag::Body), Cause::Misplaced);
@@ -345,6 +347,7 @@ fn late_frameset_start(page: &mut Construction, token: &TokenKind) -> Result<(),
 #[tactic(auto, using(crate::proofs::Settled::body_rules))]
 fn block_start(page: &mut Construction, token: &TokenKind, tag: Tag) -> Result<(), Refusal>
     requires small { weight_of tag ≤ 4 }
+    requires named { same_tag tag Tag.Image ≡ false }
     requires symbol { symbol_of token.now ≡ Symbol.Start tag }
     requires calls { Calls page.old }
     ensures fits { OnOk result (Fits page.new) }
@@ -359,6 +362,7 @@ fn block_start(page: &mut Construction, token: &TokenKind, tag: Tag) -> Result<(
 #[tactic(auto, using(crate::proofs::Settled::body_rules))]
 fn heading_start(page: &mut Construction, token: &TokenKind, tag: Tag) -> Result<(), Refusal>
     requires small { weight_of tag ≤ 4 }
+    requires named { same_tag tag Tag.Image ≡ false }
     requires symbol { symbol_of token.now ≡ Symbol.Start tag }
     requires calls { Calls page.old }
     ensures fits { OnOk result (Fits page.new) }
@@ -374,6 +378,7 @@ fn heading_start(page: &mut Construction, token: &TokenKind, tag: Tag) -> Result
 #[tactic(auto, using(crate::proofs::Settled::body_rules))]
 fn preformatted_start(page: &mut Construction, token: &TokenKind, tag: Tag) -> Result<(), Refusal>
     requires small { weight_of tag ≤ 4 }
+    requires named { same_tag tag Tag.Image ≡ false }
     requires symbol { symbol_of token.now ≡ Symbol.Start tag }
     requires calls { Calls page.old }
     ensures fits { OnOk result (Fits page.new) }
@@ -411,6 +416,7 @@ fn form_start(page: &mut Construction, token: &TokenKind) -> Result<(), Refusal>
 #[tactic(auto, using(crate::proofs::Settled::body_rules))]
 fn item_start(page: &mut Construction, token: &TokenKind, tag: Tag) -> Result<(), Refusal>
     requires small { weight_of tag ≤ 4 }
+    requires named { same_tag tag Tag.Image ≡ false }
     requires symbol { symbol_of token.now ≡ Symbol.Start tag }
     requires calls { Calls page.old }
     ensures fits { OnOk result (Fits page.new) }
@@ -474,6 +480,7 @@ fn rule_start(page: &mut Construction, token: &TokenKind) -> Result<(), Refusal>
 #[tactic(auto, using(crate::proofs::Settled::body_rules))]
 fn plain_start(page: &mut Construction, token: &TokenKind, tag: Tag) -> Result<(), Refusal>
     requires small { weight_of tag ≤ 4 }
+    requires named { same_tag tag Tag.Image ≡ false }
     requires symbol { symbol_of token.now ≡ Symbol.Start tag }
     requires calls { Calls page.old }
     ensures fits { OnOk result (Fits page.new) }
@@ -538,6 +545,7 @@ fn button_start(page: &mut Construction, token: &TokenKind) -> Result<(), Refusa
 #[tactic(auto, using(crate::proofs::Settled::body_rules))]
 fn marker_start(page: &mut Construction, token: &TokenKind, tag: Tag) -> Result<(), Refusal>
     requires small { weight_of tag ≤ 4 }
+    requires named { same_tag tag Tag.Image ≡ false }
     requires symbol { symbol_of token.now ≡ Symbol.Start tag }
     requires calls { Calls page.old }
     ensures fits { OnOk result (Fits page.new) }
@@ -561,6 +569,7 @@ fn ruby_start(
     except: Option<Tag>,
 ) -> Result<(), Refusal>
     requires small { weight_of tag ≤ 4 }
+    requires named { same_tag tag Tag.Image ≡ false }
     requires symbol { symbol_of token.now ≡ Symbol.Start tag }
     requires calls { Calls page.old }
     ensures fits { OnOk result (Fits page.new) }
@@ -659,6 +668,7 @@ fn is_in_table(mode: Mode) -> bool {
 #[tactic(auto, using(crate::proofs::Settled::body_rules))]
 fn option_start(page: &mut Construction, token: &TokenKind, tag: Tag) -> Result<(), Refusal>
     requires small { weight_of tag ≤ 4 }
+    requires named { same_tag tag Tag.Image ≡ false }
     requires symbol { symbol_of token.now ≡ Symbol.Start tag }
     requires calls { Calls page.old }
     ensures fits { OnOk result (Fits page.new) }

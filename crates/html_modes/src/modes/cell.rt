@@ -1,5 +1,5 @@
 // The mode in cell (13.2.6.4.15).
-ghost use Rattle.std.specs.Prelude.{◌≡◌, ◌+◌, ◌<◌, ◌≤◌, [], IfOk, OnOk, IsTrue, length, true, if◌then◌else◌};
+ghost use Rattle.std.specs.Prelude.{◌≡◌, ◌+◌, ◌<◌, ◌≤◌, [], IfOk, OnOk, IsTrue, length, true, if◌then◌else◌, false};
 ghost use Rattle.html_ledger.specs.Symbols.{symbol_of};
 ghost use Rattle.html_ledger.specs.Flags.{is_free};
 ghost use Rattle.html_construction.specs.Built.{Keeps, Takes};
@@ -8,6 +8,7 @@ ghost use Rattle.html_construction.specs.Weights.{weight, weight_of};
 ghost use Rattle.html_modes.specs.Fitting.{Fits, Calls};
 ghost use Rattle.html_modes.specs.Steps.{Steps, Falls, Grows};
 ghost use Rattle.html_modes.specs.declared.outcome.Outcome.TheVariants.{Done};
+ghost use Rattle.html_names.specs.Tags.{is_same};
 
 use crate::modes::body_start::body_rules;
 use crate::outcome::Outcome;
@@ -25,6 +26,7 @@ pub(crate) fn cell_start(
     tag: Tag,
 ) -> Result<(), Refusal>
     requires small { weight_of tag ≤ 4 }
+    requires named { is_same tag Tag.Image ≡ false }
     requires symbol { symbol_of token.now ≡ Symbol.Start tag }
     requires calls { Calls page.old }
     ensures fits { OnOk result (Fits page.new) }

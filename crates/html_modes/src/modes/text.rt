@@ -1,5 +1,5 @@
 // The mode text (13.2.6.4.8), and how the text of an element is read.
-ghost use Rattle.std.specs.Prelude.{◌≡◌, ◌<◌, ◌≤◌, [], IfOk, OnOk, IsTrue, length};
+ghost use Rattle.std.specs.Prelude.{◌≡◌, ◌<◌, ◌≤◌, [], IfOk, OnOk, IsTrue, length, false};
 ghost use Rattle.html_ledger.specs.Symbols.{symbol_of};
 ghost use Rattle.html_ledger.specs.Flags.{is_free};
 ghost use Rattle.html_construction.specs.Built.{Takes};
@@ -9,6 +9,7 @@ ghost use Rattle.html_modes.specs.Fitting.{Fits, Calls};
 ghost use Rattle.html_modes.specs.Steps.{Steps, Falls, Grows};
 ghost use Rattle.html_modes.specs.Switches.{switch_of};
 ghost use Rattle.html_modes.specs.declared.outcome.Outcome.TheVariants.{Done};
+ghost use Rattle.html_names.specs.Tags.{is_same};
 
 use crate::outcome::Outcome;
 use html_construction::{Construction, Mode, Refusal};
@@ -42,6 +43,7 @@ pub(crate) fn text_start(
     tag: Tag,
 ) -> Result<(), Refusal>
     requires small { weight_of tag ≤ 4 }
+    requires named { is_same tag Tag.Image ≡ false }
     requires symbol { symbol_of token.now ≡ Symbol.Start tag }
     requires calls { Calls page.old }
     ensures fits { OnOk result (Fits page.new) }
@@ -62,6 +64,7 @@ pub(crate) fn text_start_at(
     target: Target,
 ) -> Result<(), Refusal>
     requires small { weight_of tag ≤ 4 }
+    requires named { is_same tag Tag.Image ≡ false }
     requires symbol { symbol_of token.now ≡ Symbol.Start tag }
     requires calls { Calls page.old }
     ensures fits { OnOk result (Fits page.new) }

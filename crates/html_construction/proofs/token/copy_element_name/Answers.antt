@@ -1,9 +1,8 @@
-use Rattle.std.proofs.Common.{ℕ, ◌≡◌, ◌∙◌, List, Bool, true, sym, ap, if◌then◌else◌}
+use Rattle.std.proofs.Common.{◌∙◌, Bool, sym, ap, if◌then◌else◌}
 use Rattle.html_names.specs.declared.tag.Tag.TheVariants as tag
 use Rattle.html_names.specs.Names.{name_of}
-use Rattle.html_names.specs.Tags.{is_same}
 use Rattle.html_tree.proofs.Spelled.{chars-name}
-use Rattle.html_construction.specs.Tokens.{element_name, tag_name}
+use Rattle.html_construction.specs.Tokens.{tag_name}
 use Rattle.html_construction.proofs.Results.{if-ok}
 use Rattle.html_construction.proofs.token.copy_element_name.Goals as goal
 

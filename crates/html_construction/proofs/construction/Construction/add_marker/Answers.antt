@@ -1,8 +1,7 @@
-use Rattle.std.proofs.Common.{refl}
+use Rattle.std.proofs.Common.{refl, ap}
 use Rattle.html_construction.proofs.Kept.{kept, still}
 use Rattle.html_construction.proofs.Building.{as-was}
 use Rattle.html_tree.specs.States.{State as Tree}
-use Rattle.std.proofs.Common.{ap}
 use Rattle.html_construction.proofs.construction.Construction.add_marker.Goals as goal
 
 pub invariant_of-self : goal.invariant_of-self

@@ -1,8 +1,7 @@
-use Rattle.std.proofs.Common.{refl}
+use Rattle.std.proofs.Common.{refl, ap}
 use Rattle.html_construction.proofs.Kept.{closed, kept, lighter, stack-is}
 use Rattle.html_construction.proofs.Building.{as-was}
 use Rattle.html_tree.specs.States.{State as Tree}
-use Rattle.std.proofs.Common.{ap}
 use Rattle.html_construction.proofs.construction.Construction.close_group_in_scope.Goals as goal
 
 pub returns-clause-keeps : goal.returns-clause-keeps

@@ -1,7 +1,6 @@
-use Rattle.std.proofs.Common.{refl}
+use Rattle.std.proofs.Common.{refl, ap}
 use Rattle.html_construction.proofs.Kept.{implied, still}
 use Rattle.html_tree.specs.States.{State as Tree}
-use Rattle.std.proofs.Common.{ap}
 use Rattle.html_names.specs.declared.tag.Tag.TheVariants as tag
 use Rattle.html_tree.specs.Targets.{place_for}
 use Rattle.html_tree.specs.declared.groups.Target.TheVariants as target
@@ -11,4 +10,4 @@ pub invariant_of-self : goal.invariant_of-self
 invariant_of-self c = still _ _ c.self.inside.ledger c.self.inside.registers.templates.items c.insert_implied_root.ensures.tokens c.self.invariant
 
 pub returns-clause-keeps : goal.returns-clause-keeps
-returns-clause-keeps c = implied _ c.args.self.now _ (place_for c.self.inside.tree target.Document) tag.Html c.self.view_is refl c.in_ok-insert_implied_root.ensures.keeps (ap (λ (x : Tree). x.tree) c.in_ok-insert_implied_root.ensures.exact)
+returns-clause-keeps c = implied _ c.args.self.now _ (place_for c.self.inside.tree target.Document) tag.Html c.self.view_is refl c.in_ok-insert_implied_root.ensures.keeps (ap (λ (x : Tree). x.tree) c.in_ok-insert_implied_root.ensures.exact) refl

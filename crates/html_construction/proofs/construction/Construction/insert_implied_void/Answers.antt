@@ -1,11 +1,10 @@
-use Rattle.std.proofs.Common.{refl}
+use Rattle.std.proofs.Common.{refl, ap}
 use Rattle.html_construction.proofs.Kept.{implied, still}
 use Rattle.html_tree.specs.States.{State as Tree}
-use Rattle.std.proofs.Common.{ap}
 use Rattle.html_construction.proofs.construction.Construction.insert_implied_void.Goals as goal
 
 pub invariant_of-self : goal.invariant_of-self
 invariant_of-self c = still _ _ c.self.inside.ledger c.self.inside.registers.templates.items c.insert_implied_void.ensures.tokens c.self.invariant
 
 pub returns-clause-keeps : goal.returns-clause-keeps
-returns-clause-keeps c = implied _ c.args.self.now _ _ c.args.tag c.self.view_is refl c.in_ok-insert_implied_void.ensures.keeps (ap (λ (x : Tree). x.tree) c.in_ok-insert_implied_void.ensures.exact)
+returns-clause-keeps c = implied _ c.args.self.now _ _ c.args.tag c.self.view_is refl c.in_ok-insert_implied_void.ensures.keeps (ap (λ (x : Tree). x.tree) c.in_ok-insert_implied_void.ensures.exact) c.requires.alone

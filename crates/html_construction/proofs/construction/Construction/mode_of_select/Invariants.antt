@@ -1,7 +1,6 @@
 use Rattle.std.proofs.Common.{◌≡◌, ◌≤◌, length}
 use Rattle.html_construction.specs.Built.{Keeps}
 use Rattle.html_construction.specs.Grown.{Grown}
-use Rattle.html_construction.specs.States.{State}
 use Rattle.html_construction.proofs.construction.Construction.mode_of_select.Given as goal
 
 abbrev pub invariant-looking : goal.invariant-looking

@@ -1,8 +1,7 @@
-use Rattle.std.proofs.Common.{refl}
+use Rattle.std.proofs.Common.{refl, ap}
 use Rattle.html_construction.proofs.Kept.{implied}
 use Rattle.html_tree.specs.States.{State as Tree}
-use Rattle.std.proofs.Common.{ap}
 use Rattle.html_construction.proofs.construction.Construction.open_implied.Goals as goal
 
 pub returns-clause-keeps : goal.returns-clause-keeps
-returns-clause-keeps c = implied _ c.args.self.now _ _ c.args.tag c.self.view_is refl c.in_ok-node.ensures.keeps (ap (λ (x : Tree). x.tree) c.in_ok-node.ensures.exact)
+returns-clause-keeps c = implied _ c.args.self.now _ _ c.args.tag c.self.view_is refl c.in_ok-node.ensures.keeps (ap (λ (x : Tree). x.tree) c.in_ok-node.ensures.exact) c.requires.alone

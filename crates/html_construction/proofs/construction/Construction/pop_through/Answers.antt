@@ -1,9 +1,8 @@
 use Rattle.html_tree.specs.declared.groups.Group.TheVariants as group
-use Rattle.std.proofs.Common.{refl}
+use Rattle.std.proofs.Common.{refl, ap}
 use Rattle.html_construction.proofs.Kept.{closed, kept, lighter, stack-is}
 use Rattle.html_construction.proofs.Building.{as-was}
 use Rattle.html_tree.specs.States.{State as Tree}
-use Rattle.std.proofs.Common.{ap}
 use Rattle.html_construction.proofs.construction.Construction.pop_through.Goals as goal
 
 pub returns-clause-keeps : goal.returns-clause-keeps

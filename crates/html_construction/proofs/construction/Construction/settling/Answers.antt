@@ -1,4 +1,3 @@
-use Rattle.std.proofs.Common.{refl}
 use Rattle.html_construction.proofs.Kept.{all-settled, next-settled}
 use Rattle.html_construction.proofs.construction.Construction.settling.Goals as goal
 

@@ -69,5 +69,5 @@ returns-clause-seated c = λ h.
 pub returns-clause-clones : goal.returns-clause-clones
 returns-clause-clones c =
     on-if-ok c.adopt-end.result c.adopt-end.ensures.adopted
-    (λ end r. has-cloned c.self.inside.stack c.adopt-end.new.stack c.self.inside.list c.adopt-end.new.list c.self.inside.arena c.adopt-end.new.arena c.self.inside.tokens c.self.inside.head c.self.inside.form c.self.inside.detached c.adopt-end.ensures.made c.args.self.now c.self.view_is
+    (λ end r. has-cloned c.self.inside.stack c.adopt-end.new.stack c.self.inside.list c.adopt-end.new.list c.self.inside.arena c.adopt-end.new.arena c.self.inside.tokens c.self.inside.head c.self.inside.form c.self.inside.detached c.adopt-end.ensures.made c.args.self.now c.self.view_is c.self.invariant.0.is_open
     (adopted-limits c.args.name c.args.foster end (open_at c.self.inside.stack c.self.inside.list c.self.inside.arena) (open_at c.adopt-end.new.stack c.adopt-end.new.list c.adopt-end.new.arena) r))

@@ -67,5 +67,5 @@ returns-clause-seated c = reopened-seated c.args.self.now (state_of c.reopen-reo
 pub returns-clause-clones : goal.returns-clause-clones
 returns-clause-clones c =
     on-ok c.reopen-reopened.result c.reopen-reopened.ensures.reopened
-    (λ r. has-cloned c.self.inside.stack c.reopen-reopened.new.stack c.self.inside.list c.reopen-reopened.new.self c.self.inside.arena c.reopen-reopened.new.arena c.self.inside.tokens c.self.inside.head c.self.inside.form c.self.inside.detached c.reopen-reopened.ensures.made c.args.self.now c.self.view_is
+    (λ r. has-cloned c.self.inside.stack c.reopen-reopened.new.stack c.self.inside.list c.reopen-reopened.new.self c.self.inside.arena c.reopen-reopened.new.arena c.self.inside.tokens c.self.inside.head c.self.inside.form c.self.inside.detached c.reopen-reopened.ensures.made c.args.self.now c.self.view_is c.self.invariant.0.is_open
     (reopened-limits c.args.foster (open_at c.self.inside.stack c.self.inside.list c.self.inside.arena) (open_at c.reopen-reopened.new.stack c.reopen-reopened.new.self c.reopen-reopened.new.arena) r))
