@@ -6,5 +6,6 @@ pub mod Wording
 pub mod Originating
 pub mod Accounting
 pub mod Kept
+pub mod Refusing
 pub mod Results
 pub mod Weighing

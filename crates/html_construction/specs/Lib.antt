@@ -5,6 +5,7 @@ pub mod Origins
 pub mod Accounts
 pub mod Built
 pub mod Calls
+pub mod Causes
 pub mod Grown
 pub mod Modes
 pub mod Targets

@@ -1,9 +1,9 @@
 // The state of tree construction.
-ghost use Rattle.std.specs.Prelude.{◌≡◌, ℕ, ◌∷◌, [], IfOk, None, OnOk, Option, Some, true};
+ghost use Rattle.std.specs.Prelude.{◌≡◌, ◌⊎◌, ◌<◌, ℕ, ◌∷◌, [], IfErr, IfOk, None, OnOk, Option, Some, length, true};
 ghost use Rattle.html_arena.specs.declared.arena.Limits.{Limits};
 ghost use Rattle.html_ledger.specs.declared.setting.Setting.TheVariants.{Document, Fragment};
 ghost use Rattle.html_names.specs.declared.tag.Tag.TheVariants as tag;
-ghost use Rattle.html_tree.specs.States.{document_state, fragment_state};
+ghost use Rattle.html_tree.specs.States.{IsNamed, document_state, fragment_state};
 ghost use Rattle.html_arena.specs.Tree.{WellFormed};
 ghost use Rattle.html_open.specs.Marking.{bare};
 ghost use Rattle.html_ledger.specs.Errors.{AreErrors};
@@ -81,6 +81,8 @@ impl Construction {
         ensures stack { IfOk result (λ b. b.stack ≡ []) }
         ensures quiet { IfOk result (λ b. b.ledger.kept ≡ []) }
         ensures listed { IfOk result (λ b. b.tree.list ≡ []) }
+        ensures nodes { IfOk result (λ b. length b.tree.tree.labels ≡ 1) }
+        ensures cause { IfErr result (λ e. e ≡ Refusal.OutOfMemory) }
     {
         let tree = OpenTree::document(alloc)?;
         Ok(Construction::of_document(alloc, tree))
@@ -97,6 +99,8 @@ impl Construction {
         ensures stack { IfOk result (λ b. b.stack ≡ []) }
         ensures quiet { IfOk result (λ b. b.ledger.kept ≡ []) }
         ensures listed { IfOk result (λ b. b.tree.list ≡ []) }
+        ensures nodes { IfOk result (λ b. length b.tree.tree.labels ≡ 1) }
+        ensures cause { IfErr result (λ e. (e ≡ Refusal.OutOfMemory) ⊎ ((e ≡ Refusal.NodeBudget) × (limits.nodes < 1))) }
     {
         let tree = OpenTree::document_within(alloc, limits)?;
         Ok(Construction::of_document(alloc, tree))
@@ -118,6 +122,8 @@ impl Construction {
         ensures stack { IfOk result (λ b. b.stack ≡ tag.Html ∷ []) }
         ensures quiet { IfOk result (λ b. b.ledger.kept ≡ []) }
         ensures listed { IfOk result (λ b. b.tree.list ≡ []) }
+        ensures nodes { IfOk result (λ b. length b.tree.tree.labels ≡ 1) }
+        ensures cause { IfErr result (λ e. e ≡ Refusal.OutOfMemory) }
     {
         let tree = OpenTree::fragment(alloc)?;
         Construction::of_fragment(alloc, tree, context, in_form, quirks)
@@ -140,6 +146,8 @@ impl Construction {
         ensures stack { IfOk result (λ b. b.stack ≡ tag.Html ∷ []) }
         ensures quiet { IfOk result (λ b. b.ledger.kept ≡ []) }
         ensures listed { IfOk result (λ b. b.tree.list ≡ []) }
+        ensures nodes { IfOk result (λ b. length b.tree.tree.labels ≡ 1) }
+        ensures cause { IfErr result (λ e. (e ≡ Refusal.OutOfMemory) ⊎ (((e ≡ Refusal.NodeBudget) × (limits.nodes < 1)) ⊎ ((e ≡ Refusal.HeldBudget) × (limits.held < 4)))) }
     {
         let tree = OpenTree::fragment_within(alloc, limits)?;
         Construction::of_fragment(alloc, tree, context, in_form, quirks)
@@ -150,12 +158,14 @@ impl Construction {
         ensures nodes { bare result.0 ≡ self.tree.tree }
         ensures well_formed { WellFormed result.0 }
         ensures steps { result.0.steps ≡ self.tree.steps }
+        ensures body { IsNamed self.tree.tree tag.Body self.tree.detached }
         ensures fates { result.1 ≡ self.ledger.fates }
         ensures errors { result.2.items ≡ self.ledger.errors }
         ensures fated { (h : Handed) → self.ledger.kept ≡ [] → IsBuilt h self → Fated h.setting (symbols h.tokens) result.1 }
         ensures told { (h : Handed) → self.ledger.kept ≡ [] → IsBuilt h self → AreErrors h.setting (symbols h.tokens) result.1 result.2.items }
     {
         let Construction { tree, ledger, .. } = self;
+        tree.laws();
         let (fates, errors) = ledger.into_parts();
         (tree.into_arena(), fates, errors)
     }
@@ -168,6 +178,7 @@ impl Construction {
         ensures stack { result.stack ≡ [] }
         ensures quiet { result.ledger.kept ≡ [] }
         ensures listed { result.tree.list ≡ [] }
+        ensures nodes { length result.tree.tree.labels ≡ 1 }
     {
         Construction {
             tree,
@@ -190,6 +201,8 @@ impl Construction {
         ensures stack { IfOk result (λ b. b.stack ≡ tag.Html ∷ []) }
         ensures quiet { IfOk result (λ b. b.ledger.kept ≡ []) }
         ensures listed { IfOk result (λ b. b.tree.list ≡ []) }
+        ensures nodes { IfOk result (λ b. length b.tree.tree.labels ≡ 1) }
+        ensures cause { IfErr result (λ e. e ≡ Refusal.OutOfMemory) }
     {
         let outer_form = in_form || context.is(Tag::Form);
         let mut construction = Construction {
@@ -207,6 +220,7 @@ impl Construction {
         ensures keeps { OnOk result (Keeps self.old self.new) }
         ensures grown { OnOk result (Grown 0 0 0 self.old self.new) }
         ensures reset { OnOk result (is_reset self.new.mode ≡ true) }
+        ensures cause { IfErr result (λ e. e ≡ Refusal.OutOfMemory) }
     {
         if context.is_template() {
             self.push_template_mode(Mode::InTemplate)?;

@@ -10,4 +10,4 @@ mod token;
 
 pub use construction::Construction;
 pub use mode::Mode;
-pub use refusal::{Foreign, Refusal};
+pub use refusal::Refusal;

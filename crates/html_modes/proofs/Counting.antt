@@ -8,7 +8,7 @@ use Rattle.html_ledger.specs.Entries.{Entries, Fed}
 use Rattle.html_construction.specs.Built.{Handed, IsBuilt, symbols, with_tokens}
 use Rattle.html_construction.specs.States.{State}
 use Rattle.html_modes.specs.declared.outcome.Outcome.{Outcome}
-use Rattle.html_modes.specs.declared.outcome.Outcome.TheVariants.{Done, Reprocess}
+use Rattle.html_modes.specs.declared.outcome.Outcome.TheVariants.{Done, Reprocess, Foreign}
 use Rattle.html_modes.specs.Steps.{Grows, Settles}
 
 length-chars : (cs : List ℕ) → length (chars_of cs) ≡ length cs
@@ -50,5 +50,6 @@ kept-none h t a b v w k f =
 pub Settles-grows : (o : Outcome) (t : Symbol) (a b : State) → a.ledger.kept ≡ [] → Grows o a b → Settles o t a b
 Settles-grows Done t a b k g = λ n. (k, g.0)
 Settles-grows Reprocess t a b k g = tt
+Settles-grows (Foreign name) t a b k g = tt
 
 pub ruleset count_rules = (Settles-grows)

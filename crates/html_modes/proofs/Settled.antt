@@ -1,14 +1,20 @@
 -- States that fit, and the lemmas that the modes are proved with.
-use Rattle.std.proofs.Common.{ℕ, ◌+◌, ◌≡◌, ◌<◌, ◌≤◌, Bool, true, false, List, [], ◌∷◌, ◌*◌, length, refl, sym, subst, arith}
+use Rattle.std.proofs.Common.{ℕ, zero, suc, ◌+◌, ◌≡◌, ◌<◌, ◌≤◌, Bool, true, false, List, [], ◌∷◌, ◌*◌, length, refl, sym, subst, arith}
+use Rattle.std.specs.Prelude.{IfSome, Option, Some, None}
 use Rattle.html_names.specs.declared.tag.Tag.{Tag}
 use Rattle.html_construction.specs.declared.mode.Mode.{Mode}
 use Rattle.html_construction.specs.declared.mode.Mode.TheVariants as mode
 use Rattle.html_construction.specs.States.{State}
 use Rattle.html_modes.specs.Fitting.{is_loose, is_table_mode, ModeFits, Quiet, Fits, Calls}
 use Rattle.html_modes.specs.Guards.{is_table_text}
-use Rattle.html_modes.specs.Steps.{Steps, Falls, Grows, Spends, allowance}
+use Rattle.html_modes.specs.Ranks.{top_rank}
+use Rattle.html_modes.specs.Steps.{Steps, Falls, Grows, Pays, Spends, allowance, root_of}
+use Rattle.html_modes.specs.declared.outcome.Foreign.{Foreign as Root}
+use Rattle.html_modes.specs.declared.outcome.Foreign.TheVariants as root
+use Rattle.html_construction.specs.Weights.{weight}
+use Rattle.html_ledger.specs.declared.symbol.Symbol.TheVariants.{Char}
 use Rattle.html_modes.specs.declared.outcome.Outcome.{Outcome}
-use Rattle.html_modes.specs.declared.outcome.Outcome.TheVariants.{Done, Reprocess}
+use Rattle.html_modes.specs.declared.outcome.Outcome.TheVariants.{Done, Reprocess, Foreign}
 use Rattle.html_tokens.specs.declared.token.TokenKind.{TokenKind}
 use Rattle.html_ledger.specs.declared.symbol.Symbol.{Symbol}
 use Rattle.html_construction.specs.Built.{Keeps, with_tokens}
@@ -74,14 +80,17 @@ Calls-fostering s f h = record { loose = h.loose; opened = h.opened; quiet = h.q
 pub Falls-fostering : (o : Outcome) (t : Symbol) (a b : State) (x y : Bool) → Falls o t (record a { fostering = x }) b → Falls o t a (record b { fostering = y })
 Falls-fostering Done t a b x y h = h
 Falls-fostering Reprocess t a b x y h = h
+Falls-fostering (Foreign name) t a b x y h = h
 
 pub Grows-fostering : (o : Outcome) (a b : State) (x y : Bool) → Grows o (record a { fostering = x }) b → Grows o a (record b { fostering = y })
 Grows-fostering Done a b x y h = h
 Grows-fostering Reprocess a b x y h = h
+Grows-fostering (Foreign name) a b x y h = h
 
 pub Steps-kept : (o : Outcome) (t : TokenKind) (a b c d : State) → Keeps a b → Steps o t b c → Keeps c d → Steps o t a d
 Steps-kept Done t a b c d j s k = λ h w. k (with_tokens h (t ∷ [])) (s h (j h w))
 Steps-kept Reprocess t a b c d j s k = λ h w. k h (s h (j h w))
+Steps-kept (Foreign name) t a b c d j s k = s
 
 pub ruleset table_rules = (Fits-loose, Calls-loose, Fits-opened, Fits-table_text, rank-char_table, rank-start_table, rank-reset_table, loose-reset, loose-table, top_rank-reset, is_visible-space, small-is_section, named-is_section)
 
@@ -96,6 +105,7 @@ allowance-next t u e = rw e (grind arith)
 pub Spends-one : (o : Outcome) (a b : State) → Grows o a b → Spends 2 a b
 Spends-one Done a b g = omega (arith, allowance-next (length a.ledger.fates) (length b.ledger.fates) g.0, g.1.0)
 Spends-one Reprocess a b g = let e : length b.ledger.fates ≡ length a.ledger.fates = omega (arith, g.0) in rw e (omega (arith, g.1.0))
+Spends-one (Foreign name) a b g = let e : length b.ledger.fates ≡ length a.ledger.fates = omega (arith, g.0) in rw e (omega (arith, g.1.0))
 
 pub Spends-kept : (a b c : State) → Spends 0 a b → Grown 1 (length b.ledger.fates + 1) 0 b c → Spends 0 a c
 Spends-kept a b c v g = omega (arith, allowance-next (length b.ledger.fates) (length c.ledger.fates) g.0, g.1.0)
@@ -121,7 +131,21 @@ Fits-quiet s n f = Quiet-other s.mode s.ledger.kept n f.quiet
 -- steps one after another
 pub ruleset step_rules = (Fits-loose, Fits-opened, Fits-dropped, Fits-quiet, is-table_text, other-loose, top_rank-all, Spends-none, Spends-dropped)
 
-pub ruleset run_rules = (Fits-loose, Fits-opened, Fits-dropped, Fits-quiet, other-loose, other-runs, loose-runs, is-text, other-text, text-stack)
+-- no code point is the start tag of foreign content
+pub char-foreign : (c : ℕ) (f : Option Root) → IfSome f (λ name. Char c ≡ root_of name) → f ≡ None
+char-foreign c None h = refl
+char-foreign c (Some root.Svg) h = absurd (let k : Char c ≡ root_of root.Svg = h in cc)
+char-foreign c (Some root.Math) h = absurd (let k : Char c ≡ root_of root.Math = h in cc)
+
+-- a run of code points pays as one token, at least
+run-allowance : (t m : ℕ) → allowance t + (t + t + 36) ≤ allowance (t + (m + 1))
+run-allowance t m = grind arith
+
+pub Pays-run : (n : ℕ) (a b : State) → 0 < n → Grown n (length a.ledger.fates + 1) 0 a b → weight b.stack ≤ weight a.stack → top_rank b.mode ≤ top_rank a.mode → Pays a b
+Pays-run zero a b k g w r = absurd (omega (arith, k))
+Pays-run (suc m) a b k g w r = let q = run-allowance (length a.ledger.fates) m in rw g.0 (omega (arith, g.1.0, w, r, q))
+
+pub ruleset run_rules = (char-foreign, Pays-run, Fits-loose, Fits-opened, Fits-dropped, Fits-quiet, other-loose, other-runs, loose-runs, is-text, other-text, text-stack)
 
 pub ruleset rules_rules = (Spends-one, Settles-grows)
 

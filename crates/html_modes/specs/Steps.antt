@@ -2,29 +2,41 @@
 use Rattle.std.specs.Prelude.{ℕ, ◌+◌, ◌*◌, ◌≡◌, ◌<◌, ◌≤◌, Bool, true, false, [], length}
 use Rattle.html_tokens.specs.declared.token.TokenKind.{TokenKind}
 use Rattle.html_ledger.specs.declared.symbol.Symbol.{Symbol}
-use Rattle.html_ledger.specs.declared.symbol.Symbol.TheVariants.{Char}
+use Rattle.html_ledger.specs.declared.symbol.Symbol.TheVariants.{Char, Start}
+use Rattle.html_ledger.specs.Symbols.{symbol_of}
+use Rattle.html_names.specs.declared.tag.Tag.TheVariants as tag
 use Rattle.html_construction.specs.Built.{Keeps, Takes}
 use Rattle.html_construction.specs.Grown.{Grown}
 use Rattle.html_construction.specs.States.{State}
 use Rattle.html_construction.specs.Weights.{weight}
 use Rattle.html_modes.specs.Ranks.{rank, top_rank}
 use Rattle.html_modes.specs.declared.outcome.Outcome.{Outcome}
-use Rattle.html_modes.specs.declared.outcome.Outcome.TheVariants.{Done, Reprocess}
+use Rattle.html_modes.specs.declared.outcome.Outcome.TheVariants.{Done, Reprocess, Foreign}
+use Rattle.html_modes.specs.declared.outcome.Foreign.{Foreign as Root}
+use Rattle.html_modes.specs.declared.outcome.Foreign.TheVariants as root
 
--- the token was handed in, or is still in hand
+-- the start tag of the root of a kind of foreign content
+abbrev pub root_of : Root → Symbol
+root_of root.Svg = Start tag.Svg
+root_of root.Math = Start tag.Math
+
+-- the token was handed in, is still in hand, or is the start tag of foreign content
 abbrev pub Steps : Outcome → TokenKind → State → State → Type 0
 Steps Done t a b = Takes t a b
 Steps Reprocess t a b = Keeps a b
+Steps (Foreign name) t a b = symbol_of t ≡ root_of name
 
 -- what open elements and the mode count together falls, and rises by fifteen at most where the token is done with
 abbrev pub Falls : Outcome → Symbol → State → State → Type 0
 Falls Done t a b = weight b.stack + top_rank b.mode ≤ weight a.stack + 15
 Falls Reprocess t a b = weight b.stack + rank b.mode t < weight a.stack + rank a.mode t
+Falls (Foreign name) t a b = Unit {0}
 
--- A token makes at most the clones of two reopenings and of an adoption, and four nodes; an entry that ends with the token in hand makes two.
+-- A token makes at most the clones of two reopenings and of an adoption, and four nodes; any other entry makes two.
 abbrev pub Grows : Outcome → State → State → Type 0
 Grows Done a b = Grown 1 (length a.ledger.fates + length a.ledger.fates + 36) 1 a b
 Grows Reprocess a b = Grown 0 2 0 a b
+Grows (Foreign name) a b = Grown 0 2 0 a b
 
 -- the nodes that so many tokens may have made, apart from those of entries that end with the token in hand
 abbrev pub allowance : ℕ → ℕ
@@ -44,6 +56,7 @@ is_code_point _ = false
 abbrev pub Settles : Outcome → Symbol → State → State → Type 0
 Settles Done t a b = is_code_point t ≡ false → (a.ledger.kept ≡ []) × (length b.ledger.fates ≡ length a.ledger.fates + 1)
 Settles Reprocess t a b = Unit {0}
+Settles (Foreign name) t a b = Unit {0}
 
 -- One token makes what its allowance grants, and what the open elements and the mode then count is room for later entries.
 abbrev pub Pays : State → State → Type 0

@@ -28,9 +28,6 @@
 //! | 13.2.6.4.23 | after after frameset | `modes/frameset.rt` | `after_after_frameset` |
 #![tactic(auto)]
 
-mod builder;
-mod context;
-mod error;
 mod guards;
 mod modes;
 mod outcome;
@@ -38,7 +35,6 @@ mod process;
 mod quirks;
 mod runs;
 
-pub use builder::Builder;
-pub use context::Context;
-pub use error::BuildError;
-pub use html_construction::{Foreign, Mode};
+pub use outcome::Foreign;
+pub use process::take;
+pub use runs::take_front;

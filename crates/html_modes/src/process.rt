@@ -1,10 +1,10 @@
 // The entries of a token into the rules of the modes (13.2.6).
-ghost use Rattle.std.specs.Prelude.{◌≡◌, ◌≤◌, [], IfOk, OnOk, IsTrue, true, false};
+ghost use Rattle.std.specs.Prelude.{◌≡◌, ◌≤◌, [], IfOk, IfSome, None, OnOk, IsTrue, true, false};
 ghost use Rattle.html_ledger.specs.Symbols.{symbol_of};
 ghost use Rattle.html_ledger.specs.Flags.{is_free, may_select};
-ghost use Rattle.html_construction.specs.Built.{Handed, IsBuilt, Keeps, Takes};
+ghost use Rattle.html_construction.specs.Built.{Keeps, Takes};
 ghost use Rattle.html_modes.specs.Fitting.{Fits};
-ghost use Rattle.html_modes.specs.Steps.{Falls, Pays, Settles, Spends, Steps, is_code_point};
+ghost use Rattle.html_modes.specs.Steps.{Falls, Pays, Settles, Spends, Steps, root_of};
 ghost use Rattle.html_modes.specs.Ranks.{top_rank};
 ghost use Rattle.html_modes.specs.Guards.{is_droppable, is_of_frames, is_of_selects, is_table_text};
 
@@ -22,24 +22,30 @@ use crate::modes::table_rows::{in_row, in_table_body};
 use crate::modes::table_text::in_table_text;
 use crate::modes::template::in_template;
 use crate::modes::text::text;
-use crate::outcome::Outcome;
+use crate::outcome::{Foreign, Outcome};
 use html_construction::{Construction, Mode, Refusal};
 use html_ledger::Symbol;
 use html_tokens::TokenKind;
 
-/// Takes a token through all its entries.
+/// Takes the next token through all its entries into the rules of the modes, and answers none; or answers which foreign content the token begins,
+/// where it is a start tag that no rule takes. `symbol` is the token as the rules tell tokens apart.
+///
+/// # Errors
+///
+/// `NodeBudget` and `HeldBudget` where a limit leaves no room for the next node or code point; `OutOfMemory`. Part of the rules may have been
+/// followed then.
 #[tactic(auto, using(crate::proofs::Settled::take_rules))]
-pub(crate) fn take(
+pub fn take(
     page: &mut Construction,
     token: &TokenKind,
     symbol: Symbol,
-) -> Result<(), Refusal>
+) -> Result<Option<Foreign>, Refusal>
     requires symbol { symbol_of token.now ≡ symbol }
     requires fits { Fits page.old }
     ensures fits { OnOk result (Fits page.new) }
-    ensures takes { OnOk result (Takes token.now page.old page.new) }
-    ensures pays { OnOk result (Pays page.old page.new) }
-    ensures quiet { OnOk result (is_code_point symbol ≡ false → (h : Handed) → IsBuilt h page.old → page.new.ledger.kept ≡ []) }
+    ensures takes { IfOk result (λ f. f ≡ None → Takes token.now page.old page.new) }
+    ensures foreign { IfOk result (λ f. IfSome f (λ name. symbol ≡ root_of name)) }
+    ensures pays { IfOk result (λ f. f ≡ None → Pays page.old page.new) }
 {
     page.begin_call();
     'steps: loop {
@@ -47,9 +53,10 @@ pub(crate) fn take(
         match step(page, token, symbol)? {
             Outcome::Done => {
                 settle(page);
-                return Ok(());
+                return Ok(None);
             }
             Outcome::Reprocess => {}
+            Outcome::Foreign(name) => return Ok(Some(name)),
         }
     }
 }

@@ -5,6 +5,7 @@ ghost use Rattle.html_ledger.specs.Flags.{is_not_null, may_text_run};
 ghost use Rattle.html_construction.specs.Built.{Takes, TakesRun};
 ghost use Rattle.html_modes.specs.Fitting.{Fits, is_loose};
 ghost use Rattle.html_modes.specs.Guards.{is_text, takes_runs};
+ghost use Rattle.html_modes.specs.Steps.{Pays};
 
 use crate::guards::{is_text, takes_run};
 use crate::modes::body_start::body_run;
@@ -13,13 +14,19 @@ use html_construction::{Construction, Refusal};
 use html_ledger::Symbol;
 use html_tokens::TokenKind;
 
-/// Takes a front of a text that isn't empty, and answers its length: a run where the mode takes one, else one code point.
-pub(crate) fn take_front(page: &mut Construction, text: &[char]) -> Result<usize, Refusal>
+/// Takes a front of a text that isn't empty, a code point a token, and answers its length: a run where the mode takes one, else one code
+/// point. Of a run the longest front is taken that the limit on held code points takes.
+///
+/// # Errors
+///
+/// Those of `take` for the first code point.
+pub fn take_front(page: &mut Construction, text: &[char]) -> Result<usize, Refusal>
     requires fits { Fits page.old }
     requires some { 0 < length text.now }
     ensures fits { OnOk result (Fits page.new) }
     ensures takes { IfOk result (λ n. TakesRun (take n text.now) page.old page.new) }
     ensures count { IfOk result (λ n. (0 < n) × (n ≤ length text.now)) }
+    ensures pays { OnOk result (Pays page.old page.new) }
 {
     if takes_run(page, text[0]) {
         let end = null_index(text);
@@ -30,14 +37,16 @@ pub(crate) fn take_front(page: &mut Construction, text: &[char]) -> Result<usize
     Ok(1)
 }
 
-/// Takes one code point.
+/// Takes one code point. (None is the start tag of foreign content.)
+#[tactic(auto, using(crate::proofs::Settled::run_rules))]
 fn take_char(page: &mut Construction, c: char) -> Result<(), Refusal>
     requires fits { Fits page.old }
     ensures fits { OnOk result (Fits page.new) }
     ensures takes { OnOk result (Takes (TokenKind.Char c) page.old page.new) }
+    ensures pays { OnOk result (Pays page.old page.new) }
 {
     let token = TokenKind::Char(c);
-    take(page, &token, Symbol::Char(c))?;
+    let _ = take(page, &token, Symbol::Char(c))?;
     Ok(())
 }
 
@@ -51,6 +60,7 @@ fn take_run(page: &mut Construction, run: &[char]) -> Result<usize, Refusal>
     ensures fits { OnOk result (Fits page.new) }
     ensures takes { IfOk result (λ n. TakesRun (take n run.now) page.old page.new) }
     ensures count { IfOk result (λ n. (0 < n) × (n ≤ length run.now)) }
+    ensures pays { OnOk result (Pays page.old page.new) }
 {
     if is_text(page.mode()) {
         let count = take_text_run(page, run)?;
@@ -70,6 +80,7 @@ fn take_text_run(page: &mut Construction, run: &[char]) -> Result<usize, Refusal
     ensures fits { OnOk result (Fits page.new) }
     ensures takes { IfOk result (λ n. TakesRun (take n run.now) page.old page.new) }
     ensures count { IfOk result (λ n. (0 < n) × (n ≤ length run.now)) }
+    ensures pays { OnOk result (Pays page.old page.new) }
 {
     page.begin_call();
     let count = page.insert_run(run)?;
@@ -87,6 +98,7 @@ fn take_body_run(page: &mut Construction, run: &[char]) -> Result<usize, Refusal
     ensures fits { OnOk result (Fits page.new) }
     ensures takes { IfOk result (λ n. TakesRun (take n run.now) page.old page.new) }
     ensures count { IfOk result (λ n. (0 < n) × (n ≤ length run.now)) }
+    ensures pays { OnOk result (Pays page.old page.new) }
 {
     page.begin_call();
     let count = body_run(page, run)?;

@@ -1,5 +1,5 @@
 // The registers of tree construction (13.2.4). Each call changes the one register of its name, and neither the tree nor the ledger.
-ghost use Rattle.std.specs.Prelude.{◌≡◌, ◌∷◌, [], ◌++◌, OnErr, OnOk, false, is_some, true};
+ghost use Rattle.std.specs.Prelude.{IfErr, ◌≡◌, ◌∷◌, [], ◌++◌, OnErr, OnOk, false, is_some, true};
 ghost use Rattle.html_construction.specs.Built.{Keeps};
 ghost use Rattle.html_construction.specs.Modes.{is_reset};
 ghost use Rattle.html_tree.specs.declared.groups.Target.TheVariants.{Current};
@@ -114,6 +114,7 @@ impl Construction {
         ensures rest { OnOk result (self.new ≡ record self.old { templates = self.old.templates ++ mode ∷ [] }) }
         ensures keeps { OnOk result (Keeps self.old self.new) }
         ensures refused { OnErr result (self.new ≡ self.old) }
+        ensures cause { IfErr result (λ e. e ≡ Refusal.OutOfMemory) }
     {
         self.registers
             .templates

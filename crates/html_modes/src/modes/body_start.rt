@@ -17,9 +17,9 @@ use crate::modes::head::head_start;
 use crate::modes::initial::doctype;
 use crate::modes::template::template_eof;
 use crate::modes::text::text_start;
-use crate::outcome::Outcome;
+use crate::outcome::{Foreign, Outcome};
 use crate::quirks::is_same;
-use html_construction::{Construction, Foreign, Mode, Refusal};
+use html_construction::{Construction, Mode, Refusal};
 use html_ledger::{Cause, Symbol, is_space};
 use html_names::{Scope, Tag};
 use html_tokens::{Attr, TokenKind};
@@ -82,7 +82,10 @@ pub(crate) fn body_rules(
         Symbol::Comment => page.insert_comment(token)?,
         // A DOCTYPE token: ignore the token.
         Symbol::Doctype => doctype(page, token)?,
-        // A start tag.
+        // A start tag whose tag name is "math", or "svg": foreign content is refused.
+        Symbol::Start(Tag::Math) => return Ok(Outcome::Foreign(Foreign::Math)),
+        Symbol::Start(Tag::Svg) => return Ok(Outcome::Foreign(Foreign::Svg)),
+        // Any other start tag.
         Symbol::Start(tag) => body_start(page, token, tag)?,
         // An end tag.
         Symbol::End(tag) => body_end(page, token, tag)?,
@@ -251,7 +254,7 @@ fn phrase_start(page: &mut Construction, token: &TokenKind, tag: Tag) -> Result<
     }
 }
 
-/// A start tag: elements of text alone, selects, what is refused or ignored, and all others.
+/// A start tag: elements of text alone, selects, what is ignored, and all others.
 #[tactic(auto, using(crate::proofs::Settled::body_rules))]
 fn other_start(page: &mut Construction, token: &TokenKind, tag: Tag) -> Result<(), Refusal>
     requires small { weight_of tag ≤ 4 }
@@ -277,9 +280,6 @@ fn other_start(page: &mut Construction, token: &TokenKind, tag: Tag) -> Result<(
         // A start tag whose tag name is one of: "optgroup", "option".
         Tag::Optgroup => option_start(page, token, Tag::Optgroup),
         Tag::Option => option_start(page, token, Tag::Option),
-        // A start tag whose tag name is "svg", or "math": foreign content is refused.
-        Tag::Svg => Err(Refusal::Foreign(Foreign::Svg)),
-        Tag::Math => Err(Refusal::Foreign(Foreign::Math)),
         // A start tag whose tag name is one of: "caption", "col", "colgroup", "frame", "head", "tbody", "td",
         // "tfoot", "th", "thead", "tr": ignore the token.
         _ if tag.is_placed() => page.drop_token(token, Symbol::Start(tag), Cause::Misplaced),

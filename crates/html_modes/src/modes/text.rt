@@ -1,5 +1,5 @@
-// The mode text (13.2.6.4.8), and how the text of an element is read.
-ghost use Rattle.std.specs.Prelude.{◌≡◌, ◌<◌, ◌≤◌, [], IfOk, OnOk, IsTrue, length, false};
+// The mode text (13.2.6.4.8).
+ghost use Rattle.std.specs.Prelude.{◌≡◌, ◌<◌, ◌≤◌, [], IfOk, OnOk, IsTrue, false, length};
 ghost use Rattle.html_ledger.specs.Symbols.{symbol_of};
 ghost use Rattle.html_ledger.specs.Flags.{is_free};
 ghost use Rattle.html_construction.specs.Built.{Takes};
@@ -7,7 +7,6 @@ ghost use Rattle.html_construction.specs.Grown.{Grown};
 ghost use Rattle.html_construction.specs.Weights.{weight_of};
 ghost use Rattle.html_modes.specs.Fitting.{Fits, Calls};
 ghost use Rattle.html_modes.specs.Steps.{Steps, Falls, Grows};
-ghost use Rattle.html_modes.specs.Switches.{switch_of};
 ghost use Rattle.html_modes.specs.declared.outcome.Outcome.TheVariants.{Done};
 ghost use Rattle.html_names.specs.Tags.{is_same};
 
@@ -15,25 +14,8 @@ use crate::outcome::Outcome;
 use html_construction::{Construction, Mode, Refusal};
 use html_ledger::{Cause, Symbol};
 use html_names::Tag;
-use html_tokens::{TextMode, TokenKind};
+use html_tokens::TokenKind;
 use html_tree::Target;
-
-/// How the text of an element is read, where it is not read as data.
-pub(crate) fn text_mode_of(tag: Tag) -> Option<TextMode>
-    ensures value { result ≡ switch_of tag }
-{
-    if tag.is_rcdata() {
-        Some(TextMode::Rcdata)
-    } else if tag.is_rawtext() {
-        Some(TextMode::Rawtext)
-    } else if tag.is(Tag::Script) {
-        Some(TextMode::Script)
-    } else if tag.is(Tag::Plaintext) {
-        Some(TextMode::Plaintext)
-    } else {
-        None
-    }
-}
 
 /// A start tag of an element that holds text alone.
 #[tactic(auto, using(crate::proofs::Settled::head_rules))]

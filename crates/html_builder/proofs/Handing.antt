@@ -1,0 +1,221 @@
+-- The tokens handed in, after each call.
+use Rattle.std.proofs.lemmas.Bool.{false≢true}
+use Rattle.std.proofs.Common.{ℕ, zero, suc, true, false, ◌≡◌, ◌+◌, ◌*◌, ◌<◌, ◌≤◌, List, [], ◌∷◌, ◌++◌, length, take, refl, sym, ap, subst, ◌∙◌, arith, length-append}
+use Rattle.std.specs.Prelude.{Option, Some, None}
+use Rattle.std.proofs.lemmas.List.{append_assoc, append-nil}
+use Rattle.html_names.specs.declared.tag.Tag.{Tag}
+use Rattle.html_names.specs.declared.tag.Tag.TheVariants as tag
+use Rattle.html_names.specs.Names.{tag_of}
+use Rattle.html_arena.specs.declared.arena.Limits.{Limits}
+use Rattle.html_tokens.specs.declared.token.TextMode.{TextMode}
+use Rattle.html_tokens.specs.declared.token.TokenKind.{TokenKind}
+use Rattle.html_tokens.specs.declared.token.TokenKind.TheVariants as kind
+use Rattle.html_ledger.specs.declared.setting.Setting.{Setting}
+use Rattle.html_ledger.specs.declared.symbol.Symbol.{Symbol}
+use Rattle.html_ledger.specs.declared.symbol.Symbol.TheVariants.{Start, End, Char, Comment, Doctype, Eof}
+use Rattle.html_ledger.specs.declared.fate.Fate.{Fate}
+use Rattle.html_ledger.specs.declared.fate.Fate.TheVariants as fate
+use Rattle.html_ledger.specs.Symbols.{symbol_of, chars_of as symbol_chars}
+use Rattle.html_ledger.specs.Entries.{Fed}
+use Rattle.html_ledger.specs.Runs.{last_of}
+use Rattle.html_construction.specs.Built.{BeginsWith, Handed as Given, IsBuilt, Takes, TakesRun, chars_of, ends_made, nothing_of, some_made, symbols, with_tokens}
+use Rattle.html_construction.specs.States.{State}
+use Rattle.html_construction.specs.Weights.{weight}
+use Rattle.html_construction.specs.declared.refusal.Refusal.{Refusal}
+use Rattle.html_construction.specs.declared.refusal.Refusal.TheVariants as refusal
+use Rattle.html_modes.specs.Ranks.{top_rank}
+use Rattle.html_modes.specs.Steps.{Pays, allowance, root_of}
+use Rattle.html_modes.specs.declared.outcome.Foreign.{Foreign}
+use Rattle.html_modes.specs.declared.outcome.Foreign.TheVariants as foreign
+use Rattle.html_builder.specs.Builders.{BuilderState}
+use Rattle.html_builder.specs.Errors.{error_at}
+use Rattle.html_builder.specs.Handed.{AddsFates, Handed, HandsIn, IsBuildCause, IsTextCause, Starts, fates_of, foreign_tag, given}
+use Rattle.html_builder.specs.Switches.{said_after, switch_after}
+use Rattle.html_builder.specs.declared.error.BuildError.{BuildError}
+use Rattle.html_builder.specs.declared.error.BuildError.TheVariants as error
+use Rattle.html_builder.proofs.Endings.{handed-count, have-fates}
+
+with-given : (s : Setting) (l : Option Limits) (ts us : List TokenKind) → with_tokens (given s l ts) us ≡ given s l (ts ++ us)
+unfolding with_tokens
+with-given s l ts us = refl
+
+-- the same, where it is known which fates there are
+abbrev pub knowing : Given → List Fate → Given
+knowing h fs = record h { known = fs }
+
+with-known : (h : Given) (fs : List Fate) (ts : List TokenKind) → (with_tokens (knowing h fs) ts).known ≡ fs
+unfolding with_tokens
+with-known h fs ts = refl
+
+-- what is built of tokens was built with the fates that there are
+pub built-knowing : (h : Given) (a : State) → IsBuilt h a → IsBuilt (knowing h a.ledger.fates) a
+built-knowing h a w = record { fed = w.fed; known = ([], sym (append-nil a.ledger.fates)); rooted = w.rooted; limits = w.limits; root = w.root; origins = w.origins; made = w.made; texts = w.texts }
+
+-- so many tokens, handed in at once
+handed-in : (us : List TokenKind) (v w : BuilderState) → ((h : Given) → IsBuilt h v.page → IsBuilt (with_tokens h us) w.page) → Pays v.page w.page → 0 < length us → w.stopped ≡ false → HandsIn us v w
+handed-in us v w f p k g = λ s l ts h.
+    let n : length (ts ++ us) ≡ length ts + length us = length-append ts us in record {
+      going = g;
+      built = subst (λ x. IsBuilt x w.page) (with-given s l ts us) (f (given s l ts) h.built);
+      paid = omega (arith, p, h.paid, n, k);
+    }
+
+pub handed-token : (t : TokenKind) (v w : BuilderState) → Takes t v.page w.page → Pays v.page w.page → w.stopped ≡ false → HandsIn (t ∷ []) v w
+handed-token t v w f p g = handed-in (t ∷ []) v w f p (omega arith) g
+
+length-chars : (cs : List ℕ) → length (chars_of cs) ≡ length cs
+length-chars [] = refl
+length-chars (c ∷ cs) = ap suc (length-chars cs)
+
+pub handed-run : (cs : List ℕ) (v w : BuilderState) → TakesRun cs v.page w.page → Pays v.page w.page → 0 < length cs → w.stopped ≡ false → HandsIn (chars_of cs) v w
+handed-run cs v w f p k g = handed-in (chars_of cs) v w f p (let e = length-chars cs in omega (arith, e, k)) g
+
+-- fates are only added
+added : (us : List TokenKind) (v w : BuilderState) → ((h : Given) → IsBuilt h v.page → IsBuilt (with_tokens h us) w.page) → AddsFates v w
+added us v w f = λ s l ts h.
+    let b = f (knowing (given s l ts) (fates_of v)) (built-knowing (given s l ts) v.page h.built) in
+    subst (λ fs. BeginsWith fs (fates_of w)) (with-known (given s l ts) (fates_of v) us) b.known
+
+pub added-token : (t : TokenKind) (v w : BuilderState) → Takes t v.page w.page → AddsFates v w
+added-token t v w f = added (t ∷ []) v w f
+
+pub added-run : (cs : List ℕ) (v w : BuilderState) → TakesRun cs v.page w.page → AddsFates v w
+added-run cs v w f = added (chars_of cs) v w f
+
+-- ONE AFTER ANOTHER
+
+pub handed-none : (v : BuilderState) → HandsIn (chars_of []) v v
+handed-none v = λ s l ts h. subst (λ us. Handed s l us v) (sym (append-nil ts)) h
+
+chars-append : (xs ys : List ℕ) → chars_of (xs ++ ys) ≡ chars_of xs ++ chars_of ys
+chars-append [] ys = refl
+chars-append (x ∷ xs) ys = ap (λ ts. kind.Char x ∷ ts) (chars-append xs ys)
+
+pub handed-then : (xs ys : List ℕ) (u v w : BuilderState) → HandsIn (chars_of xs) u v → HandsIn (chars_of ys) v w → HandsIn (chars_of (xs ++ ys)) u w
+handed-then xs ys u v w f g = λ s l ts h.
+    subst (λ us. Handed s l us w) (append_assoc ts (chars_of xs) (chars_of ys) ∙ ap (λ us. ts ++ us) (sym (chars-append xs ys)))
+    (g s l (ts ++ chars_of xs) (f s l ts h))
+
+pub added-none : (v : BuilderState) → AddsFates v v
+added-none v = λ s l ts h. ([], sym (append-nil (fates_of v)))
+
+pub added-then : (xs : List ℕ) (u v w : BuilderState) → HandsIn (chars_of xs) u v → AddsFates u v → AddsFates v w → AddsFates u w
+added-then xs u v w f g k = λ s l ts h.
+    let p = g s l ts h in
+    let q = k s l (ts ++ chars_of xs) (f s l ts h) in
+    (p.0 ++ q.0, q.1 ∙ ap (λ fs. fs ++ q.0) p.1 ∙ append_assoc (fates_of u) p.0 q.0)
+
+-- THE BEGINNING
+
+length-none : (fs : List Fate) → length fs ≡ 0 → fs ≡ []
+length-none [] e = refl
+length-none (f ∷ fs) e = absurd (omega (arith, e))
+
+pub none-fated : (s : Setting) (l : Option Limits) (a : State) → IsBuilt (nothing_of s l) a → a.ledger.fates ≡ []
+none-fated s l a w = let c = handed-count (nothing_of s l) a w in length-none a.ledger.fates (omega (arith, c))
+
+pub begun : (s : Setting) (l : Option Limits) (b : BuilderState) → b.stopped ≡ false → IsBuilt (nothing_of s l) b.page → length b.page.tree.tree.labels + 2 * (weight b.page.stack + top_rank b.page.mode) ≤ 40 → Handed s l [] b
+begun s l b g w p = record { going = g; built = w; paid = omega (arith, p) }
+
+-- WHAT IS SAID AND REFUSED
+
+said-one : (t : TokenKind) (o : Option Fate) → said_after (symbol_of t) (some_made o) ≡ switch_after t o
+said-one (kind.Start n a c) None = refl
+said-one (kind.Start n a c) (Some (fate.Made d)) = refl
+said-one (kind.Start n a c) (Some fate.Merged) = refl
+said-one (kind.Start n a c) (Some (fate.Text d)) = refl
+said-one (kind.Start n a c) (Some (fate.Dropped d)) = refl
+said-one (kind.Start n a c) (Some fate.Ended) = refl
+said-one (kind.End n) None = refl
+said-one (kind.End n) (Some f) = refl
+said-one (kind.Char c) None = refl
+said-one (kind.Char c) (Some f) = refl
+said-one (kind.Comment c) None = refl
+said-one (kind.Comment c) (Some f) = refl
+said-one (kind.Doctype n p i q) None = refl
+said-one (kind.Doctype n p i q) (Some f) = refl
+said-one kind.Eof None = refl
+said-one kind.Eof (Some f) = refl
+
+pub said-by : (t : TokenKind) (y : Symbol) (m : Option TextMode) (fs : List Fate) → symbol_of t ≡ y → m ≡ said_after y (ends_made fs) → m ≡ switch_after t (last_of fs)
+said-by t y m fs e p = p ∙ ap (λ z. said_after z (ends_made fs)) (sym e) ∙ said-one t (last_of fs)
+
+abbrev tag_or : Symbol → Tag
+tag_or (Start t) = t
+tag_or _ = tag.Other
+
+starts-foreign : (t : TokenKind) (name : Foreign) → symbol_of t ≡ root_of name → Starts (foreign_tag name) t
+starts-foreign (kind.Start n a c) foreign.Svg e = ap tag_or e
+starts-foreign (kind.Start n a c) foreign.Math e = ap tag_or e
+starts-foreign (kind.End n) foreign.Svg e = absurd (let k : End (tag_of n) ≡ Start tag.Svg = e in cc)
+starts-foreign (kind.End n) foreign.Math e = absurd (let k : End (tag_of n) ≡ Start tag.Math = e in cc)
+starts-foreign (kind.Char c) foreign.Svg e = absurd (let k : Char c ≡ Start tag.Svg = e in cc)
+starts-foreign (kind.Char c) foreign.Math e = absurd (let k : Char c ≡ Start tag.Math = e in cc)
+starts-foreign (kind.Comment c) foreign.Svg e = absurd (let k : Comment ≡ Start tag.Svg = e in cc)
+starts-foreign (kind.Comment c) foreign.Math e = absurd (let k : Comment ≡ Start tag.Math = e in cc)
+starts-foreign (kind.Doctype n p i q) foreign.Svg e = absurd (let k : Doctype ≡ Start tag.Svg = e in cc)
+starts-foreign (kind.Doctype n p i q) foreign.Math e = absurd (let k : Doctype ≡ Start tag.Math = e in cc)
+starts-foreign kind.Eof foreign.Svg e = absurd (let k : Eof ≡ Start tag.Svg = e in cc)
+starts-foreign kind.Eof foreign.Math e = absurd (let k : Eof ≡ Start tag.Math = e in cc)
+
+pub cause-foreign : (s : Setting) (l : Option Limits) (ts : List TokenKind) (v : BuilderState) (t : TokenKind) (at : ℕ) (name : Foreign) → Handed s l ts v → symbol_of t ≡ root_of name
+    → IsBuildCause s l ts (fates_of v) t at (error.ForeignContent name at)
+cause-foreign s l ts v t at name h e = (refl, starts-foreign t name e, have-fates s l ts v h)
+
+pub cause-at : (s : Setting) (l : Option Limits) (ts : List TokenKind) (fs : List Fate) (t : TokenKind) (at : ℕ) (r : Refusal) → IsBuildCause s l ts fs t at (error_at r at)
+cause-at s l ts fs t at refusal.OutOfMemory = tt
+cause-at s l ts fs t at refusal.NodeBudget = refl
+cause-at s l ts fs t at refusal.HeldBudget = refl
+
+pub text-cause-at : (s : Setting) (l : Option Limits) (ts : List TokenKind) (fs : List Fate) (text : List ℕ) (start at : ℕ) (r : Refusal) → start ≤ at → at < start + length text → IsTextCause s l ts fs text start (error_at r at)
+text-cause-at s l ts fs text start at refusal.OutOfMemory p q = tt
+text-cause-at s l ts fs text start at refusal.NodeBudget p q = (p, q)
+text-cause-at s l ts fs text start at refusal.HeldBudget p q = (p, q)
+
+-- a part of the text
+pub text-cause-part : (s : Setting) (l : Option Limits) (ts us : List TokenKind) (fs gs : List Fate) (text part : List ℕ) (start at : ℕ) (e : BuildError) → start ≤ at → at + length part ≤ start + length text
+    → IsTextCause s l us gs part at e → IsTextCause s l ts fs text start e
+text-cause-part s l ts us fs gs text part start at error.OutOfMemory p q c = tt
+text-cause-part s l ts us fs gs text part start at (error.ForeignContent name place) p q c = c
+text-cause-part s l ts us fs gs text part start at error.BadContext p q c = c
+text-cause-part s l ts us fs gs text part start at error.Stopped p q c = c
+text-cause-part s l ts us fs gs text part start at (error.NodeBudget place) p q c = let a = c.0 in let b = c.1 in (omega (arith, p, a), omega (arith, q, b))
+text-cause-part s l ts us fs gs text part start at (error.HeldBudget place) p q c = let a = c.0 in let b = c.1 in (omega (arith, p, a), omega (arith, q, b))
+
+-- the same, where the state is seen as a view
+pub viewed-token : (t : TokenKind) (u v w : BuilderState) → u ≡ v → Takes t u.page w.page → Pays u.page w.page → w.stopped ≡ false → HandsIn (t ∷ []) v w
+viewed-token t u v w e f p g = subst (λ x. HandsIn (t ∷ []) x w) e (handed-token t u w f p g)
+
+pub viewed-run : (cs : List ℕ) (u v w : BuilderState) → u ≡ v → TakesRun cs u.page w.page → Pays u.page w.page → 0 < length cs → w.stopped ≡ false → HandsIn (chars_of cs) v w
+viewed-run cs u v w e f p k g = subst (λ x. HandsIn (chars_of cs) x w) e (handed-run cs u w f p k g)
+
+pub viewed-added : (cs : List ℕ) (u v w : BuilderState) → u ≡ v → TakesRun cs u.page w.page → AddsFates v w
+viewed-added cs u v w e f = subst (λ x. AddsFates x w) e (added-run cs u w f)
+
+pub viewed-grown : (t : TokenKind) (u v w : BuilderState) → u ≡ v → Takes t u.page w.page → AddsFates v w
+viewed-grown t u v w e f = subst (λ x. AddsFates x w) e (added-token t u w f)
+
+-- a builder that was stopped was not handed tokens alone
+pub going-not : (s : Setting) (l : Option Limits) (ts : List TokenKind) (u v : BuilderState) → u ≡ v → u.stopped ≡ true → Handed s l ts v → ⊥
+going-not s l ts u v e p h = false≢true (sym h.going ∙ ap (λ (x : BuilderState). x.stopped) (sym e) ∙ p)
+
+pub take-some : (n : ℕ) (xs : List ℕ) → 0 < n → 0 < length xs → 0 < length (take n xs)
+take-some zero xs p q = absurd (omega (arith, p))
+take-some (suc n) [] p q = absurd (omega (arith, q))
+take-some (suc n) (x ∷ xs) p q = omega arith
+
+pub take-one : (xs : List ℕ) → length (take 1 xs) ≤ 1
+take-one [] = omega arith
+take-one (x ∷ xs) = omega arith
+
+-- no refusal is told as stopped
+pub not-stopped : (r : Refusal) (at : ℕ) → error_at r at ≡ error.Stopped → ⊥
+not-stopped refusal.OutOfMemory at e = absurd (let k = e in cc)
+not-stopped refusal.NodeBudget at e = absurd (let k = e in cc)
+not-stopped refusal.HeldBudget at e = absurd (let k = e in cc)
+
+pub ruleset begin_rules = (begun, none-fated)
+
+pub ruleset process_rules = (handed-token, added-token, said-by, cause-foreign, cause-at, not-stopped)
+
+pub ruleset text_rules = (handed-run, added-run, text-cause-at, not-stopped)

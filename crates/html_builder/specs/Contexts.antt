@@ -1,0 +1,51 @@
+-- The context of a fragment, and which names it may have (13.4).
+use Rattle.std.specs.Prelude.{ℕ, ◌≡◌, ◌==◌, ◌<◌, Bool, true, false, not, ◌||◌, ◌&&◌, nat_lt, List, [], ◌∷◌}
+use Rattle.std.specs.List.{list_all}
+use Rattle.html_names.specs.declared.tag.Tag.{Tag}
+use Rattle.html_names.specs.declared.tag.Tag.TheVariants as tag
+use Rattle.html_names.specs.Names.{tag_of}
+use Rattle.html_tokens.specs.declared.token.TextMode.{TextMode}
+use Rattle.html_ledger.specs.declared.setting.Setting.{Setting}
+use Rattle.html_ledger.specs.declared.setting.Setting.TheVariants.{Fragment}
+use Rattle.html_builder.specs.Switches.{text_mode_in}
+use Rattle.html_builder.specs.declared.context.Context.{Context}
+
+-- a letter in lower case
+abbrev pub is_lower : ℕ → Bool
+is_lower c = not (nat_lt c 97) && not (nat_lt 122 c)
+
+-- what ends the name of a tag, and what is replaced in it: U+0000 and letters in upper case (13.2.5.8)
+abbrev pub ends_name : ℕ → Bool
+ends_name c = c == 9 || (c == 10 || (c == 12 || (c == 32 || (c == 47 || (c == 62 || (c == 0 || (not (nat_lt c 65) && not (nat_lt 90 c))))))))
+
+abbrev pub stays_in_name : ℕ → Bool
+stays_in_name c = not (ends_name c)
+
+abbrev pub begins_name : List ℕ → Bool
+begins_name [] = false
+begins_name (c ∷ cs) = is_lower c
+
+-- the name of some start tag: a letter, and then nothing that ends it
+abbrev pub is_tag_name : List ℕ → Bool
+is_tag_name name = begins_name name && list_all stays_in_name name
+
+abbrev pub is_foreign : Tag → Bool
+is_foreign tag.Svg = true
+is_foreign tag.Math = true
+is_foreign _ = false
+
+-- a name that a start tag can have, and not that of foreign content
+abbrev pub is_good : List ℕ → Bool
+is_good name = is_tag_name name && not (is_foreign (tag_of name))
+
+-- a start tag can have its name, and it is no root of foreign content
+abbrev pub IsGood : Context → Type 0
+IsGood c = is_good c.name ≡ true
+
+-- what the ledger is to know of it
+abbrev pub setting_of : Context → Setting
+setting_of c = Fragment (tag_of c.name) c.in_form
+
+-- how the text of a fragment in it is read
+abbrev pub text_mode_of : Context → TextMode
+text_mode_of c = text_mode_in (tag_of c.name)

@@ -1,0 +1,102 @@
+-- What callers know of a builder: what it was begun with, the tokens handed in, and what became of them.
+use Rattle.std.specs.Prelude.{◌≡◌, ℕ, ◌+◌, ◌*◌, ◌<◌, ◌≤◌, Bool, false, List, [], ◌∷◌, ◌++◌, length, Option, Some, None}
+use Rattle.std.specs.List.{sum_by}
+use Rattle.html_names.specs.declared.tag.Tag.{Tag}
+use Rattle.html_names.specs.declared.tag.Tag.TheVariants as tag
+use Rattle.html_names.specs.Names.{tag_of}
+use Rattle.html_arena.specs.declared.arena.Limits.{Limits}
+use Rattle.html_tokens.specs.declared.token.TokenKind.{TokenKind}
+use Rattle.html_tokens.specs.declared.token.TokenKind.TheVariants as kind
+use Rattle.html_tokens.specs.Cost.{own_len}
+use Rattle.html_ledger.specs.declared.setting.Setting.{Setting}
+use Rattle.html_ledger.specs.declared.fate.Fate.{Fate}
+use Rattle.html_ledger.specs.Fated.{Fated}
+use Rattle.html_construction.specs.Built.{Handed as Given, IsBuilt, chars_of, symbols}
+use Rattle.html_construction.specs.Weights.{weight}
+use Rattle.html_modes.specs.declared.outcome.Foreign.{Foreign}
+use Rattle.html_modes.specs.declared.outcome.Foreign.TheVariants.{Svg, Math}
+use Rattle.html_modes.specs.Ranks.{top_rank}
+use Rattle.html_modes.specs.Steps.{allowance}
+use Rattle.html_builder.specs.Builders.{BuilderState}
+use Rattle.html_builder.specs.declared.error.BuildError.{BuildError}
+use Rattle.html_builder.specs.declared.error.BuildError.TheVariants as refusal
+
+-- the fates given so far: one for each token, but for the last code points where they are kept
+abbrev pub fates_of : BuilderState → List Fate
+fates_of b = b.page.ledger.fates
+
+-- a call was refused
+abbrev pub is_stopped : BuilderState → Bool
+is_stopped b = b.stopped
+
+-- what was handed in
+abbrev pub given : Setting → Option Limits → List TokenKind → Given
+given s limits tokens = record { setting = s; limits = limits; tokens = tokens; known = [] }
+
+-- It was begun in this setting, within these limits, it was handed these tokens and refused none, and what it holds was built of them: its nodes, and
+-- those for which the open elements and the mode are room, are no more than so many tokens grant.
+pub record Handed (s : Setting) (limits : Option Limits) (tokens : List TokenKind) (b : BuilderState) : Type 0 where
+  pub going : b.stopped ≡ false
+  pub built : IsBuilt (given s limits tokens) b.page
+  pub paid : length b.page.tree.tree.labels + 2 * (weight b.page.stack + top_rank b.page.mode) ≤ 40 + 32 * length tokens + allowance (length b.page.ledger.fates)
+
+-- These tokens were handed in.
+abbrev pub HandsIn : List TokenKind → BuilderState → BuilderState → Type 0
+HandsIn more a b = (s : Setting) (limits : Option Limits) (tokens : List TokenKind) → Handed s limits tokens a → Handed s limits (tokens ++ more) b
+
+-- Fates are only added.
+abbrev pub AddsFates : BuilderState → BuilderState → Type 0
+AddsFates a b = (s : Setting) (limits : Option Limits) (tokens : List TokenKind) → Handed s limits tokens a → (later : List Fate) × (fates_of b ≡ fates_of a ++ later)
+
+-- The first of the tokens have these fates, which they may have; those that have none yet are code points.
+pub record HaveFates (s : Setting) (tokens : List TokenKind) (fates : List Fate) : Type 0 where
+  pub front : List TokenKind
+  pub kept : List ℕ
+  pub tokens_are : tokens ≡ front ++ chars_of kept
+  pub fated : Fated s (symbols front) fates
+
+-- the last of them is the end of the page
+abbrev pub EndsAtEof : List TokenKind → Type 0
+EndsAtEof tokens = (front : List TokenKind) × (tokens ≡ front ++ kind.Eof ∷ [])
+
+-- WHY A TOKEN IS REFUSED
+
+abbrev pub foreign_tag : Foreign → Tag
+foreign_tag Svg = tag.Svg
+foreign_tag Math = tag.Math
+
+-- a start tag of this name
+abbrev pub Starts : Tag → TokenKind → Type 0
+Starts t (kind.Start name attrs self_closing) = tag_of name ≡ t
+Starts t _ = ⊥
+
+-- The call for a token at this place was refused: for a start tag of foreign content, after tokens with the fates given so far; for a limit; or for
+-- want of memory, of which nothing can be said.
+abbrev pub IsBuildCause : Setting → Option Limits → List TokenKind → List Fate → TokenKind → ℕ → BuildError → Type 0
+IsBuildCause s limits tokens fates token at refusal.OutOfMemory = Unit {0}
+IsBuildCause s limits tokens fates token at (refusal.ForeignContent name place) =
+    (place ≡ at) × Starts (foreign_tag name) token × HaveFates s tokens fates
+IsBuildCause s limits tokens fates token at (refusal.NodeBudget place) = place ≡ at
+IsBuildCause s limits tokens fates token at (refusal.HeldBudget place) = place ≡ at
+IsBuildCause s limits tokens fates token at refusal.BadContext = ⊥
+IsBuildCause s limits tokens fates token at refusal.Stopped = ⊥
+
+-- The call for code points of which the first stands at a place was refused: for a limit, at the place of one of them; or for want of memory.
+abbrev pub IsTextCause : Setting → Option Limits → List TokenKind → List Fate → List ℕ → ℕ → BuildError → Type 0
+IsTextCause s limits tokens fates text start refusal.OutOfMemory = Unit {0}
+IsTextCause s limits tokens fates text start (refusal.NodeBudget place) = (start ≤ place) × (place < start + length text)
+IsTextCause s limits tokens fates text start (refusal.HeldBudget place) = (start ≤ place) × (place < start + length text)
+IsTextCause s limits tokens fates text start (refusal.ForeignContent name place) = ⊥
+IsTextCause s limits tokens fates text start refusal.BadContext = ⊥
+IsTextCause s limits tokens fates text start refusal.Stopped = ⊥
+
+-- HOW LARGE IT IS
+
+-- the code points that tokens hold together
+abbrev pub own_total : List TokenKind → ℕ
+own_total tokens = sum_by own_len tokens
+
+-- Tokens that a text of n code points can have: at most one more than code points, and together they hold no more.
+pub record CostAtMost (n : ℕ) (tokens : List TokenKind) : Type 0 where
+  pub count : length tokens ≤ n + 1
+  pub own : own_total tokens ≤ n

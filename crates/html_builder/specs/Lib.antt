@@ -1,0 +1,6 @@
+pub mod Builders
+pub mod Contexts
+pub mod Errors
+pub mod Handed
+pub mod Outcome
+pub mod Switches

@@ -1,0 +1,49 @@
+-- What tree construction makes of the tokens of a page: its tree against the tokens and their fates (13.2.6).
+use Rattle.std.specs.Prelude.{◌≡◌, ◌≢◌, ℕ, ◌+◌, ◌*◌, ◌<◌, ◌≤◌, ◌⊎◌, true, List, length, Option, Some, None}
+use Rattle.html_names.specs.declared.tag.Tag.TheVariants as tag
+use Rattle.html_arena.specs.Tree.{Tree, WellFormed, host_at, label_of, named, parent_of}
+use Rattle.html_tokens.specs.declared.token.TokenKind.{TokenKind}
+use Rattle.html_ledger.specs.declared.setting.Setting.{Setting}
+use Rattle.html_ledger.specs.declared.fate.Fate.{Fate}
+use Rattle.html_ledger.specs.Errors.{AreErrors}
+use Rattle.html_ledger.specs.Fated.{Fated}
+use Rattle.html_construction.specs.Accounts.{AreMade, AreTexts}
+use Rattle.html_construction.specs.Built.{symbols}
+use Rattle.html_construction.specs.Origins.{AreOrigins, IsRootLabel}
+
+-- WHICH NODES HAVE NO PARENT
+
+-- The first node is the root, and is no contents of a template. Besides, only the contents of templates have no parent, and at most one body: that which a frameset took the
+-- place of (13.2.6.4.7, the start tag frameset).
+pub record IsRooted (t : Tree) : Type 0 where
+  pub some_node : 0 < length t.labels
+  pub root : parent_of t 0 ≡ None
+  pub no_host : host_at t 0 ≡ None
+  pub alone : (x : ℕ) → x < length t.labels → parent_of t x ≡ None
+      → (x ≡ 0) ⊎ (((h : ℕ) × (host_at t x ≡ Some h)) ⊎ (named t tag.Body x ≡ true))
+  pub one : (x y : ℕ) → x < length t.labels → y < length t.labels → parent_of t x ≡ None → parent_of t y ≡ None
+      → x ≢ 0 → y ≢ 0 → host_at t x ≡ None → host_at t y ≡ None → x ≡ y
+
+-- HOW LARGE IT IS
+
+-- the most nodes of tree construction for a page of n code points
+abbrev pub most_nodes : ℕ → ℕ
+most_nodes n = 2 * ((n + 32) * (n + 32))
+
+-- Of tokens that hold no more than n code points, and are one more at most, no more is made than this.
+pub record IsBounded (n : ℕ) (t : Tree) : Type 0 where
+  pub nodes : length t.labels ≤ most_nodes n
+
+-- ALL OF IT
+
+-- The tree, the fates and the numbers of tokens with an error that were built of these tokens, the end of the page last: each node has what its token
+-- has, each token of which a node was made is that node's, and each text is of the code points with its fate.
+pub record IsOutcome (s : Setting) (tokens : List TokenKind) (fates : List Fate) (errors : List ℕ) (t : Tree) : Type 0 where
+  pub well_formed : WellFormed t
+  pub rooted : IsRooted t
+  pub root : IsRootLabel s (label_of t 0)
+  pub fated : Fated s (symbols tokens) fates
+  pub origins : AreOrigins tokens fates t.labels
+  pub made : AreMade fates t.labels
+  pub texts : AreTexts (symbols tokens) fates t.labels
+  pub told : AreErrors s (symbols tokens) fates errors

@@ -1,0 +1,258 @@
+// Tree construction, token by token.
+ghost use Rattle.std.specs.Prelude.{◌≡◌, ◌↔◌, ◌⊎◌, ◌<◌, ◌≤◌, ℕ, ◌∷◌, [], IfOk, IfErr, OnOk, OnErr, Err, List, None, Option, Some, length, take, true, false};
+ghost use Rattle.html_arena.specs.declared.arena.Limits.{Limits};
+ghost use Rattle.html_construction.specs.Built.{chars_of};
+ghost use Rattle.html_ledger.specs.Runs.{last_of};
+ghost use Rattle.html_ledger.specs.declared.setting.Setting.{Setting};
+ghost use Rattle.html_ledger.specs.declared.setting.Setting.TheVariants.{Document};
+ghost use Rattle.html_tokens.specs.declared.token.TokenKind.{TokenKind};
+ghost use Rattle.html_builder.specs.Contexts.{IsGood, setting_of};
+ghost use Rattle.html_builder.specs.Handed.{AddsFates, CostAtMost, EndsAtEof, Handed, HandsIn, HaveFates, IsBuildCause, IsTextCause, fates_of, is_stopped};
+ghost use Rattle.html_builder.specs.Outcome.{IsBounded, IsOutcome};
+ghost use Rattle.html_builder.specs.Switches.{switch_after};
+
+use crate::context::Context;
+use crate::error::BuildError;
+use crate::switches::text_mode_after;
+use html_arena::{Arena, Limits};
+use html_construction::{Construction, Mode};
+use html_ledger::{Fates, Symbol};
+use html_modes::{take, take_front};
+use html_tokens::{TextMode, Token};
+use std::alloc::Global;
+use std::marker::Model;
+
+/// Tree construction under way: it takes the tokens of a page one by one, and hands out the tree and what became of each token.
+#[derive(Drop)]
+pub struct Builder {
+    construction: Construction,
+    stopped: bool,
+}
+
+impl Model for Builder {
+    ghost use Rattle.std.specs.Prelude.{◌≡◌, false};
+    ghost use Rattle.html_builder.specs.Builders.{BuilderState};
+    ghost use Rattle.html_modes.specs.Fitting.{Fits};
+
+    ghost Value = { BuilderState };
+
+    ghost view = { λ b. record { page = b.construction; stopped = b.stopped } };
+
+    ghost invariant = { λ b. b.stopped ≡ false → Fits b.construction };
+}
+
+impl Builder {
+    /// Begins a document.
+    ///
+    /// # Errors
+    ///
+    /// `OutOfMemory`.
+    #[tactic(auto, using(crate::proofs::Handing::begin_rules))]
+    pub fn document(alloc: Global) -> Result<Builder, BuildError>
+        ensures begun { IfOk result (λ b. Handed Document None [] b) }
+        ensures fates { IfOk result (λ b. fates_of b ≡ []) }
+        ensures fresh { IfOk result (λ b. is_stopped b ≡ false) }
+        ensures cause { IfErr result (λ e. e ≡ BuildError.OutOfMemory) }
+    {
+        let construction = Construction::document(alloc)?;
+        Ok(Builder {
+            construction,
+            stopped: false,
+        })
+    }
+
+    /// Begins a document whose tree keeps to limits.
+    ///
+    /// # Errors
+    ///
+    /// `NodeBudget` at 0 where not even the document is within them; `OutOfMemory`.
+    #[tactic(auto, using(crate::proofs::Handing::begin_rules))]
+    pub fn document_within(alloc: Global, limits: Limits) -> Result<Builder, BuildError>
+        ensures begun { IfOk result (λ b. Handed Document (Some limits) [] b) }
+        ensures fates { IfOk result (λ b. fates_of b ≡ []) }
+        ensures fresh { IfOk result (λ b. is_stopped b ≡ false) }
+        ensures cause { IfErr result (λ e. (e ≡ BuildError.OutOfMemory) ⊎ ((e ≡ BuildError.NodeBudget 0) × (limits.nodes < 1))) }
+    {
+        let construction = Construction::document_within(alloc, limits)?;
+        Ok(Builder {
+            construction,
+            stopped: false,
+        })
+    }
+
+    /// Begins a fragment in a context.
+    ///
+    /// # Errors
+    ///
+    /// `BadContext` where no start tag can have the name of the context, or the name is `svg` or `math`; `OutOfMemory`.
+    #[tactic(auto, using(crate::proofs::Handing::begin_rules))]
+    pub fn fragment(alloc: Global, context: &Context) -> Result<Builder, BuildError>
+        ensures begun { IfOk result (λ b. Handed (setting_of context.now) None [] b) }
+        ensures fates { IfOk result (λ b. fates_of b ≡ []) }
+        ensures fresh { IfOk result (λ b. is_stopped b ≡ false) }
+        ensures good { OnOk result (IsGood context.now) }
+        ensures cause { IfErr result (λ e. (e ≡ BuildError.OutOfMemory) ⊎ ((e ≡ BuildError.BadContext) × (IsGood context.now → ⊥))) }
+    {
+        if !context.is_good() {
+            return Err(BuildError::BadContext);
+        }
+        let construction = Construction::fragment(
+            alloc,
+            context.tag(),
+            context.in_form,
+            context.quirks,
+        )?;
+        Ok(Builder {
+            construction,
+            stopped: false,
+        })
+    }
+
+    /// Begins a fragment in a context, whose tree keeps to limits.
+    ///
+    /// # Errors
+    ///
+    /// `BadContext` as in `fragment`, before all else; `NodeBudget` and `HeldBudget` at 0 where not even the root is within the limits;
+    /// `OutOfMemory`.
+    #[tactic(auto, using(crate::proofs::Handing::begin_rules))]
+    pub fn fragment_within(
+        alloc: Global,
+        context: &Context,
+        limits: Limits,
+    ) -> Result<Builder, BuildError>
+        ensures begun { IfOk result (λ b. Handed (setting_of context.now) (Some limits) [] b) }
+        ensures fates { IfOk result (λ b. fates_of b ≡ []) }
+        ensures fresh { IfOk result (λ b. is_stopped b ≡ false) }
+        ensures good { OnOk result (IsGood context.now) }
+        ensures cause { IfErr result (λ e. (e ≡ BuildError.OutOfMemory) ⊎ ((e ≡ BuildError.BadContext) × (IsGood context.now → ⊥))
+            ⊎ ((e ≡ BuildError.NodeBudget 0) × (limits.nodes < 1)) ⊎ ((e ≡ BuildError.HeldBudget 0) × (limits.held < 4))) }
+    {
+        if !context.is_good() {
+            return Err(BuildError::BadContext);
+        }
+        let construction = Construction::fragment_within(
+            alloc,
+            context.tag(),
+            context.in_form,
+            context.quirks,
+            limits,
+        )?;
+        Ok(Builder {
+            construction,
+            stopped: false,
+        })
+    }
+
+    /// The insertion mode.
+    pub fn mode(&self) -> Mode
+        ensures value { result ≡ self.now.page.mode }
+    {
+        self.construction.mode()
+    }
+
+    /// Takes the next token, and answers how the text after it is read, where it is a start tag that changes that.
+    ///
+    /// # Errors
+    ///
+    /// `ForeignContent` for a start tag `svg` or `math` that the rules of the body meet, `NodeBudget` and `HeldBudget` where the next node or
+    /// code point would pass a limit, each with the start of the token; `OutOfMemory`. After a refusal every call answers `Stopped`.
+    #[tactic(auto, using(crate::proofs::Handing::process_rules))]
+    pub fn process(&mut self, token: &Token) -> Result<Option<TextMode>, BuildError>
+        ensures takes { OnOk result (HandsIn (token.now.kind ∷ []) self.old self.new) }
+        ensures grows { OnOk result (AddsFates self.old self.new) }
+        ensures switch { IfOk result (λ m. m ≡ switch_after token.now.kind (last_of (fates_of self.new))) }
+        ensures cause { IfErr result (λ e. (s : Setting) (l : Option Limits) (tokens : List TokenKind) → Handed s l tokens self.old
+            → IsBuildCause s l tokens (fates_of self.old) token.now.kind token.now.span.start e) }
+        ensures ok { OnOk result (is_stopped self.new ≡ false) }
+        ensures err { OnErr result (is_stopped self.new ≡ true) }
+        ensures stopped { (result ≡ Err BuildError.Stopped) ↔ (is_stopped self.old ≡ true) }
+    {
+        if self.stopped {
+            return Err(BuildError::Stopped);
+        }
+        let symbol = Symbol::of(&token.kind);
+        self.stopped = true;
+        match take(&mut self.construction, &token.kind, symbol) {
+            Ok(None) => {
+                self.stopped = false;
+                Ok(text_mode_after(symbol, self.construction.last_made()))
+            }
+            Ok(Some(name)) => Err(BuildError::ForeignContent {
+                name,
+                at: token.span.start,
+            }),
+            Err(refusal) => Err(BuildError::at(refusal, token.span.start)),
+        }
+    }
+
+    /// Takes the next tokens, a code point each: the same as so many calls of `process`, and all at once where the mode allows. `start` is the
+    /// place of the first; each other stands at the next place.
+    ///
+    /// # Errors
+    ///
+    /// Those of `process`, with the place of the code point that was refused; those before it were taken.
+    pub fn process_text(&mut self, text: &[char], start: u64) -> Result<(), BuildError>
+        ensures takes { OnOk result (HandsIn (chars_of text.now) self.old self.new) }
+        ensures grows { OnOk result (AddsFates self.old self.new) }
+        ensures cause { IfErr result (λ e. (s : Setting) (l : Option Limits) (tokens : List TokenKind) → Handed s l tokens self.old
+            → IsTextCause s l tokens (fates_of self.old) text.now start e) }
+        ensures ok { OnOk result (is_stopped self.new ≡ is_stopped self.old) }
+        ensures err { OnErr result (is_stopped self.new ≡ true) }
+        ensures stopped { (result ≡ Err BuildError.Stopped) ↔ ((is_stopped self.old ≡ true) × (0 < length text.now)) }
+    {
+        let mut taken = 0;
+        'taking: while taken < text.len() {
+            let at = start.saturating_add(taken as u64);
+            let count = self.process_front(&text[taken..], at)?;
+            taken += count;
+        }
+        Ok(())
+    }
+
+    /// Takes a front of a text that isn't empty, and answers its length: at least one.
+    #[tactic(auto, using(crate::proofs::Handing::text_rules))]
+    fn process_front(&mut self, text: &[char], at: u64) -> Result<usize, BuildError>
+        requires some { 0 < length text.now }
+        ensures takes { IfOk result (λ n. HandsIn (chars_of (take n text.now)) self.old self.new) }
+        ensures grows { OnOk result (AddsFates self.old self.new) }
+        ensures count { IfOk result (λ n. (0 < n) × (n ≤ length text.now)) }
+        ensures cause { IfErr result (λ e. (s : Setting) (l : Option Limits) (tokens : List TokenKind) → Handed s l tokens self.old
+            → IsTextCause s l tokens (fates_of self.old) (take 1 text.now) at e) }
+        ensures ready { OnOk result (is_stopped self.old ≡ false) }
+        ensures ok { OnOk result (is_stopped self.new ≡ false) }
+        ensures err { OnErr result (is_stopped self.new ≡ true) }
+        ensures stopped { (result ≡ Err BuildError.Stopped) ↔ (is_stopped self.old ≡ true) }
+    {
+        if self.stopped {
+            return Err(BuildError::Stopped);
+        }
+        self.stopped = true;
+        match take_front(&mut self.construction, text) {
+            Ok(count) => {
+                self.stopped = false;
+                Ok(count)
+            }
+            Err(refusal) => Err(BuildError::at(refusal, at)),
+        }
+    }
+
+    /// A law: the tokens that have no fate yet are code points, and the last ones.
+    #[tactic(auto, using(crate::proofs::Endings::count_rules))]
+    pub fn counted(&self)
+        ensures counted { (s : Setting) (l : Option Limits) (tokens : List TokenKind) → Handed s l tokens self.now → HaveFates s tokens (fates_of self.now) }
+    {
+        let _ = self.stopped;
+    }
+
+    /// The tree, the fate of each token, and the rising numbers of the tokens with an error. The end of the page was processed before.
+    #[tactic(auto, using(crate::proofs::Endings::finish_rules))]
+    pub fn finish(self) -> (Arena, Fates, Vec<u64>)
+        ensures fates { result.1 ≡ fates_of self }
+        ensures steps { result.0.steps ≡ self.page.tree.steps }
+        ensures outcome { (s : Setting) (l : Option Limits) (tokens : List TokenKind) → Handed s l tokens self → EndsAtEof tokens
+            → IsOutcome s tokens result.1 result.2.items result.0 }
+        ensures bounds { (s : Setting) (l : Option Limits) (tokens : List TokenKind) → Handed s l tokens self → (n : ℕ) → CostAtMost n tokens → IsBounded n result.0 }
+    {
+        self.construction.into_parts()
+    }
+}

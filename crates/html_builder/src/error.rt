@@ -1,0 +1,53 @@
+// Why a call was refused.
+
+use html_construction::Refusal;
+use html_modes::Foreign;
+use thiserror::Error;
+
+/// Why a call was refused. `at` is the start of the token handed in, and 0 before the first.
+#[derive(Clone, Copy, Debug, PartialEq, Eq, Error)]
+pub enum BuildError {
+    #[error("out of memory")]
+    OutOfMemory,
+    /// A start tag of foreign content, which no rule here takes.
+    #[error("foreign content at {at}")]
+    ForeignContent { name: Foreign, at: u64 },
+    /// The name of the context is no name that a start tag can have, or a foreign one.
+    #[error("bad context")]
+    BadContext,
+    /// An earlier token was refused.
+    #[error("stopped")]
+    Stopped,
+    #[error("the next node would pass the limit on nodes, at {at}")]
+    NodeBudget { at: u64 },
+    #[error("the next code points would pass the limit on held code points, at {at}")]
+    HeldBudget { at: u64 },
+}
+
+impl BuildError {
+    ghost use Rattle.std.specs.Prelude.{◌≡◌};
+    ghost use Rattle.html_builder.specs.Errors.{error_at};
+
+    /// The error of a token that begins at a place.
+    pub(crate) fn at(refusal: Refusal, at: u64) -> BuildError
+        ensures value { result ≡ error_at refusal at }
+    {
+        match refusal {
+            Refusal::OutOfMemory => BuildError::OutOfMemory,
+            Refusal::NodeBudget => BuildError::NodeBudget { at },
+            Refusal::HeldBudget => BuildError::HeldBudget { at },
+        }
+    }
+}
+
+/// A beginning stands at 0.
+impl From<Refusal> for BuildError {
+    ghost use Rattle.std.specs.Prelude.{◌≡◌};
+    ghost use Rattle.html_builder.specs.Errors.{error_at};
+
+    ghost from_gives = { λ r e. e ≡ error_at r 0 };
+
+    fn from(refusal: Refusal) -> BuildError {
+        BuildError::at(refusal, 0)
+    }
+}
