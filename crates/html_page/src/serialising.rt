@@ -241,3 +241,34 @@ pub fn serialise<W: Sink>(page: &Page, profile: Profile, writer: &mut W) -> Resu
         Err(_) => Err(ParseError::Write),
     }
 }
+
+/// Writes the trees below a root, as text in UTF-8. It takes no memory, and goes through the nodes by their links.
+///
+/// # Errors
+///
+/// The writer failed, or took no bytes. A front of the text was written then.
+pub fn serialise_tree<W: Sink>(
+    arena: &Arena,
+    root: NodeId,
+    profile: Profile,
+    writer: &mut W,
+) -> Result<(), DeviceFault>
+    requires root { IsRoot arena.now root }
+
+    // All of the text was written.
+    ensures ok { OnOk result (Appends (W.taken writer.old) (W.taken writer.new) (encode_utf8_all (html_below profile arena.now root))) }
+
+    // A front of it was written.
+    ensures err { OnErr result (AppendsFront (W.taken writer.old) (W.taken writer.new) (encode_utf8_all (html_below profile arena.now root))) }
+
+    // It is the writer that failed, or took no bytes.
+    ensures fault { OnErr result ((W.failed writer.new ≡ true) ⊎ (W.stalled writer.new ≡ true)) }
+
+    // The text is that of the one forest that stands below the root, and no longer than this.
+    ensures shows { Shows arena.now (kids Show.All arena.now root) (forest_below arena.now root) }
+    ensures only { (f : Forest Label) → Shows arena.now (kids Show.All arena.now root) f → f ≡ forest_below arena.now root }
+    ensures size { HasNames arena.now → length (html_below profile arena.now root) ≤ most_written arena.now }
+{
+    law_of(arena, root, profile);
+    write_below(writer, profile, arena, root)
+}

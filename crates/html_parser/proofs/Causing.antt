@@ -1,0 +1,104 @@
+-- Why tree construction refused, as said of the text.
+use Rattle.std.proofs.Common.{ℕ, suc, ◌+◌, ◌-◌, ◌<◌, ◌≤◌, ◌≡◌, ◌∙◌, arith, Bool, List, [], ◌∷◌, ◌++◌, length, take, replicate, None, refl, sym, ap, ap₂, subst, append_assoc}
+use Rattle.html_tokens.specs.Given.{Fed}
+use Rattle.html_tokens.specs.Input.{MayFollow}
+use Rattle.html_tokens.specs.Runs.{gave_all, plain_tokens}
+use Rattle.html_tokens.specs.Stream.{Run, gave, tokens_of}
+use Rattle.html_tokens.specs.declared.token.Token.{Token}
+use Rattle.html_tokens.specs.declared.tokenizer.Tokenizer.{Tokenizer}
+use Rattle.html_builder.specs.Handed.{HaveFates, IsBuildCause, IsTextCause, fates_of}
+use Rattle.html_builder.specs.Switches.{switches_by}
+use Rattle.html_builder.specs.declared.error.BuildError.{BuildError}
+use Rattle.html_builder.specs.declared.error.BuildError.TheVariants as build
+use Rattle.html_construction.specs.Built.{chars_of}
+use Rattle.html_parser.specs.Causes.{IsTokenAt, IsTokenCause, build_cause}
+use Rattle.html_parser.specs.Kinds.{kinds}
+use Rattle.html_parser.specs.Staged.{IsRun}
+use Rattle.html_parser.specs.Start.{Start}
+use Rattle.html_parser.specs.declared.stages.Stages.{Stages}
+use Rattle.html_parser.proofs.Ends.{kinds-append}
+use Rattle.html_parser.proofs.Openings.{one_listed}
+use Rattle.html_parser.proofs.Switching.{kept-more, says-kept, switches-length}
+use Rattle.html_parser.proofs.Taken.{kinds-plain}
+use Rattle.html_parser.proofs.Unsaid.{char-token, plain-split, text_listed}
+
+kinds-length : (ts : List Token) → length (kinds ts) ≡ length ts
+kinds-length [] = refl
+kinds-length (t ∷ ts) = ap suc (kinds-length ts)
+
+-- something is said after each token that was given
+pub said_each : (start : Start) (finished : Bool) (p : Stages) (bytes : List ℕ) (run : Run) → IsRun start finished p bytes run → length run.switches ≡ length run.given
+said_each start finished p bytes run r =
+    ap length r.switched ∙ switches-length (kinds run.given) (fates_of p.builder) ∙ kinds-length run.given
+
+-- a token that was given, and then refused
+one-at : (start : Start) (finished : Bool) (p : Stages) (bytes : List ℕ) (run : Run) (t : Tokenizer) (token : Token) (at : ℕ) → IsRun start finished p bytes run
+    → HaveFates start.setting (kinds run.given) (fates_of p.builder) → Fed t (gave run token None) → token.span.start ≡ at → IsTokenAt start finished run.text at
+one-at start finished p bytes run t token at r h f e = record {
+  before = run.given;
+  fates = fates_of p.builder;
+  token = token;
+  fated = h;
+  listed = λ more switches follow.
+      let l = one_listed t run token f more switches (subst (λ b. MayFollow b more) (sym r.ended) follow) in (
+        l.0,
+        ap₂ (λ said begun. tokens_of (run.text ++ more) (said ++ None ∷ switches) begun) (sym r.switched) (sym r.begun) ∙ l.1,
+      );
+  place = e;
+}
+
+pub token_refused : (start : Start) (finished : Bool) (p : Stages) (bytes : List ℕ) (run : Run) (t : Tokenizer) (token : Token) (e : BuildError) → IsRun start finished p bytes run
+    → HaveFates start.setting (kinds run.given) (fates_of p.builder) → Fed t (gave run token None)
+    → IsBuildCause start.setting start.limits (kinds run.given) (fates_of p.builder) token.kind token.span.start e → IsTokenCause start finished run.text (build_cause e)
+unfolding one-at
+token_refused start finished p bytes run t token build.OutOfMemory r h f c = tt
+token_refused start finished p bytes run t token (build.ForeignContent name at) r h f (e, starts, has) =
+    record { token = one-at start finished p bytes run t token at r h f (sym e); foreign = starts }
+token_refused start finished p bytes run t token (build.NodeBudget at) r h f e = one-at start finished p bytes run t token at r h f (sym e)
+token_refused start finished p bytes run t token (build.HeldBudget at) r h f e = one-at start finished p bytes run t token at r h f (sym e)
+token_refused start finished p bytes run t token build.BadContext r h f c = absurd c
+token_refused start finished p bytes run t token build.Stopped r h f c = absurd c
+
+-- some of plain text after other tokens
+regroup : (given first later more : List Token) (x : Token) → (given ++ (first ++ x ∷ later)) ++ more ≡ (given ++ first) ++ x ∷ (later ++ more)
+regroup given first later more x =
+    ap (λ r. r ++ more) (sym (append_assoc given first (x ∷ later))) ∙ append_assoc (given ++ first) (x ∷ later) more
+
+-- a code point of plain text that was given, and then refused
+char-at : (start : Start) (finished : Bool) (p : Stages) (bytes : List ℕ) (run : Run) (t : Tokenizer) (place : ℕ) (text : List ℕ) (at : ℕ) → IsRun start finished p bytes run
+    → HaveFates start.setting (kinds run.given) (fates_of p.builder) → Fed t (gave_all run (plain_tokens place text))
+    → place ≤ at → at < place + length text → IsTokenAt start finished run.text at
+char-at start finished p bytes run t place text at r h f low high =
+    let fates = fates_of p.builder in
+    let k : ℕ = at - place in
+    let within : k < length text = omega (arith, low, high) in
+    let first = plain_tokens place (take k text) in
+    let nones = replicate (length (take k text)) None in
+    let split = plain-split place text k within in
+    let are : kinds (run.given ++ first) ≡ kinds run.given ++ chars_of (take k text)
+    = kinds-append run.given first ∙ ap (λ ks. kinds run.given ++ ks) (kinds-plain place (take k text)) in
+    let said : switches_by (kinds (run.given ++ first)) fates ≡ run.switches ++ nones
+    = ap (λ ks. switches_by ks fates) are ∙ says-kept start.setting (kinds run.given) (take k text) fates h ∙ ap (λ s. s ++ nones) (sym r.switched) in
+    record {
+      before = run.given ++ first;
+      fates = fates;
+      token = char-token place text k;
+      fated = subst (λ ks. HaveFates start.setting ks fates) (sym are) (kept-more start.setting (kinds run.given) (take k text) fates h);
+      listed = λ more switches follow.
+          let l = text_listed t run place text (said_each start finished p bytes run r) f more (nones ++ None ∷ switches) (subst (λ b. MayFollow b more) (sym r.ended) follow) in (
+            split.0 ++ l.0,
+            ap₂ (λ s begun. tokens_of (run.text ++ more) s begun) (ap (λ s. s ++ None ∷ switches) said ∙ append_assoc run.switches nones (None ∷ switches)) (sym r.begun)
+                ∙ l.1 ∙ ap (λ ts. (run.given ++ ts) ++ l.0) split.1 ∙ regroup run.given first split.0 l.0 (char-token place text k),
+          );
+      place = omega (arith, low);
+    }
+
+pub text_refused : (start : Start) (finished : Bool) (p : Stages) (bytes : List ℕ) (run : Run) (t : Tokenizer) (place : ℕ) (text : List ℕ) (e : BuildError) → IsRun start finished p bytes run
+    → HaveFates start.setting (kinds run.given) (fates_of p.builder) → Fed t (gave_all run (plain_tokens place text))
+    → IsTextCause start.setting start.limits (kinds run.given) (fates_of p.builder) text place e → IsTokenCause start finished run.text (build_cause e)
+text_refused start finished p bytes run t place text build.OutOfMemory r h f c = tt
+text_refused start finished p bytes run t place text (build.NodeBudget at) r h f (low, high) = char-at start finished p bytes run t place text at r h f low high
+text_refused start finished p bytes run t place text (build.HeldBudget at) r h f (low, high) = char-at start finished p bytes run t place text at r h f low high
+text_refused start finished p bytes run t place text (build.ForeignContent name at) r h f c = absurd c
+text_refused start finished p bytes run t place text build.BadContext r h f c = absurd c
+text_refused start finished p bytes run t place text build.Stopped r h f c = absurd c

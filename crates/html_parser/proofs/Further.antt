@@ -1,0 +1,125 @@
+-- The stages after some more tokens.
+use Rattle.std.proofs.Common.{ℕ, ◌≡◌, ◌∙◌, Bool, true, false, List, [], ◌∷◌, ◌++◌, length, replicate, None, refl, sym, ap, ap₂, subst}
+use Rattle.html_input.specs.Fed.{Fed as Decodes}
+use Rattle.html_tokens.specs.Given.{Fed, is_stopped as tokenizer_stopped}
+use Rattle.html_tokens.specs.Runs.{gave_all, plain_tokens}
+use Rattle.html_tokens.specs.Stream.{Run, gave}
+use Rattle.html_tokens.specs.declared.token.Token.{Token}
+use Rattle.html_ledger.specs.Runs.{last_of}
+use Rattle.html_builder.specs.Handed.{AddsFates, Handed, HandsIn, HaveFates, fates_of, is_stopped as builder_stopped}
+use Rattle.html_builder.specs.Switches.{switch_after, switches_by}
+use Rattle.html_construction.specs.Built.{chars_of}
+use Rattle.html_parser.specs.Kinds.{kinds, starts_of}
+use Rattle.html_parser.specs.Causes.{IsTokenCause}
+use Rattle.html_parser.specs.Staged.{IsFurther, IsHandedOn, IsRun}
+use Rattle.html_parser.specs.declared.error.ParseError.{ParseError}
+use Rattle.html_parser.specs.Start.{Start, most_input}
+use Rattle.html_parser.specs.declared.stages.Stages.{Stages}
+use Rattle.html_parser.proofs.Ends.{kinds-append}
+use Rattle.html_parser.proofs.Switching.{says-one, says-text}
+use Rattle.html_parser.proofs.Taken.{kinds-plain, starts-append}
+use Rattle.html_parser.proofs.Tokenizing.{given-all}
+use Rattle.html_parser.proofs.Unsaid.{gave-finished, gave-start, gave-switches, gave-text}
+
+-- What a call did that handed on plain text.
+pub record HandsText (old new : Stages) (place : ℕ) (text : List ℕ) : Type 0 where
+  pub decoder : new.decoder ≡ old.decoder
+  pub given : (run : Run) → Fed old.tokenizer run → Fed new.tokenizer (gave_all run (plain_tokens place text))
+  pub takes : HandsIn (chars_of text) old.builder new.builder
+  pub grows : AddsFates old.builder new.builder
+  pub starts : new.kept.starts ≡ old.kept.starts ++ starts_of (plain_tokens place text)
+  pub tokens : old.kept.keeps_tokens ≡ true → new.kept.tokens ≡ old.kept.tokens ++ plain_tokens place text
+  pub keeps : new.kept.keeps_tokens ≡ old.kept.keeps_tokens
+  pub running : tokenizer_stopped new.tokenizer ≡ false
+  pub building : builder_stopped new.builder ≡ builder_stopped old.builder
+
+pub text_further : (start : Start) (finished : Bool) (bytes : List ℕ) (run : Run) (old new : Stages) (place : ℕ) (text : List ℕ)
+    → HandsText old new place text → HaveFates start.setting (kinds run.given) (fates_of old.builder) → IsRun start finished old bytes run
+    → IsFurther start finished new bytes run.text
+text_further start finished bytes run old new place text s h r =
+    let tokens = plain_tokens place text in
+    let after = gave_all run tokens in
+    let given : after.given ≡ run.given ++ tokens = given-all run tokens in
+    let are : kinds after.given ≡ kinds run.given ++ chars_of text
+    = ap kinds given ∙ kinds-append run.given tokens ∙ ap (λ ks. kinds run.given ++ ks) (kinds-plain place text) in
+    let grown = s.grows start.setting start.limits (kinds run.given) r.handed in
+    record {
+      run = after;
+      is_run = record {
+        begun = gave-start run tokens ∙ r.begun;
+        ended = gave-finished run tokens ∙ r.ended;
+        decoded = subst (λ x. Decodes (most_input start) finished new.decoder bytes x) (sym (gave-text run tokens))
+            (subst (λ d. Decodes (most_input start) finished d bytes run.text) (sym s.decoder) r.decoded);
+        tokenized = s.given run r.tokenized;
+        handed = subst (λ ks. Handed start.setting start.limits ks new.builder) (sym are) (s.takes start.setting start.limits (kinds run.given) r.handed);
+        switched = gave-switches run place text ∙ ap (λ x. x ++ replicate (length text) None) r.switched
+            ∙ sym (says-text start.setting (kinds run.given) text (fates_of old.builder) grown.0 h)
+            ∙ ap₂ switches_by (sym are) (sym grown.1);
+        starts = s.starts ∙ ap (λ x. x ++ starts_of tokens) r.starts ∙ sym (ap starts_of given ∙ starts-append run.given tokens);
+        tokens = λ keeps.
+            let kept = sym s.keeps ∙ keeps in
+            s.tokens kept ∙ ap (λ x. x ++ tokens) (r.tokens kept) ∙ sym given;
+        running = s.running;
+        building = s.building ∙ r.building;
+      };
+      text_is = gave-text run tokens;
+    }
+
+-- What a call did that handed on one token, with what was said of the text after it.
+pub record HandsOne (old new : Stages) (token : Token) : Type 0 where
+  pub decoder : new.decoder ≡ old.decoder
+  pub given : (run : Run) → Fed old.tokenizer run → Fed new.tokenizer (gave run token (switch_after token.kind (last_of (fates_of new.builder))))
+  pub takes : HandsIn (token.kind ∷ []) old.builder new.builder
+  pub grows : AddsFates old.builder new.builder
+  pub starts : new.kept.starts ≡ old.kept.starts ++ starts_of (token ∷ [])
+  pub tokens : old.kept.keeps_tokens ≡ true → new.kept.tokens ≡ old.kept.tokens ++ token ∷ []
+  pub keeps : new.kept.keeps_tokens ≡ old.kept.keeps_tokens
+  pub running : tokenizer_stopped new.tokenizer ≡ false
+  pub building : builder_stopped new.builder ≡ false
+
+pub one_further : (start : Start) (finished : Bool) (bytes : List ℕ) (run : Run) (old new : Stages) (token : Token)
+    → HandsOne old new token → HaveFates start.setting (kinds run.given) (fates_of old.builder)
+    → HaveFates start.setting (kinds run.given ++ token.kind ∷ []) (fates_of new.builder) → IsRun start finished old bytes run
+    → IsFurther start finished new bytes run.text
+one_further start finished bytes run old new token s h k r =
+    let switch = switch_after token.kind (last_of (fates_of new.builder)) in
+    let are : kinds (run.given ++ token ∷ []) ≡ kinds run.given ++ token.kind ∷ [] = kinds-append run.given (token ∷ []) in
+    let grown = s.grows start.setting start.limits (kinds run.given) r.handed in
+    let both : HaveFates start.setting (kinds run.given ++ token.kind ∷ []) (fates_of old.builder ++ grown.0)
+    = subst (HaveFates start.setting (kinds run.given ++ token.kind ∷ [])) grown.1 k in
+    record {
+      run = gave run token switch;
+      is_run = record {
+        begun = r.begun;
+        ended = r.ended;
+        decoded = subst (λ d. Decodes (most_input start) finished d bytes run.text) (sym s.decoder) r.decoded;
+        tokenized = s.given run r.tokenized;
+        handed = subst (λ ks. Handed start.setting start.limits ks new.builder) (sym are) (s.takes start.setting start.limits (kinds run.given) r.handed);
+        switched = ap₂ (λ x f. x ++ switch_after token.kind (last_of f) ∷ []) r.switched grown.1
+            ∙ sym (says-one start.setting (kinds run.given) token.kind (fates_of old.builder) grown.0 h both)
+            ∙ ap₂ switches_by (sym are) (sym grown.1);
+        starts = s.starts ∙ ap (λ x. x ++ starts_of (token ∷ [])) r.starts ∙ sym (starts-append run.given (token ∷ []));
+        tokens = λ keeps.
+            let kept = sym s.keeps ∙ keeps in
+            s.tokens kept ∙ ap (λ x. x ++ token ∷ []) (r.tokens kept);
+        running = s.running;
+        building = s.building;
+      };
+      text_is = refl;
+    }
+
+-- further and further
+pub further_on : (start : Start) (finished : Bool) (mid new : Stages) (bytes text : List ℕ) → IsFurther start finished mid bytes text
+    → ((run : Run) → IsRun start finished mid bytes run → IsFurther start finished new bytes run.text) → IsFurther start finished new bytes text
+further_on start finished mid new bytes text f step = subst (IsFurther start finished new bytes) f.text_is (step f.run f.is_run)
+
+pub handed_on : (start : Start) (finished : Bool) (mid new : Stages) (bytes text : List ℕ) → IsFurther start finished mid bytes text
+    → ((run : Run) → IsRun start finished mid bytes run → IsHandedOn start finished new bytes run.text) → IsHandedOn start finished new bytes text
+handed_on start finished mid new bytes text f step = subst (IsHandedOn start finished new bytes) f.text_is (step f.run f.is_run)
+
+pub cause_of : (start : Start) (finished : Bool) (mid : Stages) (bytes text : List ℕ) (e : ParseError) → IsFurther start finished mid bytes text
+    → ((run : Run) → IsRun start finished mid bytes run → IsTokenCause start finished run.text e) → IsTokenCause start finished text e
+cause_of start finished mid bytes text e f step = subst (λ t. IsTokenCause start finished t e) f.text_is (step f.run f.is_run)
+
+pub no_further : (start : Start) (finished : Bool) (p : Stages) (bytes : List ℕ) (run : Run) → IsRun start finished p bytes run → IsFurther start finished p bytes run.text
+no_further start finished p bytes run r = record { run = run; is_run = r; text_is = refl }

@@ -1,0 +1,173 @@
+-- What is made of an input at its end is what parsing is to answer.
+use Rattle.std.proofs.Common.{ℕ, suc, ◌+◌, ◌-◌, ◌*◌, ◌^◌, ◌≤◌, ◌≡◌, ◌∙◌, arith, min, true, false, List, [], ◌∷◌, length, map, Option, refl, sym, ap, subst, length-append}
+use Rattle.std.proofs.lemmas.List.{length-map}
+use Rattle.std.proofs.Math.Nat.{mul_comm, mul-le-mul_left}
+use Rattle.std.specs.Prelude.{nat_lt, cond, Bool}
+use Rattle.html_arena.specs.Tree.{Tree as Nodes}
+use Rattle.html_arena.specs.declared.arena.Limits.{Limits}
+use Rattle.html_input.specs.Decode.{code_points, decode}
+use Rattle.html_input.specs.Fed.{Fed as Decodes}
+use Rattle.html_input.specs.declared.decoder.Decoder.{Decoder}
+use Rattle.html_ledger.specs.Errors.{AreBetween}
+use Rattle.html_ledger.specs.declared.fate.Fate.{Fate}
+use Rattle.html_ledger.specs.declared.setting.Setting.{Setting}
+use Rattle.html_tokens.specs.Given.{Fed, fed_len}
+use Rattle.html_tokens.specs.Stream.{Run, tokens_of}
+use Rattle.html_tokens.specs.declared.faults.Fault.{Fault}
+use Rattle.html_tokens.specs.declared.token.Token.{Token}
+use Rattle.html_tokens.specs.declared.token.TokenKind.{TokenKind}
+use Rattle.html_tokens.specs.declared.tokenizer.Tokenizer.{Tokenizer}
+use Rattle.html_builder.specs.Builders.{BuilderState}
+use Rattle.html_builder.specs.Handed.{CostAtMost, EndsAtEof, Handed, fates_of}
+use Rattle.html_builder.specs.Switches.{switches_by}
+use Rattle.html_construction.specs.Built.{symbols}
+use Rattle.html_builder.specs.Outcome.{IsBounded, IsOutcome}
+use Rattle.html_parser.specs.Faults.{construction_fault, fault_list, front_below, places_of, rest_from, told_fault}
+use Rattle.html_parser.specs.Kinds.{kinds, starts_of}
+use Rattle.html_parser.specs.Made.{IsWhole}
+use Rattle.html_parser.specs.Parsed.{IsParsed, IsTreeOf}
+use Rattle.html_parser.specs.Staged.{IsEnded}
+use Rattle.html_parser.specs.Start.{Start, most_input, text_start}
+use Rattle.html_parser.specs.declared.faults.PageFault.{PageFault}
+use Rattle.html_parser.specs.declared.page.Tree.{Tree as TreeType}
+use Rattle.html_parser.specs.declared.stages.Stages.{Stages}
+use Rattle.html_parser.proofs.Costs.{costs, kinds-length, run-costed}
+use Rattle.html_parser.proofs.Counts.{decode_few}
+use Rattle.html_parser.proofs.Ends.{ends_at_eof}
+
+-- HOW MANY ERRORS
+
+-- by a test
+both-sides : (b : Bool) (p : ℕ) (front rest ps : List ℕ) → length front + length rest ≡ length ps
+    → length (cond b (p ∷ front) []) + length (cond b rest (p ∷ ps)) ≡ length (p ∷ ps)
+both-sides true p front rest ps e = omega (arith, e)
+both-sides false p front rest ps e = omega arith
+
+parts-length : (k : ℕ) (ps : List ℕ) → length (front_below k ps) + length (rest_from k ps) ≡ length ps
+parts-length k [] = refl
+parts-length k (p ∷ ps) = both-sides (nat_lt p k) p (front_below k ps) (rest_from k ps) ps (parts-length k ps)
+
+faults-length : (told : List Fault) (places : List ℕ) → length (fault_list told places) ≡ length told + length places
+faults-length [] places = omega (arith, length-map places construction_fault)
+faults-length (f ∷ fs) places =
+    let rest : length (fault_list fs (rest_from f.place places)) ≡ length fs + length (rest_from f.place places)
+    = faults-length fs (rest_from f.place places) in
+    let front : length (map construction_fault (front_below f.place places)) ≡ length (front_below f.place places)
+    = length-map (front_below f.place places) construction_fault in
+    omega (arith, rest, front, parts-length f.place places, length-append (map construction_fault (front_below f.place places)) (told_fault f ∷ fault_list fs (rest_from f.place places)))
+
+between-length : (low : ℕ) (es : List ℕ) (n : ℕ) → AreBetween low es n → low + length es ≤ n
+between-length low [] n a = omega (arith, a)
+between-length low (e ∷ es) n (from, rest) = omega (arith, from, between-length (e + 1) es n rest)
+
+symbols-length : (tokens : List TokenKind) → length (symbols tokens) ≡ length tokens
+symbols-length [] = refl
+symbols-length (t ∷ ts) = ap suc (symbols-length ts)
+
+places-length : (starts numbers : List ℕ) → length (places_of starts numbers) ≡ length numbers
+places-length starts numbers = length-map numbers _
+
+-- ALL OF IT
+
+-- the answers of the calls at the end
+pub record Ended (d : Decoder) (t : Tokenizer) (b : BuilderState) (starts : List ℕ) (told : List Fault) (numbers : List ℕ) (fates : List Fate) (arena : Nodes) (errors : List PageFault) (n own steps : ℕ) : Type 0 where
+  pub count : (limit : ℕ) (bytes text : List ℕ) → Decodes limit true d bytes text → n ≡ length (code_points bytes)
+  pub text : (limit : ℕ) (bytes text : List ℕ) → Decodes limit true d bytes text → text ≡ decode bytes
+  pub in_limit : (limit : ℕ) (bytes text : List ℕ) → Decodes limit true d bytes text → length (code_points bytes) ≤ limit
+  pub fates_are : fates ≡ fates_of b
+  pub outcome : (s : Setting) (l : Option Limits) (tokens : List TokenKind) → Handed s l tokens b → EndsAtEof tokens → IsOutcome s tokens fates numbers arena
+  pub bounds : (s : Setting) (l : Option Limits) (tokens : List TokenKind) → Handed s l tokens b → (m : ℕ) → CostAtMost m tokens → IsBounded m arena
+  pub told_few : length told ≤ 11 * (fed_len t + 2)
+  pub fed : (run : Run) → Fed t run → fed_len t ≡ length run.text
+  pub errors_are : errors ≡ fault_list told (places_of starts numbers)
+  pub own_few : own ≤ 8 * (fed_len t + 2) + (fed_len t + 2) * (fed_len t + 2)
+  pub steps_are : steps ≡ min (own + arena.steps) (2 ^ 128 - 1)
+
+square : (a b : ℕ) → a ≤ b → (a + 2) * (a + 2) ≤ (b + 2) * (b + 2)
+square a b less =
+    let more : a + 2 ≤ b + 2 = omega (arith, less) in
+    let left : (a + 2) * (a + 2) ≤ (a + 2) * (b + 2) = mul-le-mul_left (a + 2) more in
+    let right : (b + 2) * (a + 2) ≤ (b + 2) * (b + 2) = mul-le-mul_left (b + 2) more in
+    omega (arith, left, right, mul_comm (a + 2) (b + 2))
+
+pub made : (start : Start) (bytes : List ℕ) (run : Run) (d : Decoder) (t : Tokenizer) (b : BuilderState) (starts : List ℕ) (told : List Fault) (numbers : List ℕ) (fates : List Fate)
+    (arena : Nodes) (errors : List PageFault) (n own steps : ℕ) → Ended d t b starts told numbers fates arena errors n own steps
+    → IsWhole start bytes run d t b starts → IsParsed start bytes run.given fates arena 0 errors n steps
+made start bytes run d t b starts told numbers fates arena errors n own steps e w =
+    let count : n ≡ length (code_points bytes) = e.count (most_input start) bytes run.text w.decoded in
+    let text : run.text ≡ decode bytes = e.text (most_input start) bytes run.text w.decoded in
+    let few : length run.text ≤ n = omega (arith, count, ap length text, decode_few bytes) in
+    let costed = run-costed t run w.tokenized w.all in
+    let ends : EndsAtEof (kinds run.given) = subst (λ ts. EndsAtEof (kinds ts)) w.all (ends_at_eof run.text run.switches run.start) in
+    let outcome = e.outcome start.setting start.limits (kinds run.given) w.handed ends in
+    let fed : fed_len t ≡ length run.text = e.fed run w.tokenized in
+    let switched : run.switches ≡ switches_by (kinds run.given) fates = w.switched ∙ ap (switches_by (kinds run.given)) (sym e.fates_are) in
+    let rising : 0 + length numbers ≤ length fates = between-length 0 numbers (length fates) outcome.told.rising in
+    let all : length fates ≡ length run.given = outcome.fated.counted ∙ symbols-length (kinds run.given) ∙ kinds-length run.given in
+    let faults : errors ≡ fault_list told (places_of (starts_of run.given) numbers)
+    = e.errors_are ∙ ap (λ ss. fault_list told (places_of ss numbers)) w.starts_are in
+    record {
+      tokens_are = sym w.all
+          ∙ ap (λ s. tokens_of run.text run.switches s) w.begun
+          ∙ ap (λ ss. tokens_of run.text ss (text_start start)) switched
+          ∙ ap (λ x. tokens_of x (switches_by (kinds run.given) fates) (text_start start)) text;
+      numbers = numbers;
+      outcome = outcome;
+      root_is = refl;
+      faults = record {
+        told = told;
+        are = faults;
+      };
+      n_is = count;
+      within = subst (λ m. m ≤ most_input start) (sym count) (e.in_limit (most_input start) bytes run.text w.decoded);
+      bounded = e.bounds start.setting start.limits (kinds run.given) w.handed n (costs (length run.text) n run.given costed few);
+      steps_are = record {
+        own = own;
+        few = omega (arith, e.own_few, fed, few, square (fed_len t) n (omega (arith, fed, few)));
+        are = e.steps_are;
+      };
+      few_errors = omega (
+        arith,
+        ap length faults,
+        faults-length told (places_of (starts_of run.given) numbers),
+        places-length (starts_of run.given) numbers,
+        rising,
+        all,
+        costed.count,
+        e.told_few,
+        fed,
+        few,
+      );
+    }
+
+-- OF THE STAGES
+
+pub whole : (start : Start) (p : Stages) (bytes : List ℕ) → (e : IsEnded start p bytes) → IsWhole start bytes e.run p.decoder p.tokenizer p.builder p.kept.starts
+whole start p bytes e = record {
+  begun = e.is_run.begun;
+  decoded = e.is_run.decoded;
+  tokenized = e.is_run.tokenized;
+  handed = e.is_run.handed;
+  switched = e.is_run.switched;
+  starts_are = e.is_run.starts;
+  all = e.all;
+}
+
+-- with the tokens that were kept, and with the root
+pub page-of : (start : Start) (bytes : List ℕ) (given tokens : List Token) (fates : List Fate) (arena : Nodes) (root : ℕ) (errors : List PageFault) (n steps : ℕ)
+    → tokens ≡ given → root ≡ 0 → IsParsed start bytes given fates arena 0 errors n steps → IsParsed start bytes tokens fates arena root errors n steps
+page-of start bytes given tokens fates arena root errors n steps same first is =
+    subst (λ ts. IsParsed start bytes ts fates arena root errors n steps) (sym same)
+    (subst (λ r. IsParsed start bytes given fates arena r errors n steps) (sym first) is)
+
+starts-length : (tokens : List Token) → length (starts_of tokens) ≡ length tokens
+starts-length tokens = length-map tokens _
+
+pub tree-of : (start : Start) (bytes : List ℕ) (run : Run) (starts : List ℕ) (fates : List Fate) (tree : TreeType) → starts ≡ starts_of run.given → tree.token_count ≡ length starts
+    → IsParsed start bytes run.given fates tree.arena tree.root tree.errors.items tree.n tree.steps → IsTreeOf start bytes tree
+tree-of start bytes run starts fates tree same count is = record {
+  tokens = run.given;
+  fates = fates;
+  is = is;
+  count = count ∙ ap length same ∙ starts-length run.given;
+}

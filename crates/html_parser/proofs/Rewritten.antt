@@ -1,0 +1,48 @@
+-- What is written of a page, from what parsing and serialising say.
+use Rattle.std.proofs.Common.{◌≡◌, ◌⊎◌, ℕ, ◌≤◌, Bool, true, List, length, Option, sym, subst}
+use Rattle.std.specs.Prelude.{Result, Ok, Err, OnOk, OnErr, IfErr}
+use Rattle.std.specs.Str.{encode_utf8_all}
+use Rattle.std.specs.Io.KnownBytes.{Consumes, IsAtEnd}
+use Rattle.html_arena.specs.Walking.{IsRoot}
+use Rattle.html_device.specs.Device.{AppendsFront}
+use Rattle.html_page.specs.Serialised.{HasNames, html_below, most_written}
+use Rattle.html_page.specs.declared.profile.Profile.{Profile}
+use Rattle.html_parser.specs.Normalised.{IsNormalised, IsNormaliseCause}
+use Rattle.html_parser.specs.Parsed.{IsTreeOf}
+use Rattle.html_parser.specs.Start.{Start}
+use Rattle.html_parser.specs.declared.error.ParseError.{ParseError}
+use Rattle.html_parser.specs.declared.error.ParseError.TheVariants.{Write}
+use Rattle.html_parser.specs.declared.page.Tree.{Tree}
+
+-- the root of a tree that parsing answers
+pub root-of : (start : Start) (bytes : List ℕ) (tree : Tree) → IsTreeOf start bytes tree → IsRoot tree.arena tree.root
+root-of start bytes tree t = subst (IsRoot tree.arena) (sym t.is.root_is) (record {
+  inside = t.is.outcome.rooted.some_node;
+  alone = t.is.outcome.rooted.root;
+  no_host = t.is.outcome.rooted.no_host;
+})
+
+module _ (start : Start) (profile : Profile) (tree : Tree) (bytes : List ℕ) (old new : Option (List ℕ)) (r : Result (Unit {0}) ParseError) (consumed : Consumes old new bytes) (at_end : IsAtEnd new) (is_tree : IsTreeOf start bytes tree)
+    (few : HasNames tree.arena → length (html_below profile tree.arena tree.root) ≤ most_written tree.arena) where
+  abbrev text : List ℕ
+  text = encode_utf8_all (html_below profile tree.arena tree.root)
+
+  normalised : (W : List ℕ → Type 0) → W text → IsNormalised start profile W old new
+  normalised W w = record { bytes = bytes; consumed = consumed; at_end = at_end; tree = tree; is_tree = is_tree; written = w; few = few }
+
+  pub normalised_ok : (W : List ℕ → Type 0) → OnOk r (W text) → OnOk r (IsNormalised start profile W old new)
+  normalised_ok W h = go r h
+    where
+      go : (s : Result (Unit {0}) ParseError) → OnOk s (W text) → OnOk s (IsNormalised start profile W old new)
+      go (Ok u) w = normalised W w
+      go (Err e) w = tt
+
+  pub normalised_cause : (read_failed failed stalled : Bool) (writer new_writer : Option (List ℕ)) → OnErr r (AppendsFront writer new_writer text) → OnErr r ((failed ≡ true) ⊎ (stalled ≡ true)) → IfErr r (λ e. e ≡ Write)
+      → IfErr r (IsNormaliseCause start profile old new read_failed writer new_writer failed stalled)
+  normalised_cause read_failed failed stalled writer new_writer a b c = go r a b c
+    where
+      go : (s : Result (Unit {0}) ParseError) → OnErr s (AppendsFront writer new_writer text) → OnErr s ((failed ≡ true) ⊎ (stalled ≡ true)) → IfErr s (λ e. e ≡ Write)
+          → IfErr s (IsNormaliseCause start profile old new read_failed writer new_writer failed stalled)
+      go (Ok u) x y z = tt
+      go (Err e) x y z =
+          subst (λ (f : ParseError). IsNormaliseCause start profile old new read_failed writer new_writer failed stalled f) (sym z) (normalised (AppendsFront writer new_writer) x, y)

@@ -1,0 +1,28 @@
+use Rattle.std.proofs.Common.{refl, sym, Some}
+use Rattle.html_parser.specs.Start.{fragment_start}
+use Rattle.html_parser.proofs.parser.Parser.fragment_within.Goals as goal
+
+pub new-requires : goal.new-requires
+new-requires c = record {
+  begun = (
+    fragment_start c.args.table.now c.args.context.now (Some c.args.limits),
+    record {
+      rows_are = refl;
+      mode_is = sym c.text_mode.ensures.value;
+      decodes = c.with_limit-decoder.ensures;
+      handed = c.in_ok-builder.ensures.begun;
+      fates = c.in_ok-builder.ensures.fates;
+      building = c.in_ok-builder.ensures.fresh;
+    },
+  );
+}
+
+pub returns-clause-begun : goal.returns-clause-begun
+returns-clause-begun c = c.in_ok-feeder.ensures.begun (fragment_start c.args.table.now c.args.context.now (Some c.args.limits)) (record {
+  rows_are = refl;
+  mode_is = sym c.text_mode.ensures.value;
+  decodes = c.with_limit-decoder.ensures;
+  handed = c.in_ok-builder.ensures.begun;
+  fates = c.in_ok-builder.ensures.fates;
+  building = c.in_ok-builder.ensures.fresh;
+})

@@ -1,0 +1,31 @@
+use Rattle.std.proofs.Common.{[], None}
+use Rattle.std.proofs.lemmas.Result.{IfErr-weaker, IfOk-weaker, err_from_is_err_and}
+use Rattle.html_parser.specs.Start.{document_start}
+use Rattle.html_parser.proofs.Refusals.{end-cause, reader-cause}
+use Rattle.html_parser.proofs.reading.parse_tree_from.Goals as goal
+
+pub feed_from-requires : goal.feed_from-requires
+feed_from-requires g c = record {
+  new = (document_start c.args.table.now None, c.without_ledger-parser.ensures.fed (document_start c.args.table.now None) [] c.in_ok-parser.ensures.begun);
+}
+
+pub returns-in_err-feed_from-clause-cause : goal.returns-in_err-feed_from-clause-cause
+returns-in_err-feed_from-clause-cause g c =
+    let p = err_from_is_err_and c.from_residual-in_err-feed_from.result c.from_residual-in_err-feed_from.ensures.1 in
+    rw (p.1, p.2) (reader-cause (document_start c.args.table.now None) _ _ _ c.in_err-feed_from.field-0.0
+    (c.in_err-feed_from.ensures.cause (document_start c.args.table.now None)
+    (c.without_ledger-parser.ensures.fed (document_start c.args.table.now None) [] c.in_ok-parser.ensures.begun)))
+
+pub returns-clause-tree : goal.returns-clause-tree
+returns-clause-tree g c =
+    let f = c.in_ok-feed_from.ensures.fed in
+    let k = f.2 (document_start c.args.table.now None) (c.without_ledger-parser.ensures.fed (document_start c.args.table.now None) [] c.in_ok-parser.ensures.begun) in
+    IfOk-weaker c.finish.result _ _ (λ tree is. (f.0, f.1, is (document_start c.args.table.now None) f.0 k)) c.finish.ensures.tree
+
+pub returns-clause-cause : goal.returns-clause-cause
+returns-clause-cause g c =
+    let f = c.in_ok-feed_from.ensures.fed in
+    let k = f.2 (document_start c.args.table.now None) (c.without_ledger-parser.ensures.fed (document_start c.args.table.now None) [] c.in_ok-parser.ensures.begun) in
+    IfErr-weaker c.finish.result _ _
+    (λ e cause. end-cause (document_start c.args.table.now None) _ _ _ f.0 e f.1 c.in_ok-feed_from.ensures.end (cause (document_start c.args.table.now None) f.0 k))
+    c.finish.ensures.cause

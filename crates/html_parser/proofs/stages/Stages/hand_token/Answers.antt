@@ -1,0 +1,83 @@
+use Rattle.std.proofs.Common.{◌∙◌, ◌++◌, ◌∷◌, [], None, inl, refl, subst, sym}
+use Rattle.std.proofs.lemmas.Result.{err_from_is_err_and}
+use Rattle.html_builder.specs.Handed.{fates_of}
+use Rattle.html_ledger.specs.Runs.{last_of}
+use Rattle.html_tokens.specs.Given.{Fed}
+use Rattle.html_tokens.specs.Stream.{gave}
+use Rattle.html_parser.specs.Kinds.{kinds}
+use Rattle.html_parser.specs.Saying.{MaySay}
+use Rattle.html_parser.proofs.Causing.{token_refused}
+use Rattle.html_parser.proofs.Further.{one_further}
+use Rattle.html_parser.proofs.MaySaying.{may_say}
+use Rattle.html_parser.proofs.Tokenizing.{not_stopped, one_either, same_run}
+use Rattle.html_parser.proofs.stages.Stages.hand_token.Goals as goal
+
+pub invariant_of-self-in_default : goal.invariant_of-self-in_default
+invariant_of-self-in_default c = record {
+  tokenizing = same_run c.args.self.now.tokenizer c.next.new.self c.args.self.now.kept.starts
+      (not_stopped c.next.result _ _ c.in_ok-token.was c.next.ensures.stopped) c.args.self.now.tokenizing
+      (λ run fed. ((rw c.in_default.is at c.in_ok-token.ensures.prompt) run fed).0);
+}
+
+pub returns-in_default-clause-none : goal.returns-in_default-clause-none
+returns-in_default-clause-none c =
+    let none = rw c.in_default.is at c.in_ok-token.ensures.prompt in
+    let whole = rw c.in_default.is at c.in_ok-token.ensures.all in
+    λ _ start finished bytes run r. record {
+      further = record {
+        run = run;
+        is_run = record {
+          begun = r.begun;
+          ended = r.ended;
+          decoded = r.decoded;
+          tokenized = (none run r.tokenized).0;
+          handed = r.handed;
+          switched = r.switched;
+          starts = r.starts;
+          tokens = r.tokens;
+          running = c.in_ok-token.ensures.ok;
+          building = r.building;
+        };
+        text_is = refl;
+      };
+      prompt = (none run r.tokenized).1;
+      all = λ end. whole run r.tokenized (r.ended ∙ end);
+    }
+
+pub invariant_of-self-in-Break-branch-3 : goal.invariant_of-self-in-Break-branch-3
+invariant_of-self-in-Break-branch-3 c = record {
+  tokenizing = one_either c.args.self.now.tokenizer c.next.new.self c.args.self.now.kept.starts c.args.self.now.kept.starts c.in-Some.token None
+      (not_stopped c.next.result _ _ c.in_ok-token.was c.next.ensures.stopped) c.args.self.now.tokenizing
+      (rw c.in-Some.is at c.in_ok-token.ensures.unsaid) (inl refl);
+}
+
+pub returns-in_err-mode-clause-cause : goal.returns-in_err-mode-clause-cause
+returns-in_err-mode-clause-cause c =
+    let p = err_from_is_err_and c.from_residual-in_err-mode.result c.from_residual-in_err-mode.ensures.1 in
+    rw (p.1, p.2) (λ start finished bytes run r. token_refused start finished c.args.self.now bytes run c.next.new.self c.in-Some.token
+    c.in_err-mode.field-0.0 r (c.counted.ensures.counted start.setting start.limits (kinds run.given) r.handed)
+    ((rw c.in-Some.is at c.in_ok-token.ensures.unsaid) run r.tokenized)
+    (c.in_err-mode.ensures.cause start.setting start.limits (kinds run.given) r.handed))
+
+pub returns-clause-further : goal.returns-clause-further
+returns-clause-further c =
+    let token = c.in-Some.token in
+    let given = rw c.in-Some.is at c.in_ok-token.ensures.given in
+    let unsaid = rw c.in-Some.is at c.in_ok-token.ensures.unsaid in
+    let says = may_say token.kind (last_of (fates_of c.process.new.self)) in
+    λ start finished bytes run r. one_further start finished bytes run c.args.self.now _ token
+    (record {
+      decoder = refl;
+      given = λ run fed. subst (λ m. Fed c.tell.new.tokenizer (gave run token m)) c.in_ok-mode.ensures.switch
+          (c.tell.ensures.told run token (unsaid run fed) (given run fed) (subst (MaySay token.kind) (sym c.in_ok-mode.ensures.switch) says));
+      takes = c.in_ok-mode.ensures.takes;
+      grows = c.in_ok-mode.ensures.grows;
+      starts = c.in_ok-push.ensures.starts;
+      tokens = c.in_ok-push.ensures.tokens;
+      keeps = c.push.ensures.keeps;
+      running = c.tell.ensures.stopped ∙ c.in_ok-token.ensures.ok;
+      building = c.in_ok-mode.ensures.ok;
+    })
+    (c.counted.ensures.counted start.setting start.limits (kinds run.given) r.handed)
+    (c.counted-2.ensures.counted start.setting start.limits (kinds run.given ++ token.kind ∷ [])
+    (c.in_ok-mode.ensures.takes start.setting start.limits (kinds run.given) r.handed)) r

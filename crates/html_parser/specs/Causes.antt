@@ -1,0 +1,81 @@
+-- Why an input was refused.
+use Rattle.std.specs.Prelude.{◌≡◌, ℕ, ◌<◌, Bool, true, false, List, ◌∷◌, ◌++◌, length, Option, None}
+use Rattle.html_input.specs.Decode.{decode, code_points}
+use Rattle.html_input.specs.declared.error.InputError.{InputError}
+use Rattle.html_input.specs.declared.error.InputError.TheVariants as input
+use Rattle.html_tokens.specs.Input.{MayFollow}
+use Rattle.html_tokens.specs.Stream.{tokens_of}
+use Rattle.html_tokens.specs.declared.token.TextMode.{TextMode}
+use Rattle.html_tokens.specs.declared.token.Token.{Token}
+use Rattle.html_tokens.specs.declared.tokenizer.TokenError.{TokenError}
+use Rattle.html_tokens.specs.declared.tokenizer.TokenError.TheVariants as tokens
+use Rattle.html_ledger.specs.declared.fate.Fate.{Fate}
+use Rattle.html_builder.specs.Handed.{HaveFates, Starts, foreign_tag}
+use Rattle.html_builder.specs.Switches.{switches_by}
+use Rattle.html_builder.specs.declared.error.BuildError.{BuildError}
+use Rattle.html_builder.specs.declared.error.BuildError.TheVariants as build
+use Rattle.html_modes.specs.declared.outcome.Foreign.{Foreign}
+use Rattle.html_parser.specs.Kinds.{kinds}
+use Rattle.html_parser.specs.Start.{Start, most_input, text_start}
+use Rattle.html_parser.specs.declared.error.ParseError.{ParseError}
+use Rattle.html_parser.specs.declared.error.ParseError.TheVariants.{OutOfMemory, InputTooLong, ForeignContent, BadContext, Stopped, NodeBudget, HeldBudget}
+
+-- REFUSALS OF THE LAYERS BELOW, AS THE PARSER TELLS THEM
+
+abbrev pub input_cause : InputError → ParseError
+input_cause input.OutOfMemory = OutOfMemory
+input_cause input.InputTooLong = InputTooLong
+input_cause input.Stopped = Stopped
+
+abbrev pub token_cause : TokenError → ParseError
+token_cause tokens.OutOfMemory = OutOfMemory
+token_cause tokens.Stopped = Stopped
+
+abbrev pub build_cause : BuildError → ParseError
+build_cause build.OutOfMemory = OutOfMemory
+build_cause (build.ForeignContent name at) = ForeignContent name at
+build_cause build.BadContext = BadContext
+build_cause build.Stopped = Stopped
+build_cause (build.NodeBudget at) = NodeBudget at
+build_cause (build.HeldBudget at) = HeldBudget at
+
+-- WHAT THEY SAY OF THE INPUT
+
+-- A token of a text that begins at a place, behind tokens of which all but the last code points have fates that they may have; however the
+-- text goes on, unless it is whole.
+pub record IsTokenAt (start : Start) (finished : Bool) (text : List ℕ) (at : ℕ) : Type 0 where
+  pub before : List Token
+  pub fates : List Fate
+  pub token : Token
+  pub fated : HaveFates start.setting (kinds before) fates
+  pub listed : (more : List ℕ) (switches : List (Option TextMode)) → MayFollow finished more
+      → (later : List Token) × (tokens_of (text ++ more) (switches_by (kinds before) fates ++ None ∷ switches) (text_start start) ≡ before ++ token ∷ later)
+  pub place : token.span.start ≡ at
+
+-- The same, a start tag of foreign content.
+pub record IsForeignAt (start : Start) (finished : Bool) (text : List ℕ) (name : Foreign) (at : ℕ) : Type 0 where
+  pub token : IsTokenAt start finished text at
+  pub foreign : Starts (foreign_tag name) token.token.kind
+
+-- a text with which the text of the bytes begins, however they go on
+abbrev pub IsFront : List ℕ → List ℕ → Type 0
+IsFront bytes text = (more : List ℕ) → (rest : List ℕ) × (decode (bytes ++ more) ≡ text ++ rest)
+
+-- Why a token of a text, which is whole or goes on, was refused: for want of memory, for foreign content, or for a
+-- limit.
+abbrev pub IsTokenCause : Start → Bool → List ℕ → ParseError → Type 0
+IsTokenCause start finished text OutOfMemory = Unit {0}
+IsTokenCause start finished text (ForeignContent name at) = IsForeignAt start finished text name at
+IsTokenCause start finished text (NodeBudget at) = IsTokenAt start finished text at
+IsTokenCause start finished text (HeldBudget at) = IsTokenAt start finished text at
+IsTokenCause start finished text _ = ⊥
+
+-- Why a piece was refused, by the bytes so far, that piece's included.
+abbrev pub IsFeedCause : Start → List ℕ → ParseError → Type 0
+IsFeedCause start bytes InputTooLong = (more : List ℕ) → most_input start < length (code_points (bytes ++ more))
+IsFeedCause start bytes e = (text : List ℕ) × IsFront bytes text × IsTokenCause start false text e
+
+-- Why an input was refused, by all its bytes.
+abbrev pub IsCause : Start → List ℕ → ParseError → Type 0
+IsCause start bytes InputTooLong = most_input start < length (code_points bytes)
+IsCause start bytes e = IsTokenCause start true (decode bytes) e

@@ -1,0 +1,14 @@
+pub mod Causes
+pub mod Faults
+pub mod Fed
+pub mod Feeding
+pub mod Kinds
+pub mod Made
+pub mod Normalised
+pub mod Parsed
+pub mod Reading
+pub mod Saying
+pub mod Staged
+pub mod Start
+pub mod Stretches
+pub mod Tokenizing

@@ -1,0 +1,66 @@
+-- What parsing answers.
+use Rattle.std.specs.Prelude.{◌≡◌, ℕ, ◌≤◌, ◌+◌, ◌-◌, ◌*◌, ◌^◌, min, List, length}
+use Rattle.html_input.specs.Decode.{decode, code_points}
+use Rattle.html_tokens.specs.Stream.{tokens_of}
+use Rattle.html_tokens.specs.declared.token.Token.{Token}
+use Rattle.html_tokens.specs.declared.faults.Fault.{Fault}
+use Rattle.html_arena.specs.Tree.{Tree as Nodes}
+use Rattle.html_ledger.specs.declared.fate.Fate.{Fate}
+use Rattle.html_builder.specs.Switches.{switches_by}
+use Rattle.html_builder.specs.Outcome.{IsBounded, IsOutcome}
+use Rattle.html_parser.specs.Faults.{fault_list, places_of}
+use Rattle.html_parser.specs.Kinds.{kinds, starts_of}
+use Rattle.html_parser.specs.Start.{Start, most_input, text_start}
+use Rattle.html_parser.specs.declared.faults.PageFault.{PageFault}
+use Rattle.html_parser.specs.declared.page.Page.{Page}
+use Rattle.html_parser.specs.declared.page.Tree.{Tree}
+
+-- the most counted steps of the tokenizer and the most errors for a page of n code points
+abbrev pub most_token_steps : ℕ → ℕ
+most_token_steps n = 8 * (n + 2) + (n + 2) * (n + 2)
+
+abbrev pub most_errors : ℕ → ℕ
+most_errors n = 12 * (n + 2)
+
+-- The tokens are those of the text, read by the switches of their fates, and no others.
+abbrev pub AreTokensOf : Start → List ℕ → List Token → List Fate → Type 0
+AreTokensOf start text tokens fates = tokens ≡ tokens_of text (switches_by (kinds tokens) fates) (text_start start)
+
+-- The errors in order of their places: those that the tokenizer told, and one of tree construction for each token of these numbers.
+pub record AreFaults (tokens : List Token) (numbers : List ℕ) (faults : List PageFault) : Type 0 where
+  pub told : List Fault
+  pub are : faults ≡ fault_list told (places_of (starts_of tokens) numbers)
+
+-- The counted steps are those of the tokenizer and those of tree construction, as far as 128 bits count.
+pub record AreSteps (n : ℕ) (t : Nodes) (steps : ℕ) : Type 0 where
+  pub own : ℕ
+  pub few : own ≤ most_token_steps n
+  pub are : steps ≡ min (own + t.steps) (2 ^ 128 - 1)
+
+-- A tree of an input of these bytes, with the tokens and fates that it accounts for.
+pub record IsParsed (start : Start) (bytes : List ℕ) (tokens : List Token) (fates : List Fate) (t : Nodes) (root : ℕ) (errors : List PageFault) (n steps : ℕ) : Type 0 where
+  -- each token of the input, and no other
+  pub tokens_are : AreTokensOf start (decode bytes) tokens fates
+  -- a well-formed tree, its one fate for each token, and each node with its origin
+  pub numbers : List ℕ
+  pub outcome : IsOutcome start.setting (kinds tokens) fates numbers t
+  pub root_is : root ≡ 0
+  pub faults : AreFaults tokens numbers errors
+  -- how many code points there are
+  pub n_is : n ≡ length (code_points bytes)
+  pub within : n ≤ most_input start
+  -- how large it is
+  pub bounded : IsBounded n t
+  pub steps_are : AreSteps n t steps
+  pub few_errors : length errors ≤ most_errors n
+
+-- the page of an input
+abbrev pub IsPageOf : Start → List ℕ → Page → Type 0
+IsPageOf start bytes page = IsParsed start bytes page.tokens page.fates page.arena page.root page.errors.items page.n page.steps
+
+-- The tree of an input, for some tokens and fates of it.
+pub record IsTreeOf (start : Start) (bytes : List ℕ) (tree : Tree) : Type 0 where
+  pub tokens : List Token
+  pub fates : List Fate
+  pub is : IsParsed start bytes tokens fates tree.arena tree.root tree.errors.items tree.n tree.steps
+  pub count : tree.token_count ≡ length tokens

@@ -1,0 +1,34 @@
+//! Pages from bytes to trees (13.2 to 13.4), as the bytes come: what the decoder puts out goes to the tokenizer at once, each token to
+//! tree construction as soon as it is decided, and nothing is kept but the tree, its ledger, and what is undecided yet.
+#![tactic(auto)]
+
+mod error;
+mod faults;
+mod feeder;
+mod kept;
+mod made;
+mod normalising;
+mod page;
+mod parser;
+mod parsing;
+mod reading;
+mod stages;
+mod starts;
+mod tree_parser;
+
+pub use error::ParseError;
+pub use faults::{PageFault, PageFaultName};
+pub use html_arena::{Arena, Kind, Limits, NodeData, NodeId};
+pub use html_builder::{Context, Foreign};
+pub use html_charref::{EntityError, EntityTable, Str};
+pub use html_device::{DeviceFault, FailAt, OverRead, OverWrite, Sink, Source};
+pub use html_input::LIMIT;
+pub use html_ledger::{Cause, Fate, Fates};
+pub use html_page::Profile;
+pub use html_token_list::{TokenRef, Tokens};
+pub use normalising::normalise;
+pub use page::{Page, Tree, serialise};
+pub use parser::Parser;
+pub use parsing::{parse, parse_fragment, parse_tree, parse_within};
+pub use reading::{parse_from, parse_tree_from};
+pub use tree_parser::TreeParser;

@@ -1,0 +1,40 @@
+//! A page from a reader, written as HTML.
+
+ghost use Rattle.std.specs.Prelude.{None, OnOk, IfErr};
+ghost use Rattle.std.specs.Io.KnownBytes.{Appends};
+ghost use Rattle.html_parser.specs.Normalised.{IsNormalised, IsNormaliseCause};
+ghost use Rattle.html_parser.specs.Start.{document_start};
+
+use crate::error::ParseError;
+use crate::reading::parse_tree_from;
+use html_charref::EntityTable;
+use html_device::{Sink, Source};
+use html_page::Profile;
+use std::alloc::Global;
+
+/// Reads a page to its end, and writes the text of its tree. Nothing is written before all was read and parsed.
+///
+/// # Errors
+///
+/// Those of `parse_from`, after which nothing was written; and `Write` where the writer failed, or took no bytes. A front of the text was
+/// written then.
+pub fn normalise<S: Source, W: Sink>(
+    alloc: Global,
+    table: &EntityTable,
+    profile: Profile,
+    reader: &mut S,
+    writer: &mut W,
+) -> Result<(), ParseError>
+    // The text of the tree of all that was read was written.
+    ensures ok { OnOk result (IsNormalised (document_start table.now None) profile (Appends (W.taken writer.old) (W.taken writer.new))
+        (S.remaining reader.old) (S.remaining reader.new)) }
+
+    // It is the writer, the reader or the input that was at fault.
+    ensures cause { IfErr result (IsNormaliseCause (document_start table.now None) profile (S.remaining reader.old) (S.remaining reader.new) (S.failed reader.new)
+        (W.taken writer.old) (W.taken writer.new) (W.failed writer.new) (W.stalled writer.new)) }
+{
+    match parse_tree_from(alloc, table, reader) {
+        Ok(tree) => tree.serialise(profile, writer),
+        Err(error) => Err(error),
+    }
+}

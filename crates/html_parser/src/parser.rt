@@ -1,0 +1,171 @@
+//! Bytes in pieces to a page.
+
+ghost use Rattle.std.specs.Prelude.{◌≡◌, ◌↔◌, ◌++◌, ◌≤◌, ◌<◌, ◌^◌, ◌⊎◌, ℕ, List, [], None, Some, Err, IfErr, IfOk, OnErr, OnOk, length};
+ghost use Rattle.html_parser.specs.Causes.{IsCause, IsFeedCause};
+ghost use Rattle.html_parser.specs.Feeding.{AreHandedOn};
+ghost use Rattle.html_parser.specs.Parsed.{IsPageOf};
+ghost use Rattle.html_parser.specs.Staged.{KeepsTokens};
+ghost use Rattle.html_builder.specs.Contexts.{IsGood};
+ghost use Rattle.html_parser.specs.Start.{Start, document_start, fragment_start};
+
+use crate::error::ParseError;
+use crate::feeder::Feeder;
+use crate::page::Page;
+use crate::tree_parser::TreeParser;
+use html_arena::Limits;
+use html_builder::{Builder, Context};
+use html_charref::EntityTable;
+use html_input::Decoder;
+use html_token_list::Tokens;
+use html_tokens::TextMode;
+use std::alloc::Global;
+
+/// A parser that takes its input in pieces, cut anywhere, and hands on what they decide at once: between calls at most three bytes are
+/// undecoded. It keeps the tokens and what became of each. Once it refused a piece it takes no more. It reads named character references
+/// by a table, which it borrows.
+#[derive(Drop)]
+pub struct Parser<'a> {
+    pub(crate) feeder: Feeder<'a>,
+}
+
+impl<'a> Parser<'a> {
+    ghost use Rattle.html_parser.specs.Fed.{IsFed, IsStopped};
+
+    /// A parser of a document.
+    ///
+    /// # Errors
+    ///
+    /// `OutOfMemory`.
+    pub fn document(alloc: Global, table: &'a EntityTable) -> Result<Parser<'a>, ParseError>
+        ensures begun { IfOk result (λ p. IsFed (document_start table.entry.now None) p.feeder []) }
+        ensures keeps { IfOk result (λ p. KeepsTokens p.feeder.stages) }
+        ensures empty { IfOk result (λ p. p.feeder.stages.kept.tokens ≡ []) }
+        ensures cause { IfErr result (λ e. e ≡ ParseError.OutOfMemory) }
+    {
+        let builder = Builder::document(alloc)?;
+        let feeder = Feeder::new(alloc, table, Decoder::new(), TextMode::Data, builder)?;
+        Ok(Parser { feeder })
+    }
+
+    /// A parser of a document within limits on nodes, on held code points, and on the code points of the input.
+    ///
+    /// # Errors
+    ///
+    /// `NodeBudget` at 0 where not even the document is within them; `OutOfMemory`.
+    pub fn document_within(
+        alloc: Global,
+        table: &'a EntityTable,
+        limits: Limits,
+    ) -> Result<Parser<'a>, ParseError>
+        ensures begun { IfOk result (λ p. IsFed (document_start table.entry.now (Some limits)) p.feeder []) }
+        ensures keeps { IfOk result (λ p. KeepsTokens p.feeder.stages) }
+        ensures empty { IfOk result (λ p. p.feeder.stages.kept.tokens ≡ []) }
+        ensures cause { IfErr result (λ e. (e ≡ ParseError.OutOfMemory) ⊎ ((e ≡ ParseError.NodeBudget 0) × (limits.nodes < 1))) }
+    {
+        let decoder = Decoder::with_limit(limits.code_points);
+        let builder = Builder::document_within(alloc, limits)?;
+        let feeder = Feeder::new(alloc, table, decoder, TextMode::Data, builder)?;
+        Ok(Parser { feeder })
+    }
+
+    /// A parser of a fragment in a context (13.4).
+    ///
+    /// # Errors
+    ///
+    /// `BadContext` where no start tag can have the name of the context, or the name is `svg` or `math`; `OutOfMemory`.
+    pub fn fragment(
+        alloc: Global,
+        table: &'a EntityTable,
+        context: &Context,
+    ) -> Result<Parser<'a>, ParseError>
+        ensures begun { IfOk result (λ p. IsFed (fragment_start table.entry.now context.now None) p.feeder []) }
+        ensures keeps { IfOk result (λ p. KeepsTokens p.feeder.stages) }
+        ensures empty { IfOk result (λ p. p.feeder.stages.kept.tokens ≡ []) }
+        ensures good { OnOk result (IsGood context.now) }
+        ensures cause { IfErr result (λ e. (e ≡ ParseError.OutOfMemory) ⊎ ((e ≡ ParseError.BadContext) × (IsGood context.now → ⊥))) }
+    {
+        let builder = Builder::fragment(alloc, context)?;
+        let feeder = Feeder::new(alloc, table, Decoder::new(), context.text_mode(), builder)?;
+        Ok(Parser { feeder })
+    }
+
+    /// A parser of a fragment in a context, within limits on nodes, on held code points, and on the code points of the input.
+    ///
+    /// # Errors
+    ///
+    /// `BadContext` as in `fragment`, before all else; `NodeBudget` and `HeldBudget` at 0 where not even the root is within the limits;
+    /// `OutOfMemory`.
+    pub fn fragment_within(
+        alloc: Global,
+        table: &'a EntityTable,
+        context: &Context,
+        limits: Limits,
+    ) -> Result<Parser<'a>, ParseError>
+        ensures begun { IfOk result (λ p. IsFed (fragment_start table.entry.now context.now (Some limits)) p.feeder []) }
+        ensures keeps { IfOk result (λ p. KeepsTokens p.feeder.stages) }
+        ensures empty { IfOk result (λ p. p.feeder.stages.kept.tokens ≡ []) }
+        ensures good { OnOk result (IsGood context.now) }
+        ensures cause { IfErr result (λ e. (e ≡ ParseError.OutOfMemory) ⊎ ((e ≡ ParseError.BadContext) × (IsGood context.now → ⊥))
+            ⊎ ((e ≡ ParseError.NodeBudget 0) × (limits.nodes < 1)) ⊎ ((e ≡ ParseError.HeldBudget 0) × (limits.held < 4))) }
+    {
+        let decoder = Decoder::with_limit(limits.code_points);
+        let builder = Builder::fragment_within(alloc, context, limits)?;
+        let feeder = Feeder::new(alloc, table, decoder, context.text_mode(), builder)?;
+        Ok(Parser { feeder })
+    }
+
+    /// The same parser, which from here on keeps no tokens and hands out a tree alone.
+    pub fn without_ledger(self) -> TreeParser<'a>
+        ensures fed { (start : Start) (bytes : List ℕ) → IsFed start self.entry.feeder bytes → IsFed start result.feeder bytes }
+        ensures stopped { IsStopped result.feeder ↔ IsStopped self.entry.feeder }
+    {
+        let Parser { mut feeder } = self;
+        feeder.keep_no_tokens();
+        TreeParser { feeder }
+    }
+
+    /// Takes a piece of the input. Each token that its code points decide is processed.
+    ///
+    /// # Errors
+    ///
+    /// `InputTooLong` where the code points so far pass the limit; `ForeignContent` for a start tag `svg` or `math` that the rules of the
+    /// body meet; `NodeBudget` and `HeldBudget` where a token would pass a limit; `OutOfMemory`. After a refusal each later call answers
+    /// `Stopped`.
+    pub fn feed(&mut self, piece: &[u8]) -> Result<(), ParseError>
+        ensures fed { OnOk result ((start : Start) (bytes : List ℕ) → IsFed start self.old.feeder bytes → IsFed start self.new.feeder (bytes ++ piece.now)) }
+        ensures few { OnOk result ((start : Start) (bytes : List ℕ) → IsFed start self.old.feeder bytes → length (bytes ++ piece.now) ≤ 2 ^ 33) }
+        ensures keeps { OnOk result (KeepsTokens self.old.feeder.stages → KeepsTokens self.new.feeder.stages) }
+
+        // At most three bytes are undecoded, and each token that ends far enough before the end of the decoded text is among the tokens.
+        ensures prompt { OnOk result ((start : Start) (bytes : List ℕ) → IsFed start self.old.feeder bytes → KeepsTokens self.old.feeder.stages
+            → AreHandedOn start (bytes ++ piece.now) self.new.feeder.stages.kept.tokens) }
+        ensures cause { IfErr result (λ e. (start : Start) (bytes : List ℕ) → IsFed start self.old.feeder bytes → IsFeedCause start (bytes ++ piece.now) e) }
+        ensures refused { OnErr result (IsStopped self.new.feeder) }
+        ensures stopped { (result ≡ Err ParseError.Stopped) ↔ IsStopped self.old.feeder }
+    {
+        self.feeder.feed(piece)
+    }
+
+    /// The tokens that were processed.
+    pub fn tokens(&self) -> &Tokens
+        ensures value { result.now ≡ self.now.feeder.stages.kept.tokens }
+    {
+        self.feeder.tokens()
+    }
+
+    /// Ends the input: the page of all that was fed.
+    ///
+    /// # Errors
+    ///
+    /// Those of `feed`, and `Stopped` after a refusal.
+    pub fn finish(self) -> Result<Page, ParseError>
+        ensures page { IfOk result (λ page. (start : Start) (bytes : List ℕ) → IsFed start self.entry.feeder bytes → KeepsTokens self.entry.feeder.stages
+            → IsPageOf start bytes page) }
+        ensures cause { IfErr result (λ e. (start : Start) (bytes : List ℕ) → IsFed start self.entry.feeder bytes → IsCause start bytes e) }
+        ensures stopped { IsStopped self.entry.feeder → result ≡ Err ParseError.Stopped }
+    {
+        let Parser { mut feeder } = self;
+        feeder.end()?;
+        feeder.stages.into_page()
+    }
+}

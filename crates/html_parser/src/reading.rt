@@ -1,0 +1,140 @@
+//! A page from a reader.
+
+ghost use Rattle.std.specs.Prelude.{ℕ, [], List, None, IfErr, IfOk, OnOk};
+ghost use Rattle.std.specs.Io.KnownBytes.{Consumes, IsAtEnd};
+ghost use Rattle.html_parser.specs.Parsed.{IsPageOf, IsTreeOf};
+ghost use Rattle.html_parser.specs.Reading.{IsPieceCause, IsReaderCause};
+ghost use Rattle.html_parser.specs.Start.{Start, document_start};
+
+use crate::error::ParseError;
+use crate::page::{Page, Tree};
+use crate::parser::Parser;
+use crate::tree_parser::TreeParser;
+use html_charref::EntityTable;
+use html_device::{FeedAllError, Pieces, Source, feed_all};
+use std::alloc::Global;
+
+/// The page of all that a reader has. Any fault of the reader is `Read`, an interruption too.
+///
+/// # Errors
+///
+/// `Read` where the reader failed; those of `Parser::feed`.
+pub fn parse_from<S: Source>(
+    alloc: Global,
+    table: &EntityTable,
+    reader: &mut S,
+) -> Result<Page, ParseError>
+    ensures page { IfOk result (λ page. (bytes : List ℕ) × Consumes (S.remaining reader.old) (S.remaining reader.new) bytes
+        × IsPageOf (document_start table.now None) bytes page) }
+    ensures end { OnOk result (IsAtEnd (S.remaining reader.new)) }
+    ensures cause { IfErr result (IsReaderCause (document_start table.now None) (S.remaining reader.old) (S.remaining reader.new) (S.failed reader.new)) }
+{
+    let mut parser = Parser::document(alloc, table)?;
+    parser.feed_from(reader)?;
+    parser.finish()
+}
+
+/// The tree of all that a reader has, without its ledger. Any fault of the reader is `Read`, an interruption too.
+///
+/// # Errors
+///
+/// Those of `parse_from`.
+pub fn parse_tree_from<S: Source>(
+    alloc: Global,
+    table: &EntityTable,
+    reader: &mut S,
+) -> Result<Tree, ParseError>
+    ensures tree { IfOk result (λ tree. (bytes : List ℕ) × Consumes (S.remaining reader.old) (S.remaining reader.new) bytes
+        × IsTreeOf (document_start table.now None) bytes tree) }
+    ensures end { OnOk result (IsAtEnd (S.remaining reader.new)) }
+    ensures cause { IfErr result (IsReaderCause (document_start table.now None) (S.remaining reader.old) (S.remaining reader.new) (S.failed reader.new)) }
+{
+    let parser = Parser::document(alloc, table)?;
+    let mut parser = parser.without_ledger();
+    parser.feed_from(reader)?;
+    parser.finish()
+}
+
+impl Parser<'_> {
+    ghost use Rattle.html_parser.specs.Reading.{IsKeeping};
+
+    /// Takes all that a reader has, by a parser that was fed nothing.
+    ///
+    /// # Errors
+    ///
+    /// `Read` where the reader failed; those of `feed`.
+    pub fn feed_from<S: Source>(&mut self, reader: &mut S) -> Result<(), ParseError>
+        requires new { (start : Start) × IsKeeping start self.old.feeder [] }
+        ensures fed { OnOk result ((bytes : List ℕ) × Consumes (S.remaining reader.old) (S.remaining reader.new) bytes
+            × ((start : Start) → IsKeeping start self.old.feeder [] → IsKeeping start self.new.feeder bytes)) }
+        ensures end { OnOk result (IsAtEnd (S.remaining reader.new)) }
+        ensures cause { IfErr result (λ e. (start : Start) → IsKeeping start self.old.feeder []
+            → IsPieceCause start (S.remaining reader.old) (S.remaining reader.new) (S.failed reader.new) e) }
+    {
+        match feed_all(reader, self) {
+            Ok(()) => Ok(()),
+            Err(FeedAllError::Read) => Err(ParseError::Read),
+            Err(FeedAllError::Refused(error)) => Err(error),
+        }
+    }
+}
+
+impl TreeParser<'_> {
+    ghost use Rattle.html_parser.specs.Fed.{IsFed};
+
+    /// Takes all that a reader has, by a parser that was fed nothing.
+    ///
+    /// # Errors
+    ///
+    /// `Read` where the reader failed; those of `feed`.
+    pub fn feed_from<S: Source>(&mut self, reader: &mut S) -> Result<(), ParseError>
+        requires new { (start : Start) × IsFed start self.old.feeder [] }
+        ensures fed { OnOk result ((bytes : List ℕ) × Consumes (S.remaining reader.old) (S.remaining reader.new) bytes
+            × ((start : Start) → IsFed start self.old.feeder [] → IsFed start self.new.feeder bytes)) }
+        ensures end { OnOk result (IsAtEnd (S.remaining reader.new)) }
+        ensures cause { IfErr result (λ e. (start : Start) → IsFed start self.old.feeder []
+            → IsPieceCause start (S.remaining reader.old) (S.remaining reader.new) (S.failed reader.new) e) }
+    {
+        match feed_all(reader, self) {
+            Ok(()) => Ok(()),
+            Err(FeedAllError::Read) => Err(ParseError::Read),
+            Err(FeedAllError::Refused(refusal)) => Err(refusal),
+        }
+    }
+}
+
+impl Pieces for Parser<'_> {
+    ghost use Rattle.html_parser.specs.Start.{Start as StartType};
+    ghost use Rattle.html_parser.specs.Reading.{IsKeeping};
+    ghost use Rattle.html_parser.specs.Causes.{IsFeedCause};
+
+    type Refusal = ParseError;
+
+    ghost Start = { StartType };
+
+    ghost Fed = { λ start parser bytes. IsKeeping start parser.feeder bytes };
+
+    ghost Refuses = { λ start bytes error. IsFeedCause start bytes error };
+
+    fn feed(&mut self, piece: &[u8]) -> Result<(), ParseError> {
+        Parser::feed(self, piece)
+    }
+}
+
+impl Pieces for TreeParser<'_> {
+    ghost use Rattle.html_parser.specs.Start.{Start as StartType};
+    ghost use Rattle.html_parser.specs.Fed.{IsFed};
+    ghost use Rattle.html_parser.specs.Causes.{IsFeedCause};
+
+    type Refusal = ParseError;
+
+    ghost Start = { StartType };
+
+    ghost Fed = { λ start parser bytes. IsFed start parser.feeder bytes };
+
+    ghost Refuses = { λ start bytes error. IsFeedCause start bytes error };
+
+    fn feed(&mut self, piece: &[u8]) -> Result<(), ParseError> {
+        TreeParser::feed(self, piece)
+    }
+}
