@@ -1,7 +1,0 @@
-use Rattle.std.proofs.Common.{◌≡◌, true}
-use Rattle.std.specs.List.{list_all}
-use Rattle.html_modes.specs.Contexts.{stays_in_name}
-use Rattle.html_modes.proofs.context.has_no_end.Given as goal
-
-abbrev pub invariant-loop-c : goal.invariant-loop-c
-invariant-loop-c l = list_all stays_in_name l.yielded ≡ true
