@@ -1,0 +1,16 @@
+import re,sys
+root=sys.argv[1]
+p=root+'/docs/ARCHITECTURE.md'; s=open(p).read()
+s=s.replace("""bytes -> html_input -> code points -> html_tokens -> tokens -> html_modes -> nodes, fates, errors -> html_page -> page, text
+                       html_charref -^              html_names, html_arena, html_open, html_tree, html_ledger, html_construction -^  html_job, html_run, html_cmd
+""","""bytes -> html_input -> code points -> html_tokens -> tokens -> html_builder -> nodes, fates, errors -> html_parser -> page, text
+                       html_charref -^              html_names, html_arena, html_open, html_tree, html_ledger, html_construction, html_modes -^  html_job, html_run, html_cmd
+""")
+s=re.sub(r"(?m)^\| html_modes \|[^\n]*\n","| html_modes | the insertion modes, in the standard's order | html_construction | one fate a token, an end of each token's processing, bounds on the nodes; which token is refused as foreign content | yes |\n| html_builder | the builder that takes tokens and text, of a document or of a fragment in its context | html_modes | a rooted, well-formed tree and one fate for each token handed in; how the text after a start tag is read; no more than 2(n+32)² nodes | yes |\n",s)
+s=re.sub(r"(?m)^\| html_page \|[^\n]*\n","| html_page | the parser of plain pages, the serializer | html_tokens, html_arena, html_device | of plain pages the page's own tree; the tokens of an input on `tokenize`; on `serialise` and `normalise` what was written | yes: plain pages, through the tokenizer; `tokenize`; the serializer whole (`output.rt` the buffer, `escape.rt`, `serialising.rt`, `normalising.rt`; specs `Serialised`, `Putting`, `Escaped`, `Normalised`) |\n| html_parser | pages from bytes to trees as the bytes come: decoder, tokenizer and builder one behind the other, with a ledger or without | all above | the main theorem on `parse`, `parse_from`, `Parser`; what `normalise` wrote | yes |\n",s)
+s=re.sub(r"(?m)^\| html_job \|[^\n]*\n","| html_job | the words of the command line, read as a job | `clap` | the job that stands in the words, or their refusal | yes: `tree`, `errors`, `audit`, `normalise`, `counts`, `suite`, with fragments and limits |\n",s)
+s=re.sub(r"(?m)^\| html_run \|[^\n]*\n","| html_run | a job done over any reader and writers: what is printed, the line and status of a refusal | html_parser, html_job | the status, the line of each refusal, and of which input a tree was had | yes |\n",s)
+s=re.sub(r"(?m)^\| html_suite \|[^\n]*\n","| html_suite | files of test cases in html5lib's form, run and counted | html_page, html_parser, html_run, `serde_json` | a status | yes: token cases and tree cases |\n| page_cases | rows of pages with their trees, ledgers and counts, whole and cut at each byte, as a program with a stored run | html_parser | nothing | yes |\n| bench_page | how long pages take, with a ledger and without | html_parser | nothing | yes |\n",s)
+s=re.sub(r"(?m)^\| mode_calls \|[^\n]*\n","| builder_calls | tests alone: the public calls of html_builder | html_builder | nothing | yes |\n",s)
+s=re.sub(r"(?m)^\| html_cmd \|[^\n]*\n","| html_cmd | the program: arguments, files, streams | html_run, html_suite, html_job, html_parser | nothing: it is the end | yes |\n",s)
+open(p,'w').write(s)
