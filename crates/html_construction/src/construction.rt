@@ -9,7 +9,9 @@ ghost use Rattle.html_open.specs.Marking.{bare};
 ghost use Rattle.html_ledger.specs.Errors.{AreErrors};
 ghost use Rattle.html_ledger.specs.Fated.{Fated};
 ghost use Rattle.html_construction.specs.Built.{Handed, IsBuilt, Keeps, nothing_of, symbols};
+ghost use Rattle.html_construction.specs.Accounts.{AreMade, AreTexts};
 ghost use Rattle.html_construction.specs.Grown.{Grown};
+ghost use Rattle.html_construction.specs.Origins.{AreOrigins, HasRoot};
 ghost use Rattle.html_construction.specs.Modes.{is_reset};
 
 use crate::mode::Mode;
@@ -154,6 +156,11 @@ impl Construction {
         ensures errors { result.2.items ≡ self.ledger.errors }
         ensures fated { (h : Handed) → self.ledger.kept ≡ [] → IsBuilt h self → Fated h.setting (symbols h.tokens) result.1 }
         ensures told { (h : Handed) → self.ledger.kept ≡ [] → IsBuilt h self → AreErrors h.setting (symbols h.tokens) result.1 result.2.items }
+        ensures limits { (h : Handed) → IsBuilt h self → result.0.limits ≡ h.limits }
+        ensures root { (h : Handed) → IsBuilt h self → HasRoot h.setting result.0 }
+        ensures origins { (h : Handed) → IsBuilt h self → AreOrigins h.tokens result.1 result.0.labels }
+        ensures made { (h : Handed) → IsBuilt h self → AreMade result.1 result.0.labels }
+        ensures texts { (h : Handed) → IsBuilt h self → AreTexts (symbols h.tokens) result.1 result.0.labels }
     {
         let Construction { tree, ledger, .. } = self;
         let (fates, errors) = ledger.into_parts();

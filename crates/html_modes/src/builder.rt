@@ -3,6 +3,8 @@ ghost use Rattle.std.specs.Prelude.{◌≡◌, ◌<◌, ◌≤◌, IfOk, IfErr, 
 ghost use Rattle.html_ledger.specs.Symbols.{symbol_of};
 ghost use Rattle.html_ledger.specs.declared.setting.Setting.TheVariants.{Document, Fragment};
 ghost use Rattle.html_names.specs.Names.{tag_of};
+ghost use Rattle.html_construction.specs.Accounts.{AreMade, AreTexts};
+ghost use Rattle.html_construction.specs.Origins.{AreOrigins, HasRoot};
 ghost use Rattle.html_construction.specs.Built.{Handed, IsBuilt, Takes, TakesRun, ends_made, nothing_of, symbols};
 ghost use Rattle.html_arena.specs.Tree.{WellFormed};
 ghost use Rattle.html_ledger.specs.Errors.{AreErrors};
@@ -229,6 +231,11 @@ impl Builder {
         ensures errors { result.2.items ≡ self.page.ledger.errors }
         ensures fated { (h : Handed) → self.page.ledger.kept ≡ [] → IsBuilt h self.page → Fated h.setting (symbols h.tokens) result.1 }
         ensures told { (h : Handed) → self.page.ledger.kept ≡ [] → IsBuilt h self.page → AreErrors h.setting (symbols h.tokens) result.1 result.2.items }
+        ensures limits { (h : Handed) → IsBuilt h self.page → result.0.limits ≡ h.limits }
+        ensures root { (h : Handed) → IsBuilt h self.page → HasRoot h.setting result.0 }
+        ensures origins { (h : Handed) → IsBuilt h self.page → AreOrigins h.tokens result.1 result.0.labels }
+        ensures made { (h : Handed) → IsBuilt h self.page → AreMade result.1 result.0.labels }
+        ensures texts { (h : Handed) → IsBuilt h self.page → AreTexts (symbols h.tokens) result.1 result.0.labels }
     {
         self.construction.into_parts()
     }
