@@ -1,11 +1,11 @@
 -- Reopening and adoption keep the limits.
-use Rattle.std.proofs.Common.{◌≡◌, ℕ, zero, suc, Bool, List, [], ◌∷◌, ◌++◌, length, None, refl, sym, ◌∙◌, ap}
+use Rattle.std.proofs.Common.{◌≡◌, ℕ, Bool, List, [], ◌∷◌, ◌++◌, length, None, refl, ◌∙◌, ap}
 use Rattle.html_names.specs.declared.tag.Tag.{Tag}
 use Rattle.html_arena.specs.declared.data.NewNode.TheVariants.{CloneOf}
 use Rattle.html_arena.specs.Make.{made}
 use Rattle.html_arena.specs.Tree.{Tree}
 use Rattle.html_open.specs.declared.adoption.AdoptEnd.{AdoptEnd}
-use Rattle.html_open.specs.Adopting.{Adopted, Ends, Round, Rounds, closes, eight, fewer, forgets, no_entry, no_round, one_more, out_of_scope, popped}
+use Rattle.html_open.specs.Adopting.{Adopted, Ends, Rounds, closes, eight, fewer, forgets, no_entry, no_round, one_more, out_of_scope, popped}
 use Rattle.html_open.specs.Opened.{Open}
 use Rattle.html_open.specs.Placing.{place_of}
 use Rattle.html_open.specs.Reopening.{Reopened, closed, with_clone, with_clones}
