@@ -1,9 +1,9 @@
 // Each public function once, with ample memory.
 
 use html_arena::{Limits, NodeId};
+use html_builder::{BuildError, Builder, Context, Mode};
 use html_charref::Str;
 use html_ledger::{Cause, Fate};
-use html_builder::{BuildError, Builder, Context, Mode};
 use html_tokens::{Attrs, Span, TextMode, Token, TokenKind};
 use std::alloc::{AllocError, Global};
 use std::test::Fail;

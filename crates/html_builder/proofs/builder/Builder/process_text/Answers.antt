@@ -37,7 +37,7 @@ returns-in_err-count-clause-cause c =
     let one : length (take 1 (drop c.taking.taken c.args.text.now)) ≤ 1 = take-one (drop c.taking.taken c.args.text.now) in
     let more : c.taking.taken < length c.args.text.now = grind (arith, common_steps) in
     rw p.1 (λ s l ts h. subst (λ e. IsTextCause s l ts (fates_of c.args.self.now) c.args.text.now c.args.start e) (sym p.2)
-        (text-cause-part s l ts (ts ++ chars_of (take c.taking.taken c.args.text.now)) (fates_of c.args.self.now) (fates_of c.taking.self) c.args.text.now (take 1 (drop c.taking.taken c.args.text.now))
-            c.args.start c.saturating_add-at.result c.in_err-count.field-0.0 low (omega (arith, high, one, more))
-            (subst (λ cs. IsTextCause s l (ts ++ chars_of (take c.taking.taken c.args.text.now)) (fates_of c.taking.self) (take 1 cs) c.saturating_add-at.result c.in_err-count.field-0.0) (take_rest c.args.text.now c.taking.taken)
-                (c.in_err-count.ensures.cause s l (ts ++ chars_of (take c.taking.taken c.args.text.now)) (c.taking.invariant.takes s l ts h)))))
+    (text-cause-part s l ts (ts ++ chars_of (take c.taking.taken c.args.text.now)) (fates_of c.args.self.now) (fates_of c.taking.self) c.args.text.now (take 1 (drop c.taking.taken c.args.text.now))
+    c.args.start c.saturating_add-at.result c.in_err-count.field-0.0 low (omega (arith, high, one, more))
+    (subst (λ cs. IsTextCause s l (ts ++ chars_of (take c.taking.taken c.args.text.now)) (fates_of c.taking.self) (take 1 cs) c.saturating_add-at.result c.in_err-count.field-0.0) (take_rest c.args.text.now c.taking.taken)
+    (c.in_err-count.ensures.cause s l (ts ++ chars_of (take c.taking.taken c.args.text.now)) (c.taking.invariant.takes s l ts h)))))
