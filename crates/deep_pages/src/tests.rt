@@ -1,5 +1,5 @@
 use html_job::{Command, Job, Profile};
-use html_page::{DeviceFault, OverRead, OverWrite, Sink};
+use html_parser::{DeviceFault, OverRead, OverWrite, Sink};
 use html_run::{DONE, run};
 use std::alloc::{AllocError, Global};
 use std::test::Fail;
@@ -46,6 +46,10 @@ fn job_of(alloc: Global, command: Command) -> Job<'static> {
     Job {
         command,
         entities: None,
+        fragment: None,
+        max_nodes: None,
+        max_held: None,
+        max_input: None,
         profile: Profile::One,
         input: None,
         files: Vec::new(alloc),

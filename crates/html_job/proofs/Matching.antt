@@ -3,7 +3,7 @@ use Rattle.std.proofs.Common.{◌≡◌, ◌∙◌, ◌⊎◌, List, [], ◌∷�
 use Rattle.std.specs.Prelude.{option_map, find, ◌≢◌}
 use Rattle.html_job.specs.Read.{IsJobOf, Reads, name_of}
 use Rattle.html_job.specs.declared.jobs.Command.{Command}
-use Rattle.html_job.specs.declared.jobs.Command.TheVariants.{Tree, Errors, Normalise, Suite}
+use Rattle.html_job.specs.declared.jobs.Command.TheVariants.{Tree, Errors, Audit, Normalise, Counts, Suite}
 use Rattle.html_job.specs.declared.jobs.Job.{Job}
 use Rattle.html_job.specs.Line.{line}
 use Rattle.clap.specs.Words.{App, HasKind, HasMatchesOf, IsAmong, Kinds, Row, Text, fault_of, is_simple, is_simple_and_free, kind_of, subcommand_of, subcommand_rows_of}
@@ -101,7 +101,7 @@ entered_named a (Some p) n r e = met p.0 p.1 a.subs n r e
 
 -- the commands of the line, in its order
 abbrev command_names : List Text
-command_names = codes "tree" ∷ codes "errors" ∷ codes "normalise" ∷ codes "suite" ∷ []
+command_names = codes "tree" ∷ codes "errors" ∷ codes "audit" ∷ codes "normalise" ∷ codes "counts" ∷ codes "suite" ∷ []
 
 names_built : map (λ (s : Shape). s.name) (built line).subs ≡ command_names
 unfolding line
@@ -120,8 +120,14 @@ no_other words o n r matches pair none = elim (name_met words n r (sym matches �
   | inr h ↦ elim h [
     | inl e ↦ none Errors (sym e)
     | inr h ↦ elim h [
-      | inl e ↦ none Normalise (sym e)
-      | inr h ↦ elim h [ inl e ↦ none Suite (sym e) | inr h ↦ absurd h ]
+      | inl e ↦ none Audit (sym e)
+      | inr h ↦ elim h [
+        | inl e ↦ none Normalise (sym e)
+        | inr h ↦ elim h [
+          | inl e ↦ none Counts (sym e)
+          | inr h ↦ elim h [ inl e ↦ none Suite (sym e) | inr h ↦ absurd h ]
+        ]
+      ]
     ]
   ]
 ]

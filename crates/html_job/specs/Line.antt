@@ -17,7 +17,9 @@ files_rule = record (new_rule (codes "FILE")) { action = Some Append; required =
 
 -- a command on one page
 abbrev pub page_app : Text → App
-page_app name = with_rule (with_rule (new_app name) (option_rule (codes "entities"))) input_rule
+page_app name =
+    with_rule (with_rule (with_rule (with_rule (with_rule (with_rule (new_app name) (option_rule (codes "entities"))) (option_rule (codes "fragment")))
+    (option_rule (codes "max-nodes"))) (option_rule (codes "max-held"))) (option_rule (codes "max-input"))) input_rule
 
 -- the command that writes a page as HTML
 abbrev pub normalise_app : App
@@ -38,4 +40,7 @@ empty_line = record (new_app (codes "html_cmd")) {
 
 -- the whole line
 unfoldable pub line : App
-line = with_subcommand (with_subcommand (with_subcommand (with_subcommand empty_line (page_app (codes "tree")).top) (page_app (codes "errors")).top) normalise_app.top) suite_app.top
+line =
+    with_subcommand (with_subcommand (with_subcommand (with_subcommand (with_subcommand (with_subcommand empty_line
+    (page_app (codes "tree")).top) (page_app (codes "errors")).top) (page_app (codes "audit")).top) normalise_app.top)
+    (page_app (codes "counts")).top) suite_app.top

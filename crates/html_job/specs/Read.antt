@@ -1,9 +1,10 @@
 -- What a job says of the words.
-use Rattle.std.specs.Prelude.{◌≢◌, ◌≡◌, ◌⊎◌, List, [], Option, Some, None, map, option_map, unwrap_or, codes}
+use Rattle.std.specs.Prelude.{◌≢◌, ◌≡◌, ◌⊎◌, ◌<◌, ◌^◌, ℕ, List, [], Option, Some, None, map, option_map, unwrap_or, codes}
+use Rattle.std.specs.Str.Parse.{IsNumeral, digits_value, without_leading_plus}
 use Rattle.clap.specs.Words.{Row, Text, all_of, fault_of, first_of, subcommand_of}
 use Rattle.html_job.specs.Line.{line}
 use Rattle.html_job.specs.declared.jobs.Command.{Command}
-use Rattle.html_job.specs.declared.jobs.Command.TheVariants.{Tree, Errors, Normalise, Suite}
+use Rattle.html_job.specs.declared.jobs.Command.TheVariants.{Tree, Errors, Audit, Normalise, Counts, Suite}
 use Rattle.html_job.specs.declared.jobs.Profile.{Profile}
 use Rattle.html_job.specs.declared.jobs.Profile.TheVariants.{One, Two}
 use Rattle.html_job.specs.declared.jobs.Job.{Job}
@@ -14,7 +15,9 @@ use Rattle.html_job.specs.declared.jobs.JobFault.TheVariants.{Words, OutOfMemory
 abbrev pub name_of : Command → Text
 name_of Tree = codes "tree"
 name_of Errors = codes "errors"
+name_of Audit = codes "audit"
 name_of Normalise = codes "normalise"
+name_of Counts = codes "counts"
 name_of Suite = codes "suite"
 
 -- the word of a profile
@@ -22,10 +25,25 @@ abbrev pub profile_text : Profile → Text
 profile_text One = codes "1"
 profile_text Two = codes "2"
 
+-- a text that is a number of 64 bits
+abbrev pub IsNumeralText : Text → Type 0
+IsNumeralText t = IsNumeral 10 (without_leading_plus t) × (digits_value 10 (without_leading_plus t) < 2 ^ 64)
+
+-- the number of a text, or none of none
+abbrev pub IsNumber : Option ℕ → Option Text → Type 0
+IsNumber None None = Unit {0}
+IsNumber (Some n) None = ⊥
+IsNumber None (Some t) = ⊥
+IsNumber (Some n) (Some t) = IsNumeralText t × (n ≡ digits_value 10 (without_leading_plus t))
+
 -- the job has what stands in the rows of its command
 pub record Reads (job : Job) (rows : List Row) : Type 0 where
   pub entities : option_map (λ s. s.now) job.entities ≡ first_of (codes "entities") rows
   pub input : option_map (λ s. s.now) job.input ≡ first_of (codes "INPUT") rows
+  pub fragment : option_map (λ s. s.now) job.fragment ≡ first_of (codes "fragment") rows
+  pub max_nodes : IsNumber job.max_nodes (first_of (codes "max-nodes") rows)
+  pub max_held : IsNumber job.max_held (first_of (codes "max-held") rows)
+  pub max_input : IsNumber job.max_input (first_of (codes "max-input") rows)
   pub profile : profile_text job.profile ≡ unwrap_or (first_of (codes "profile") rows) (codes "1")
   pub files : map (λ s. s.now) job.files.items ≡ unwrap_or (all_of (codes "FILE") rows) []
 
@@ -44,7 +62,18 @@ abbrev pub IsBadProfile : Option Text → Type 0
 IsBadProfile None = ⊥
 IsBadProfile (Some t) = (t ≢ codes "1") × (t ≢ codes "2")
 
--- clap refuses the words, or takes them with a profile that is none
+-- a text that is no number
+abbrev pub IsBadNumber : Option Text → Type 0
+IsBadNumber None = ⊥
+IsBadNumber (Some t) = IsNumeralText t → ⊥
+
+-- the rows have a profile that is none, or a limit that is no number
+abbrev pub HasBadValue : List Row → Type 0
+HasBadValue rows = IsBadProfile (first_of (codes "profile") rows)
+    ⊎ (IsBadNumber (first_of (codes "max-nodes") rows)
+    ⊎ (IsBadNumber (first_of (codes "max-held") rows) ⊎ IsBadNumber (first_of (codes "max-input") rows)))
+
+-- clap refuses the words, or takes them with such a value
 abbrev pub IsRefused : List Text → Type 0
 IsRefused words = (fault_of line words ≢ [])
-    ⊎ ((name : Text) × (rows : List Row) × (subcommand_of line words ≡ Some (name, rows)) × IsBadProfile (first_of (codes "profile") rows))
+    ⊎ ((name : Text) × (rows : List Row) × (subcommand_of line words ≡ Some (name, rows)) × HasBadValue rows)

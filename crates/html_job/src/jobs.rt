@@ -14,8 +14,12 @@ pub enum Command {
     Tree,
     /// Print the parse errors of a page.
     Errors,
+    /// Print what became of each token of a page.
+    Audit,
     /// Write a page as HTML.
     Normalise,
+    /// Print how large a page is.
+    Counts,
     /// Run files of test cases.
     Suite,
 }
@@ -33,6 +37,14 @@ pub struct Job<'a> {
     pub command: Command,
     /// The file of named character references. None is the table of five names.
     pub entities: Option<&'a str>,
+    /// The name of the context, where the page is a fragment.
+    pub fragment: Option<&'a str>,
+    /// The most nodes that a page may have.
+    pub max_nodes: Option<u64>,
+    /// The most code points that a page's nodes may hold.
+    pub max_held: Option<u64>,
+    /// The most code points that the input may have.
+    pub max_input: Option<u64>,
     /// How `Normalise` escapes; `One` where the words do not say, and for the other commands.
     pub profile: Profile,
     /// The file of the page. `-`, or none, is standard input.
@@ -61,7 +73,9 @@ impl Command {
         match name {
             "tree" => Some(Command::Tree),
             "errors" => Some(Command::Errors),
+            "audit" => Some(Command::Audit),
             "normalise" => Some(Command::Normalise),
+            "counts" => Some(Command::Counts),
             "suite" => Some(Command::Suite),
             _ => None,
         }

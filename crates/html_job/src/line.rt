@@ -35,7 +35,7 @@ fn files<'a>(alloc: Global) -> Arg<'a>
     Arg::new(alloc, "FILE")
         .action(ArgAction::Append)
         .required(true)
-        .help("A file of test cases, in html5lib's form: .test for tokens")
+        .help("A file of test cases, in html5lib's form: .test for tokens, .dat for trees")
 }
 
 /// The file of named character references.
@@ -51,6 +51,58 @@ fn entities<'a>(alloc: Global) -> Arg<'a>
     )
 }
 
+/// The name of a fragment's context.
+fn fragment<'a>(alloc: Global) -> Arg<'a>
+    ensures rule { rule_of result ≡ option_rule (codes "fragment") }
+    ensures local { result.global ≡ false }
+{
+    text_option(
+        alloc,
+        "fragment",
+        "NAME",
+        "Read the page as a fragment in an element of this name",
+    )
+}
+
+/// The most nodes of a page.
+fn max_nodes<'a>(alloc: Global) -> Arg<'a>
+    ensures rule { rule_of result ≡ option_rule (codes "max-nodes") }
+    ensures local { result.global ≡ false }
+{
+    text_option(
+        alloc,
+        "max-nodes",
+        "K",
+        "Refuse a page of more than K nodes",
+    )
+}
+
+/// The most code points that nodes hold.
+fn max_held<'a>(alloc: Global) -> Arg<'a>
+    ensures rule { rule_of result ≡ option_rule (codes "max-held") }
+    ensures local { result.global ≡ false }
+{
+    text_option(
+        alloc,
+        "max-held",
+        "K",
+        "Refuse a page whose nodes hold more than K code points",
+    )
+}
+
+/// The most code points of the input.
+fn max_input<'a>(alloc: Global) -> Arg<'a>
+    ensures rule { rule_of result ≡ option_rule (codes "max-input") }
+    ensures local { result.global ≡ false }
+{
+    text_option(
+        alloc,
+        "max-input",
+        "K",
+        "Refuse an input of more than K code points",
+    )
+}
+
 /// A command on one page.
 fn page_command<'a>(alloc: Global, name: &'a str, about: &'a str) -> Result<Command<'a>, AllocError>
     ensures app { IfOk result (λ c. app_of c ≡ page_app name.entry.now) }
@@ -59,6 +111,10 @@ fn page_command<'a>(alloc: Global, name: &'a str, about: &'a str) -> Result<Comm
     Command::new(alloc, name)
         .about(about)
         .arg(entities(alloc))?
+        .arg(fragment(alloc))?
+        .arg(max_nodes(alloc))?
+        .arg(max_held(alloc))?
+        .arg(max_input(alloc))?
         .arg(input(alloc))
 }
 
@@ -94,7 +150,9 @@ pub(crate) fn line<'a>(alloc: Global) -> Result<Command<'a>, AllocError>
 {
     let tree = page_command(alloc, "tree", "Print the tree of a page")?;
     let errors = page_command(alloc, "errors", "Print the parse errors of a page")?;
+    let audit = page_command(alloc, "audit", "Print what became of each token of a page")?;
     let normalise = normalise(alloc)?;
+    let counts = page_command(alloc, "counts", "Print how large a page is")?;
     let suite = suite(alloc)?;
     Command::new(alloc, "html_cmd")
         .about("Reads HTML pages")
@@ -102,6 +160,8 @@ pub(crate) fn line<'a>(alloc: Global) -> Result<Command<'a>, AllocError>
         .disable_help_subcommand(true)
         .subcommand(tree)?
         .subcommand(errors)?
+        .subcommand(audit)?
         .subcommand(normalise)?
+        .subcommand(counts)?
         .subcommand(suite)
 }

@@ -44,6 +44,89 @@ fn entities_of_a_file(rt: HostRuntime) -> Result<(), Fail> {
 }
 
 #[test]
+fn fragments_and_limits(rt: HostRuntime) -> Result<(), Fail> {
+    let rows: [(&[&str], Command); 5] = [
+        (
+            &["html_cmd", "tree", "--fragment", "td", "--max-nodes", "0"],
+            Command::Tree,
+        ),
+        (
+            &["html_cmd", "errors", "--fragment", "td", "--max-nodes", "0"],
+            Command::Errors,
+        ),
+        (
+            &["html_cmd", "audit", "--fragment", "td", "--max-nodes", "0"],
+            Command::Audit,
+        ),
+        (
+            &[
+                "html_cmd",
+                "normalise",
+                "--fragment",
+                "td",
+                "--max-nodes",
+                "0",
+            ],
+            Command::Normalise,
+        ),
+        (
+            &["html_cmd", "counts", "--fragment", "td", "--max-nodes", "0"],
+            Command::Counts,
+        ),
+    ];
+    for (words, command) in rows {
+        let job = job(rt.alloc(), words)?;
+        assert_eq!(rt; job.command, command);
+        assert_eq!(rt; job.fragment, Some("td"));
+        assert_eq!(rt; job.max_nodes, Some(0));
+        assert_eq!(rt; job.max_held, None);
+        assert_eq!(rt; job.max_input, None);
+    }
+    let words: [&str; 6] = [
+        "html_cmd",
+        "counts",
+        "--max-held",
+        "18446744073709551615",
+        "--max-input",
+        "7",
+    ];
+    let job = job(rt.alloc(), words.as_slice())?;
+    assert_eq!(rt; job.fragment, None);
+    assert_eq!(rt; job.max_held, Some(u64::MAX));
+    assert_eq!(rt; job.max_input, Some(7));
+    Ok(())
+}
+
+#[test]
+fn wrong_limits(rt: HostRuntime) {
+    let rows: [(&[&str], &str); 5] = [
+        (
+            &["html_cmd", "tree", "--max-nodes", "18446744073709551616"],
+            "'--max-nodes <K>'",
+        ),
+        (&["html_cmd", "tree", "--max-held", "a"], "'--max-held <K>'"),
+        (
+            &["html_cmd", "tree", "--max-input", ""],
+            "'--max-input <K>'",
+        ),
+        (
+            &["html_cmd", "suite", "--max-input", "1", "a"],
+            "unexpected argument '--max-input'",
+        ),
+        (
+            &["html_cmd", "suite", "--fragment", "a", "a"],
+            "unexpected argument '--fragment'",
+        ),
+    ];
+    for (words, part) in rows {
+        let Some(text) = refusal(rt.alloc(), words) else {
+            panic!(rt; "{words:?} is a job");
+        };
+        assert!(rt; text.contains(part), "{words:?}: {text}");
+    }
+}
+
+#[test]
 fn profiles(rt: HostRuntime) -> Result<(), Fail> {
     let rows: [(&[&str], Profile); 3] = [
         (&["html_cmd", "normalise"], Profile::One),

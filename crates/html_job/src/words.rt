@@ -3,7 +3,7 @@
 ghost use Rattle.std.specs.Prelude.{◌≡◌, ◌≢◌, [], true, IfOk, IfErr, OnErr, OnOk, map, option_map, unwrap_or, codes};
 ghost use Rattle.clap.specs.Words.{all_of, first_of, found_of, kind_of, rows_of, fault_of, subcommand_of, subcommand_rows_of, has_subcommand};
 ghost use Rattle.html_job.specs.Line.{line};
-ghost use Rattle.html_job.specs.Read.{IsJobOf, Reads, IsWords, IsBadProfile, IsRefused, profile_text};
+ghost use Rattle.html_job.specs.Read.{HasBadValue, IsBadNumber, IsBadProfile, IsJobOf, IsNumber, IsRefused, IsWords, Reads, profile_text};
 
 use crate::jobs::{Command, Job, JobFault, Profile};
 use crate::line::line;
@@ -57,13 +57,20 @@ fn job_of<'a>(
 ) -> Result<Job<'a>, JobFault>
     ensures command { IfOk result (λ j. j.command ≡ command) }
     ensures reads { IfOk result (λ j. Reads j (rows_of (found_of matches.entry.now))) }
-    ensures refused { IfErr result (λ e. IsWords e → IsBadProfile (first_of (codes "profile") (rows_of (found_of matches.entry.now)))) }
+    ensures refused { IfErr result (λ e. IsWords e → HasBadValue (rows_of (found_of matches.entry.now))) }
 {
     let profile = profile(alloc, matches)?;
+    let max_nodes = number(alloc, matches, "max-nodes")?;
+    let max_held = number(alloc, matches, "max-held")?;
+    let max_input = number(alloc, matches, "max-input")?;
     let files = files(alloc, matches)?;
     Ok(Job {
         command,
         entities: text(matches, "entities"),
+        fragment: text(matches, "fragment"),
+        max_nodes,
+        max_held,
+        max_input,
         profile,
         input: text(matches, "INPUT"),
         files,
@@ -80,6 +87,20 @@ fn profile(alloc: Global, matches: &ArgMatches<'_>) -> Result<Profile, JobFault>
         Some(text) if text == "1" => Ok(Profile::One),
         Some(text) if text == "2" => Ok(Profile::Two),
         Some(_) => Err(words_fault(alloc, WRONG_PROFILE)),
+    }
+}
+
+/// The number that stands at an option.
+fn number(alloc: Global, matches: &ArgMatches<'_>, name: &str) -> Result<Option<u64>, JobFault>
+    ensures ok { IfOk result (λ n. IsNumber n (first_of name.now (rows_of (found_of matches.now)))) }
+    ensures refused { OnErr result (IsBadNumber (first_of name.now (rows_of (found_of matches.now)))) }
+{
+    match text(matches, name) {
+        None => Ok(None),
+        Some(text) => match text.parse::<u64>() {
+            Ok(number) => Ok(Some(number)),
+            Err(_) => Err(wrong_number(alloc, name)),
+        },
     }
 }
 
@@ -111,6 +132,23 @@ fn fault(alloc: Global, error: &Error) -> JobFault
         Ok(text) => JobFault::Words(text),
         Err(_) => JobFault::OutOfMemory,
     }
+}
+
+/// The fault of an option whose value is no number.
+fn wrong_number(alloc: Global, name: &str) -> JobFault {
+    match wrong_number_text(alloc, name) {
+        Ok(text) => JobFault::Words(text),
+        Err(_) => JobFault::OutOfMemory,
+    }
+}
+
+fn wrong_number_text(alloc: Global, name: &str) -> Result<String, AllocError> {
+    let mut text = String::new(alloc);
+    write!(
+        text,
+        "error: invalid value for '--{name} <K>'\n  [a number from 0 to 18446744073709551615]\n"
+    )?;
+    Ok(text)
 }
 
 /// The fault of words that clap takes.

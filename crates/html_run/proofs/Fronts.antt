@@ -1,35 +1,73 @@
--- What was written of a page that was not normalised.
-use Rattle.std.proofs.Common.{◌≡◌, ◌⊎◌, ◌∙◌, inl, inr, sym, subst, ℕ, Bool, List, Option}
-use Rattle.std.specs.Prelude.{Result, Err, IfErr}
-use Rattle.html_charref.specs.declared.table.Row.{Row}
+-- What was written of a page, from what parsing and serialising say.
+use Rattle.std.proofs.Common.{◌≡◌, ◌⊎◌, inl, inr, ℕ, ◌≤◌, Bool, List, length, Option, refl, subst}
+use Rattle.std.specs.Prelude.{Result, Ok, Err, OnOk, OnErr, IfErr}
+use Rattle.std.specs.Str.{encode_utf8_all}
+use Rattle.std.specs.Io.KnownBytes.{Appends, Consumes, IsAtEnd}
+use Rattle.html_arena.specs.Walking.{IsRoot}
 use Rattle.html_device.specs.Device.{AppendsFront}
-use Rattle.html_page.specs.declared.error.ParseError.{ParseError}
-use Rattle.html_page.specs.declared.error.ParseError.TheVariants.{OutOfMemory, InputTooLong, ForeignContent, BadContext, Read, Write, Stopped, NodeBudget, HeldBudget, NotYet}
+use Rattle.html_page.specs.Serialised.{HasNames, html_below, most_written}
 use Rattle.html_page.specs.declared.profile.Profile.{Profile}
-use Rattle.html_page.specs.Normalised.{IsNormalised, IsNormaliseCause}
+use Rattle.html_parser.specs.Normalised.{IsNormalised}
+use Rattle.html_parser.specs.Parsed.{IsTreeOf}
+use Rattle.html_parser.specs.Start.{Start}
+use Rattle.html_parser.specs.declared.error.ParseError.{ParseError}
+use Rattle.html_parser.specs.declared.error.ParseError.TheVariants.{OutOfMemory, InputTooLong, ForeignContent, BadContext, Read, Write, Stopped, NodeBudget, HeldBudget, StepBudget}
+use Rattle.html_parser.specs.declared.page.Tree.{Tree}
+use Rattle.html_run.specs.Outcome.{status_of}
+
+-- what holds anyway, holds of an answer
+pub on-ok : (r : Result (Unit {0}) ParseError) (P : Type 0) → P → OnOk r P
+on-ok (Ok u) P p = p
+on-ok (Err e) P p = tt
 
 -- nothing, or a front of the text
-abbrev pub NothingOrFront : List Row → Profile → (reader new_reader writer new_writer : Option (List ℕ)) → Type 0
-NothingOrFront rows profile reader new_reader writer new_writer =
-    (new_writer ≡ writer) ⊎ IsNormalised rows profile (AppendsFront writer new_writer) reader new_reader
+abbrev pub NothingOrFront : Start → Profile → (reader new_reader writer new_writer : Option (List ℕ)) → ParseError → Type 0
+NothingOrFront start profile reader new_reader writer new_writer e =
+    (new_writer ≡ writer) ⊎ ((e ≡ Write) × IsNormalised start profile (AppendsFront writer new_writer) reader new_reader)
 
-module _ (reader new_reader : Option (List ℕ)) (read_failed : Bool) (writer new_writer : Option (List ℕ)) (failed stalled : Bool) where
-  by_cause : (rows : List Row) (profile : Profile) (e : ParseError) → IsNormaliseCause rows profile reader new_reader read_failed writer new_writer failed stalled e
-      → NothingOrFront rows profile reader new_reader writer new_writer
-  by_cause rows profile OutOfMemory cause = inl cause.1
-  by_cause rows profile InputTooLong cause = inl cause.1
-  by_cause rows profile (ForeignContent name at) cause = inl cause.1
-  by_cause rows profile BadContext cause = inl cause.1
-  by_cause rows profile Read cause = inl cause.1
-  by_cause rows profile Write cause = inr cause.0
-  by_cause rows profile Stopped cause = inl cause.1
-  by_cause rows profile (NodeBudget at) cause = inl cause.1
-  by_cause rows profile (HeldBudget at) cause = inl cause.1
-  by_cause rows profile (NotYet at) cause = inl cause.1
+-- the text of a tree in a profile, told of the profile that a job names
+module _ (start : Start) (given named : Profile) (same : given ≡ named) (tree : Tree) (bytes : List ℕ) (old new : Option (List ℕ)) (r : Result (Unit {0}) ParseError)
+    (consumed : Consumes old new bytes) (at_end : IsAtEnd new) (is_tree : IsTreeOf start bytes tree)
+    (few : HasNames tree.arena → length (html_below given tree.arena tree.root) ≤ most_written tree.arena) (writer new_writer : Option (List ℕ)) where
+  abbrev text : List ℕ
+  text = encode_utf8_all (html_below given tree.arena tree.root)
 
-  pub front_written : (rows : List Row) (profile chosen : Profile) (answer result : Result (Unit {0}) ParseError) (e : ParseError) → chosen ≡ profile → answer ≡ result → answer ≡ Err e
-      → IfErr result (IsNormaliseCause rows chosen reader new_reader read_failed writer new_writer failed stalled)
-      → NothingOrFront rows profile reader new_reader writer new_writer
-  front_written rows profile chosen answer result e chosen_is is err cause =
-      subst (λ p. NothingOrFront rows p reader new_reader writer new_writer) chosen_is
-      (by_cause rows chosen e (subst (λ r. IfErr r (IsNormaliseCause rows chosen reader new_reader read_failed writer new_writer failed stalled)) (sym is ∙ err) cause))
+  normalised : (W : List ℕ → Type 0) → W text → IsNormalised start named W old new
+  normalised W w = subst (λ (p : Profile). IsNormalised start p W old new) same
+      (record { bytes = bytes; consumed = consumed; at_end = at_end; tree = tree; is_tree = is_tree; written = w; few = few })
+
+  pub all-written : OnOk r (Appends writer new_writer text) → OnOk r (IsNormalised start named (Appends writer new_writer) old new)
+  all-written h = go r h
+    where
+      go : (s : Result (Unit {0}) ParseError) → OnOk s (Appends writer new_writer text) → OnOk s (IsNormalised start named (Appends writer new_writer) old new)
+      go (Ok u) w = normalised (Appends writer new_writer) w
+      go (Err e) w = tt
+
+  pub front-written : OnErr r (AppendsFront writer new_writer text) → IfErr r (λ e. e ≡ Write) → IfErr r (NothingOrFront start named old new writer new_writer)
+  front-written a b = go r a b
+    where
+      go : (s : Result (Unit {0}) ParseError) → OnErr s (AppendsFront writer new_writer text) → IfErr s (λ e. e ≡ Write) → IfErr s (NothingOrFront start named old new writer new_writer)
+      go (Ok u) x y = tt
+      go (Err e) x y = inr (y, normalised (AppendsFront writer new_writer) x)
+
+-- A refusal is told by no status of a job that is done.
+pub never-done : (e : ParseError) → status_of e ≡ 0 → ⊥
+never-done OutOfMemory h = cc
+never-done InputTooLong h = cc
+never-done (ForeignContent name at) h = cc
+never-done BadContext h = cc
+never-done Read h = cc
+never-done Write h = cc
+never-done Stopped h = cc
+never-done (NodeBudget at) h = cc
+never-done (HeldBudget at) h = cc
+never-done (StepBudget at) h = cc
+
+module _ (start : Start) (profile : Profile) (old new writer new_writer : Option (List ℕ)) where
+  -- where the status is that of a refusal, nothing was written
+  pub nothing-written : (e : ParseError) → NothingOrFront start profile old new writer new_writer e → status_of e ≡ 1 → new_writer ≡ writer
+  nothing-written e (inl same) h = same
+  nothing-written e (inr front) h = absurd (fault-is-told e front.0 h)
+    where
+      fault-is-told : (f : ParseError) → f ≡ Write → status_of f ≡ 1 → ⊥
+      fault-is-told f is k = let j : status_of Write ≡ 1 = subst (λ (x : ParseError). status_of x ≡ 1) is k in cc

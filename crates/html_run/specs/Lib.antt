@@ -1,3 +1,4 @@
+pub mod Jobs
 pub mod Line
 pub mod Outcome
 pub mod Profiles

@@ -3,10 +3,10 @@ use Rattle.std.specs.Prelude.{ℕ, ◌++◌, List, codes, decimal}
 use Rattle.std.specs.Str.{encode_utf8_all}
 use Rattle.html_charref.specs.declared.read.EntityError.{EntityError}
 use Rattle.html_charref.specs.declared.read.EntityError.TheVariants as entity
-use Rattle.html_page.specs.declared.error.Foreign.{Foreign}
-use Rattle.html_page.specs.declared.error.Foreign.TheVariants.{Svg, Math}
-use Rattle.html_page.specs.declared.error.ParseError.{ParseError}
-use Rattle.html_page.specs.declared.error.ParseError.TheVariants.{OutOfMemory, InputTooLong, ForeignContent, BadContext, Read, Write, Stopped, NodeBudget, HeldBudget, NotYet}
+use Rattle.html_modes.specs.declared.outcome.Foreign.{Foreign}
+use Rattle.html_modes.specs.declared.outcome.Foreign.TheVariants.{Svg, Math}
+use Rattle.html_parser.specs.declared.error.ParseError.{ParseError}
+use Rattle.html_parser.specs.declared.error.ParseError.TheVariants.{OutOfMemory, InputTooLong, ForeignContent, BadContext, Read, Write, Stopped, NodeBudget, HeldBudget, StepBudget}
 
 abbrev pub foreign_text : Foreign → List ℕ
 foreign_text Svg = codes "svg"
@@ -29,7 +29,7 @@ line_of Write input = codes "fault: cannot write"
 line_of Stopped input = codes "refused: stopped"
 line_of (NodeBudget at) input = codes "refused: node budget at " ++ decimal at
 line_of (HeldBudget at) input = codes "refused: held budget at " ++ decimal at
-line_of (NotYet at) input = codes "refused: not yet at " ++ decimal at
+line_of (StepBudget at) input = codes "refused: step budget at " ++ decimal at
 
 -- the line that tells why there is no table of character references, without its end; the key is written in UTF-8
 abbrev pub table_line_of : EntityError → List ℕ

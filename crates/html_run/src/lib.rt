@@ -1,8 +1,11 @@
 //! What the program does with a job: it reads a page, prints it, and tells how that ended.
 #![tactic(auto)]
 
+mod audit;
+mod counts;
 mod errors;
 mod line;
+mod making;
 mod printing;
 mod refusal;
 mod running;
@@ -14,3 +17,4 @@ mod tree;
 pub use refusal::{Refusal, TableRefusal, outcome};
 pub use running::{run, table_of, tell, tell_table};
 pub use status::{DONE, FILE_FAULT, REFUSED, WRONG_WORDS};
+pub use tree::print_tree;

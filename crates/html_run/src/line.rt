@@ -2,7 +2,7 @@
 
 ghost use Rattle.std.specs.Prelude.{Some};
 
-use html_page::Kind;
+use html_parser::Kind;
 use std::fmt;
 
 /// How many spaces are written at once.

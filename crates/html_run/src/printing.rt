@@ -1,6 +1,6 @@
 //! Printing to a device.
 
-use html_page::Sink;
+use html_parser::Sink;
 use std::io;
 use std::io::{ErrorKind, Write};
 

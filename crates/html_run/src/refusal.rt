@@ -4,7 +4,7 @@ ghost use Rattle.std.specs.Prelude.{◌≡◌, Some};
 ghost use Rattle.html_run.specs.Outcome.{status_of, foreign_text};
 
 use crate::status::{FILE_FAULT, REFUSED};
-use html_page::{EntityError, Foreign, ParseError};
+use html_parser::{EntityError, Foreign, ParseError};
 use std::fmt;
 
 /// Why there is no page, as a line for the user. `input` is the name of the file, or `-`.
@@ -35,7 +35,7 @@ impl fmt::Display for Refusal<'_> {
             ParseError::Stopped => f.write_str("refused: stopped"),
             ParseError::NodeBudget { at } => write!(f, "refused: node budget at {at}"),
             ParseError::HeldBudget { at } => write!(f, "refused: held budget at {at}"),
-            ParseError::NotYet { at } => write!(f, "refused: not yet at {at}"),
+            ParseError::StepBudget { at } => write!(f, "refused: step budget at {at}"),
         }
     }
 }

@@ -1,28 +1,26 @@
 //! One job, over any reader and writers.
 
-ghost use Rattle.std.specs.Prelude.{◌≡◌, ◌≢◌, ◌<◌, ◌⊎◌, List, IfOk, IfErr, IfSome, OnOk, MatchOption, Ok, Err};
+ghost use Rattle.std.specs.Prelude.{◌≡◌, ◌≢◌, ◌<◌, ◌⊎◌, List, IfOk, IfErr, MatchOption, Ok, Err, OnOk};
 ghost use Rattle.std.specs.Io.KnownBytes.{Appends};
 ghost use Rattle.html_arena.specs.Walking.{IsRoot};
-ghost use Rattle.html_device.specs.Device.{AppendsFront};
 ghost use Rattle.html_charref.specs.Entities.{core_rows, entities_of};
+ghost use Rattle.html_charref.specs.declared.table.Row.{Row};
+ghost use Rattle.html_device.specs.Device.{AppendsFront};
+ghost use Rattle.html_parser.specs.Normalised.{IsNormalised};
+ghost use Rattle.html_run.specs.Jobs.{IsRead, start_for};
 ghost use Rattle.html_run.specs.Outcome.{status_of};
 ghost use Rattle.html_run.specs.Profiles.{profile_of};
-ghost use Rattle.html_input.specs.Decode.{decode};
-ghost use Rattle.html_page.specs.Normalised.{IsNormalised};
-ghost use Rattle.html_charref.specs.declared.table.Row.{Row};
-ghost use Rattle.html_page.specs.PageTokens.{ArePlain, kinds};
-ghost use Rattle.html_page.specs.Parsed.{tokens_in};
 
-use crate::errors::{print_errors, tokens_from};
+use crate::audit::print_audit;
+use crate::counts::print_counts;
+use crate::errors::print_errors;
+use crate::making::{parser_for, tree_for};
 use crate::printing::ToSink;
 use crate::refusal::{TableRefusal, outcome};
 use crate::status::{DONE, FILE_FAULT, REFUSED};
 use crate::tree::print_tree;
 use html_job::{Command, Job};
-use html_page::{
-    EntityError, EntityTable, Page, ParseError, Profile, Sink, Source, normalise, parse_from,
-};
-use html_tokens::Fault;
+use html_parser::{EntityError, EntityTable, Page, ParseError, Profile, Sink, Source, Tree};
 use std::alloc::Global;
 use std::io;
 use std::io::{BufWriter, ErrorKind, Write};
@@ -39,16 +37,15 @@ pub fn run<R: Source, W: Sink, F: Write>(
     writer: &mut W,
     faults: &mut F,
 ) -> u8
-    ensures done { job.now.command ≡ Command.Tree → result ≡ DONE → (rows : List Row)
-        × MatchOption entities.entry (rows ≡ core_rows) (λ bytes. entities_of bytes.now ≡ Ok rows)
-        × IfSome (R.remaining reader.old) (λ bytes. ArePlain (kinds (tokens_in rows (decode bytes)))) }
+    ensures done { result ≡ DONE → (rows : List Row) × MatchOption entities.entry (rows ≡ core_rows) (λ bytes. entities_of bytes.now ≡ Ok rows)
+        × IsRead (start_for job.now rows) (R.remaining reader.old) (R.remaining reader.new) }
     ensures normalised { job.now.command ≡ Command.Normalise → result ≡ DONE
         → (rows : List Row) × MatchOption entities.entry (rows ≡ core_rows) (λ bytes. entities_of bytes.now ≡ Ok rows)
-        × IsNormalised rows (profile_of job.now.profile) (Appends (W.taken writer.old) (W.taken writer.new)) (R.remaining reader.old) (R.remaining reader.new) }
+        × IsNormalised (start_for job.now rows) (profile_of job.now.profile) (Appends (W.taken writer.old) (W.taken writer.new)) (R.remaining reader.old) (R.remaining reader.new) }
     ensures refused { job.now.command ≡ Command.Normalise → result ≡ REFUSED → W.taken writer.new ≡ W.taken writer.old }
     ensures failed { job.now.command ≡ Command.Normalise → result ≡ FILE_FAULT → (W.taken writer.new ≡ W.taken writer.old)
         ⊎ ((rows : List Row) × MatchOption entities.entry (rows ≡ core_rows) (λ bytes. entities_of bytes.now ≡ Ok rows)
-        × IsNormalised rows (profile_of job.now.profile) (AppendsFront (W.taken writer.old) (W.taken writer.new)) (R.remaining reader.old) (R.remaining reader.new)) }
+        × IsNormalised (start_for job.now rows) (profile_of job.now.profile) (AppendsFront (W.taken writer.old) (W.taken writer.new)) (R.remaining reader.old) (R.remaining reader.new)) }
     ensures status { result < 4 }
 {
     let input = job.input.unwrap_or("-");
@@ -56,19 +53,54 @@ pub fn run<R: Source, W: Sink, F: Write>(
         Ok(table) => table,
         Err(error) => return tell_table(&error, faults),
     };
-    let answer = match job.command {
-        Command::Tree => answer_tree(alloc, &table, reader, writer),
-        Command::Errors => answer_errors(alloc, &table, reader, writer),
-        Command::Normalise => {
-            let profile = profile(job.profile);
-            normalise(alloc, &table, profile, reader, writer)
-        }
-        Command::Suite => answer_nothing(alloc, &table, reader),
-    };
-    match answer {
+    match answer(alloc, job, &table, reader, writer) {
         Ok(()) => DONE,
         Err(error) => tell(&error, input, faults),
     }
+}
+
+/// Reads the page, and writes what the command asks for.
+fn answer<R: Source, W: Sink>(
+    alloc: Global,
+    job: &Job<'_>,
+    table: &EntityTable,
+    reader: &mut R,
+    writer: &mut W,
+) -> Result<(), ParseError>
+    ensures done { OnOk result (IsRead (start_for job.now table.now) (R.remaining reader.old) (R.remaining reader.new)) }
+    ensures normalised { job.now.command ≡ Command.Normalise → OnOk result (IsNormalised (start_for job.now table.now) (profile_of job.now.profile)
+        (Appends (W.taken writer.old) (W.taken writer.new)) (R.remaining reader.old) (R.remaining reader.new)) }
+    ensures failed { job.now.command ≡ Command.Normalise → IfErr result (λ e. (W.taken writer.new ≡ W.taken writer.old)
+        ⊎ ((e ≡ ParseError.Write) × IsNormalised (start_for job.now table.now) (profile_of job.now.profile)
+        (AppendsFront (W.taken writer.old) (W.taken writer.new)) (R.remaining reader.old) (R.remaining reader.new))) }
+{
+    if matches!(job.command, Command::Audit) {
+        return answer_audit(alloc, job, table, reader, writer);
+    }
+    let tree = tree_for(alloc, job, table, reader)?;
+    match job.command {
+        Command::Tree => written(write_tree(alloc, &tree, writer)),
+        Command::Errors => written(write_errors(alloc, &tree, writer)),
+        Command::Counts => written(write_counts(alloc, &tree, writer)),
+        Command::Normalise => tree.serialise(profile(job.profile), writer),
+        Command::Audit | Command::Suite => Ok(()),
+    }
+}
+
+/// Prints what became of each token of a page.
+fn answer_audit<R: Source, W: Sink>(
+    alloc: Global,
+    job: &Job<'_>,
+    table: &EntityTable,
+    reader: &mut R,
+    writer: &mut W,
+) -> Result<(), ParseError>
+    ensures done { OnOk result (IsRead (start_for job.now table.now) (R.remaining reader.old) (R.remaining reader.new)) }
+{
+    let mut parser = parser_for(alloc, job, table)?;
+    parser.feed_from(reader)?;
+    let page = parser.finish()?;
+    written(write_audit(alloc, &page, writer))
 }
 
 /// The profile that a job names.
@@ -78,46 +110,6 @@ fn profile(profile: html_job::Profile) -> Profile
     match profile {
         html_job::Profile::One => Profile::One,
         html_job::Profile::Two => Profile::Two,
-    }
-}
-
-/// Prints the tree of a page.
-fn answer_tree<R: Source, W: Sink>(
-    alloc: Global,
-    table: &EntityTable,
-    reader: &mut R,
-    writer: &mut W,
-) -> Result<(), ParseError>
-    ensures { OnOk result (IfSome (R.remaining reader.old) (λ bytes. ArePlain (kinds (tokens_in table.now (decode bytes))))) }
-{
-    match parse_from(alloc, table, reader) {
-        Ok(page) => written(write_tree(alloc, &page, writer)),
-        Err(error) => Err(error),
-    }
-}
-
-/// Prints the parse errors of tokenizing.
-fn answer_errors<R: Source, W: Sink>(
-    alloc: Global,
-    table: &EntityTable,
-    reader: &mut R,
-    writer: &mut W,
-) -> Result<(), ParseError> {
-    match tokens_from(alloc, table, reader) {
-        Ok(list) => written(write_errors(alloc, list.errors.as_slice(), writer)),
-        Err(error) => Err(error),
-    }
-}
-
-/// Reads a page.
-fn answer_nothing<R: Source>(
-    alloc: Global,
-    table: &EntityTable,
-    reader: &mut R,
-) -> Result<(), ParseError> {
-    match parse_from(alloc, table, reader) {
-        Ok(_) => Ok(()),
-        Err(error) => Err(error),
     }
 }
 
@@ -142,18 +134,32 @@ pub fn tell_table<F: Write>(error: &EntityError, faults: &mut F) -> u8
 }
 
 /// Prints a tree, to the last byte.
-fn write_tree<W: Sink>(alloc: Global, page: &Page, writer: &mut W) -> io::Result<()>
-    requires { IsRoot page.now.arena page.now.root }
+fn write_tree<W: Sink>(alloc: Global, tree: &Tree, writer: &mut W) -> io::Result<()>
+    requires root { IsRoot tree.now.arena tree.now.root }
 {
     let mut out = BufWriter::new(alloc, ToSink { sink: writer })?;
-    print_tree(alloc, &mut out, &page.arena, page.root)?;
+    print_tree(alloc, &mut out, &tree.arena, tree.root)?;
     out.flush()
 }
 
 /// Prints parse errors, to the last byte.
-fn write_errors<W: Sink>(alloc: Global, errors: &[Fault], writer: &mut W) -> io::Result<()> {
+fn write_errors<W: Sink>(alloc: Global, tree: &Tree, writer: &mut W) -> io::Result<()> {
     let mut out = BufWriter::new(alloc, ToSink { sink: writer })?;
-    print_errors(&mut out, errors)?;
+    print_errors(&mut out, tree.errors.as_slice())?;
+    out.flush()
+}
+
+/// Prints counts, to the last byte.
+fn write_counts<W: Sink>(alloc: Global, tree: &Tree, writer: &mut W) -> io::Result<()> {
+    let mut out = BufWriter::new(alloc, ToSink { sink: writer })?;
+    print_counts(&mut out, tree)?;
+    out.flush()
+}
+
+/// Prints a ledger, to the last byte.
+fn write_audit<W: Sink>(alloc: Global, page: &Page, writer: &mut W) -> io::Result<()> {
+    let mut out = BufWriter::new(alloc, ToSink { sink: writer })?;
+    print_audit(&mut out, &page.tokens, &page.fates)?;
     out.flush()
 }
 

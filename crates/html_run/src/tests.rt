@@ -1,6 +1,6 @@
 use super::*;
 use html_job::{Command, Job, Profile};
-use html_page::{FailAt, Foreign, OverRead, OverWrite, ParseError};
+use html_parser::{FailAt, Foreign, OverRead, OverWrite, ParseError};
 use std::alloc::{AllocError, Global};
 use std::test::Fail;
 
@@ -13,6 +13,10 @@ fn job_of(alloc: Global, command: Command) -> Job<'static> {
     Job {
         command,
         entities: None,
+        fragment: None,
+        max_nodes: None,
+        max_held: None,
+        max_input: None,
         profile: Profile::One,
         input: None,
         files: Vec::new(alloc),
@@ -83,27 +87,274 @@ fn prints_attributes_and_escapes(rt: HostRuntime) -> Result<(), Fail> {
     Ok(())
 }
 
+/// What a job answers, writes and tells, as texts.
+fn texts(alloc: Global, job: &Job<'_>, input: &str) -> Result<(u8, String, String), Fail> {
+    let (status, written, faults) = answer(alloc, job, input.as_bytes())?;
+    Ok((
+        status,
+        String::from_utf8(written)?,
+        String::from_utf8(faults)?,
+    ))
+}
+
 #[test]
-fn tells_a_refusal(rt: HostRuntime) -> Result<(), Fail> {
-    let rows: [(&[u8], &str); 3] = [
-        (b"", "refused: not yet at 0\n"),
+fn prints_any_page(rt: HostRuntime) -> Result<(), Fail> {
+    let rows: [(Command, &str, &str); 21] = [
+        (Command::Tree, "", "| <html>\n|   <head>\n|   <body>\n"),
+        (Command::Errors, "", "0 tree-construction\n"),
         (
-            b"<!DOCTYPE html><html><head></head><body><p>Hi</p></body></html>",
-            "refused: not yet at 40\n",
+            Command::Tree,
+            "<!DOCTYPE html><p>One<p>Two",
+            "| <!DOCTYPE html>\n| <html>\n|   <head>\n|   <body>\n|     <p>\n|       \"One\"\n|     <p>\n|       \"Two\"\n",
         ),
         (
-            b"<!DOCTYPE html><html><head></head><body><div>Hi</div></body></html>x",
-            "refused: not yet at 67\n",
+            Command::Errors,
+            "<!--a--!>b",
+            "8 incorrectly-closed-comment\n9 tree-construction\n",
+        ),
+        (
+            Command::Tree,
+            "<title><svg></title>",
+            "| <html>\n|   <head>\n|     <title>\n|       \"<svg>\"\n|   <body>\n",
+        ),
+        (
+            Command::Audit,
+            "<select><svg>",
+            "0 8 start select made 4\n8 13 start svg dropped InSelect\n13 13 eof ended\n",
+        ),
+        (
+            Command::Audit,
+            "<pre>\n\nx</pre>",
+            "0 5 start pre made 4\n5 6 char U+000A dropped LeadingNewline\n6 7 char U+000A text 5\n7 8 char U+0078 text 5\n8 14 end pre ended\n14 14 eof ended\n",
+        ),
+        (
+            Command::Audit,
+            "<html a=b><html c=d>",
+            "0 10 start html made 1\n10 20 start html merged\n20 20 eof ended\n",
+        ),
+        (
+            Command::Tree,
+            "<html a=b><html c=d>",
+            "| <html>\n|   a=\"b\"\n|   c=\"d\"\n|   <head>\n|   <body>\n",
+        ),
+        (
+            Command::Tree,
+            "<template><td>x</td></template>",
+            "| <html>\n|   <head>\n|     <template>\n|       content\n|         <td>\n|           \"x\"\n|   <body>\n",
+        ),
+        (
+            Command::Audit,
+            "<template><td>x</td></template>",
+            "0 10 start template made 3\n10 14 start td made 5\n14 15 char U+0078 text 6\n15 20 end td ended\n20 31 end template ended\n31 31 eof ended\n",
+        ),
+        (
+            Command::Audit,
+            "<select><div>a</select>",
+            "0 8 start select made 4\n8 13 start div dropped InSelect\n13 14 char U+0061 text 5\n14 23 end select ended\n23 23 eof ended\n",
+        ),
+        (
+            Command::Errors,
+            "<select><div>a</select>",
+            "0 tree-construction\n8 tree-construction\n",
+        ),
+        (
+            Command::Normalise,
+            "<p title='a\"<&nbsp;'>1 < 2 & 3<br>",
+            "<html><head></head><body><p title=\"a&quot;<&nbsp;\">1 &lt; 2 &amp; 3<br></p></body></html>",
+        ),
+        (
+            Command::Errors,
+            "<div a=\"b",
+            "9 eof-in-tag\n9 tree-construction\n",
+        ),
+        (
+            Command::Errors,
+            "<p a=1 A=2>",
+            "0 tree-construction\n8 duplicate-attribute\n",
+        ),
+        (
+            Command::Normalise,
+            "<b><frameset>",
+            "<html><head></head><frameset></frameset></html>",
+        ),
+        (
+            Command::Tree,
+            "<p><table>",
+            "| <html>\n|   <head>\n|   <body>\n|     <p>\n|       <table>\n",
+        ),
+        (
+            Command::Audit,
+            "\u{1F600}<!--x--><!DOCTYPE a>",
+            "0 1 char U+1F600 text 4\n1 9 comment made 5\n9 21 doctype dropped Misplaced\n21 21 eof ended\n",
+        ),
+        (
+            Command::Errors,
+            "\u{FEFF}</><",
+            "2 missing-end-tag-name\n3 tree-construction\n4 eof-before-tag-name\n",
+        ),
+        (Command::Suite, "<p>", ""),
+    ];
+    for (command, input, want) in rows {
+        let (status, written, faults) = texts(rt.alloc(), &job_of(rt.alloc(), command), input)?;
+        assert_eq!(rt; written.as_str(), want, "{command:?} of {input}");
+        assert_eq!(rt; faults.as_str(), "");
+        assert_eq!(rt; status, DONE);
+    }
+    Ok(())
+}
+
+#[test]
+fn counts_what_a_page_has(rt: HostRuntime) -> Result<(), Fail> {
+    let rows: [(&str, &str); 3] = [
+        ("", "n 0\ntokens 1\nnodes 4\nclones 0\nheld 12\nsteps "),
+        (
+            "<p><b id=a><b id=b><b id=c><p>x<p>x",
+            "n 35\ntokens 9\nnodes 18\nclones 6\nheld 53\nsteps ",
+        ),
+        (
+            "<b>1<p>2</b>3</p>",
+            "n 17\ntokens 8\nnodes 10\nclones 1\nheld 18\nsteps ",
         ),
     ];
-    for command in [Command::Tree, Command::Normalise] {
-        for (bytes, line) in rows {
-            let job = job_of(rt.alloc(), command);
-            let (status, written, faults) = answer(rt.alloc(), &job, bytes)?;
+    for (input, front) in rows {
+        let job = job_of(rt.alloc(), Command::Counts);
+        let (status, written, _) = texts(rt.alloc(), &job, input)?;
+        assert!(rt; written.as_str().starts_with(front), "{written}");
+        assert_eq!(rt; written.as_str().lines().count(), 6);
+        assert_eq!(rt; status, DONE);
+    }
+    Ok(())
+}
+
+#[test]
+fn prints_fragments(rt: HostRuntime) -> Result<(), Fail> {
+    let rows: [(&str, Command, &str, &str); 5] = [
+        (
+            "tr",
+            Command::Tree,
+            "<td>a<td>b",
+            "| <td>\n|   \"a\"\n| <td>\n|   \"b\"\n",
+        ),
+        ("td", Command::Tree, "<td>x", "| \"x\"\n"),
+        (
+            "td",
+            Command::Audit,
+            "<td>x",
+            "0 4 start td dropped Misplaced\n4 5 char U+0078 text 1\n5 5 eof ended\n",
+        ),
+        ("title", Command::Tree, "<b></title>", "| \"<b></title>\"\n"),
+        (
+            "tr",
+            Command::Normalise,
+            "<td>a<td>b",
+            "<td>a</td><td>b</td>",
+        ),
+    ];
+    for (name, command, input, want) in rows {
+        let mut job = job_of(rt.alloc(), command);
+        job.fragment = Some(name);
+        let (status, written, faults) = texts(rt.alloc(), &job, input)?;
+        assert_eq!(rt; written.as_str(), want);
+        assert_eq!(rt; faults.as_str(), "");
+        assert_eq!(rt; status, DONE);
+    }
+    Ok(())
+}
+
+/// The commands on one page.
+const COMMANDS: [Command; 5] = [
+    Command::Tree,
+    Command::Errors,
+    Command::Audit,
+    Command::Normalise,
+    Command::Counts,
+];
+
+#[test]
+fn tells_a_refusal(rt: HostRuntime) -> Result<(), Fail> {
+    let rows: [(&str, Option<&str>, [Option<u64>; 3], &str); 12] = [
+        ("<svg>", None, [None; 3], "refused: foreign svg at 0\n"),
+        (
+            "<p>x<math>",
+            None,
+            [None; 3],
+            "refused: foreign math at 4\n",
+        ),
+        ("x", Some(""), [None; 3], "refused: bad context\n"),
+        ("x", Some("Td"), [None; 3], "refused: bad context\n"),
+        ("x", Some("a b"), [None; 3], "refused: bad context\n"),
+        ("x", Some("svg"), [None; 3], "refused: bad context\n"),
+        (
+            "<!DOCTYPE html><p>One<p>Two",
+            None,
+            [Some(8), None, None],
+            "refused: node budget at 24\n",
+        ),
+        (
+            "",
+            None,
+            [Some(0), None, None],
+            "refused: node budget at 0\n",
+        ),
+        (
+            "",
+            None,
+            [None, Some(11), None],
+            "refused: held budget at 0\n",
+        ),
+        (
+            "",
+            Some("p"),
+            [None, Some(3), None],
+            "refused: held budget at 0\n",
+        ),
+        (
+            "aé€b",
+            None,
+            [None, None, Some(3)],
+            "refused: input too long\n",
+        ),
+        (
+            "<p>x<svg>",
+            Some("p"),
+            [None; 3],
+            "refused: foreign svg at 4\n",
+        ),
+    ];
+    for command in COMMANDS {
+        for (input, fragment, limits, line) in rows {
+            let mut job = job_of(rt.alloc(), command);
+            job.fragment = fragment;
+            let [max_nodes, max_held, max_input] = limits;
+            job.max_nodes = max_nodes;
+            job.max_held = max_held;
+            job.max_input = max_input;
+            let (status, written, faults) = texts(rt.alloc(), &job, input)?;
+            assert_eq!(rt; faults.as_str(), line, "{command:?} of {input}");
+            assert_eq!(rt; written.as_str(), "");
             assert_eq!(rt; status, REFUSED);
-            assert_eq!(rt; written.as_slice(), b"".as_slice());
-            assert_eq!(rt; faults.as_slice(), line.as_bytes());
         }
+    }
+    Ok(())
+}
+
+#[test]
+fn keeps_to_limits(rt: HostRuntime) -> Result<(), Fail> {
+    let rows: [(&str, [Option<u64>; 3]); 3] = [
+        ("<!DOCTYPE html><p>One<p>Two", [Some(9), None, None]),
+        ("", [Some(4), Some(12), Some(0)]),
+        ("aé€", [None, None, Some(3)]),
+    ];
+    for (input, limits) in rows {
+        let mut job = job_of(rt.alloc(), Command::Tree);
+        let (_, want, _) = texts(rt.alloc(), &job, input)?;
+        let [max_nodes, max_held, max_input] = limits;
+        job.max_nodes = max_nodes;
+        job.max_held = max_held;
+        job.max_input = max_input;
+        let (status, written, _) = texts(rt.alloc(), &job, input)?;
+        assert_eq!(rt; written.as_str(), want.as_str());
+        assert_eq!(rt; status, DONE);
     }
     Ok(())
 }
@@ -137,7 +388,11 @@ fn tells_each_error(rt: HostRuntime) -> Result<(), Fail> {
             1,
             "refused: held budget at 9",
         ),
-        (ParseError::NotYet { at: 0 }, 1, "refused: not yet at 0"),
+        (
+            ParseError::StepBudget { at: 10 },
+            1,
+            "refused: step budget at 10",
+        ),
     ];
     for (error, want, line) in rows {
         let (status, refusal) = outcome(&error, "page.html");
@@ -150,9 +405,6 @@ fn tells_each_error(rt: HostRuntime) -> Result<(), Fail> {
     }
     Ok(())
 }
-
-/// The commands on one page.
-const COMMANDS: [Command; 3] = [Command::Tree, Command::Errors, Command::Normalise];
 
 /// A device that has a page to read, or takes one, ten bytes a call.
 fn device(alloc: Global, bytes: &[u8], calls: u64) -> Result<FailAt, AllocError> {
@@ -230,29 +482,6 @@ fn normalises_plain_pages(rt: HostRuntime) -> Result<(), Fail> {
             assert_eq!(rt; status, DONE);
             assert_eq!(rt; written.as_slice(), page);
         }
-    }
-    Ok(())
-}
-
-#[test]
-fn prints_errors(rt: HostRuntime) -> Result<(), Fail> {
-    let alloc = rt.alloc();
-    let rows: [(&[u8], &str); 5] = [
-        (PAGE, ""),
-        (b"<!--a--!>b", "8 incorrectly-closed-comment\n"),
-        (b"<div a=\"b", "9 eof-in-tag\n"),
-        (b"<p a=1 A=2>", "8 duplicate-attribute\n"),
-        (
-            b"\xEF\xBB\xBF</><",
-            "2 missing-end-tag-name\n4 eof-before-tag-name\n",
-        ),
-    ];
-    for (bytes, lines) in rows {
-        let (status, written, faults) = answer(alloc, &job_of(alloc, Command::Errors), bytes)?;
-        assert_eq!(rt; faults.as_slice(), b"".as_slice());
-        assert_eq!(rt; status, DONE);
-        let text = String::from_utf8(written).map_err(|_| Fail::from("UTF-8"))?;
-        assert_eq!(rt; text.as_str(), lines);
     }
     Ok(())
 }

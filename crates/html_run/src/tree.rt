@@ -9,7 +9,7 @@ ghost use Rattle.html_run.specs.Line.{line_of, shown_name};
 
 use crate::line::{NodeLine, Spaces};
 use html_arena::{Event, Show, Walk};
-use html_page::{Arena, NodeData, NodeId};
+use html_parser::{Arena, NodeData, NodeId};
 use html_tokens::Attr;
 use std::alloc::{AllocError, Global};
 use std::io;
@@ -29,7 +29,7 @@ struct Ids<'a> {
 ///
 /// The writer's, or `OutOfMemory` for the attributes of one element in their order. A front of the text was written
 /// then.
-pub(crate) fn print_tree<W: Write>(
+pub fn print_tree<W: Write>(
     alloc: Global,
     out: &mut W,
     arena: &Arena,

@@ -1,8 +1,9 @@
-//! Files of test cases in html5lib's form, run against the tokenizer.
+//! Files of test cases in html5lib's form, run against the tokenizer and the parser.
 #![tactic(auto)]
 
 mod case;
 mod counts;
+mod dat;
 mod entry;
 mod escapes;
 mod expected;
@@ -11,5 +12,6 @@ mod suite;
 #[cfg(test)]
 mod tests;
 mod texts;
+mod tree_case;
 
 pub use suite::suite_file;

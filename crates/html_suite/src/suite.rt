@@ -4,11 +4,13 @@ ghost use Rattle.std.specs.Prelude.{◌<◌};
 
 use crate::case::run_case;
 use crate::counts::{Counts, Outcome};
+use crate::dat::cases_of;
 use crate::texts::CaseFault;
-use html_page::{EntityTable, ParseError};
+use crate::tree_case::run_tree_case;
+use html_parser::{EntityTable, ParseError};
 use html_run::{DONE, FILE_FAULT, REFUSED, tell};
 use serde_json::Value;
-use std::alloc::Global;
+use std::alloc::{AllocError, Global};
 use std::io;
 use std::io::Write;
 
@@ -27,9 +29,14 @@ enum SuiteFault {
 /// refused, `FILE_FAULT` where the bytes are no file of cases or the writer failed. For each failed case it writes
 /// `NAME: case K failed`, where K counts the cases from 1, and at the end `NAME: passed P, failed F, skipped S`.
 ///
-/// A file of cases is JSON (html5lib's `.test`): an object whose `tests` are objects with `input` and `output`, and
-/// perhaps `initialStates`, `lastStartTag` and `doubleEscaped`. Each initial state is a case of its own. A case is skipped
-/// where its state is none of the text modes, or its texts have halves of surrogate pairs.
+/// A file whose name ends in `.test` has cases of tokens, as JSON: an object whose `tests` are objects with `input` and
+/// `output`, and perhaps `initialStates`, `lastStartTag` and `doubleEscaped`. Each initial state is a case of its own. A
+/// case is skipped where its state is none of the text modes, or its texts have halves of surrogate pairs.
+///
+/// A file whose name ends in `.dat` has cases of trees: the input stands under a line `#data`, up to a line `#errors`, and
+/// the tree under a line `#document`, as the command `tree` prints it; between them a line `#document-fragment` is followed
+/// by the name of a context. A case is skipped where there is a line `#script-on`, its context is no HTML element, or its
+/// page has foreign content.
 pub fn suite_file<W: Write, F: Write>(
     alloc: Global,
     name: &str,
@@ -52,6 +59,7 @@ pub fn suite_file<W: Write, F: Write>(
     }
 }
 
+/// Runs the cases of a file, by the kind that its name tells.
 fn run_file<W: Write>(
     alloc: Global,
     name: &str,
@@ -59,22 +67,59 @@ fn run_file<W: Write>(
     table: &EntityTable,
     writer: &mut W,
 ) -> Result<Counts, SuiteFault> {
-    let value = Value::from_slice(alloc, bytes)?;
     let mut counts = Counts::new();
-    if !name.ends_with(".test") || !value.is_object() {
+    if name.ends_with(".test") {
+        run_tests(alloc, name, bytes, table, &mut counts, writer)?;
+    } else if name.ends_with(".dat") {
+        run_trees(alloc, name, bytes, table, &mut counts, writer)?;
+    } else {
         return Err(SuiteFault::Malformed);
-    }
-    if let Some(tests) = value.get("tests") {
-        let Some(tests) = tests.as_array() else {
-            return Err(SuiteFault::Malformed);
-        };
-        for test in tests {
-            run_test(alloc, name, test, table, &mut counts, writer)?;
-        }
     }
     writeln!(writer, "{name}: {counts}")?;
     writer.flush()?;
     Ok(counts)
+}
+
+/// Runs cases of tokens.
+fn run_tests<W: Write>(
+    alloc: Global,
+    name: &str,
+    bytes: &[u8],
+    table: &EntityTable,
+    counts: &mut Counts,
+    writer: &mut W,
+) -> Result<(), SuiteFault> {
+    let value = Value::from_slice(alloc, bytes)?;
+    if !value.is_object() {
+        return Err(SuiteFault::Malformed);
+    }
+    let Some(tests) = value.get("tests") else {
+        return Ok(());
+    };
+    let Some(tests) = tests.as_array() else {
+        return Err(SuiteFault::Malformed);
+    };
+    for test in tests {
+        run_test(alloc, name, test, table, counts, writer)?;
+    }
+    Ok(())
+}
+
+/// Runs cases of trees.
+fn run_trees<W: Write>(
+    alloc: Global,
+    name: &str,
+    bytes: &[u8],
+    table: &EntityTable,
+    counts: &mut Counts,
+    writer: &mut W,
+) -> Result<(), SuiteFault> {
+    let cases = cases_of(alloc, bytes)?;
+    for case in &cases {
+        let outcome = run_tree_case(alloc, case, table)?;
+        count(name, counts, outcome, writer)?;
+    }
+    Ok(())
 }
 
 /// Runs a test in each of its initial states.
@@ -122,6 +167,12 @@ impl From<serde_json::Error> for SuiteFault {
         } else {
             SuiteFault::Malformed
         }
+    }
+}
+
+impl From<AllocError> for SuiteFault {
+    fn from(_error: AllocError) -> Self {
+        SuiteFault::OutOfMemory
     }
 }
 

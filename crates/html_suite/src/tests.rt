@@ -1,7 +1,7 @@
 //! Files of cases.
 
 use crate::suite_file;
-use html_page::EntityTable;
+use html_parser::EntityTable;
 use html_run::{DONE, FILE_FAULT, REFUSED};
 use std::alloc::Global;
 use std::test::Fail;
@@ -84,7 +84,7 @@ fn no_file_of_cases(rt: HostRuntime) -> Result<(), Fail> {
         ("d.test", "[]"),
         ("d.test", "{\"tests\":1}"),
         ("d.test", "{\"tests\":[{\"input\":\"a\"}]}"),
-        ("d.dat", "#data\na\n#errors\n#document\n"),
+        ("d.txt", "#data\na\n#errors\n#document\n"),
     ];
     for (name, text) in rows {
         let (status, written, faults) = run(rt.alloc(), name, text)?;
@@ -92,5 +92,130 @@ fn no_file_of_cases(rt: HostRuntime) -> Result<(), Fail> {
         assert!(rt; faults.ends_with(": not a test file\n"));
         assert_eq!(rt; status, FILE_FAULT);
     }
+    Ok(())
+}
+
+/// Cases of trees: five that pass, and five that are not run.
+const TREES: &str = "#data
+<p>a
+#errors
+(1,3): expected-doctype-but-got-start-tag
+#new-errors
+(1:1) missing-doctype
+#document
+| <html>
+|   <head>
+|   <body>
+|     <p>
+|       \"a\"
+
+#data
+<svg>
+#errors
+#document
+| <html>
+
+#data
+
+<td>
+
+x
+#errors
+
+#document-fragment
+tr
+#document
+| \"
+\"
+| <td>
+|   \"
+
+x\"
+
+#data
+<noscript><p>
+#errors
+#script-on
+#document
+| <html>
+
+#data
+<noscript></noscript>
+#errors
+#script-off
+#document
+| <html>
+|   <head>
+|     <noscript>
+|   <body>
+
+#data
+x
+#errors
+#document-fragment
+svg path
+#document
+| \"x\"
+
+#data
+x
+#errors
+#document-fragment
+math
+#document
+| \"x\"
+
+#data
+#errors
+#document-fragment
+div
+#document
+
+#data
+x
+#errors
+#document-fragment
+svg
+#document
+| \"x\"
+
+#data
+<!--x-->
+#errors
+#document
+| <!-- x -->
+| <html>
+|   <head>
+|   <body>";
+
+#[test]
+fn cases_of_trees(rt: HostRuntime) -> Result<(), Fail> {
+    let (status, written, faults) = run(rt.alloc(), "a.dat", TREES)?;
+    assert_eq!(rt; written.as_str(), "a.dat: passed 5, failed 0, skipped 5\n");
+    assert_eq!(rt; faults.as_str(), "");
+    assert_eq!(rt; status, DONE);
+    Ok(())
+}
+
+#[test]
+fn cases_of_trees_that_fail(rt: HostRuntime) -> Result<(), Fail> {
+    let rows = [
+        "#data\n<p>\n#errors\n#document\n| <html>\n|   <head>\n|   <body>\n",
+        "#data\n<p>\n#errors\n#document\n| <html>\n|   <head>\n|   <body>\n|     <p>\n|     <p>",
+        "#data\nx\n#errors\n#document-fragment\nTd\n#document\n| \"x\"\n",
+        "#data\n<p>\n",
+    ];
+    for text in rows {
+        let (status, written, faults) = run(rt.alloc(), "b.dat", text)?;
+        assert_eq!(rt;
+            written.as_str(),
+            "b.dat: case 1 failed\nb.dat: passed 0, failed 1, skipped 0\n"
+        );
+        assert_eq!(rt; faults.as_str(), "");
+        assert_eq!(rt; status, REFUSED);
+    }
+    let (status, written, _) = run(rt.alloc(), "c.dat", "")?;
+    assert_eq!(rt; written.as_str(), "c.dat: passed 0, failed 0, skipped 0\n");
+    assert_eq!(rt; status, DONE);
     Ok(())
 }

@@ -18,8 +18,10 @@ returns-clause-app c =
     } in
     let tree = subcommand_added _ _ _ _ _ named (is _ _ c.in_ok-tree.ensures.app c.in_ok-tree.ensures.local) c.in_ok-subcommand.ensures in
     let errors = subcommand_added _ _ _ _ _ tree (is _ _ c.in_ok-errors.ensures.app c.in_ok-errors.ensures.local) c.in_ok-subcommand-2.ensures in
-    let normalise = subcommand_added _ _ _ _ _ errors (is _ _ c.in_ok-normalise.ensures.app c.in_ok-normalise.ensures.local) c.in_ok-subcommand-3.ensures in
-    IfOk-weaker c.subcommand-4.result _ _ (λ r h. (subcommand_added _ _ r _ _ normalise (is _ _ c.in_ok-suite.ensures.app c.in_ok-suite.ensures.local) h).app) c.subcommand-4.ensures
+    let audit = subcommand_added _ _ _ _ _ errors (is _ _ c.in_ok-audit.ensures.app c.in_ok-audit.ensures.local) c.in_ok-subcommand-3.ensures in
+    let normalise = subcommand_added _ _ _ _ _ audit (is _ _ c.in_ok-normalise.ensures.app c.in_ok-normalise.ensures.local) c.in_ok-subcommand-4.ensures in
+    let counts = subcommand_added _ _ _ _ _ normalise (is _ _ c.in_ok-counts.ensures.app c.in_ok-counts.ensures.local) c.in_ok-subcommand-5.ensures in
+    IfOk-weaker c.subcommand-6.result _ _ (λ r h. (subcommand_added _ _ r _ _ counts (is _ _ c.in_ok-suite.ensures.app c.in_ok-suite.ensures.local) h).app) c.subcommand-6.ensures
 
 pub returns-clause-local : goal.returns-clause-local
 returns-clause-local c =
@@ -33,5 +35,7 @@ returns-clause-local c =
     } in
     let tree = subcommand_added _ _ _ _ _ named (is _ _ c.in_ok-tree.ensures.app c.in_ok-tree.ensures.local) c.in_ok-subcommand.ensures in
     let errors = subcommand_added _ _ _ _ _ tree (is _ _ c.in_ok-errors.ensures.app c.in_ok-errors.ensures.local) c.in_ok-subcommand-2.ensures in
-    let normalise = subcommand_added _ _ _ _ _ errors (is _ _ c.in_ok-normalise.ensures.app c.in_ok-normalise.ensures.local) c.in_ok-subcommand-3.ensures in
-    IfOk-weaker c.subcommand-4.result _ _ (λ r h. (subcommand_added _ _ r _ _ normalise (is _ _ c.in_ok-suite.ensures.app c.in_ok-suite.ensures.local) h).local) c.subcommand-4.ensures
+    let audit = subcommand_added _ _ _ _ _ errors (is _ _ c.in_ok-audit.ensures.app c.in_ok-audit.ensures.local) c.in_ok-subcommand-3.ensures in
+    let normalise = subcommand_added _ _ _ _ _ audit (is _ _ c.in_ok-normalise.ensures.app c.in_ok-normalise.ensures.local) c.in_ok-subcommand-4.ensures in
+    let counts = subcommand_added _ _ _ _ _ normalise (is _ _ c.in_ok-counts.ensures.app c.in_ok-counts.ensures.local) c.in_ok-subcommand-5.ensures in
+    IfOk-weaker c.subcommand-6.result _ _ (λ r h. (subcommand_added _ _ r _ _ counts (is _ _ c.in_ok-suite.ensures.app c.in_ok-suite.ensures.local) h).local) c.subcommand-6.ensures

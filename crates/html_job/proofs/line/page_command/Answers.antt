@@ -11,7 +11,11 @@ returns-clause-app c =
       local = ap (λ f. f.has_globals) c.about.ensures ∙ c.new.ensures.local;
     } in
     let entities = arg_added _ _ _ _ _ named c.in_ok-arg.ensures c.entities.ensures.local c.entities.ensures.rule in
-    IfOk-weaker c.arg-2.result _ _ (λ r h. (arg_added _ r _ _ _ entities h c.input.ensures.local c.input.ensures.rule).app) c.arg-2.ensures
+    let fragment = arg_added _ _ _ _ _ entities c.in_ok-arg-2.ensures c.fragment.ensures.local c.fragment.ensures.rule in
+    let max_nodes = arg_added _ _ _ _ _ fragment c.in_ok-arg-3.ensures c.max_nodes.ensures.local c.max_nodes.ensures.rule in
+    let max_held = arg_added _ _ _ _ _ max_nodes c.in_ok-arg-4.ensures c.max_held.ensures.local c.max_held.ensures.rule in
+    let max_input = arg_added _ _ _ _ _ max_held c.in_ok-arg-5.ensures c.max_input.ensures.local c.max_input.ensures.rule in
+    IfOk-weaker c.arg-6.result _ _ (λ r h. (arg_added _ r _ _ _ max_input h c.input.ensures.local c.input.ensures.rule).app) c.arg-6.ensures
 
 pub returns-clause-local : goal.returns-clause-local
 returns-clause-local c =
@@ -20,4 +24,8 @@ returns-clause-local c =
       local = ap (λ f. f.has_globals) c.about.ensures ∙ c.new.ensures.local;
     } in
     let entities = arg_added _ _ _ _ _ named c.in_ok-arg.ensures c.entities.ensures.local c.entities.ensures.rule in
-    IfOk-weaker c.arg-2.result _ _ (λ r h. (arg_added _ r _ _ _ entities h c.input.ensures.local c.input.ensures.rule).local) c.arg-2.ensures
+    let fragment = arg_added _ _ _ _ _ entities c.in_ok-arg-2.ensures c.fragment.ensures.local c.fragment.ensures.rule in
+    let max_nodes = arg_added _ _ _ _ _ fragment c.in_ok-arg-3.ensures c.max_nodes.ensures.local c.max_nodes.ensures.rule in
+    let max_held = arg_added _ _ _ _ _ max_nodes c.in_ok-arg-4.ensures c.max_held.ensures.local c.max_held.ensures.rule in
+    let max_input = arg_added _ _ _ _ _ max_held c.in_ok-arg-5.ensures c.max_input.ensures.local c.max_input.ensures.rule in
+    IfOk-weaker c.arg-6.result _ _ (λ r h. (arg_added _ r _ _ _ max_input h c.input.ensures.local c.input.ensures.rule).local) c.arg-6.ensures

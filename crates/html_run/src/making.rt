@@ -1,0 +1,63 @@
+//! The parser that a job asks for.
+
+ghost use Rattle.std.specs.Prelude.{◌≡◌, ℕ, [], List, IfOk, OnOk};
+ghost use Rattle.std.specs.Io.KnownBytes.{Consumes, IsAtEnd};
+ghost use Rattle.html_parser.specs.Fed.{IsFed};
+ghost use Rattle.html_parser.specs.Parsed.{IsPageOf, IsTreeOf};
+ghost use Rattle.html_parser.specs.Staged.{KeepsTokens};
+ghost use Rattle.html_run.specs.Jobs.{limits_for, start_for};
+
+use html_job::Job;
+use html_parser::{Context, EntityTable, Limits, ParseError, Parser, Source, Str, Tree};
+use std::alloc::Global;
+
+/// The tree of all that a reader has, as the job asks for it.
+pub(crate) fn tree_for<R: Source>(
+    alloc: Global,
+    job: &Job<'_>,
+    table: &EntityTable,
+    reader: &mut R,
+) -> Result<Tree, ParseError>
+    ensures tree { IfOk result (λ tree. (bytes : List ℕ) × Consumes (R.remaining reader.old) (R.remaining reader.new) bytes
+        × IsTreeOf (start_for job.now table.now) bytes tree) }
+    ensures end { OnOk result (IsAtEnd (R.remaining reader.new)) }
+{
+    let parser = parser_for(alloc, job, table)?;
+    let mut parser = parser.without_ledger();
+    parser.feed_from(reader)?;
+    parser.finish()
+}
+
+/// The parser for a job: of a document, or of a fragment in the context that the job names, within its limits.
+pub(crate) fn parser_for<'a>(
+    alloc: Global,
+    job: &Job<'_>,
+    table: &'a EntityTable,
+) -> Result<Parser<'a>, ParseError>
+    ensures begun { IfOk result (λ p. IsFed (start_for job.now table.entry.now) p.feeder []) }
+    ensures keeps { IfOk result (λ p. KeepsTokens p.feeder.stages) }
+{
+    let limits = limits_of(job);
+    match job.fragment {
+        None => Parser::document_within(alloc, table, limits),
+        Some(name) => {
+            let context = Context {
+                name: Str::of(alloc, name)?,
+                in_form: false,
+                quirks: false,
+            };
+            Parser::fragment_within(alloc, table, &context, limits)
+        }
+    }
+}
+
+/// The limits of a job; what it sets no limit on has the greatest that is told by 64 bits.
+fn limits_of(job: &Job<'_>) -> Limits
+    ensures value { result ≡ limits_for job.now }
+{
+    Limits {
+        nodes: job.max_nodes.unwrap_or(u64::MAX),
+        held: job.max_held.unwrap_or(u64::MAX),
+        code_points: job.max_input.unwrap_or(u64::MAX),
+    }
+}

@@ -1,0 +1,100 @@
+//! One tree case: run and compared.
+
+ghost use Rattle.std.specs.Prelude.{IfOk, []};
+ghost use Rattle.html_arena.specs.Walking.{IsRoot};
+ghost use Rattle.html_parser.specs.Fed.{IsFed};
+ghost use Rattle.html_parser.specs.Start.{Start};
+
+use crate::counts::Outcome;
+use crate::dat::TreeCase;
+use html_parser::{Context, EntityTable, ParseError, Parser, Str, Tree};
+use html_run::print_tree;
+use std::alloc::{AllocError, Global};
+use std::io;
+
+/// Runs a case: whether the page has the tree that is wanted. A case is skipped that wants scripts, or foreign content.
+///
+/// # Errors
+///
+/// Memory was refused.
+pub(crate) fn run_tree_case(
+    alloc: Global,
+    case: &TreeCase<'_>,
+    table: &EntityTable,
+) -> Result<Outcome, AllocError> {
+    if case.is_script_on || has_foreign_context(case) {
+        return Ok(Outcome::Skipped);
+    }
+    match tree_of(alloc, case, table) {
+        Ok(tree) => compared(alloc, &tree, case.tree),
+        Err(ParseError::ForeignContent { .. }) => Ok(Outcome::Skipped),
+        Err(ParseError::OutOfMemory) => Err(AllocError),
+        Err(_) => Ok(Outcome::Failed),
+    }
+}
+
+/// Whether the context is no HTML element: it is `svg` or `math`, or has the name of a kind of content before its own.
+fn has_foreign_context(case: &TreeCase<'_>) -> bool {
+    match case.context {
+        Some(name) => {
+            name == b"svg".as_slice() || name == b"math".as_slice() || name.contains(&b' ')
+        }
+        None => false,
+    }
+}
+
+/// The tree of a case's input.
+fn tree_of(alloc: Global, case: &TreeCase<'_>, table: &EntityTable) -> Result<Tree, ParseError>
+    ensures root { IfOk result (λ tree. IsRoot tree.arena tree.root) }
+{
+    let parser = parser_for(alloc, case, table)?;
+    let mut parser = parser.without_ledger();
+    parser.feed(case.input)?;
+    parser.finish()
+}
+
+/// The parser for a case. A context that is no text is none that an element can have.
+fn parser_for<'a>(
+    alloc: Global,
+    case: &TreeCase<'_>,
+    table: &'a EntityTable,
+) -> Result<Parser<'a>, ParseError>
+    ensures begun { IfOk result (λ p. (start : Start) × IsFed start p.feeder []) }
+{
+    let Some(name) = case.context else {
+        return Parser::document(alloc, table);
+    };
+    let Ok(name) = std::str::from_utf8(name) else {
+        return Err(ParseError::BadContext);
+    };
+    let context = Context {
+        name: Str::of(alloc, name)?,
+        in_form: false,
+        quirks: false,
+    };
+    Parser::fragment(alloc, table, &context)
+}
+
+/// Whether a tree is printed so; the end of its last line is not part of what is wanted.
+fn compared(alloc: Global, tree: &Tree, wanted: &[u8]) -> Result<Outcome, AllocError>
+    requires root { IsRoot tree.now.arena tree.now.root }
+{
+    let Ok(text) = printed(alloc, tree) else {
+        return Err(AllocError);
+    };
+    let given = text.as_slice();
+    if given.strip_suffix(b"\n").unwrap_or(given) == wanted {
+        Ok(Outcome::Passed)
+    } else {
+        Ok(Outcome::Failed)
+    }
+}
+
+/// The lines of a tree. A text takes any bytes, as far as there is memory.
+fn printed(alloc: Global, tree: &Tree) -> io::Result<Vec<u8>>
+    requires root { IsRoot tree.now.arena tree.now.root }
+{
+    let mut text = Vec::new(alloc);
+    print_tree(alloc, &mut text, &tree.arena, tree.root)?;
+    Ok(text)
+}
