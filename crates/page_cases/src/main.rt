@@ -1,0 +1,23 @@
+//! Worked pages, a row each on standard input, with what the parser gives for them on standard output: the tree in one line, its counts, and
+//! where a row asks for it the ledger and the errors, or the page as HTML. Each page is also parsed cut in two after every byte, and byte by
+//! byte, and by each other call that takes such an input, and where anything else comes of it, a line says so.
+//!
+//! The first line is a table of named character references, as JSON. A row is `NAME|WORDS|PAGE`. Words are `audit`, `html`, `context=NAME`,
+//! `in_form`, `quirks`, and limits: `nodes=N`, `held=N`, `input=N`. In a page and in the name of a context `␊`, `␍`, `␀` and `␠` stand for what they show.
+#![tactic(auto)]
+
+mod audit;
+mod brackets;
+mod calls;
+mod cuts;
+mod page;
+mod rows;
+
+use anyhow::Result;
+use std::io::Read;
+
+fn main(rt: HostRuntime) -> Result<()> {
+    let mut bytes = Vec::new(rt.alloc());
+    rt.stdin().read_to_end(&mut bytes)?;
+    rows::run(&rt, bytes.as_slice())
+}

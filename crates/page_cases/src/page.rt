@@ -1,0 +1,107 @@
+// A page, from its bytes in pieces to its tree.
+
+use html_charref::{EntityTable, Str};
+use html_parser::{Context, Limits, Page, ParseError, Parser};
+use std::alloc::{AllocError, Global};
+
+/// Where an input is cut into pieces.
+#[derive(Clone, Copy, Debug)]
+pub(crate) enum Reading {
+    /// Nowhere.
+    Whole,
+    /// After each byte.
+    Bytes,
+    /// After so many bytes, once.
+    Cut(usize),
+}
+
+/// What is asked for besides the input.
+#[derive(Clone, Copy)]
+pub(crate) struct Ask<'a> {
+    /// The name of the context, of a fragment.
+    pub context: Option<&'a str>,
+    pub in_form: bool,
+    pub quirks: bool,
+    pub limits: Option<Limits>,
+}
+
+impl<'a> Ask<'a> {
+    /// A document, or a fragment in the context of this name.
+    pub(crate) fn of(context: Option<&'a str>) -> Ask<'a> {
+        Ask {
+            context,
+            in_form: false,
+            quirks: false,
+            limits: None,
+        }
+    }
+}
+
+/// The page of an input.
+pub(crate) fn page_of(
+    alloc: Global,
+    table: &EntityTable,
+    reading: Reading,
+    ask: Ask<'_>,
+    bytes: &[u8],
+) -> Result<Page, ParseError> {
+    let mut parser = parser_of(alloc, table, ask)?;
+    feed(&mut parser, reading, bytes)?;
+    parser.finish()
+}
+
+/// Feeds a parser an input, cut as asked. After a refusal the parser has to be stopped.
+fn feed(parser: &mut Parser<'_>, reading: Reading, bytes: &[u8]) -> Result<(), ParseError> {
+    match fed(parser, reading, bytes) {
+        Ok(()) => Ok(()),
+        Err(error) => match parser.feed(b"") {
+            Err(ParseError::Stopped) => Err(error),
+            _ => Err(ParseError::Stopped),
+        },
+    }
+}
+
+fn fed(parser: &mut Parser<'_>, reading: Reading, bytes: &[u8]) -> Result<(), ParseError> {
+    match reading {
+        Reading::Whole => parser.feed(bytes),
+        Reading::Bytes => {
+            for byte in bytes {
+                parser.feed(&[*byte])?;
+            }
+            Ok(())
+        }
+        Reading::Cut(at) => {
+            let (first, rest) = bytes.split_at(at.min(bytes.len()));
+            parser.feed(first)?;
+            parser.feed(rest)
+        }
+    }
+}
+
+/// A parser as asked.
+fn parser_of<'a>(
+    alloc: Global,
+    table: &'a EntityTable,
+    ask: Ask<'_>,
+) -> Result<Parser<'a>, ParseError> {
+    let Some(name) = ask.context else {
+        return match ask.limits {
+            Some(limits) => Parser::document_within(alloc, table, limits),
+            None => Parser::document(alloc, table),
+        };
+    };
+    let context = context_of(alloc, ask, name)?;
+    match ask.limits {
+        Some(limits) => Parser::fragment_within(alloc, table, &context, limits),
+        None => Parser::fragment(alloc, table, &context),
+    }
+}
+
+/// The context of a fragment, as asked.
+pub(crate) fn context_of(alloc: Global, ask: Ask<'_>, name: &str) -> Result<Context, AllocError> {
+    Ok(Context {
+        name: Str::of(alloc, name)?,
+        in_form: ask.in_form,
+        quirks: ask.quirks,
+    })
+}

@@ -1,0 +1,163 @@
+// Pages, a row each, with the tree that they give.
+
+use crate::audit::audit_text;
+use crate::brackets::brackets_text;
+use crate::calls::{html_text, other_call, tokens_in_hand};
+use crate::cuts::is_same_cut;
+use crate::page::{Ask, Reading, page_of};
+use anyhow::{Result, bail};
+use html_charref::EntityTable;
+use html_parser::{Limits, Page, Profile};
+use std::alloc::{AllocError, Global};
+
+/// Prints for each row what its page gives. The first line is the table of named references.
+pub(crate) fn run(rt: &HostRuntime, bytes: &[u8]) -> Result<()> {
+    let text = std::str::from_utf8(bytes)?;
+    let Some((first, rest)) = text.split_once('\n') else {
+        bail!("no table");
+    };
+    let table = EntityTable::read(rt.alloc(), first.as_bytes())?;
+    for line in rest.lines() {
+        let Some((name, row)) = line.split_once('|') else {
+            bail!("a row without a page");
+        };
+        let Some((words, input)) = row.split_once('|') else {
+            bail!("a row without a page");
+        };
+        print_row(rt, &table, name.trim(), words, input)?;
+    }
+    Ok(())
+}
+
+fn print_row(
+    rt: &HostRuntime,
+    table: &EntityTable,
+    name: &str,
+    words: &str,
+    input: &str,
+) -> Result<()> {
+    let input = unescaped(rt.alloc(), input)?;
+    let context = match context_in(words) {
+        Some(name) => Some(unescaped(rt.alloc(), name)?),
+        None => None,
+    };
+    let ask = ask_of(words, context.as_deref())?;
+    match page_of(rt.alloc(), table, Reading::Whole, ask, input.as_bytes()) {
+        Ok(page) => print_page(rt, name, has_word(words, "audit"), &page)?,
+        Err(error) => println!(rt; "{name}: refused: {error}")?,
+    }
+    if !is_same_cut(rt.alloc(), table, ask, input.as_bytes())? {
+        println!(rt; "  something else in pieces")?;
+    }
+    if let Some(call) = other_call(rt.alloc(), table, ask, input.as_bytes())? {
+        println!(rt; "  something else {call}")?;
+    }
+    if has_word(words, "html") {
+        print_html(rt, table, input.as_bytes())?;
+    }
+    Ok(())
+}
+
+/// Prints how many tokens of a document are in hand before the end of the input, and the document as HTML, in both profiles.
+fn print_html(rt: &HostRuntime, table: &EntityTable, bytes: &[u8]) -> Result<()> {
+    let count = tokens_in_hand(rt.alloc(), table, bytes)?;
+    println!(rt; "  tokens before the end {count}")?;
+    for profile in [Profile::One, Profile::Two] {
+        match html_text(rt.alloc(), table, profile, bytes)? {
+            Some(html) => {
+                let text = std::str::from_utf8(html.as_slice())?;
+                println!(rt; "  html {text}")?;
+            }
+            None => println!(rt; "  something else as HTML")?,
+        }
+    }
+    Ok(())
+}
+
+/// The name of the context among the words of a row.
+fn context_in(words: &str) -> Option<&str> {
+    for word in words.split(' ') {
+        if let Some(name) = word.strip_prefix("context=") {
+            return Some(name);
+        }
+    }
+    None
+}
+
+/// What the words between the name of a row and its page ask for.
+fn ask_of<'a>(words: &str, context: Option<&'a str>) -> Result<Ask<'a>> {
+    let mut ask = Ask::of(context);
+    for word in words.split(' ') {
+        match word.split_once('=') {
+            Some(("context", _)) => {}
+            Some(("nodes", number)) => ask.limits = Some(limits(
+                number.parse::<u64>()?,
+                u64::MAX,
+                u64::MAX,
+            )),
+            Some(("held", number)) => ask.limits = Some(limits(
+                u64::MAX,
+                number.parse::<u64>()?,
+                u64::MAX,
+            )),
+            Some(("input", number)) => ask.limits = Some(limits(
+                u64::MAX,
+                u64::MAX,
+                number.parse::<u64>()?,
+            )),
+            Some(_) => bail!("no such word"),
+            None => match word {
+                "in_form" => ask.in_form = true,
+                "quirks" => ask.quirks = true,
+                "" | "audit" | "html" => {}
+                _ => bail!("no such word"),
+            },
+        }
+    }
+    Ok(ask)
+}
+
+/// Whether this is among the words of a row.
+fn has_word(words: &str, wanted: &str) -> bool {
+    words.split(' ').any(|word| word == wanted)
+}
+
+fn limits(nodes: u64, held: u64, code_points: u64) -> Limits {
+    Limits {
+        nodes,
+        held,
+        code_points,
+    }
+}
+
+/// A text with `␊`, `␍`, `␀` and `␠` for what they show.
+fn unescaped(alloc: Global, text: &str) -> Result<String, AllocError> {
+    let mut out = String::new(alloc);
+    for c in text.chars() {
+        out.push(match c {
+            '␊' => '\n',
+            '␍' => '\r',
+            '␀' => '\0',
+            '␠' => ' ',
+            _ => c,
+        })?;
+    }
+    Ok(out)
+}
+
+fn print_page(rt: &HostRuntime, name: &str, is_audited: bool, page: &Page) -> Result<()> {
+    let tree = brackets_text(rt.alloc(), &page.arena)?;
+    println!(rt; "{name}: {tree}")?;
+    let audit = audit_text(rt.alloc(), page)?;
+    for line in audit.as_str().lines() {
+        if is_audited || is_count(line) {
+            println!(rt; "  {line}")?;
+        }
+    }
+    Ok(())
+}
+
+/// Whether a line tells how many nodes, clones or held code points there are.
+fn is_count(line: &str) -> bool {
+    line.starts_with("nodes ") || line.starts_with("clones ") || line.starts_with("held ")
+}
