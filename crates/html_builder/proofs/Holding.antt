@@ -1,5 +1,5 @@
 -- How many code points the nodes hold, by the tokens.
-use Rattle.std.proofs.Common.{ℕ, zero, suc, ◌+◌, ◌*◌, ◌≡◌, ◌<◌, ◌≤◌, Bool, true, false, cond, eqb, List, [], ◌∷◌, ◌++◌, length, length-append, Option, Some, None, inl, inr, refl, sym, ap, subst, ◌∙◌, arith}
+use Rattle.std.proofs.Common.{ℕ, zero, suc, ◌+◌, ◌*◌, ◌≡◌, ◌<◌, ◌≤◌, Bool, true, false, cond, eqb, List, [], ◌∷◌, length, length-append, Option, Some, None, inl, inr, refl, sym, ap, subst, ◌∙◌, arith}
 use Rattle.std.specs.Prelude.{filter, not, slice_get, ◌&&◌}
 use Rattle.std.specs.List.{sum_by}
 use Rattle.std.proofs.Math.Nat.{mul-le-mul_left}
@@ -26,7 +26,6 @@ use Rattle.html_tokens.specs.Cost.{attrs_len, optional_len, own_len}
 use Rattle.html_open.proofs.Keeps.{cases_bool, cases_eqb, eqb-self}
 use Rattle.html_ledger.specs.declared.fate.Fate.{Fate}
 use Rattle.html_ledger.specs.declared.fate.Fate.TheVariants as fate
-use Rattle.html_ledger.specs.declared.symbol.Symbol.{Symbol}
 use Rattle.html_ledger.specs.Symbols.{symbol_of}
 use Rattle.html_ledger.specs.Texts.{code_point, is_text_in, text_of}
 use Rattle.html_construction.specs.Accounts.{AreMade, AreTexts}

@@ -1,9 +1,9 @@
 -- What calls do to clones, and to the elements that no token asked for.
-use Rattle.std.proofs.Common.{ℕ, zero, suc, ◌+◌, ◌≡◌, ◌≢◌, ◌<◌, ◌≤◌, ◌⊎◌, ◌&&◌, Bool, true, false, cond, eqb, List, [], ◌∷◌, ◌++◌, length, length-append, map, Option, Some, None, inl, inr, refl, replicate, sym, take, ap, subst, ◌∙◌, arith}
-use Rattle.std.specs.Prelude.{max, slice_set}
+use Rattle.std.proofs.Common.{ℕ, zero, suc, ◌+◌, ◌≡◌, ◌≢◌, ◌<◌, ◌≤◌, ◌⊎◌, ◌&&◌, Bool, true, false, cond, List, [], ◌∷◌, ◌++◌, length, length-append, Option, Some, None, inl, inr, refl, replicate, sym, take, ap, subst, ◌∙◌, arith}
+use Rattle.std.specs.Prelude.{slice_set}
 use Rattle.std.specs.List.{sum_by}
 use Rattle.std.proofs.Math.Nat.{le-max_left, le-max_right, max-le}
-use Rattle.std.proofs.lemmas.Bool.{cases_Bool, false≢true}
+use Rattle.std.proofs.lemmas.Bool.{false≢true}
 use Rattle.std.proofs.lemmas.List.{length-replicate, length-take-le}
 use Rattle.std.proofs.lemmas.List.Sums.{sum_by-append, sum_by-cons}
 use Rattle.html_names.specs.declared.tag.Tag.{Tag}
@@ -16,7 +16,7 @@ use Rattle.html_arena.specs.declared.data.NodeData.{NodeData}
 use Rattle.html_arena.specs.declared.data.NodeData.TheVariants as node
 use Rattle.html_arena.specs.declared.data.Origin.{Origin}
 use Rattle.html_arena.specs.declared.data.Origin.TheVariants.{Implied, Nothing, Token}
-use Rattle.html_arena.specs.Data.{attrs_in, cloned, is_clone_in, label_in, origin_in, with_attrs, with_run}
+use Rattle.html_arena.specs.Data.{attrs_in, is_clone_in, label_in, origin_in, with_attrs, with_run}
 use Rattle.html_arena.specs.Make.{has_contents, label_for, made}
 use Rattle.html_arena.specs.Merge.{merged}
 use Rattle.html_arena.specs.declared.arena.Limits.{Limits}
@@ -29,13 +29,12 @@ use Rattle.html_tree.specs.Inserting.{rest_of, with_new}
 use Rattle.html_tree.specs.Since.{Grown as TreeGrown}
 use Rattle.html_tree.specs.States.{State as Tree, document_state, fragment_state}
 use Rattle.html_tree.proofs.Inserted.{made-labels}
-use Rattle.html_tree.specs.Texts.{node_or_next, place_here, text_before, text_node, tree_or_new, with_text}
+use Rattle.html_tree.specs.Texts.{place_here, text_before, text_node, tree_or_new, with_text}
 use Rattle.html_ledger.specs.declared.fate.Fate.{Fate}
 use Rattle.html_ledger.specs.declared.symbol.Symbol.{Symbol}
 use Rattle.html_ledger.specs.Entries.{Entries, given_run}
 use Rattle.html_construction.specs.Calls.{HasFate, implied_of}
 use Rattle.html_construction.specs.Copies.{clone_count, clones_of, greatest, implied_in, implied_length, is_kin, is_token, most_clones, unasked}
-use Rattle.html_construction.specs.Grown.{Grown}
 use Rattle.html_construction.specs.Origins.{is_made_alone}
 use Rattle.html_construction.specs.States.{State}
 use Rattle.html_construction.proofs.Accounting.{new-labels}

@@ -1,5 +1,5 @@
 -- What the labels of nodes tell of clones (13.2.4.3, 13.2.6.4.7), and of elements that no token asked for (13.2.6.1).
-use Rattle.std.specs.Prelude.{ℕ, ◌+◌, Bool, true, false, ◌&&◌, cond, eqb, max, List, [], ◌∷◌, length}
+use Rattle.std.specs.Prelude.{ℕ, Bool, false, ◌&&◌, cond, eqb, max, List, [], ◌∷◌, length}
 use Rattle.std.specs.List.{sum_by}
 use Rattle.html_arena.specs.declared.data.NodeData.{NodeData}
 use Rattle.html_arena.specs.declared.data.NodeData.TheVariants as node
