@@ -1,5 +1,7 @@
 //! Tree cases, as the html5lib tests write them: sections of lines, each under a line that names it.
 
+ghost use Rattle.std.specs.Prelude.{◌<◌, length};
+
 use std::alloc::{AllocError, Global};
 
 /// A case.
@@ -66,11 +68,8 @@ fn lines_of<'a>(alloc: Global, bytes: &'a [u8]) -> Result<Vec<Line<'a>>, AllocEr
 }
 
 fn line_at(bytes: &[u8], start: usize, end: usize) -> Line<'_> {
-    Line {
-        text: &bytes[start..end],
-        start,
-        end,
-    }
+    let text = bytes.get(start..end).unwrap_or(&bytes[..0]);
+    Line { text, start, end }
 }
 
 /// The case whose `#data` stands on a line, and the line after it.
@@ -109,7 +108,9 @@ fn under<'a>(lines: &[Line<'a>], from: usize, end: usize, text: &str) -> Option<
 /// The lines from one to before another, with the ends between them.
 fn text_of<'a>(bytes: &'a [u8], lines: &[Line<'a>], from: usize, end: usize) -> &'a [u8] {
     if from < end && end <= lines.len() {
-        &bytes[lines[from].start..lines[end - 1].end]
+        bytes
+            .get(lines[from].start..lines[end - 1].end)
+            .unwrap_or(&bytes[..0])
     } else {
         &bytes[..0]
     }
@@ -125,6 +126,8 @@ fn end_of_tree(lines: &[Line<'_>], from: usize) -> usize {
 }
 
 /// Whether a line is empty and stands before the next case, or at the end.
-fn is_last_line(lines: &[Line<'_>], at: usize) -> bool {
+fn is_last_line(lines: &[Line<'_>], at: usize) -> bool
+    requires { at < length lines.now }
+{
     lines[at].text.is_empty() && (at + 1 >= lines.len() || lines[at + 1].is("#data"))
 }
