@@ -1,6 +1,6 @@
 //! Tree cases, as the html5lib tests write them: sections of lines, each under a line that names it.
 
-ghost use Rattle.std.specs.Prelude.{◌<◌, length};
+ghost use Rattle.std.specs.Prelude.{◌<◌, ◌≤◌, length};
 
 use std::alloc::{AllocError, Global};
 
@@ -38,14 +38,12 @@ pub(crate) fn cases_of<'a>(
 ) -> Result<Vec<TreeCase<'a>>, AllocError> {
     let lines = lines_of(alloc, bytes)?;
     let mut cases = Vec::new(alloc);
-    let mut at = 0;
-    'cases: while at < lines.len() {
-        if lines[at].is("#data") {
+    let mut next = 0;
+    'lines: for at in 0..lines.len() {
+        if at >= next && lines[at].is("#data") {
             let (case, end) = case_at(bytes, lines.as_slice(), at);
             cases.push(case).map_err(AllocError::from)?;
-            at = end;
-        } else {
-            at += 1;
+            next = end;
         }
     }
     Ok(cases)
@@ -73,26 +71,31 @@ fn line_at(bytes: &[u8], start: usize, end: usize) -> Line<'_> {
 }
 
 /// The case whose `#data` stands on a line, and the line after it.
-fn case_at<'a>(bytes: &'a [u8], lines: &[Line<'a>], first: usize) -> (TreeCase<'a>, usize) {
+fn case_at<'a>(bytes: &'a [u8], lines: &[Line<'a>], first: usize) -> (TreeCase<'a>, usize)
+    requires { first < length lines.now }
+{
     let errors = find(lines, first, "#errors");
     let document = find(lines, errors, "#document");
-    let end = end_of_tree(lines, document + 1);
+    let end = end_of_tree(lines, document.saturating_add(1));
     let case = TreeCase {
         input: text_of(bytes, lines, first + 1, errors),
         context: under(lines, errors, document, "#document-fragment"),
         is_script_on: find(lines, errors, "#script-on") < document,
-        tree: text_of(bytes, lines, document + 1, end),
+        tree: text_of(bytes, lines, document.saturating_add(1), end),
     };
     (case, end)
 }
 
 /// The first line from this one on that has this text, or the end.
-fn find(lines: &[Line<'_>], from: usize, text: &str) -> usize {
-    let mut at = from;
-    'lines: while at < lines.len() && !lines[at].is(text) {
-        at += 1;
+fn find(lines: &[Line<'_>], from: usize, text: &str) -> usize
+    ensures { result ≤ length lines.now }
+{
+    'lines: for at in from..lines.len() {
+        if lines[at].is(text) {
+            return at;
+        }
     }
-    at
+    lines.len()
 }
 
 /// The line under the one with this text, between two lines.
@@ -118,11 +121,12 @@ fn text_of<'a>(bytes: &'a [u8], lines: &[Line<'a>], from: usize, end: usize) -> 
 
 /// The line after a tree: an empty one before the next case, or the end.
 fn end_of_tree(lines: &[Line<'_>], from: usize) -> usize {
-    let mut at = from;
-    'lines: while at < lines.len() && !is_last_line(lines, at) {
-        at += 1;
+    'lines: for at in from..lines.len() {
+        if is_last_line(lines, at) {
+            return at;
+        }
     }
-    at.min(lines.len())
+    lines.len()
 }
 
 /// Whether a line is empty and stands before the next case, or at the end.
