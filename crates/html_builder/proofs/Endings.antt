@@ -6,7 +6,13 @@ use Rattle.html_arena.specs.declared.arena.Limits.{Limits}
 use Rattle.html_names.specs.Names.{name_of}
 use Rattle.html_arena.specs.declared.data.NodeData.{NodeData}
 use Rattle.html_arena.specs.declared.data.NodeData.TheVariants as node
-use Rattle.html_arena.specs.Data.{host_in, label_in}
+use Rattle.html_names.specs.Names.{tag_of}
+use Rattle.html_arena.specs.Data.{host_in, label_in, name_in, tag_in}
+use Rattle.html_arena.specs.Weight.{capped, weight as label_weight}
+use Rattle.html_construction.specs.Copies.{most_clones}
+use Rattle.html_builder.proofs.Holding.{holding}
+use Rattle.std.specs.List.{sum_by}
+use Rattle.std.proofs.Math.Nat.{mul-le-mul_left, mul-le-mul_right}
 use Rattle.html_arena.specs.Tree.{Tree, WellFormed, host_at, label_of, named, parent_of}
 use Rattle.html_open.specs.Marking.{bare}
 use Rattle.html_tree.specs.States.{IsNamed, State as Nodes}
@@ -27,8 +33,8 @@ use Rattle.html_construction.specs.Origins.{AreOrigins, HasRoot, IsRootLabel}
 use Rattle.html_construction.specs.States.{State}
 use Rattle.html_modes.specs.Steps.{allowance}
 use Rattle.html_builder.specs.Builders.{BuilderState}
-use Rattle.html_builder.specs.Handed.{CostAtMost, EndsAtEof, Handed, HaveFates, fates_of, given}
-use Rattle.html_builder.specs.Outcome.{IsBounded, IsOutcome, IsRooted, most_nodes}
+use Rattle.html_builder.specs.Handed.{CostAtMost, EndsAtEof, Handed, HaveFates, fates_of, given, own_total}
+use Rattle.html_builder.specs.Outcome.{IsBounded, IsOutcome, IsRooted, most_held, most_nodes}
 
 -- the first symbol of a list, and the rest
 abbrev first : List Symbol → Symbol
@@ -141,8 +147,33 @@ rest-of f k h = (k - f, omega (arith, h))
 allowance-le : (f k : ℕ) → f ≤ k → allowance f ≤ allowance k
 allowance-le f k h = let d = rest-of f k h in subst (λ m. allowance f ≤ allowance m) (sym d.1) (allowance-more f d.0)
 
-pub bounded : (s : Setting) (l : Option Limits) (ts : List TokenKind) (b : BuilderState) (n : ℕ) (t : Tree) → Handed s l ts b → CostAtMost n ts → bare t ≡ b.page.tree.tree → IsBounded n t
-bounded s l ts b n t h c e =
+most-product : (m o n : ℕ) → m ≤ 10 * (n + 1) → o ≤ n → m * o ≤ 10 * (n + 1) * n
+most-product m o n a b =
+    let p = mul-le-mul_left m b in
+    let q = mul-le-mul_right n a in
+    omega (arith, p, q)
+
+most-all : (n : ℕ) → 10 * (n + 1) * n + n + (4 + 128 * (n + 1)) ≤ most_held n
+most-all zero = omega arith
+most-all (suc n) = grind arith
+
+-- what the nodes hold, by the tokens
+held-most : (s : Setting) (l : Option Limits) (ts : List TokenKind) (b : BuilderState) (n : ℕ) (t : Tree) → Handed s l ts b → CostAtMost n ts → bare t ≡ b.page.tree.tree → WellFormed t → t.held ≡ capped (sum_by label_weight t.labels)
+    → length b.page.ledger.fates ≤ n + 1 → t.held ≤ most_held n
+held-most s l ts b n t h c e w d f =
+    let same : t.labels ≡ b.page.tree.tree.labels = ap (λ (u : Tree). u.labels) e in
+    let all = holding ts b.page.ledger.fates b.page.tree.tree.labels h.built.origins h.built.made h.built.texts (subst (λ ls. (x : ℕ) → tag_in (label_in ls x) ≡ tag_of (name_in (label_in ls x))) same w.tagged) in
+    let sum : sum_by label_weight t.labels ≡ sum_by label_weight b.page.tree.tree.labels = ap (λ ls. sum_by label_weight ls) same in
+    let clones = h.cloned in
+    let implied = h.implied in
+    let own = c.own in
+    let count = c.count in
+    let product = most-product (most_clones b.page.tree.tree.labels) (own_total ts) n (omega (arith, clones, f)) own in
+    let last = most-all n in
+    omega (arith, d, all, sum, implied, own, count, product, last)
+
+pub bounded : (s : Setting) (l : Option Limits) (ts : List TokenKind) (b : BuilderState) (n : ℕ) (t : Tree) → Handed s l ts b → CostAtMost n ts → bare t ≡ b.page.tree.tree → WellFormed t → t.held ≡ capped (sum_by label_weight t.labels) → IsBounded n t
+bounded s l ts b n t h c e w d =
     let same : length t.labels ≡ length b.page.tree.tree.labels = ap (λ (u : Tree). length u.labels) e in
     let count : length ts ≡ length b.page.ledger.fates + length b.page.ledger.kept = handed-count (given s l ts) b.page h.built in
     let few : length b.page.ledger.fates ≤ n + 1 = let k = c.count in omega (arith, count, k) in
@@ -150,7 +181,7 @@ bounded s l ts b n t h c e =
     let all : 40 + 32 * (n + 1) + allowance (n + 1) ≤ most_nodes n = most-allowance n in
     let tokens = c.count in
     let paid = h.paid in
-    record { nodes = omega (arith, same, fates, all, tokens, paid) }
+    record { nodes = omega (arith, same, fates, all, tokens, paid); held = held-most s l ts b n t h c e w d few }
 
 -- WHAT IS HANDED OUT
 

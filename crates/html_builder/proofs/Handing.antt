@@ -20,6 +20,7 @@ use Rattle.html_ledger.specs.Entries.{Fed}
 use Rattle.html_ledger.specs.Runs.{last_of}
 use Rattle.html_construction.specs.Built.{BeginsWith, Handed as Given, IsBuilt, Takes, TakesRun, chars_of, ends_made, nothing_of, some_made, symbols, with_tokens}
 use Rattle.html_construction.specs.States.{State}
+use Rattle.html_construction.specs.Copies.{implied_length, most_clones}
 use Rattle.html_construction.specs.Weights.{weight}
 use Rattle.html_construction.specs.declared.refusal.Refusal.{Refusal}
 use Rattle.html_construction.specs.declared.refusal.Refusal.TheVariants as refusal
@@ -57,7 +58,10 @@ handed-in us v w f p k g = λ s l ts h.
     let n : length (ts ++ us) ≡ length ts + length us = length-append ts us in record {
       going = g;
       built = subst (λ x. IsBuilt x w.page) (with-given s l ts us) (f (given s l ts) h.built);
-      paid = omega (arith, p, h.paid, n, k);
+      paid = omega (arith, p.0, h.paid, n, k);
+      cloned = omega (arith, p.1.0, h.cloned);
+      implied = omega (arith, p.1.1.0, h.implied_paid, n, k);
+      implied_paid = omega (arith, p.1.1.1, h.implied_paid, n, k);
     }
 
 pub handed-token : (t : TokenKind) (v w : BuilderState) → Takes t v.page w.page → Pays v.page w.page → w.stopped ≡ false → HandsIn (t ∷ []) v w
@@ -114,8 +118,9 @@ length-none (f ∷ fs) e = absurd (omega (arith, e))
 pub none-fated : (s : Setting) (l : Option Limits) (a : State) → IsBuilt (nothing_of s l) a → a.ledger.fates ≡ []
 none-fated s l a w = let c = handed-count (nothing_of s l) a w in length-none a.ledger.fates (omega (arith, c))
 
-pub begun : (s : Setting) (l : Option Limits) (b : BuilderState) → b.stopped ≡ false → IsBuilt (nothing_of s l) b.page → length b.page.tree.tree.labels + 2 * (weight b.page.stack + top_rank b.page.mode) ≤ 40 → Handed s l [] b
-begun s l b g w p = record { going = g; built = w; paid = omega (arith, p) }
+pub begun : (s : Setting) (l : Option Limits) (b : BuilderState) → b.stopped ≡ false → IsBuilt (nothing_of s l) b.page → length b.page.tree.tree.labels + 2 * (weight b.page.stack + top_rank b.page.mode) ≤ 40
+    → most_clones b.page.tree.tree.labels ≡ 0 → implied_length b.page.tree.tree.labels ≤ 4 → weight b.page.stack + top_rank b.page.mode ≤ 14 → Handed s l [] b
+begun s l b g w p c i r = record { going = g; built = w; paid = omega (arith, p); cloned = omega (arith, c); implied = omega (arith, i); implied_paid = omega (arith, i, r) }
 
 -- WHAT IS SAID AND REFUSED
 

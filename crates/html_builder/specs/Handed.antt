@@ -12,6 +12,7 @@ use Rattle.html_ledger.specs.declared.setting.Setting.{Setting}
 use Rattle.html_ledger.specs.declared.fate.Fate.{Fate}
 use Rattle.html_ledger.specs.Fated.{Fated}
 use Rattle.html_construction.specs.Built.{Handed as Given, IsBuilt, chars_of, symbols}
+use Rattle.html_construction.specs.Copies.{implied_length, most_clones}
 use Rattle.html_construction.specs.Weights.{weight}
 use Rattle.html_modes.specs.declared.outcome.Foreign.{Foreign}
 use Rattle.html_modes.specs.declared.outcome.Foreign.TheVariants.{Svg, Math}
@@ -34,11 +35,15 @@ abbrev pub given : Setting → Option Limits → List TokenKind → Given
 given s limits tokens = record { setting = s; limits = limits; tokens = tokens; known = [] }
 
 -- It was begun in this setting, within these limits, it was handed these tokens and refused none, and what it holds was built of them: its nodes, and
--- those for which the open elements and the mode are room, are no more than so many tokens grant.
+-- those for which the open elements and the mode are room, are no more than so many tokens grant; of one token's element there are ten clones at most
+-- for each fate; and so are bounded the code points in the names of elements that no token asked for.
 pub record Handed (s : Setting) (limits : Option Limits) (tokens : List TokenKind) (b : BuilderState) : Type 0 where
   pub going : b.stopped ≡ false
   pub built : IsBuilt (given s limits tokens) b.page
   pub paid : length b.page.tree.tree.labels + 2 * (weight b.page.stack + top_rank b.page.mode) ≤ 40 + 32 * length tokens + allowance (length b.page.ledger.fates)
+  pub cloned : most_clones b.page.tree.tree.labels ≤ 10 * length b.page.ledger.fates
+  pub implied : implied_length b.page.tree.tree.labels ≤ 4 + 128 * length tokens
+  pub implied_paid : implied_length b.page.tree.tree.labels + 8 * (weight b.page.stack + top_rank b.page.mode) ≤ 116 + 128 * length tokens
 
 -- These tokens were handed in.
 abbrev pub HandsIn : List TokenKind → BuilderState → BuilderState → Type 0

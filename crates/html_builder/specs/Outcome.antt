@@ -30,9 +30,14 @@ pub record IsRooted (t : Tree) : Type 0 where
 abbrev pub most_nodes : ℕ → ℕ
 most_nodes n = 2 * ((n + 32) * (n + 32))
 
+-- the most code points that its nodes hold, a clone as if it shared nothing
+abbrev pub most_held : ℕ → ℕ
+most_held n = 34 * ((n + 2) * (n + 2))
+
 -- Of tokens that hold no more than n code points, and are one more at most, no more is made than this.
 pub record IsBounded (n : ℕ) (t : Tree) : Type 0 where
   pub nodes : length t.labels ≤ most_nodes n
+  pub held : t.held ≤ most_held n
 
 -- ALL OF IT
 

@@ -180,7 +180,7 @@ told-merge v z t g y s o k e b n q = record {
 }
 
 -- code points that were added to a text
-run-given : (l : Entries) (cs : List ℕ) (f : Fate) → (given_run l cs f).fates ≡ l.fates ++ replicate (length cs) f
+pub run-given : (l : Entries) (cs : List ℕ) (f : Fate) → (given_run l cs f).fates ≡ l.fates ++ replicate (length cs) f
 run-given l [] f = sym (append-nil l.fates)
 run-given l (c ∷ cs) f = run-given (given l (Char c) f) cs f ∙ append_assoc l.fates (f ∷ []) (replicate (length cs) f)
 

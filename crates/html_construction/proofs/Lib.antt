@@ -1,5 +1,7 @@
 pub mod Beginning
 pub mod Building
+pub mod Copying
+pub mod Cloning
 pub mod Labels
 pub mod Making
 pub mod Wording

@@ -1,14 +1,17 @@
 // The state of tree construction.
-ghost use Rattle.std.specs.Prelude.{◌≡◌, ◌⊎◌, ◌<◌, ℕ, ◌∷◌, [], IfErr, IfOk, None, OnOk, Option, Some, length, true};
+ghost use Rattle.std.specs.Prelude.{◌≡◌, ◌⊎◌, ◌<◌, ◌≤◌, ℕ, ◌∷◌, [], IfErr, IfOk, None, OnOk, Option, Some, length, true};
 ghost use Rattle.html_arena.specs.declared.arena.Limits.{Limits};
 ghost use Rattle.html_ledger.specs.declared.setting.Setting.TheVariants.{Document, Fragment};
 ghost use Rattle.html_names.specs.declared.tag.Tag.TheVariants as tag;
 ghost use Rattle.html_tree.specs.States.{IsNamed, document_state, fragment_state};
+ghost use Rattle.std.specs.List.{sum_by};
 ghost use Rattle.html_arena.specs.Tree.{WellFormed};
+ghost use Rattle.html_arena.specs.Weight.{capped, weight};
 ghost use Rattle.html_open.specs.Marking.{bare};
 ghost use Rattle.html_ledger.specs.Errors.{AreErrors};
 ghost use Rattle.html_ledger.specs.Fated.{Fated};
 ghost use Rattle.html_construction.specs.Built.{Handed, IsBuilt, Keeps, nothing_of, symbols};
+ghost use Rattle.html_construction.specs.Copies.{implied_length, most_clones};
 ghost use Rattle.html_construction.specs.Grown.{Grown};
 ghost use Rattle.html_construction.specs.Modes.{is_reset};
 
@@ -82,6 +85,8 @@ impl Construction {
         ensures quiet { IfOk result (λ b. b.ledger.kept ≡ []) }
         ensures listed { IfOk result (λ b. b.tree.list ≡ []) }
         ensures nodes { IfOk result (λ b. length b.tree.tree.labels ≡ 1) }
+        ensures uncloned { IfOk result (λ b. most_clones b.tree.tree.labels ≡ 0) }
+        ensures implied { IfOk result (λ b. implied_length b.tree.tree.labels ≤ 4) }
         ensures cause { IfErr result (λ e. e ≡ Refusal.OutOfMemory) }
     {
         let tree = OpenTree::document(alloc)?;
@@ -100,6 +105,8 @@ impl Construction {
         ensures quiet { IfOk result (λ b. b.ledger.kept ≡ []) }
         ensures listed { IfOk result (λ b. b.tree.list ≡ []) }
         ensures nodes { IfOk result (λ b. length b.tree.tree.labels ≡ 1) }
+        ensures uncloned { IfOk result (λ b. most_clones b.tree.tree.labels ≡ 0) }
+        ensures implied { IfOk result (λ b. implied_length b.tree.tree.labels ≤ 4) }
         ensures cause { IfErr result (λ e. (e ≡ Refusal.OutOfMemory) ⊎ ((e ≡ Refusal.NodeBudget) × (limits.nodes < 1))) }
     {
         let tree = OpenTree::document_within(alloc, limits)?;
@@ -123,6 +130,8 @@ impl Construction {
         ensures quiet { IfOk result (λ b. b.ledger.kept ≡ []) }
         ensures listed { IfOk result (λ b. b.tree.list ≡ []) }
         ensures nodes { IfOk result (λ b. length b.tree.tree.labels ≡ 1) }
+        ensures uncloned { IfOk result (λ b. most_clones b.tree.tree.labels ≡ 0) }
+        ensures implied { IfOk result (λ b. implied_length b.tree.tree.labels ≤ 4) }
         ensures cause { IfErr result (λ e. e ≡ Refusal.OutOfMemory) }
     {
         let tree = OpenTree::fragment(alloc)?;
@@ -147,6 +156,8 @@ impl Construction {
         ensures quiet { IfOk result (λ b. b.ledger.kept ≡ []) }
         ensures listed { IfOk result (λ b. b.tree.list ≡ []) }
         ensures nodes { IfOk result (λ b. length b.tree.tree.labels ≡ 1) }
+        ensures uncloned { IfOk result (λ b. most_clones b.tree.tree.labels ≡ 0) }
+        ensures implied { IfOk result (λ b. implied_length b.tree.tree.labels ≤ 4) }
         ensures cause { IfErr result (λ e. (e ≡ Refusal.OutOfMemory) ⊎ (((e ≡ Refusal.NodeBudget) × (limits.nodes < 1)) ⊎ ((e ≡ Refusal.HeldBudget) × (limits.held < 4)))) }
     {
         let tree = OpenTree::fragment_within(alloc, limits)?;
@@ -158,6 +169,7 @@ impl Construction {
         ensures nodes { bare result.0 ≡ self.tree.tree }
         ensures well_formed { WellFormed result.0 }
         ensures steps { result.0.steps ≡ self.tree.steps }
+        ensures held { result.0.held ≡ capped (sum_by weight result.0.labels) }
         ensures body { IsNamed self.tree.tree tag.Body self.tree.detached }
         ensures fates { result.1 ≡ self.ledger.fates }
         ensures errors { result.2.items ≡ self.ledger.errors }
@@ -167,7 +179,9 @@ impl Construction {
         let Construction { tree, ledger, .. } = self;
         tree.laws();
         let (fates, errors) = ledger.into_parts();
-        (tree.into_arena(), fates, errors)
+        let arena = tree.into_arena();
+        arena.forest();
+        (arena, fates, errors)
     }
 
     /// A document, before the first token.
@@ -179,6 +193,8 @@ impl Construction {
         ensures quiet { result.ledger.kept ≡ [] }
         ensures listed { result.tree.list ≡ [] }
         ensures nodes { length result.tree.tree.labels ≡ 1 }
+        ensures uncloned { most_clones result.tree.tree.labels ≡ 0 }
+        ensures implied { implied_length result.tree.tree.labels ≤ 4 }
     {
         Construction {
             tree,
@@ -202,6 +218,8 @@ impl Construction {
         ensures quiet { IfOk result (λ b. b.ledger.kept ≡ []) }
         ensures listed { IfOk result (λ b. b.tree.list ≡ []) }
         ensures nodes { IfOk result (λ b. length b.tree.tree.labels ≡ 1) }
+        ensures uncloned { IfOk result (λ b. most_clones b.tree.tree.labels ≡ 0) }
+        ensures implied { IfOk result (λ b. implied_length b.tree.tree.labels ≤ 4) }
         ensures cause { IfErr result (λ e. e ≡ Refusal.OutOfMemory) }
     {
         let outer_form = in_form || context.is(Tag::Form);
@@ -218,7 +236,7 @@ impl Construction {
     fn enter_context(&mut self, context: Tag) -> Result<(), Refusal>
         ensures rest { OnOk result (self.new ≡ record self.old { tree = self.new.tree; mode = self.new.mode; templates = self.new.templates }) }
         ensures keeps { OnOk result (Keeps self.old self.new) }
-        ensures grown { OnOk result (Grown 0 0 0 self.old self.new) }
+        ensures grown { OnOk result (Grown 0 0 0 0 0 self.old self.new) }
         ensures reset { OnOk result (is_reset self.new.mode ≡ true) }
         ensures cause { IfErr result (λ e. e ≡ Refusal.OutOfMemory) }
     {

@@ -102,22 +102,27 @@ pub ruleset select_rules = (Fits-loose, Calls-loose, Fits-opened, loose-reset, t
 pub allowance-next : (t u : ℕ) → u ≡ t + 1 → allowance u ≡ allowance t + (t + t + 36)
 allowance-next t u e = rw e (grind arith)
 
+Spends-same : (a b : State) → Grown 0 2 0 0 8 a b → Spends 2 a b
+Spends-same a b g =
+    let e : length b.ledger.fates ≡ length a.ledger.fates = omega (arith, g.0) in
+    (rw e (omega (arith, g.1.0)), (omega (arith, e, g.1.1.1.1.0), omega (arith, g.1.1.1.1.1)))
+
 pub Spends-one : (o : Outcome) (a b : State) → Grows o a b → Spends 2 a b
-Spends-one Done a b g = omega (arith, allowance-next (length a.ledger.fates) (length b.ledger.fates) g.0, g.1.0)
-Spends-one Reprocess a b g = let e : length b.ledger.fates ≡ length a.ledger.fates = omega (arith, g.0) in rw e (omega (arith, g.1.0))
-Spends-one (Foreign name) a b g = let e : length b.ledger.fates ≡ length a.ledger.fates = omega (arith, g.0) in rw e (omega (arith, g.1.0))
+Spends-one Done a b g = (omega (arith, allowance-next (length a.ledger.fates) (length b.ledger.fates) g.0, g.1.0), (omega (arith, g.0, g.1.1.1.1.0), omega (arith, g.1.1.1.1.1)))
+Spends-one Reprocess a b g = Spends-same a b g
+Spends-one (Foreign name) a b g = Spends-same a b g
 
-pub Spends-kept : (a b c : State) → Spends 0 a b → Grown 1 (length b.ledger.fates + 1) 0 b c → Spends 0 a c
-Spends-kept a b c v g = omega (arith, allowance-next (length b.ledger.fates) (length c.ledger.fates) g.0, g.1.0)
+pub Spends-kept : (a b c : State) → Spends 0 a b → Grown 1 (length b.ledger.fates + 1) 0 1 0 b c → Spends 0 a c
+Spends-kept a b c v g = (omega (arith, v.0, allowance-next (length b.ledger.fates) (length c.ledger.fates) g.0, g.1.0), (omega (arith, v.1.0, g.0, g.1.1.1.1.0), omega (arith, v.1.1, g.1.1.1.1.1)))
 
-pub Spends-none : (a b : State) → Grown 0 0 0 a b → Spends 2 a b
-Spends-none a b g = let e : length b.ledger.fates ≡ length a.ledger.fates = omega (arith, g.0) in rw e (omega (arith, g.1.0))
+pub Spends-none : (a b : State) → Grown 0 0 0 0 0 a b → Spends 2 a b
+Spends-none a b g = Spends-same a b (g.0, (omega (arith, g.1.0), (g.1.1.0, (g.1.1.1.0, (g.1.1.1.1.0, omega (arith, g.1.1.1.1.1))))))
 
-pub Spends-dropped : (a b : State) → Grown 1 0 0 a b → Spends 2 a b
-Spends-dropped a b g = omega (arith, allowance-next (length a.ledger.fates) (length b.ledger.fates) g.0, g.1.0)
+pub Spends-dropped : (a b : State) → Grown 1 0 0 0 0 a b → Spends 2 a b
+Spends-dropped a b g = (omega (arith, allowance-next (length a.ledger.fates) (length b.ledger.fates) g.0, g.1.0), (omega (arith, g.0, g.1.1.1.1.0), omega (arith, g.1.1.1.1.1)))
 
 pub Spends-more : (a b : State) → Spends 0 a b → Spends 2 a b
-Spends-more a b w = omega arith
+Spends-more a b w = (omega (arith, w.0), (w.1.0, omega (arith, w.1.1)))
 
 pub ruleset table_text_rules = (Fits-loose, Fits-table_text, table_text-stack, table_text-original, loose-table, rank-table_text, Spends-none, Spends-more)
 
@@ -141,9 +146,12 @@ char-foreign c (Some root.Math) h = absurd (let k : Char c ≡ root_of root.Math
 run-allowance : (t m : ℕ) → allowance t + (t + t + 36) ≤ allowance (t + (m + 1))
 run-allowance t m = grind arith
 
-pub Pays-run : (n : ℕ) (a b : State) → 0 < n → Grown n (length a.ledger.fates + 1) 0 a b → weight b.stack ≤ weight a.stack → top_rank b.mode ≤ top_rank a.mode → Pays a b
+pub Pays-run : (n : ℕ) (a b : State) → 0 < n → Grown n (length a.ledger.fates + 1) 0 1 0 a b → weight b.stack ≤ weight a.stack → top_rank b.mode ≤ top_rank a.mode → Pays a b
 Pays-run zero a b k g w r = absurd (omega (arith, k))
-Pays-run (suc m) a b k g w r = let q = run-allowance (length a.ledger.fates) m in rw g.0 (omega (arith, g.1.0, w, r, q))
+Pays-run (suc m) a b k g w r = (
+  (let q = run-allowance (length a.ledger.fates) m in rw g.0 (omega (arith, g.1.0, w, r, q))),
+  (omega (arith, g.0, g.1.1.1.1.0), (omega (arith, g.1.1.1.1.1), omega (arith, g.1.1.1.1.1, w, r))),
+)
 
 pub ruleset run_rules = (char-foreign, Pays-run, Fits-loose, Fits-opened, Fits-dropped, Fits-quiet, other-loose, other-runs, loose-runs, is-text, other-text, text-stack)
 

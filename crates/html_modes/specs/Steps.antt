@@ -6,6 +6,7 @@ use Rattle.html_ledger.specs.declared.symbol.Symbol.TheVariants.{Char, Start}
 use Rattle.html_ledger.specs.Symbols.{symbol_of}
 use Rattle.html_names.specs.declared.tag.Tag.TheVariants as tag
 use Rattle.html_construction.specs.Built.{Keeps, Takes}
+use Rattle.html_construction.specs.Copies.{implied_length, most_clones}
 use Rattle.html_construction.specs.Grown.{Grown}
 use Rattle.html_construction.specs.States.{State}
 use Rattle.html_construction.specs.Weights.{weight}
@@ -32,20 +33,29 @@ Falls Done t a b = weight b.stack + top_rank b.mode ≤ weight a.stack + 15
 Falls Reprocess t a b = weight b.stack + rank b.mode t < weight a.stack + rank a.mode t
 Falls (Foreign name) t a b = Unit {0}
 
--- A token makes at most the clones of two reopenings and of an adoption, and four nodes; any other entry makes two.
+-- A token makes at most the clones of two reopenings and of an adoption, which of one token's element are ten, and four nodes; any other entry makes
+-- two. Either makes one element at most that no token asked for.
 abbrev pub Grows : Outcome → State → State → Type 0
-Grows Done a b = Grown 1 (length a.ledger.fates + length a.ledger.fates + 36) 1 a b
-Grows Reprocess a b = Grown 0 2 0 a b
-Grows (Foreign name) a b = Grown 0 2 0 a b
+Grows Done a b = Grown 1 (length a.ledger.fates + length a.ledger.fates + 36) 1 10 8 a b
+Grows Reprocess a b = Grown 0 2 0 0 8 a b
+Grows (Foreign name) a b = Grown 0 2 0 0 8 a b
 
 -- the nodes that so many tokens may have made, apart from those of entries that end with the token in hand
 abbrev pub allowance : ℕ → ℕ
 allowance t = t * t + 35 * t
 
--- What was made keeps to the allowance of the tokens that were done with, but for so many nodes.
+-- Of one token's element ten more clones are made at most for each token that was done with.
+abbrev pub ClonesFew : State → State → Type 0
+ClonesFew a b =
+    most_clones b.tree.tree.labels + 10 * length a.ledger.fates ≤ most_clones a.tree.tree.labels + 10 * length b.ledger.fates
+
+-- What was made keeps to the allowance of the tokens that were done with, but for so many nodes; and so do the clones. Of the names that no token asked
+-- for, there are four more code points at most for each of those nodes.
 abbrev pub Spends : ℕ → State → State → Type 0
 Spends more a b =
-    length b.tree.tree.labels + allowance (length a.ledger.fates) ≤ length a.tree.tree.labels + allowance (length b.ledger.fates) + more
+    (length b.tree.tree.labels + allowance (length a.ledger.fates) ≤ length a.tree.tree.labels + allowance (length b.ledger.fates) + more)
+    × (ClonesFew a b
+    × (implied_length b.tree.tree.labels ≤ implied_length a.tree.tree.labels + 4 * more))
 
 -- a code point
 abbrev pub is_code_point : Symbol → Bool
@@ -58,8 +68,12 @@ Settles Done t a b = is_code_point t ≡ false → (a.ledger.kept ≡ []) × (le
 Settles Reprocess t a b = Unit {0}
 Settles (Foreign name) t a b = Unit {0}
 
--- One token makes what its allowance grants, and what the open elements and the mode then count is room for later entries.
+-- One token makes what its allowance grants, and what the open elements and the mode then count is room for later entries: each makes one element at
+-- most that no token asked for, whose name has eight code points at most.
 abbrev pub Pays : State → State → Type 0
 Pays a b =
-    length b.tree.tree.labels + 2 * (weight b.stack + top_rank b.mode) + allowance (length a.ledger.fates)
-    ≤ length a.tree.tree.labels + 2 * (weight a.stack + top_rank a.mode) + 32 + allowance (length b.ledger.fates)
+    (length b.tree.tree.labels + 2 * (weight b.stack + top_rank b.mode) + allowance (length a.ledger.fates)
+    ≤ length a.tree.tree.labels + 2 * (weight a.stack + top_rank a.mode) + 32 + allowance (length b.ledger.fates))
+    × (ClonesFew a b
+    × ((implied_length b.tree.tree.labels ≤ implied_length a.tree.tree.labels + 8 * (weight a.stack + top_rank a.mode) + 8)
+    × (implied_length b.tree.tree.labels + 8 * (weight b.stack + top_rank b.mode) ≤ implied_length a.tree.tree.labels + 8 * (weight a.stack + top_rank a.mode) + 128)))

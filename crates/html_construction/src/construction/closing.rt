@@ -27,7 +27,7 @@ impl Construction {
         requires { 1 < length self.old.stack }
         ensures rest { self.new ≡ record self.old { tree = self.new.tree; stack = drop 1 self.old.stack } }
         ensures keeps { Keeps self.old self.new }
-        ensures grown { Grown 0 0 0 self.old self.new }
+        ensures grown { Grown 0 0 0 0 0 self.old self.new }
         ensures lighter { weight self.new.stack ≤ weight self.old.stack }
         ensures exact { IsTree (record self.old.tree { stack = popped self.old.tree.stack }) self.new }
     {
@@ -39,7 +39,7 @@ impl Construction {
         requires opened { 0 < length self.old.stack }
         ensures rest { self.new ≡ record self.old { tree = self.new.tree; stack = self.new.stack } }
         ensures keeps { Keeps self.old self.new }
-        ensures grown { Grown 0 0 0 self.old self.new }
+        ensures grown { Grown 0 0 0 0 0 self.old self.new }
         ensures lighter { weight self.new.stack ≤ weight self.old.stack }
         ensures found { result ≡ true → weight self.new.stack + group_weight group ≤ weight self.old.stack }
         ensures same { result ≡ false → self.new.stack ≡ self.old.stack }
@@ -61,7 +61,7 @@ impl Construction {
         requires opened { 0 < length self.old.stack }
         ensures rest { self.new ≡ record self.old { tree = self.new.tree; stack = self.new.stack } }
         ensures keeps { Keeps self.old self.new }
-        ensures grown { Grown 0 0 0 self.old self.new }
+        ensures grown { Grown 0 0 0 0 0 self.old self.new }
         ensures lighter { weight self.new.stack ≤ weight self.old.stack }
         ensures found { result ≡ true → is_same html.Html tag ≡ false → weight self.new.stack + weight_of tag ≤ weight self.old.stack }
         ensures opened { 0 < length self.new.stack }
@@ -76,7 +76,7 @@ impl Construction {
         requires opened { 0 < length self.old.stack }
         ensures rest { self.new ≡ record self.old { tree = self.new.tree; stack = self.new.stack } }
         ensures keeps { Keeps self.old self.new }
-        ensures grown { Grown 0 0 0 self.old self.new }
+        ensures grown { Grown 0 0 0 0 0 self.old self.new }
         ensures lighter { weight self.new.stack ≤ weight self.old.stack }
         ensures found { result ≡ true → is_same html.Html tag ≡ false → weight self.new.stack + weight_of tag ≤ weight self.old.stack }
         ensures opened { 0 < length self.new.stack }
@@ -91,7 +91,7 @@ impl Construction {
         requires opened { 0 < length self.old.stack }
         ensures rest { self.new ≡ record self.old { tree = self.new.tree; stack = self.new.stack } }
         ensures keeps { Keeps self.old self.new }
-        ensures grown { Grown 0 0 0 self.old self.new }
+        ensures grown { Grown 0 0 0 0 0 self.old self.new }
         ensures lighter { weight self.new.stack ≤ weight self.old.stack }
         ensures found { result ≡ true → in_group group html.Html ≡ false → weight self.new.stack + group_weight group ≤ weight self.old.stack }
         ensures opened { 0 < length self.new.stack }
@@ -106,7 +106,7 @@ impl Construction {
         requires opened { 0 < length self.old.stack }
         ensures rest { self.new ≡ record self.old { tree = self.new.tree; stack = self.new.stack } }
         ensures keeps { Keeps self.old self.new }
-        ensures grown { Grown 0 0 0 self.old self.new }
+        ensures grown { Grown 0 0 0 0 0 self.old self.new }
         ensures lighter { weight self.new.stack ≤ weight self.old.stack }
         ensures opened { 0 < length self.new.stack }
         ensures exact { IsTree (record self.old.tree { stack = closed_through self.old.tree (group.Named html.P) (stop.EndOf scope.Button) }) self.new }
@@ -119,7 +119,7 @@ impl Construction {
         requires opened { 0 < length self.old.stack }
         ensures rest { self.new ≡ record self.old { tree = self.new.tree; stack = self.new.stack } }
         ensures keeps { Keeps self.old self.new }
-        ensures grown { Grown 0 0 0 self.old self.new }
+        ensures grown { Grown 0 0 0 0 0 self.old self.new }
         ensures lighter { weight self.new.stack ≤ weight self.old.stack }
         ensures opened { 0 < length self.new.stack }
         ensures exact { IsTree (record self.old.tree { stack = cleared_to self.old.tree context }) self.new }
@@ -132,7 +132,7 @@ impl Construction {
         requires opened { 0 < length self.old.stack }
         ensures rest { self.new ≡ record self.old { tree = self.new.tree; stack = self.new.stack } }
         ensures keeps { Keeps self.old self.new }
-        ensures grown { Grown 0 0 0 self.old self.new }
+        ensures grown { Grown 0 0 0 0 0 self.old self.new }
         ensures lighter { weight self.new.stack ≤ weight self.old.stack }
         ensures opened { 0 < length self.new.stack }
         ensures exact { IsTree (record self.old.tree { stack = up_to (stays self.old.tree.tree except) self.old.tree.stack }) self.new }
@@ -146,7 +146,7 @@ impl Construction {
         requires opened { 0 < length self.old.stack }
         ensures rest { self.new ≡ record self.old { tree = self.new.tree; stack = self.new.stack } }
         ensures keeps { Keeps self.old self.new }
-        ensures grown { Grown 0 0 0 self.old self.new }
+        ensures grown { Grown 0 0 0 0 0 self.old self.new }
         ensures lighter { weight self.new.stack ≤ weight self.old.stack }
         ensures opened { 0 < length self.new.stack }
         ensures exact { IsTree (record self.old.tree { stack = before_index (found_name self.old.tree (chars name.now)) self.old.tree.stack }) self.new }
@@ -160,7 +160,7 @@ impl Construction {
     fn index_of_name(&mut self, name: &str) -> Option<usize>
         ensures rest { self.new ≡ record self.old { tree = self.new.tree } }
         ensures keeps { Keeps self.old self.new }
-        ensures grown { Grown 0 0 0 self.old self.new }
+        ensures grown { Grown 0 0 0 0 0 self.old self.new }
         ensures index { result ≡ found_name self.old.tree (chars name.now) }
         ensures same { IsTree self.old.tree self.new }
     {
@@ -172,7 +172,7 @@ impl Construction {
         requires opened { 0 < length self.old.stack }
         ensures rest { self.new ≡ record self.old { tree = self.new.tree; stack = self.new.stack } }
         ensures keeps { Keeps self.old self.new }
-        ensures grown { Grown 0 0 0 self.old self.new }
+        ensures grown { Grown 0 0 0 0 0 self.old self.new }
         ensures lighter { weight self.new.stack ≤ weight self.old.stack }
         ensures opened { 0 < length self.new.stack }
         ensures exact { IsTree (record self.old.tree { stack = first_few depth self.old.tree.stack }) self.new }
@@ -186,7 +186,7 @@ impl Construction {
         requires node { node < length self.old.tree.tree.labels }
         ensures rest { self.new ≡ record self.old { tree = self.new.tree; stack = self.new.stack } }
         ensures keeps { Keeps self.old self.new }
-        ensures grown { Grown 0 0 0 self.old self.new }
+        ensures grown { Grown 0 0 0 0 0 self.old self.new }
         ensures lighter { weight self.new.stack ≤ weight self.old.stack }
         ensures opened { 0 < length self.new.stack }
         ensures exact { IsTree (record self.old.tree { stack = remaining node self.old.tree.stack }) self.new }
@@ -199,7 +199,7 @@ impl Construction {
         requires opened { 0 < length self.old.stack }
         ensures rest { self.new ≡ record self.old { tree = self.new.tree; stack = self.new.stack } }
         ensures keeps { Keeps self.old self.new }
-        ensures grown { Grown 0 0 0 self.old self.new }
+        ensures grown { Grown 0 0 0 0 0 self.old self.new }
         ensures lighter { weight self.new.stack ≤ weight self.old.stack }
         ensures opened { 0 < length self.new.stack }
         ensures exact { IsTree (record self.old.tree { stack = closed_through self.old.tree (item_group item) stop.PastItem }) self.new }

@@ -51,7 +51,7 @@ impl Construction {
         ensures rest { OnOk result (self.new ≡ record self.old { ledger = self.new.ledger }) }
         ensures takes { OnOk result (Takes token.now self.old self.new) }
         ensures quiet { OnOk result (self.new.ledger.kept ≡ []) }
-        ensures grown { OnOk result (Grown 1 0 0 self.old self.new) }
+        ensures grown { OnOk result (Grown 1 0 0 0 0 self.old self.new) }
         ensures fate { OnOk result (HasFate symbol (Dropped cause) self.old self.new) }
     {
         self.ledger.give(symbol, Fate::Dropped(cause))?;
@@ -66,7 +66,7 @@ impl Construction {
         ensures rest { OnOk result (self.new ≡ record self.old { ledger = self.new.ledger }) }
         ensures takes { OnOk result (Takes token.now self.old self.new) }
         ensures quiet { OnOk result (self.new.ledger.kept ≡ []) }
-        ensures grown { OnOk result (Grown 1 0 0 self.old self.new) }
+        ensures grown { OnOk result (Grown 1 0 0 0 0 self.old self.new) }
         ensures ended { OnOk result (self.new.ledger ≡ ended self.old.ledger symbol (is_idle self.old)) }
     {
         let ignored = self.is_idle();
@@ -97,7 +97,7 @@ impl Construction {
         requires symbol { symbol_of token.now ≡ Char c }
         ensures rest { OnOk result (self.new ≡ record self.old { ledger = self.new.ledger }) }
         ensures takes { OnOk result (Takes token.now self.old self.new) }
-        ensures grown { OnOk result (Grown 0 0 0 self.old self.new) }
+        ensures grown { OnOk result (Grown 0 0 0 0 0 self.old self.new) }
         ensures kept { OnOk result (self.new.ledger.kept ≡ self.old.ledger.kept ++ c ∷ []) }
     {
         self.ledger.keep(c)?;
@@ -109,7 +109,7 @@ impl Construction {
         ensures rest { self.new ≡ record self.old { ledger = self.new.ledger } }
         ensures releases { Releases result.items self.old self.new }
         ensures quiet { self.new.ledger.kept ≡ [] }
-        ensures grown { Grown 0 0 0 self.old self.new }
+        ensures grown { Grown 0 0 0 0 0 self.old self.new }
         ensures taken { result.items ≡ self.old.ledger.kept }
     {
         self.ledger.take_kept()

@@ -40,7 +40,7 @@ impl Construction {
         ensures rest { OnOk result (self.new ≡ record self.old { tree = self.new.tree; ledger = self.new.ledger; stack = tag ∷ self.old.stack }) }
         ensures takes { OnOk result (Takes token.now self.old self.new) }
         ensures quiet { OnOk result (self.new.ledger.kept ≡ []) }
-        ensures grown { OnOk result (Grown 1 2 0 self.old self.new) }
+        ensures grown { OnOk result (Grown 1 2 0 0 0 self.old self.new) }
         ensures exact { OnOk result (IsTree (opened_at (element_of self.old token.now) (Current self.old.fostering) (counting (number_of self.old.ledger + 1) self.old.tree)) self.new) }
         ensures fate { OnOk result (HasFate (Start tag) (Made (length self.old.tree.tree.labels)) self.old self.new) }
     {
@@ -57,7 +57,7 @@ impl Construction {
         ensures rest { OnOk result (self.new ≡ record self.old { tree = self.new.tree; ledger = self.new.ledger; stack = tag ∷ self.old.stack }) }
         ensures takes { OnOk result (Takes token.now self.old self.new) }
         ensures quiet { OnOk result (self.new.ledger.kept ≡ []) }
-        ensures grown { OnOk result (Grown 1 2 0 self.old self.new) }
+        ensures grown { OnOk result (Grown 1 2 0 0 0 self.old self.new) }
         ensures exact { OnOk result (IsTree (opened_at (element_of self.old token.now) target (counting (number_of self.old.ledger + 1) self.old.tree)) self.new) }
         ensures fate { OnOk result (HasFate (Start tag) (Made (length self.old.tree.tree.labels)) self.old self.new) }
     {
@@ -79,7 +79,7 @@ impl Construction {
         ensures rest { OnOk result (self.new ≡ record self.old { tree = self.new.tree; ledger = self.new.ledger; stack = tag ∷ self.old.stack }) }
         ensures takes { OnOk result (Takes token.now self.old self.new) }
         ensures quiet { OnOk result (self.new.ledger.kept ≡ []) }
-        ensures grown { OnOk result (Grown 1 2 0 self.old self.new) }
+        ensures grown { OnOk result (Grown 1 2 0 0 0 self.old self.new) }
         ensures node { IfOk result (λ x. (x < length self.new.tree.tree.labels) × (tag_at self.new.tree.tree x ≡ tag)) }
         ensures exact { OnOk result (IsTree (opened_at (element_of self.old token.now) target (counting (number_of self.old.ledger + 1) self.old.tree)) self.new) }
         ensures fate { OnOk result (HasFate (Start tag) (Made (length self.old.tree.tree.labels)) self.old self.new) }
@@ -99,7 +99,7 @@ impl Construction {
         ensures rest { OnOk result (self.new ≡ record self.old { tree = self.new.tree; ledger = self.new.ledger }) }
         ensures takes { OnOk result (Takes token.now self.old self.new) }
         ensures quiet { OnOk result (self.new.ledger.kept ≡ []) }
-        ensures grown { OnOk result (Grown 1 2 0 self.old self.new) }
+        ensures grown { OnOk result (Grown 1 2 0 0 0 self.old self.new) }
         ensures exact { OnOk result (IsTree (placed_at (void_of self.old tag token.now) (Current self.old.fostering) (counting (number_of self.old.ledger + 1) self.old.tree)) self.new) }
         ensures fate { OnOk result (HasFate (Start tag) (Made (length self.old.tree.tree.labels)) self.old self.new) }
     {
@@ -120,7 +120,7 @@ impl Construction {
         ensures rest { OnOk result (self.new ≡ record self.old { tree = self.new.tree; ledger = self.new.ledger }) }
         ensures takes { OnOk result (Takes token.now self.old self.new) }
         ensures quiet { OnOk result (self.new.ledger.kept ≡ []) }
-        ensures grown { OnOk result (Grown 1 2 0 self.old self.new) }
+        ensures grown { OnOk result (Grown 1 2 0 0 0 self.old self.new) }
         ensures exact { OnOk result (IsTree (placed_at (void_of self.old tag token.now) target (counting (number_of self.old.ledger + 1) self.old.tree)) self.new) }
         ensures fate { OnOk result (HasFate (Start tag) (Made (length self.old.tree.tree.labels)) self.old self.new) }
     {
@@ -141,7 +141,7 @@ impl Construction {
         ensures rest { OnOk result (self.new ≡ record self.old { tree = self.new.tree; ledger = self.new.ledger }) }
         ensures takes { OnOk result (Takes token.now self.old self.new) }
         ensures quiet { OnOk result (self.new.ledger.kept ≡ []) }
-        ensures grown { OnOk result (Grown 1 2 0 self.old self.new) }
+        ensures grown { OnOk result (Grown 1 2 0 0 0 self.old self.new) }
         ensures node { IfOk result (λ x. x < length self.new.tree.tree.labels) }
         ensures exact { OnOk result (IsTree (placed_at (void_of self.old tag token.now) target (counting (number_of self.old.ledger + 1) self.old.tree)) self.new) }
         ensures fate { OnOk result (HasFate (Start tag) (Made (length self.old.tree.tree.labels)) self.old self.new) }
@@ -162,7 +162,7 @@ impl Construction {
         ensures rest { OnOk result (self.new ≡ record self.old { tree = self.new.tree; ledger = self.new.ledger; stack = tag ∷ self.old.stack }) }
         ensures takes { OnOk result (Takes token.now self.old self.new) }
         ensures quiet { OnOk result (self.new.ledger.kept ≡ []) }
-        ensures grown { OnOk result (Grown 1 2 1 self.old self.new) }
+        ensures grown { OnOk result (Grown 1 2 1 0 0 self.old self.new) }
         ensures exact { OnOk result (IsTree (listed_at self.old.fostering (tag_name token.now) (attrs_of token.now) (number_of self.old.ledger) self.old.tree) self.new) }
         ensures fate { OnOk result (HasFate (Start tag) (Made (length self.old.tree.tree.labels)) self.old self.new) }
     {
@@ -181,7 +181,7 @@ impl Construction {
         ensures rest { OnOk result (self.new ≡ record self.old { tree = self.new.tree; ledger = self.new.ledger; stack = tag.Html ∷ self.old.stack }) }
         ensures takes { OnOk result (Takes token.now self.old self.new) }
         ensures quiet { OnOk result (self.new.ledger.kept ≡ []) }
-        ensures grown { OnOk result (Grown 1 2 0 self.old self.new) }
+        ensures grown { OnOk result (Grown 1 2 0 0 0 self.old self.new) }
         ensures exact { OnOk result (IsTree (opened_at (root_of self.old token.now) Document (counting (number_of self.old.ledger + 1) self.old.tree)) self.new) }
         ensures fate { OnOk result (HasFate (Start tag.Html) (Made (length self.old.tree.tree.labels)) self.old self.new) }
     {
@@ -199,7 +199,7 @@ impl Construction {
         ensures rest { OnOk result (self.new ≡ record self.old { tree = self.new.tree; ledger = self.new.ledger }) }
         ensures takes { OnOk result (Takes token.now self.old self.new) }
         ensures quiet { OnOk result (self.new.ledger.kept ≡ []) }
-        ensures grown { OnOk result (Grown 1 2 0 self.old self.new) }
+        ensures grown { OnOk result (Grown 1 2 0 0 0 self.old self.new) }
         ensures exact { OnOk result (IsTree (placed_at (comment_of self.old token.now) (Current self.old.fostering) (counting (number_of self.old.ledger + 1) self.old.tree)) self.new) }
         ensures fate { OnOk result (HasFate Comment (Made (length self.old.tree.tree.labels)) self.old self.new) }
     {
@@ -215,7 +215,7 @@ impl Construction {
         ensures rest { OnOk result (self.new ≡ record self.old { tree = self.new.tree; ledger = self.new.ledger }) }
         ensures takes { OnOk result (Takes token.now self.old self.new) }
         ensures quiet { OnOk result (self.new.ledger.kept ≡ []) }
-        ensures grown { OnOk result (Grown 1 2 0 self.old self.new) }
+        ensures grown { OnOk result (Grown 1 2 0 0 0 self.old self.new) }
         ensures exact { OnOk result (IsTree (placed_at (comment_of self.old token.now) target (counting (number_of self.old.ledger + 1) self.old.tree)) self.new) }
         ensures fate { OnOk result (HasFate Comment (Made (length self.old.tree.tree.labels)) self.old self.new) }
     {
@@ -233,7 +233,7 @@ impl Construction {
         ensures rest { OnOk result (self.new ≡ record self.old { tree = self.new.tree; ledger = self.new.ledger }) }
         ensures takes { OnOk result (Takes token.now self.old self.new) }
         ensures quiet { OnOk result (self.new.ledger.kept ≡ []) }
-        ensures grown { OnOk result (Grown 1 2 0 self.old self.new) }
+        ensures grown { OnOk result (Grown 1 2 0 0 0 self.old self.new) }
         ensures exact { OnOk result (IsTree (placed_at (doctype_of self.old token.now) Document (counting (number_of self.old.ledger + 1) self.old.tree)) self.new) }
         ensures fate { OnOk result (HasFate Doctype (Made (length self.old.tree.tree.labels)) self.old self.new) }
     {
@@ -252,7 +252,7 @@ impl Construction {
         ensures rest { OnOk result (self.new ≡ record self.old { tree = self.new.tree; ledger = self.new.ledger }) }
         ensures takes { OnOk result (Takes token.now self.old self.new) }
         ensures quiet { OnOk result (self.new.ledger.kept ≡ []) }
-        ensures grown { OnOk result (Grown 1 0 0 self.old self.new) }
+        ensures grown { OnOk result (Grown 1 0 0 0 0 self.old self.new) }
         ensures exact { OnOk result (IsTree (record self.old.tree { tree = bare (with_merged self.old.tree.tree (slice_index self.old.tree.stack 0) (attrs_of token.now)) }) self.new) }
         ensures fate { OnOk result (HasFate (Start tag.Html) Merged self.old self.new) }
     {
@@ -269,7 +269,7 @@ impl Construction {
         ensures rest { OnOk result (self.new ≡ record self.old { tree = self.new.tree; ledger = self.new.ledger }) }
         ensures takes { OnOk result (Takes token.now self.old self.new) }
         ensures quiet { OnOk result (self.new.ledger.kept ≡ []) }
-        ensures grown { OnOk result (Grown 1 0 0 self.old self.new) }
+        ensures grown { OnOk result (Grown 1 0 0 0 0 self.old self.new) }
         ensures exact { OnOk result (IsTree (record self.old.tree { tree = bare (with_merged self.old.tree.tree (slice_index self.old.tree.stack 1) (attrs_of token.now)) }) self.new) }
         ensures fate { OnOk result (HasFate (Start tag.Body) Merged self.old self.new) }
     {
@@ -287,7 +287,7 @@ impl Construction {
         ensures rest { OnOk result (self.new ≡ record self.old { tree = self.new.tree; ledger = self.new.ledger }) }
         ensures takes { OnOk result (Takes token.now self.old self.new) }
         ensures quiet { OnOk result (self.new.ledger.kept ≡ []) }
-        ensures grown { OnOk result (Grown 1 0 0 self.old self.new) }
+        ensures grown { OnOk result (Grown 1 0 0 0 0 self.old self.new) }
         ensures exact { OnOk result (IsTree (record self.old.tree { tree = bare (with_merged self.old.tree.tree (slice_index self.old.tree.stack index) (attrs_of token.now)) }) self.new) }
         ensures fate { OnOk result (HasFate (Start tag) Merged self.old self.new) }
     {
@@ -305,7 +305,7 @@ impl Construction {
         requires opened { 0 < length self.old.stack }
         ensures rest { OnOk result (self.new ≡ record self.old { tree = self.new.tree; stack = tag ∷ self.old.stack }) }
         ensures keeps { OnOk result (Keeps self.old self.new) }
-        ensures grown { OnOk result (Grown 0 2 0 self.old self.new) }
+        ensures grown { OnOk result (Grown 0 2 0 0 8 self.old self.new) }
         ensures exact { OnOk result (IsTree (opened_at (implied_of tag) (Current self.old.fostering) self.old.tree) self.new) }
     {
         let _ = self.open_implied(tag)?;
@@ -318,7 +318,7 @@ impl Construction {
         requires opened { 0 < length self.old.stack }
         ensures rest { OnOk result (self.new ≡ record self.old { tree = self.new.tree; stack = tag ∷ self.old.stack }) }
         ensures keeps { OnOk result (Keeps self.old self.new) }
-        ensures grown { OnOk result (Grown 0 2 0 self.old self.new) }
+        ensures grown { OnOk result (Grown 0 2 0 0 8 self.old self.new) }
         ensures node { IfOk result (λ x. (x < length self.new.tree.tree.labels) × (tag_at self.new.tree.tree x ≡ tag)) }
         ensures exact { OnOk result (IsTree (opened_at (implied_of tag) (Current self.old.fostering) self.old.tree) self.new) }
     {
@@ -332,7 +332,7 @@ impl Construction {
         requires opened { 0 < length self.old.stack }
         ensures rest { OnOk result (self.new ≡ record self.old { tree = self.new.tree }) }
         ensures keeps { OnOk result (Keeps self.old self.new) }
-        ensures grown { OnOk result (Grown 0 2 0 self.old self.new) }
+        ensures grown { OnOk result (Grown 0 2 0 0 8 self.old self.new) }
         ensures exact { OnOk result (IsTree (placed_at (implied_of tag) (Current self.old.fostering) self.old.tree) self.new) }
     {
         self.tree
@@ -344,7 +344,7 @@ impl Construction {
     pub fn insert_implied_root(&mut self) -> Result<(), Refusal>
         ensures rest { OnOk result (self.new ≡ record self.old { tree = self.new.tree; stack = tag.Html ∷ self.old.stack }) }
         ensures keeps { OnOk result (Keeps self.old self.new) }
-        ensures grown { OnOk result (Grown 0 2 0 self.old self.new) }
+        ensures grown { OnOk result (Grown 0 2 0 0 8 self.old self.new) }
         ensures exact { OnOk result (IsTree (opened_at (implied_of tag.Html) Document self.old.tree) self.new) }
     {
         self.tree.insert_implied_root()?;

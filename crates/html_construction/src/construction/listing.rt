@@ -21,7 +21,7 @@ impl Construction {
     pub fn add_marker(&mut self) -> Result<(), Refusal>
         ensures rest { OnOk result (self.new ≡ record self.old { tree = self.new.tree }) }
         ensures keeps { OnOk result (Keeps self.old self.new) }
-        ensures grown { OnOk result (Grown 0 0 1 self.old self.new) }
+        ensures grown { OnOk result (Grown 0 0 1 0 0 self.old self.new) }
         ensures exact { OnOk result (IsTree (record self.old.tree { list = self.old.tree.list ++ Marker ∷ [] }) self.new) }
     {
         self.tree.add_marker()?;
@@ -32,7 +32,7 @@ impl Construction {
     pub fn clear_to_marker(&mut self)
         ensures rest { self.new ≡ record self.old { tree = self.new.tree } }
         ensures keeps { Keeps self.old self.new }
-        ensures grown { Grown 0 0 0 self.old self.new }
+        ensures grown { Grown 0 0 0 0 0 self.old self.new }
         ensures exact { IsTree (record self.old.tree { list = below is_marker self.old.tree.list }) self.new }
     {
         self.tree.clear_to_marker();
@@ -44,11 +44,12 @@ impl Construction {
         requires listed { length self.old.tree.list ≤ length self.old.ledger.fates }
         ensures rest { OnOk result (self.new ≡ record self.old { tree = self.new.tree; stack = self.new.stack }) }
         ensures keeps { OnOk result (Keeps self.old self.new) }
-        ensures grown { OnOk result (Grown 0 (length self.old.ledger.fates) 0 self.old self.new) }
+        ensures grown { OnOk result (Grown 0 (length self.old.ledger.fates) 0 1 0 self.old self.new) }
         ensures lighter { OnOk result (weight self.new.stack ≤ weight self.old.stack) }
         ensures opened { OnOk result (0 < length self.new.stack) }
         ensures exact { OnOk result (IsReopened self.old.fostering self.old.tree self.new.tree) }
     {
+        self.tree.laws();
         self.tree.reopen(self.registers.fostering)?;
         Ok(())
     }
@@ -59,7 +60,7 @@ impl Construction {
         requires formatting { is_formatting tag ≡ true }
         ensures rest { OnOk result (self.new ≡ record self.old { tree = self.new.tree; stack = self.new.stack }) }
         ensures keeps { OnOk result (Keeps self.old self.new) }
-        ensures grown { OnOk result (Grown 0 32 0 self.old self.new) }
+        ensures grown { OnOk result (Grown 0 32 0 8 0 self.old self.new) }
         ensures lighter { OnOk result (weight self.new.stack ≤ weight self.old.stack) }
         ensures opened { OnOk result (0 < length self.new.stack) }
     {
@@ -76,11 +77,12 @@ impl Construction {
         requires formatting { is_formatting tag ≡ true }
         ensures rest { OnOk result (self.new ≡ record self.old { tree = self.new.tree; stack = self.new.stack }) }
         ensures keeps { OnOk result (Keeps self.old self.new) }
-        ensures grown { OnOk result (Grown 0 32 0 self.old self.new) }
+        ensures grown { OnOk result (Grown 0 32 0 8 0 self.old self.new) }
         ensures lighter { OnOk result (weight self.new.stack ≤ weight self.old.stack) }
         ensures opened { OnOk result (0 < length self.new.stack) }
         ensures exact { IfOk result (λ end. IsAdopted tag self.old.fostering end self.old.tree self.new.tree) }
     {
+        self.tree.laws();
         let end = self.tree.adopt(tag, self.registers.fostering)?;
         Ok(end)
     }
@@ -90,7 +92,7 @@ impl Construction {
         requires opened { 0 < length self.old.stack }
         ensures rest { OnOk result (self.new ≡ record self.old { tree = self.new.tree; stack = self.new.stack }) }
         ensures keeps { OnOk result (Keeps self.old self.new) }
-        ensures grown { OnOk result (Grown 0 32 0 self.old self.new) }
+        ensures grown { OnOk result (Grown 0 32 0 8 0 self.old self.new) }
         ensures lighter { OnOk result (weight self.new.stack ≤ weight self.old.stack) }
         ensures opened { OnOk result (0 < length self.new.stack) }
     {
@@ -106,7 +108,7 @@ impl Construction {
     fn last_listed(&mut self, tag: Tag) -> Option<NodeId>
         ensures rest { self.new ≡ record self.old { tree = self.new.tree } }
         ensures keeps { Keeps self.old self.new }
-        ensures grown { Grown 0 0 0 self.old self.new }
+        ensures grown { Grown 0 0 0 0 0 self.old self.new }
         ensures node { IfSome result (λ x. x < length self.new.tree.tree.labels) }
         ensures listed { result ≡ last_named self.old.tree.tree tag self.old.tree.list }
         ensures same { IsTree self.old.tree self.new }
@@ -119,7 +121,7 @@ impl Construction {
         requires node { node < length self.old.tree.tree.labels }
         ensures rest { self.new ≡ record self.old { tree = self.new.tree } }
         ensures keeps { Keeps self.old self.new }
-        ensures grown { Grown 0 0 0 self.old self.new }
+        ensures grown { Grown 0 0 0 0 0 self.old self.new }
         ensures exact { IsTree (record self.old.tree { list = without_node node self.old.tree.list }) self.new }
     {
         self.tree.unlist(node);

@@ -28,7 +28,7 @@ impl Construction {
         ensures rest { OnOk result (self.new ≡ record self.old { tree = self.new.tree; ledger = self.new.ledger; stack = tag.Head ∷ self.old.stack }) }
         ensures takes { OnOk result (Takes token.now self.old self.new) }
         ensures quiet { OnOk result (self.new.ledger.kept ≡ []) }
-        ensures grown { OnOk result (Grown 1 2 0 self.old self.new) }
+        ensures grown { OnOk result (Grown 1 2 0 0 0 self.old self.new) }
     {
         let target = self.here();
         let head = self.open_at(token, Tag::Head, target)?;
@@ -41,7 +41,7 @@ impl Construction {
         requires opened { 0 < length self.old.stack }
         ensures rest { OnOk result (self.new ≡ record self.old { tree = self.new.tree; stack = tag.Head ∷ self.old.stack }) }
         ensures keeps { OnOk result (Keeps self.old self.new) }
-        ensures grown { OnOk result (Grown 0 2 0 self.old self.new) }
+        ensures grown { OnOk result (Grown 0 2 0 0 8 self.old self.new) }
     {
         let head = self.open_implied(Tag::Head)?;
         self.set_head(head);
@@ -55,7 +55,7 @@ impl Construction {
         ensures exact { IsTree (record self.old.tree { head = Some head }) self.new }
         ensures rest { self.new ≡ record self.old { tree = self.new.tree } }
         ensures keeps { Keeps self.old self.new }
-        ensures grown { Grown 0 0 0 self.old self.new }
+        ensures grown { Grown 0 0 0 0 0 self.old self.new }
     {
         self.tree.set_head(head);
     }
@@ -66,7 +66,7 @@ impl Construction {
         ensures exact { IsTree (record self.old.tree { form = Some form }) self.new }
         ensures rest { self.new ≡ record self.old { tree = self.new.tree } }
         ensures keeps { Keeps self.old self.new }
-        ensures grown { Grown 0 0 0 self.old self.new }
+        ensures grown { Grown 0 0 0 0 0 self.old self.new }
     {
         self.tree.set_form(Some(form));
     }
@@ -79,7 +79,7 @@ impl Construction {
         ensures rest { OnOk result (self.new ≡ record self.old { tree = self.new.tree; ledger = self.new.ledger; stack = tag.Form ∷ self.old.stack }) }
         ensures takes { OnOk result (Takes token.now self.old self.new) }
         ensures quiet { OnOk result (self.new.ledger.kept ≡ []) }
-        ensures grown { OnOk result (Grown 1 2 0 self.old self.new) }
+        ensures grown { OnOk result (Grown 1 2 0 0 0 self.old self.new) }
     {
         let target = self.here();
         let form = self.open_at(token, Tag::Form, target)?;
@@ -95,7 +95,7 @@ impl Construction {
         ensures rest { OnOk result (self.new ≡ record self.old { tree = self.new.tree; ledger = self.new.ledger }) }
         ensures takes { OnOk result (Takes token.now self.old self.new) }
         ensures quiet { OnOk result (self.new.ledger.kept ≡ []) }
-        ensures grown { OnOk result (Grown 1 2 0 self.old self.new) }
+        ensures grown { OnOk result (Grown 1 2 0 0 0 self.old self.new) }
     {
         let target = self.here();
         let form = self.void_at(token, Tag::Form, target)?;
@@ -115,7 +115,7 @@ impl Construction {
         requires opened { 0 < length self.old.stack }
         ensures rest { self.new ≡ record self.old { tree = self.new.tree; stack = self.new.stack; outer_form = false } }
         ensures keeps { Keeps self.old self.new }
-        ensures grown { Grown 0 0 0 self.old self.new }
+        ensures grown { Grown 0 0 0 0 0 self.old self.new }
         ensures lighter { weight self.new.stack ≤ weight self.old.stack }
         ensures opened { 0 < length self.new.stack }
     {
@@ -131,7 +131,7 @@ impl Construction {
     fn take_form(&mut self) -> Option<NodeId>
         ensures rest { self.new ≡ record self.old { tree = self.new.tree; outer_form = false } }
         ensures keeps { Keeps self.old self.new }
-        ensures grown { Grown 0 0 0 self.old self.new }
+        ensures grown { Grown 0 0 0 0 0 self.old self.new }
         ensures node { IfSome result (λ x. x < length self.new.tree.tree.labels) }
         ensures taken { result ≡ self.old.tree.form }
         ensures exact { IsTree (record self.old.tree { form = None }) self.new }
@@ -147,7 +147,7 @@ impl Construction {
     fn is_in_scope(&mut self, node: NodeId) -> bool
         ensures rest { self.new ≡ record self.old { tree = self.new.tree } }
         ensures keeps { Keeps self.old self.new }
-        ensures grown { Grown 0 0 0 self.old self.new }
+        ensures grown { Grown 0 0 0 0 0 self.old self.new }
     {
         self.tree.is_in_scope(node)
     }
@@ -156,7 +156,7 @@ impl Construction {
     pub fn has_body(&mut self) -> bool
         ensures rest { self.new ≡ record self.old { tree = self.new.tree } }
         ensures keeps { Keeps self.old self.new }
-        ensures grown { Grown 0 0 0 self.old self.new }
+        ensures grown { Grown 0 0 0 0 0 self.old self.new }
         ensures second { result ≡ true → 1 < length self.new.stack }
         ensures element { result ≡ true → 1 < length self.new.tree.stack }
         ensures body { result ≡ true → named self.new.tree.tree tag.Body (slice_index self.new.tree.stack 1) ≡ true }
@@ -171,7 +171,7 @@ impl Construction {
         requires opened { 0 < length self.old.stack }
         ensures rest { self.new ≡ record self.old { tree = self.new.tree; stack = self.new.stack } }
         ensures keeps { Keeps self.old self.new }
-        ensures grown { Grown 0 0 0 self.old self.new }
+        ensures grown { Grown 0 0 0 0 0 self.old self.new }
         ensures lighter { weight self.new.stack ≤ weight self.old.stack }
         ensures opened { 0 < length self.new.stack }
     {
@@ -197,7 +197,7 @@ impl Construction {
         requires once { self.old.tree.detached ≡ None }
         ensures rest { self.new ≡ record self.old { tree = self.new.tree } }
         ensures keeps { Keeps self.old self.new }
-        ensures grown { Grown 0 0 0 self.old self.new }
+        ensures grown { Grown 0 0 0 0 0 self.old self.new }
     {
         self.tree.detach_body();
     }
@@ -246,7 +246,7 @@ impl Construction {
     pub fn count_steps(&mut self, count: usize)
         ensures rest { self.new ≡ record self.old { tree = self.new.tree } }
         ensures keeps { Keeps self.old self.new }
-        ensures grown { Grown 0 0 0 self.old self.new }
+        ensures grown { Grown 0 0 0 0 0 self.old self.new }
     {
         self.tree.charge(count as u128);
     }

@@ -13,7 +13,7 @@ impl Construction {
     pub fn reset(&mut self)
         ensures rest { self.new ≡ record self.old { tree = self.new.tree; mode = self.new.mode } }
         ensures keeps { Keeps self.old self.new }
-        ensures grown { Grown 0 0 0 self.old self.new }
+        ensures grown { Grown 0 0 0 0 0 self.old self.new }
         ensures reset { is_reset self.new.mode ≡ true }
     {
         let mode = self.appropriate_mode();
@@ -24,7 +24,7 @@ impl Construction {
     fn appropriate_mode(&mut self) -> Mode
         ensures rest { self.new ≡ record self.old { tree = self.new.tree } }
         ensures keeps { Keeps self.old self.new }
-        ensures grown { Grown 0 0 0 self.old self.new }
+        ensures grown { Grown 0 0 0 0 0 self.old self.new }
         ensures reset { is_reset result ≡ true }
     {
         let mut index = self.depth();
@@ -43,7 +43,7 @@ impl Construction {
         requires { index < length self.old.stack }
         ensures rest { self.new ≡ record self.old { tree = self.new.tree } }
         ensures keeps { Keeps self.old self.new }
-        ensures grown { Grown 0 0 0 self.old self.new }
+        ensures grown { Grown 0 0 0 0 0 self.old self.new }
         ensures reset { IfSome result (λ m. is_reset m ≡ true) }
     {
         match tag {
@@ -88,7 +88,7 @@ impl Construction {
         requires { select < length self.old.stack }
         ensures rest { self.new ≡ record self.old { tree = self.new.tree } }
         ensures keeps { Keeps self.old self.new }
-        ensures grown { Grown 0 0 0 self.old self.new }
+        ensures grown { Grown 0 0 0 0 0 self.old self.new }
         ensures reset { is_reset result ≡ true }
     {
         let mut index = select;

@@ -29,7 +29,7 @@ impl Construction {
         requires { index < length self.old.stack }
         ensures rest { self.new ≡ record self.old { tree = self.new.tree } }
         ensures keeps { Keeps self.old self.new }
-        ensures grown { Grown 0 0 0 self.old self.new }
+        ensures grown { Grown 0 0 0 0 0 self.old self.new }
         ensures same { self.new ≡ record self.old { tree = record self.old.tree { steps = self.new.tree.steps } } }
         ensures tag { result ≡ tag_at self.new.tree.tree (slice_index self.new.tree.stack index) }
     {
@@ -41,7 +41,7 @@ impl Construction {
     pub fn current(&mut self) -> Tag
         ensures rest { self.new ≡ record self.old { tree = self.new.tree } }
         ensures keeps { Keeps self.old self.new }
-        ensures grown { Grown 0 0 0 self.old self.new }
+        ensures grown { Grown 0 0 0 0 0 self.old self.new }
         ensures tag { 0 < length self.old.stack → slice_get self.old.stack 0 ≡ Some result }
         ensures same { IsTree self.old.tree self.new }
     {
@@ -52,7 +52,7 @@ impl Construction {
     pub fn current_is(&mut self, group: Group) -> bool
         ensures rest { self.new ≡ record self.old { tree = self.new.tree } }
         ensures keeps { Keeps self.old self.new }
-        ensures grown { Grown 0 0 0 self.old self.new }
+        ensures grown { Grown 0 0 0 0 0 self.old self.new }
         ensures member { result ≡ true → 0 < length self.old.stack → weight (drop 1 self.old.stack) + group_weight group ≤ weight self.old.stack }
         ensures answer { 0 < length self.old.stack → result ≡ is_first group self.old.stack }
         ensures same { IsTree self.old.tree self.new }
@@ -64,7 +64,7 @@ impl Construction {
     pub fn has_in_scope(&mut self, tag: Tag, scope: Scope) -> bool
         ensures rest { self.new ≡ record self.old { tree = self.new.tree } }
         ensures keeps { Keeps self.old self.new }
-        ensures grown { Grown 0 0 0 self.old self.new }
+        ensures grown { Grown 0 0 0 0 0 self.old self.new }
         ensures answer { result ≡ is_some (found self.old.tree (group.Named tag) (stop.EndOf scope)) }
         ensures same { IsTree self.old.tree self.new }
     {
@@ -75,7 +75,7 @@ impl Construction {
     pub fn has_group_in_scope(&mut self, group: Group, scope: Scope) -> bool
         ensures rest { self.new ≡ record self.old { tree = self.new.tree } }
         ensures keeps { Keeps self.old self.new }
-        ensures grown { Grown 0 0 0 self.old self.new }
+        ensures grown { Grown 0 0 0 0 0 self.old self.new }
         ensures answer { result ≡ is_some (found self.old.tree group (stop.EndOf scope)) }
         ensures same { IsTree self.old.tree self.new }
     {
@@ -86,7 +86,7 @@ impl Construction {
     pub fn has_template(&mut self) -> bool
         ensures rest { self.new ≡ record self.old { tree = self.new.tree } }
         ensures keeps { Keeps self.old self.new }
-        ensures grown { Grown 0 0 0 self.old self.new }
+        ensures grown { Grown 0 0 0 0 0 self.old self.new }
         ensures made { result ≡ true → self.old.ledger.history.template ≡ true }
         ensures answer { result ≡ (self.old.ledger.history.template && is_some (found self.old.tree (group.Named html.Template) stop.Never)) }
         ensures same { IsTree self.old.tree self.new }
@@ -98,7 +98,7 @@ impl Construction {
     fn has_open_template(&mut self) -> bool
         ensures rest { self.new ≡ record self.old { tree = self.new.tree } }
         ensures keeps { Keeps self.old self.new }
-        ensures grown { Grown 0 0 0 self.old self.new }
+        ensures grown { Grown 0 0 0 0 0 self.old self.new }
         ensures answer { result ≡ is_some (found self.old.tree (group.Named html.Template) stop.Never) }
         ensures same { IsTree self.old.tree self.new }
     {
@@ -109,7 +109,7 @@ impl Construction {
     pub fn is_option_in_group(&mut self) -> bool
         ensures rest { self.new ≡ record self.old { tree = self.new.tree } }
         ensures keeps { Keeps self.old self.new }
-        ensures grown { Grown 0 0 0 self.old self.new }
+        ensures grown { Grown 0 0 0 0 0 self.old self.new }
         ensures second { result ≡ true → 1 < length self.new.stack }
     {
         let depth = self.depth();

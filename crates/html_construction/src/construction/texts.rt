@@ -26,7 +26,7 @@ impl Construction {
         ensures rest { OnOk result (self.new ≡ record self.old { tree = self.new.tree; ledger = self.new.ledger }) }
         ensures takes { OnOk result (Takes token.now self.old self.new) }
         ensures quiet { OnOk result (self.new.ledger.kept ≡ []) }
-        ensures grown { OnOk result (Grown 1 1 0 self.old self.new) }
+        ensures grown { OnOk result (Grown 1 1 0 0 0 self.old self.new) }
         ensures exact { OnOk result (IsTree (record self.old.tree { tree = with_text self.old.tree self.old.fostering (c ∷ []) }) self.new) }
         ensures fate { OnOk result (HasFate (Char c) (Text (text_node self.old.tree self.old.fostering)) self.old self.new) }
     {
@@ -49,7 +49,7 @@ impl Construction {
         ensures takes { IfOk result (λ n. TakesRun (take n run.now) self.old self.new) }
         ensures quiet { OnOk result (self.new.ledger.kept ≡ []) }
         ensures count { IfOk result (λ n. (0 < n) × (n ≤ length run.now)) }
-        ensures grown { IfOk result (λ n. Grown n 1 0 self.old self.new) }
+        ensures grown { IfOk result (λ n. Grown n 1 0 0 0 self.old self.new) }
         ensures exact { IfOk result (λ n. IsTree (record self.old.tree { tree = with_text self.old.tree self.old.fostering (take n run.now) }) self.new) }
         ensures fate { IfOk result (λ n. self.new.ledger ≡ given_run self.old.ledger (take n run.now) (Text (text_node self.old.tree self.old.fostering))) }
     {

@@ -66,7 +66,7 @@ fn close_body(page: &mut Construction) -> bool
     requires loose { is_loose page.old.mode ≡ true }
     ensures rest { page.new ≡ record page.old { tree = page.new.tree; mode = page.new.mode } }
     ensures keeps { Keeps page.old page.new }
-    ensures grown { Grown 0 0 0 page.old page.new }
+    ensures grown { Grown 0 0 0 0 0 page.old page.new }
     ensures loose { is_loose page.new.mode ≡ true }
     ensures top { top_rank page.new.mode ≤ 10 }
     ensures closed { result ≡ true → page.new.mode ≡ Mode.AfterBody }
@@ -84,7 +84,7 @@ fn element_end(page: &mut Construction, token: &TokenKind, tag: Tag) -> Result<(
     requires listed { length page.old.tree.list ≤ length page.old.ledger.fates }
     ensures rest { OnOk result (page.new ≡ record page.old { tree = page.new.tree; stack = page.new.stack; outer_form = page.new.outer_form; frameset_ok = page.new.frameset_ok }) }
     ensures keeps { OnOk result (Keeps page.old page.new) }
-    ensures grown { OnOk result (Grown 0 (length page.old.ledger.fates + 32) 0 page.old page.new) }
+    ensures grown { OnOk result (Grown 0 (length page.old.ledger.fates + 32) 0 8 8 page.old page.new) }
     ensures opened { OnOk result (0 < length page.new.stack) }
     ensures heavier { OnOk result (weight page.new.stack ≤ weight page.old.stack + 4) }
 {
@@ -107,7 +107,7 @@ fn plain_end(page: &mut Construction, token: &TokenKind, tag: Tag)
     requires opened { 0 < length page.old.stack }
     ensures rest { page.new ≡ record page.old { tree = page.new.tree; stack = page.new.stack } }
     ensures keeps { Keeps page.old page.new }
-    ensures grown { Grown 0 0 0 page.old page.new }
+    ensures grown { Grown 0 0 0 0 0 page.old page.new }
     ensures lighter { weight page.new.stack ≤ weight page.old.stack }
     ensures opened { 0 < length page.new.stack }
 {
@@ -136,7 +136,7 @@ fn block_end(page: &mut Construction, tag: Tag)
     requires opened { 0 < length page.old.stack }
     ensures rest { page.new ≡ record page.old { tree = page.new.tree; stack = page.new.stack } }
     ensures keeps { Keeps page.old page.new }
-    ensures grown { Grown 0 0 0 page.old page.new }
+    ensures grown { Grown 0 0 0 0 0 page.old page.new }
     ensures lighter { weight page.new.stack ≤ weight page.old.stack }
     ensures opened { 0 < length page.new.stack }
 {
@@ -147,7 +147,7 @@ fn form_end(page: &mut Construction)
     requires opened { 0 < length page.old.stack }
     ensures rest { page.new ≡ record page.old { tree = page.new.tree; stack = page.new.stack; outer_form = page.new.outer_form } }
     ensures keeps { Keeps page.old page.new }
-    ensures grown { Grown 0 0 0 page.old page.new }
+    ensures grown { Grown 0 0 0 0 0 page.old page.new }
     ensures lighter { weight page.new.stack ≤ weight page.old.stack }
     ensures opened { 0 < length page.new.stack }
 {
@@ -164,7 +164,7 @@ fn paragraph_end(page: &mut Construction) -> Result<(), Refusal>
     requires listed { length page.old.tree.list ≤ length page.old.ledger.fates }
     ensures rest { OnOk result (page.new ≡ record page.old { tree = page.new.tree; stack = page.new.stack }) }
     ensures keeps { OnOk result (Keeps page.old page.new) }
-    ensures grown { OnOk result (Grown 0 (2) 0 page.old page.new) }
+    ensures grown { OnOk result (Grown 0 (2) 0 0 8 page.old page.new) }
     ensures opened { OnOk result (0 < length page.new.stack) }
     ensures heavier { OnOk result (weight page.new.stack ≤ weight page.old.stack + 4) }
 {
@@ -181,7 +181,7 @@ fn break_end(page: &mut Construction) -> Result<(), Refusal>
     requires listed { length page.old.tree.list ≤ length page.old.ledger.fates }
     ensures rest { OnOk result (page.new ≡ record page.old { tree = page.new.tree; stack = page.new.stack; frameset_ok = page.new.frameset_ok }) }
     ensures keeps { OnOk result (Keeps page.old page.new) }
-    ensures grown { OnOk result (Grown 0 (length page.old.ledger.fates + 2) 0 page.old page.new) }
+    ensures grown { OnOk result (Grown 0 (length page.old.ledger.fates + 2) 0 1 8 page.old page.new) }
     ensures opened { OnOk result (0 < length page.new.stack) }
     ensures lighter { OnOk result (weight page.new.stack ≤ weight page.old.stack) }
 {
@@ -196,7 +196,7 @@ fn marker_end(page: &mut Construction, tag: Tag)
     requires opened { 0 < length page.old.stack }
     ensures rest { page.new ≡ record page.old { tree = page.new.tree; stack = page.new.stack } }
     ensures keeps { Keeps page.old page.new }
-    ensures grown { Grown 0 0 0 page.old page.new }
+    ensures grown { Grown 0 0 0 0 0 page.old page.new }
     ensures lighter { weight page.new.stack ≤ weight page.old.stack }
     ensures opened { 0 < length page.new.stack }
 {
@@ -210,7 +210,7 @@ fn other_end(page: &mut Construction, token: &TokenKind)
     requires opened { 0 < length page.old.stack }
     ensures rest { page.new ≡ record page.old { tree = page.new.tree; stack = page.new.stack } }
     ensures keeps { Keeps page.old page.new }
-    ensures grown { Grown 0 0 0 page.old page.new }
+    ensures grown { Grown 0 0 0 0 0 page.old page.new }
     ensures lighter { weight page.new.stack ≤ weight page.old.stack }
     ensures opened { 0 < length page.new.stack }
 {

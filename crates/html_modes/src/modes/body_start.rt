@@ -126,7 +126,7 @@ pub(crate) fn body_char(page: &mut Construction, token: &TokenKind, c: char) -> 
     ensures rest { OnOk result (page.new ≡ record page.old { tree = page.new.tree; ledger = page.new.ledger; stack = page.new.stack; frameset_ok = page.new.frameset_ok }) }
     ensures takes { OnOk result (Takes token.now page.old page.new) }
     ensures quiet { OnOk result (page.new.ledger.kept ≡ []) }
-    ensures grown { OnOk result (Grown 1 (length page.old.ledger.fates + 1) 0 page.old page.new) }
+    ensures grown { OnOk result (Grown 1 (length page.old.ledger.fates + 1) 0 1 0 page.old page.new) }
     ensures lighter { OnOk result (weight page.new.stack ≤ weight page.old.stack) }
     ensures opened { OnOk result (0 < length page.new.stack) }
 {
@@ -152,7 +152,7 @@ pub(crate) fn body_run(page: &mut Construction, run: &[char]) -> Result<usize, R
     ensures takes { IfOk result (λ n. TakesRun (take n run.now) page.old page.new) }
     ensures quiet { OnOk result (page.new.ledger.kept ≡ []) }
     ensures count { IfOk result (λ n. (0 < n) × (n ≤ length run.now)) }
-    ensures grown { IfOk result (λ n. Grown n (length page.old.ledger.fates + 1) 0 page.old page.new) }
+    ensures grown { IfOk result (λ n. Grown n (length page.old.ledger.fates + 1) 0 1 0 page.old page.new) }
     ensures lighter { OnOk result (weight page.new.stack ≤ weight page.old.stack) }
     ensures opened { OnOk result (0 < length page.new.stack) }
 {
@@ -296,7 +296,7 @@ pub(crate) fn html_start(page: &mut Construction, token: &TokenKind) -> Result<(
     ensures rest { OnOk result (page.new ≡ record page.old { tree = page.new.tree; ledger = page.new.ledger }) }
     ensures takes { OnOk result (Takes token.now page.old page.new) }
     ensures quiet { OnOk result (page.new.ledger.kept ≡ []) }
-    ensures grown { OnOk result (Grown 1 0 0 page.old page.new) }
+    ensures grown { OnOk result (Grown 1 0 0 0 0 page.old page.new) }
 {
     if page.has_template() {
         return page.drop_token(token, Symbol::Start(Tag::Html), Cause::Misplaced);
@@ -451,7 +451,7 @@ fn close_p_before_table(page: &mut Construction)
     requires opened { 0 < length page.old.stack }
     ensures rest { page.new ≡ record page.old { tree = page.new.tree; stack = page.new.stack } }
     ensures keeps { Keeps page.old page.new }
-    ensures grown { Grown 0 0 0 page.old page.new }
+    ensures grown { Grown 0 0 0 0 0 page.old page.new }
     ensures lighter { weight page.new.stack ≤ weight page.old.stack }
     ensures opened { 0 < length page.new.stack }
 {
@@ -586,7 +586,7 @@ fn close_ruby_part(page: &mut Construction, except: Option<Tag>)
     requires opened { 0 < length page.old.stack }
     ensures rest { page.new ≡ record page.old { tree = page.new.tree; stack = page.new.stack } }
     ensures keeps { Keeps page.old page.new }
-    ensures grown { Grown 0 0 0 page.old page.new }
+    ensures grown { Grown 0 0 0 0 0 page.old page.new }
     ensures lighter { weight page.new.stack ≤ weight page.old.stack }
     ensures opened { 0 < length page.new.stack }
 {

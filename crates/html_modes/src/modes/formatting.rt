@@ -68,7 +68,7 @@ fn close_nobr(page: &mut Construction) -> Result<(), Refusal>
     requires listed { length page.old.tree.list ≤ length page.old.ledger.fates }
     ensures rest { OnOk result (page.new ≡ record page.old { tree = page.new.tree; stack = page.new.stack }) }
     ensures keeps { OnOk result (Keeps page.old page.new) }
-    ensures grown { OnOk result (Grown 0 (length page.old.ledger.fates + 32) 0 page.old page.new) }
+    ensures grown { OnOk result (Grown 0 (length page.old.ledger.fates + 32) 0 9 0 page.old page.new) }
     ensures opened { OnOk result (0 < length page.new.stack) }
     ensures lighter { OnOk result (weight page.new.stack ≤ weight page.old.stack) }
 {

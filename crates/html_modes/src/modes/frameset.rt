@@ -72,7 +72,7 @@ fn close_frameset(page: &mut Construction)
     requires opened { 0 < length page.old.stack }
     ensures rest { page.new ≡ record page.old { tree = page.new.tree; stack = page.new.stack; mode = page.new.mode } }
     ensures keeps { Keeps page.old page.new }
-    ensures grown { Grown 0 0 0 page.old page.new }
+    ensures grown { Grown 0 0 0 0 0 page.old page.new }
     ensures lighter { weight page.new.stack ≤ weight page.old.stack }
     ensures opened { 0 < length page.new.stack }
     ensures loose { is_loose page.new.mode ≡ true }

@@ -139,7 +139,7 @@ pub(crate) fn doctype(page: &mut Construction, token: &TokenKind) -> Result<(), 
     ensures rest { OnOk result (page.new ≡ record page.old { tree = page.new.tree; ledger = page.new.ledger }) }
     ensures takes { OnOk result (Takes token.now page.old page.new) }
     ensures quiet { OnOk result (page.new.ledger.kept ≡ []) }
-    ensures grown { OnOk result (Grown 1 2 0 page.old page.new) }
+    ensures grown { OnOk result (Grown 1 2 0 0 0 page.old page.new) }
 {
     if page.history().awaits_doctype {
         return page.insert_doctype(token);

@@ -94,7 +94,7 @@ fn imply_section(page: &mut Construction) -> Result<(), Refusal>
     requires listed { length page.old.tree.list ≤ length page.old.ledger.fates }
     ensures rest { OnOk result (page.new ≡ record page.old { tree = page.new.tree; stack = page.new.stack; mode = Mode.InTableBody }) }
     ensures keeps { OnOk result (Keeps page.old page.new) }
-    ensures grown { OnOk result (Grown 0 (2) 0 page.old page.new) }
+    ensures grown { OnOk result (Grown 0 (2) 0 0 8 page.old page.new) }
     ensures opened { OnOk result (0 < length page.new.stack) }
     ensures heavier { OnOk result (weight page.new.stack ≤ weight page.old.stack + 4) }
 {
@@ -172,7 +172,7 @@ fn table_rules_char(page: &mut Construction, token: &TokenKind, c: char) -> Resu
 fn collects_text(page: &mut Construction) -> bool
     ensures rest { page.new ≡ record page.old { tree = page.new.tree } }
     ensures keeps { Keeps page.old page.new }
-    ensures grown { Grown 0 0 0 page.old page.new }
+    ensures grown { Grown 0 0 0 0 0 page.old page.new }
 {
     let tag = page.current();
     tag.is_fostering() || tag.is(Tag::Template)
@@ -273,7 +273,7 @@ fn close_table(page: &mut Construction) -> bool
     requires opened { 0 < length page.old.stack }
     ensures rest { page.new ≡ record page.old { tree = page.new.tree; stack = page.new.stack; mode = page.new.mode } }
     ensures keeps { Keeps page.old page.new }
-    ensures grown { Grown 0 0 0 page.old page.new }
+    ensures grown { Grown 0 0 0 0 0 page.old page.new }
     ensures lighter { weight page.new.stack ≤ weight page.old.stack }
     ensures opened { 0 < length page.new.stack }
     ensures loose { is_loose page.new.mode ≡ true }

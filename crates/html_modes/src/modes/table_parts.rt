@@ -80,7 +80,7 @@ fn close_caption(page: &mut Construction) -> bool
     requires opened { 0 < length page.old.stack }
     ensures rest { page.new ≡ record page.old { tree = page.new.tree; stack = page.new.stack; mode = page.new.mode } }
     ensures keeps { Keeps page.old page.new }
-    ensures grown { Grown 0 0 0 page.old page.new }
+    ensures grown { Grown 0 0 0 0 0 page.old page.new }
     ensures lighter { weight page.new.stack ≤ weight page.old.stack }
     ensures opened { 0 < length page.new.stack }
     ensures mode { page.new.mode ≡ (if result then Mode.InTable else page.old.mode) }
@@ -165,7 +165,7 @@ fn close_column_group(page: &mut Construction) -> bool
     requires opened { 0 < length page.old.stack }
     ensures rest { page.new ≡ record page.old { tree = page.new.tree; stack = page.new.stack; mode = page.new.mode } }
     ensures keeps { Keeps page.old page.new }
-    ensures grown { Grown 0 0 0 page.old page.new }
+    ensures grown { Grown 0 0 0 0 0 page.old page.new }
     ensures lighter { weight page.new.stack ≤ weight page.old.stack }
     ensures opened { 0 < length page.new.stack }
     ensures mode { page.new.mode ≡ (if result then Mode.InTable else page.old.mode) }

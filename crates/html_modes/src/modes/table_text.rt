@@ -74,7 +74,7 @@ fn settle_kept(page: &mut Construction, c: char, stays: bool) -> Result<(), Refu
     ensures rest { OnOk result (page.new ≡ record page.old { tree = page.new.tree; ledger = page.new.ledger; stack = page.new.stack; frameset_ok = page.new.frameset_ok; fostering = page.new.fostering }) }
     ensures takes { OnOk result (Takes (TokenKind.Char c) page.old page.new) }
     ensures quiet { OnOk result (page.new.ledger.kept ≡ []) }
-    ensures grown { OnOk result (Grown 1 (length page.old.ledger.fates + 1) 0 page.old page.new) }
+    ensures grown { OnOk result (Grown 1 (length page.old.ledger.fates + 1) 0 1 0 page.old page.new) }
     ensures lighter { OnOk result (weight page.new.stack ≤ weight page.old.stack) }
     ensures opened { OnOk result (0 < length page.new.stack) }
 {
@@ -97,7 +97,7 @@ fn settle_char(
     ensures rest { OnOk result (page.new ≡ record page.old { tree = page.new.tree; ledger = page.new.ledger; stack = page.new.stack; frameset_ok = page.new.frameset_ok; fostering = page.new.fostering }) }
     ensures takes { OnOk result (Takes token.now page.old page.new) }
     ensures quiet { OnOk result (page.new.ledger.kept ≡ []) }
-    ensures grown { OnOk result (Grown 1 (length page.old.ledger.fates + 1) 0 page.old page.new) }
+    ensures grown { OnOk result (Grown 1 (length page.old.ledger.fates + 1) 0 1 0 page.old page.new) }
     ensures lighter { OnOk result (weight page.new.stack ≤ weight page.old.stack) }
     ensures opened { OnOk result (0 < length page.new.stack) }
 {

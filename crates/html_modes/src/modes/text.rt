@@ -31,7 +31,7 @@ pub(crate) fn text_start(
     ensures fits { OnOk result (Fits page.new) }
     ensures takes { OnOk result (Takes token.now page.old page.new) }
     ensures falls { OnOk result (Falls Done (Symbol.Start tag) page.old page.new) }
-    ensures grown { OnOk result (Grown 1 2 0 page.old page.new) }
+    ensures grown { OnOk result (Grown 1 2 0 0 0 page.old page.new) }
 {
     let target = page.here();
     text_start_at(page, token, tag, target)
@@ -52,7 +52,7 @@ pub(crate) fn text_start_at(
     ensures fits { OnOk result (Fits page.new) }
     ensures takes { OnOk result (Takes token.now page.old page.new) }
     ensures falls { OnOk result (Falls Done (Symbol.Start tag) page.old page.new) }
-    ensures grown { OnOk result (Grown 1 2 0 page.old page.new) }
+    ensures grown { OnOk result (Grown 1 2 0 0 0 page.old page.new) }
 {
     page.insert_at(token, tag, target)?;
     page.enter(Mode::Text);
@@ -109,7 +109,7 @@ pub(crate) fn insert_text_char(
     ensures rest { OnOk result (page.new ≡ record page.old { tree = page.new.tree; ledger = page.new.ledger }) }
     ensures takes { OnOk result (Takes token.now page.old page.new) }
     ensures quiet { OnOk result (page.new.ledger.kept ≡ []) }
-    ensures grown { OnOk result (Grown 1 1 0 page.old page.new) }
+    ensures grown { OnOk result (Grown 1 1 0 0 0 page.old page.new) }
 {
     if c == '\0' {
         return page.drop_token(token, Symbol::Char(c), Cause::Null);

@@ -12,4 +12,4 @@ returns-clause-outcome c = λ s l ts h e.
 pub returns-clause-bounds : goal.returns-clause-bounds
 returns-clause-bounds c = λ s l ts h n k.
     bounded s l ts (record { page = c.self.inside.construction; stopped = c.self.inside.stopped }) n c.into_parts.result.0
-    (subst (λ b. Handed s l ts b) (sym c.self.view_is) h) k c.into_parts.ensures.nodes
+    (subst (λ b. Handed s l ts b) (sym c.self.view_is) h) k c.into_parts.ensures.nodes c.into_parts.ensures.well_formed c.into_parts.ensures.held

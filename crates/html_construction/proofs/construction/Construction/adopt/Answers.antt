@@ -1,5 +1,7 @@
 use Rattle.std.proofs.Common.{refl}
 use Rattle.html_construction.proofs.Kept.{kept, lighter-besides, stack-is}
+use Rattle.html_construction.proofs.Copying.{grown-kept}
+use Rattle.html_construction.proofs.Cloning.{adopted-copies}
 use Rattle.html_construction.proofs.construction.Construction.adopt.Goals as goal
 
 pub returns-clause-keeps : goal.returns-clause-keeps
@@ -7,3 +9,8 @@ returns-clause-keeps c = kept _ c.args.self.now _ c.self.view_is refl c.in_ok-en
 
 pub returns-clause-lighter : goal.returns-clause-lighter
 returns-clause-lighter c = lighter-besides c.args.self.now c.self.inside.tree c.adopt.new.self (stack-is _ c.args.self.now c.self.view_is) c.adopt.ensures.lighter
+
+pub returns-clause-grown : goal.returns-clause-grown
+returns-clause-grown c =
+    grown-kept 32 0 8 0 0 _ c.args.self.now _ _ c.self.view_is c.in_ok-end.ensures.grown
+    (adopted-copies c.args.tag c.self.inside.registers.fostering c.in_ok-end.end c.self.inside.tree _ c.laws.ensures.sound c.in_ok-end.ensures.exact)

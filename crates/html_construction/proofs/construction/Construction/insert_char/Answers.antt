@@ -6,6 +6,7 @@ use Rattle.html_construction.proofs.Building.{text-limits}
 use Rattle.html_tree.specs.States.{State as Tree}
 use Rattle.html_construction.specs.States.{State}
 use Rattle.html_ledger.specs.declared.fate.Fate.TheVariants.{Text}
+use Rattle.html_construction.proofs.Copying.{copied-text, grown-given}
 use Rattle.html_construction.proofs.construction.Construction.insert_char.Goals as goal
 
 pub invariant_of-self : goal.invariant_of-self
@@ -13,3 +14,8 @@ invariant_of-self c = still _ _ c.self.inside.ledger c.self.inside.registers.tem
 
 pub returns-clause-takes : goal.returns-clause-takes
 returns-clause-takes c = taken _ c.args.self.now _ c.args.token.now (Char c.args.c) c.self.view_is c.requires.symbol c.in_ok-give.ensures.takes (adds _ _ _ (ap (λ (x : Entries). x.fates) c.in_ok-give.ensures.given)) c.in_ok-node.ensures.keeps (ap (λ (x : Tree). x.tree.limits) c.in_ok-node.ensures.exact ∙ text-limits c.self.inside.tree c.self.inside.registers.fostering) (told-char _ _ c.self.inside.registers.fostering c.args.token.now c.in_ok-node.field-0-1 c.args.c c.as_slice.result.now c.requires.symbol c.as_slice.ensures c.in_ok-node.ensures.count.0 (ap (λ (x : State). x.ledger.kept) c.self.view_is ∙ c.requires.quiet) (ap (λ (x : Tree). x.tree) c.in_ok-node.ensures.exact) (c.in_ok-give.ensures.given ∙ ap (λ d. given c.self.inside.ledger (Char c.args.c) (Text d)) c.in_ok-node.ensures.node))
+
+pub returns-clause-grown : goal.returns-clause-grown
+returns-clause-grown c =
+    grown-given 1 0 0 _ c.args.self.now _ _ c.give.new.self _ c.self.view_is (ap (λ (x : Entries). x.fates) c.in_ok-give.ensures.given) c.in_ok-node.ensures.grown
+    (copied-text c.self.inside.tree _ c.self.inside.registers.fostering _ (ap (λ (x : Tree). x.tree) c.in_ok-node.ensures.exact))

@@ -4,6 +4,7 @@ use Rattle.html_construction.proofs.Kept.{adds-made, behind, made-next, taken-ma
 use Rattle.html_tree.specs.States.{State as Tree}
 use Rattle.html_tree.specs.Targets.{place_for}
 use Rattle.html_arena.specs.declared.data.NewNode.TheVariants as new
+use Rattle.html_construction.proofs.Copying.{copied-comment, grown-made}
 use Rattle.html_construction.proofs.construction.Construction.insert_comment_at.Goals as goal
 
 pub insert_comment-requires-clause-token : goal.insert_comment-requires-clause-token
@@ -14,3 +15,8 @@ invariant_of-self c = made-next _ _ c.args.self.now c.in_ok-number.number _ c.se
 
 pub returns-clause-takes : goal.returns-clause-takes
 returns-clause-takes c = taken-made _ _ c.args.self.now _ c.args.token.now Comment c.self.view_is c.in_ok-number.ensures.rest refl c.requires.symbol c.in_ok-number.ensures.takes (adds-made _ _ _ _ c.in_ok-number.ensures.fate) c.in_ok-insert_comment.ensures.keeps (place_for c.self.inside.tree c.args.target) (new.Comment c.in_ok-text.text c.in_ok-number.number) (ap (λ (x : Tree). x.tree) c.in_ok-insert_comment.ensures.exact) (told-made _ _ _ _ c.args.token.now Comment (place_for c.self.inside.tree c.args.target) (new.Comment c.in_ok-text.text c.in_ok-number.number) c.self.view_is c.in_ok-number.ensures.rest refl c.in_ok-number.ensures.fate c.requires.quiet (made-comment c.self.inside.tree.tree c.args.token.now c.in_ok-text.text c.in_ok-number.number _ c.requires.symbol c.in_ok-text.ensures.data c.in_ok-number.ensures.number) (ap (λ (x : Tree). x.tree) c.in_ok-insert_comment.ensures.exact))
+
+pub returns-clause-grown : goal.returns-clause-grown
+returns-clause-grown c =
+    grown-made 2 0 0 _ c.args.self.now _ _ _ _ _ _ c.self.view_is c.in_ok-number.ensures.rest refl c.in_ok-number.ensures.fate c.in_ok-insert_comment.ensures.grown
+    (copied-comment c.self.inside.tree.tree _ (place_for c.self.inside.tree c.args.target) c.in_ok-text.text c.in_ok-number.number (ap (λ (x : Tree). x.tree) c.in_ok-insert_comment.ensures.exact))

@@ -5,6 +5,7 @@ use Rattle.html_tree.specs.States.{State as Tree}
 use Rattle.html_tree.specs.Targets.{place_for}
 use Rattle.html_arena.specs.declared.data.NewNode.TheVariants as new
 use Rattle.html_tree.specs.declared.groups.Target.TheVariants as target
+use Rattle.html_construction.proofs.Copying.{copied-doctype, grown-made}
 use Rattle.html_construction.proofs.construction.Construction.insert_doctype.Goals as goal
 
 pub insert_doctype-requires : goal.insert_doctype-requires
@@ -15,3 +16,8 @@ invariant_of-self c = made-next _ _ c.args.self.now c.in_ok-number.number _ c.se
 
 pub returns-clause-takes : goal.returns-clause-takes
 returns-clause-takes c = taken-made _ _ c.args.self.now _ c.args.token.now Doctype c.self.view_is c.in_ok-number.ensures.rest refl c.requires.symbol c.in_ok-number.ensures.takes (adds-made _ _ _ _ c.in_ok-number.ensures.fate) c.in_ok-insert_doctype.ensures.keeps (place_for c.self.inside.tree target.Document) (new.Doctype c.in_ok-ids.ids.name c.in_ok-ids.ids.«public» c.in_ok-ids.ids.system c.in_ok-number.number) (ap (λ (x : Tree). x.tree) c.in_ok-insert_doctype.ensures.exact) (told-made _ _ _ _ c.args.token.now Doctype (place_for c.self.inside.tree target.Document) (new.Doctype c.in_ok-ids.ids.name c.in_ok-ids.ids.«public» c.in_ok-ids.ids.system c.in_ok-number.number) c.self.view_is c.in_ok-number.ensures.rest refl c.in_ok-number.ensures.fate c.requires.quiet (made-doctype c.self.inside.tree.tree c.args.token.now c.in_ok-ids.ids.name c.in_ok-ids.ids.«public» c.in_ok-ids.ids.system c.in_ok-number.number _ c.requires.symbol c.in_ok-ids.ensures.name c.in_ok-ids.ensures.public c.in_ok-ids.ensures.system c.in_ok-number.ensures.number) (ap (λ (x : Tree). x.tree) c.in_ok-insert_doctype.ensures.exact))
+
+pub returns-clause-grown : goal.returns-clause-grown
+returns-clause-grown c =
+    grown-made 2 0 0 _ c.args.self.now _ _ _ _ _ _ c.self.view_is c.in_ok-number.ensures.rest refl c.in_ok-number.ensures.fate c.in_ok-insert_doctype.ensures.grown
+    (copied-doctype c.self.inside.tree.tree _ (place_for c.self.inside.tree target.Document) c.in_ok-ids.ids.name c.in_ok-ids.ids.«public» c.in_ok-ids.ids.system c.in_ok-number.number (ap (λ (x : Tree). x.tree) c.in_ok-insert_doctype.ensures.exact))

@@ -4,6 +4,7 @@ use Rattle.html_tree.specs.States.{State as Tree}
 use Rattle.html_names.specs.declared.tag.Tag.TheVariants as tag
 use Rattle.html_tree.specs.Targets.{place_for}
 use Rattle.html_tree.specs.declared.groups.Target.TheVariants as target
+use Rattle.html_construction.proofs.Copying.{copied-implied, grown-kept}
 use Rattle.html_construction.proofs.construction.Construction.insert_implied_root.Goals as goal
 
 pub invariant_of-self : goal.invariant_of-self
@@ -11,3 +12,8 @@ invariant_of-self c = still _ _ c.self.inside.ledger c.self.inside.registers.tem
 
 pub returns-clause-keeps : goal.returns-clause-keeps
 returns-clause-keeps c = implied _ c.args.self.now _ (place_for c.self.inside.tree target.Document) tag.Html c.self.view_is refl c.in_ok-insert_implied_root.ensures.keeps (ap (λ (x : Tree). x.tree) c.in_ok-insert_implied_root.ensures.exact) refl
+
+pub returns-clause-grown : goal.returns-clause-grown
+returns-clause-grown c =
+    grown-kept 2 0 0 8 1 _ c.args.self.now _ _ c.self.view_is c.in_ok-insert_implied_root.ensures.grown
+    (copied-implied c.self.inside.tree.tree _ (place_for c.self.inside.tree target.Document) tag.Html refl (ap (λ (x : Tree). x.tree) c.in_ok-insert_implied_root.ensures.exact))

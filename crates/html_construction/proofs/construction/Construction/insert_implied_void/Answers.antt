@@ -1,6 +1,7 @@
 use Rattle.std.proofs.Common.{refl, ap}
 use Rattle.html_construction.proofs.Kept.{implied, still}
 use Rattle.html_tree.specs.States.{State as Tree}
+use Rattle.html_construction.proofs.Copying.{copied-implied, grown-kept}
 use Rattle.html_construction.proofs.construction.Construction.insert_implied_void.Goals as goal
 
 pub invariant_of-self : goal.invariant_of-self
@@ -8,3 +9,8 @@ invariant_of-self c = still _ _ c.self.inside.ledger c.self.inside.registers.tem
 
 pub returns-clause-keeps : goal.returns-clause-keeps
 returns-clause-keeps c = implied _ c.args.self.now _ _ c.args.tag c.self.view_is refl c.in_ok-insert_implied_void.ensures.keeps (ap (λ (x : Tree). x.tree) c.in_ok-insert_implied_void.ensures.exact) c.requires.alone
+
+pub returns-clause-grown : goal.returns-clause-grown
+returns-clause-grown c =
+    grown-kept 2 0 0 8 0 _ c.args.self.now _ _ c.self.view_is c.in_ok-insert_implied_void.ensures.grown
+    (copied-implied c.self.inside.tree.tree _ (_) c.args.tag c.requires.alone (ap (λ (x : Tree). x.tree) c.in_ok-insert_implied_void.ensures.exact))

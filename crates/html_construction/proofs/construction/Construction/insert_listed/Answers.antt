@@ -8,6 +8,7 @@ use Rattle.html_arena.specs.declared.data.NewNode.TheVariants as new
 use Rattle.html_arena.specs.declared.data.Origin.TheVariants.{Token}
 use Rattle.html_tree.specs.declared.groups.Target.TheVariants as target
 use Rattle.html_construction.proofs.Originating.{named-formatting}
+use Rattle.html_construction.proofs.Copying.{copied-element, grown-made}
 use Rattle.html_construction.proofs.construction.Construction.insert_listed.Goals as goal
 
 pub insert_listed-requires-clause-token : goal.insert_listed-requires-clause-token
@@ -23,3 +24,8 @@ pub returns-clause-exact : goal.returns-clause-exact
 returns-clause-exact c =
     listed-made _ _ c.args.self.now _ c.in_ok-name.name (tag_name c.args.token.now) c.in_ok-attrs.attrs (attrs_of c.args.token.now) c.in_ok-number.number _
     c.self.view_is c.in_ok-number.ensures.rest c.in_ok-name.ensures.name c.in_ok-attrs.ensures.attrs c.in_ok-number.ensures.number c.in_ok-insert_listed.ensures.exact
+
+pub returns-clause-grown : goal.returns-clause-grown
+returns-clause-grown c =
+    grown-made 2 1 1 _ c.args.self.now _ _ _ _ _ _ c.self.view_is c.in_ok-number.ensures.rest refl c.in_ok-number.ensures.fate c.in_ok-insert_listed.ensures.grown
+    (copied-element c.self.inside.tree.tree _ (place_for c.self.inside.tree (target.Current c.self.inside.registers.fostering)) c.in_ok-name.name c.in_ok-attrs.attrs c.in_ok-number.number (ap (λ (x : Tree). x.tree) c.in_ok-insert_listed.ensures.exact))

@@ -9,6 +9,7 @@ use Rattle.html_arena.specs.declared.data.Origin.TheVariants.{Token}
 use Rattle.html_tree.specs.declared.groups.Target.TheVariants as target
 use Rattle.html_names.specs.Names.{name_of}
 use Rattle.html_construction.proofs.Originating.{named-html}
+use Rattle.html_construction.proofs.Copying.{copied-element, grown-made}
 use Rattle.html_construction.proofs.construction.Construction.insert_root.Goals as goal
 
 pub insert_root-requires : goal.insert_root-requires
@@ -19,3 +20,8 @@ invariant_of-self c = made-next _ _ c.args.self.now c.in_ok-number.number _ c.se
 
 pub returns-clause-takes : goal.returns-clause-takes
 returns-clause-takes c = taken-made _ _ c.args.self.now _ c.args.token.now (Start tag.Html) c.self.view_is c.in_ok-number.ensures.rest refl c.requires.symbol c.in_ok-number.ensures.takes (adds-made _ _ _ _ c.in_ok-number.ensures.fate) c.in_ok-insert_root.ensures.keeps (place_for c.self.inside.tree target.Document) (new.Element (name_of tag.Html) c.in_ok-attrs.attrs (Token c.in_ok-number.number)) (ap (λ (x : Tree). x.tree) c.in_ok-insert_root.ensures.exact) (told-made _ _ _ _ c.args.token.now (Start tag.Html) (place_for c.self.inside.tree target.Document) (new.Element (name_of tag.Html) c.in_ok-attrs.attrs (Token c.in_ok-number.number)) c.self.view_is c.in_ok-number.ensures.rest refl c.in_ok-number.ensures.fate c.requires.quiet (made-element c.self.inside.tree.tree c.args.token.now tag.Html (name_of tag.Html) c.in_ok-attrs.attrs c.in_ok-number.number _ c.requires.symbol (named-html c.args.token.now c.requires.symbol) c.in_ok-attrs.ensures.attrs c.in_ok-number.ensures.number) (ap (λ (x : Tree). x.tree) c.in_ok-insert_root.ensures.exact))
+
+pub returns-clause-grown : goal.returns-clause-grown
+returns-clause-grown c =
+    grown-made 2 0 1 _ c.args.self.now _ _ _ _ _ _ c.self.view_is c.in_ok-number.ensures.rest refl c.in_ok-number.ensures.fate c.in_ok-insert_root.ensures.grown
+    (copied-element c.self.inside.tree.tree _ (place_for c.self.inside.tree target.Document) (name_of tag.Html) c.in_ok-attrs.attrs c.in_ok-number.number (ap (λ (x : Tree). x.tree) c.in_ok-insert_root.ensures.exact))

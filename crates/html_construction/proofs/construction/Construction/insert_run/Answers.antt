@@ -7,6 +7,7 @@ use Rattle.html_construction.proofs.Kept.{adds-run, front-run, still, taken-run,
 use Rattle.html_construction.proofs.Building.{text-limits}
 use Rattle.html_tree.specs.States.{State as Tree}
 use Rattle.html_ledger.specs.Entries.{given_run}
+use Rattle.html_construction.proofs.Copying.{copied-text, grown-run}
 use Rattle.html_construction.proofs.construction.Construction.insert_run.Goals as goal
 
 pub invariant_of-self : goal.invariant_of-self
@@ -17,3 +18,8 @@ give_run-requires-clause-may c = front-run c.self.inside.ledger.history c.args.r
 
 pub returns-clause-takes : goal.returns-clause-takes
 returns-clause-takes c = taken-run _ c.args.self.now _ (take c.in_ok-node.count c.args.run.now) c.self.view_is c.in_ok-give_run.ensures.takes (adds-run _ _ (take c.in_ok-node.count c.args.run.now) (Text c.in_ok-node.node) c.in_ok-give_run.ensures.given) c.in_ok-node.ensures.keeps (ap (λ (x : Tree). x.tree.limits) c.in_ok-node.ensures.exact ∙ text-limits c.self.inside.tree c.self.inside.registers.fostering) (told-run-text _ _ c.self.inside.registers.fostering c.in_ok-node.count c.args.run.now c.in_ok-node.ensures.count.0 c.in_ok-node.ensures.count.1 (ap (λ (x : State). x.ledger.kept) c.self.view_is ∙ c.requires.quiet) (ap (λ (x : Tree). x.tree) c.in_ok-node.ensures.exact) (c.in_ok-give_run.ensures.given ∙ ap (λ d. given_run c.self.inside.ledger (take c.in_ok-node.count c.args.run.now) (Text d)) c.in_ok-node.ensures.node))
+
+pub returns-clause-grown : goal.returns-clause-grown
+returns-clause-grown c =
+    grown-run c.in_ok-node.count 0 _ c.args.run.now c.args.self.now _ _ c.give_run.new.self _ c.in_ok-node.ensures.count.1 c.self.view_is c.in_ok-give_run.ensures.given c.in_ok-node.ensures.grown
+    (copied-text c.self.inside.tree _ c.self.inside.registers.fostering _ (ap (λ (x : Tree). x.tree) c.in_ok-node.ensures.exact))

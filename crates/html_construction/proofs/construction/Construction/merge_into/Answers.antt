@@ -8,6 +8,8 @@ use Rattle.std.specs.Prelude.{slice_index}
 use Rattle.html_arena.specs.Tree.{named, with_merged}
 use Rattle.html_open.specs.Marking.{bare}
 use Rattle.html_construction.proofs.Originating.{outermost-in}
+use Rattle.html_construction.proofs.Copying.{copied-merged, grown-given}
+use Rattle.html_ledger.specs.declared.fate.Fate.TheVariants.{Merged}
 use Rattle.html_construction.proofs.construction.Construction.merge_into.Goals as goal
 
 pub invariant_of-self : goal.invariant_of-self
@@ -16,3 +18,8 @@ invariant_of-self c = still _ _ c.self.inside.ledger c.self.inside.registers.tem
 pub returns-clause-takes : goal.returns-clause-takes
 returns-clause-takes c = taken _ c.args.self.now _ c.args.token.now (Start c.args.tag) c.self.view_is c.requires.symbol c.in_ok-give.ensures.takes (adds _ _ _ (ap (λ (x : Entries). x.fates) c.in_ok-give.ensures.given)) c.in_ok-merge.ensures.keeps (ap (λ (x : Tree). x.tree.limits) c.in_ok-merge.ensures.exact) (told-merge _ _ c.args.token.now c.args.tag (slice_index c.self.inside.tree.stack c.args.index) c.requires.symbol c.requires.outermost (ap (λ (x : State). x.ledger.kept) c.self.view_is ∙ c.requires.quiet) (ap (λ (x : Entries). x.fates) c.in_ok-give.ensures.given) (outermost-in c.self.inside.tree.tree c.args.tag (slice_index c.self.inside.tree.stack c.args.index) c.requires.outermost (subst (λ (x : State). named x.tree.tree c.args.tag (slice_index x.tree.stack c.args.index) ≡ true) (sym c.self.view_is) c.requires.own)) (subst (λ (x : State). named x.tree.tree c.args.tag (slice_index x.tree.stack c.args.index) ≡ true) (sym c.self.view_is) c.requires.own)
     (ap (λ (x : Tree). x.tree) c.in_ok-merge.ensures.exact ∙ ap (λ own. bare (with_merged c.self.inside.tree.tree (slice_index c.self.inside.tree.stack c.args.index) own)) c.in_ok-attrs.ensures.attrs))
+
+pub returns-clause-grown : goal.returns-clause-grown
+returns-clause-grown c =
+    grown-given 0 0 0 _ c.args.self.now _ _ c.give.new.self Merged c.self.view_is (ap (λ (x : Entries). x.fates) c.in_ok-give.ensures.given) c.in_ok-merge.ensures.grown
+    (copied-merged c.self.inside.tree.tree _ (slice_index c.self.inside.tree.stack c.args.index) c.in_ok-attrs.attrs (ap (λ (x : Tree). x.tree) c.in_ok-merge.ensures.exact))

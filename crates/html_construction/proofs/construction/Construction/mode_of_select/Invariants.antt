@@ -7,7 +7,7 @@ abbrev pub invariant-looking : goal.invariant-looking
 invariant-looking l = record {
   rest : l.self ≡ record l.initial.self { tree = l.self.tree };
   keeps : Keeps l.initial.self l.self;
-  grown : Grown 0 0 0 l.initial.self l.self;
+  grown : Grown 0 0 0 0 0 l.initial.self l.self;
   below : l.index ≤ length l.self.stack;
 }
 

@@ -1,7 +1,13 @@
 use Rattle.std.proofs.Common.{refl, ap}
 use Rattle.html_construction.proofs.Kept.{implied}
 use Rattle.html_tree.specs.States.{State as Tree}
+use Rattle.html_construction.proofs.Copying.{copied-implied, grown-kept}
 use Rattle.html_construction.proofs.construction.Construction.open_implied.Goals as goal
 
 pub returns-clause-keeps : goal.returns-clause-keeps
 returns-clause-keeps c = implied _ c.args.self.now _ _ c.args.tag c.self.view_is refl c.in_ok-node.ensures.keeps (ap (λ (x : Tree). x.tree) c.in_ok-node.ensures.exact) c.requires.alone
+
+pub returns-clause-grown : goal.returns-clause-grown
+returns-clause-grown c =
+    grown-kept 2 0 0 8 1 _ c.args.self.now _ _ c.self.view_is c.in_ok-node.ensures.grown
+    (copied-implied c.self.inside.tree.tree _ (_) c.args.tag c.requires.alone (ap (λ (x : Tree). x.tree) c.in_ok-node.ensures.exact))

@@ -1,5 +1,7 @@
 use Rattle.std.proofs.Common.{refl}
 use Rattle.html_construction.proofs.Kept.{kept, reopened, stack-is}
+use Rattle.html_construction.proofs.Copying.{grown-reopened}
+use Rattle.html_construction.proofs.Cloning.{reopened-copies}
 use Rattle.html_construction.proofs.construction.Construction.reconstruct.Goals as goal
 
 pub returns-clause-keeps : goal.returns-clause-keeps
@@ -7,3 +9,8 @@ returns-clause-keeps c = kept _ c.args.self.now _ c.self.view_is refl c.in_ok-re
 
 pub returns-clause-lighter : goal.returns-clause-lighter
 returns-clause-lighter c = reopened c.args.self.now c.self.inside.tree c.reopen.new.self (stack-is _ c.args.self.now c.self.view_is) c.reopen.ensures.opened
+
+pub returns-clause-grown : goal.returns-clause-grown
+returns-clause-grown c =
+    grown-reopened _ _ c.args.self.now _ _ c.self.view_is c.requires.listed c.in_ok-reopen.ensures.grown
+    (reopened-copies c.self.inside.registers.fostering c.self.inside.tree _ c.laws.ensures.sound c.in_ok-reopen.ensures.exact)

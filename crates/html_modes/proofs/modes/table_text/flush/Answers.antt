@@ -15,7 +15,7 @@ flushing-init c = record {
   opened = grind (arith, common_steps);
   quiet = c.take_kept-kept.ensures.quiet;
   listed = grind (arith, common_steps);
-  spends = omega arith;
+  spends = (omega arith, (omega arith, omega arith));
 }
 
 pub flushing-preserved : goal.flushing-preserved
