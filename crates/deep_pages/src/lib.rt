@@ -1,5 +1,7 @@
-//! Pages of great depth, through the commands: depth costs no stack.
+//! Pages of great depth, through the commands: depth costs no stack. Pages that grow in four ways.
 #![tactic(auto)]
 
+#[cfg(test)]
+mod growth;
 #[cfg(test)]
 mod tests;

@@ -9,7 +9,9 @@ use Rattle.html_arena.specs.declared.data.NodeData.TheVariants as node
 use Rattle.html_names.specs.Names.{tag_of}
 use Rattle.html_arena.specs.Data.{host_in, label_in, name_in, tag_in}
 use Rattle.html_arena.specs.Weight.{capped, weight as label_weight}
-use Rattle.html_construction.specs.Copies.{most_clones}
+use Rattle.html_construction.specs.Copies.{implied_count, most_clones}
+use Rattle.html_construction.specs.Works.{tokenless}
+use Rattle.html_builder.proofs.Counting.{counted-most, tokenless-few}
 use Rattle.html_builder.proofs.Holding.{holding}
 use Rattle.std.specs.List.{sum_by}
 use Rattle.std.proofs.Math.Nat.{mul-le-mul_left, mul-le-mul_right}
@@ -34,7 +36,7 @@ use Rattle.html_construction.specs.States.{State}
 use Rattle.html_modes.specs.Steps.{allowance}
 use Rattle.html_builder.specs.Builders.{BuilderState}
 use Rattle.html_builder.specs.Handed.{CostAtMost, EndsAtEof, Handed, HaveFates, fates_of, given, own_total}
-use Rattle.html_builder.specs.Outcome.{IsBounded, IsOutcome, IsRooted, most_held, most_nodes}
+use Rattle.html_builder.specs.Outcome.{IsBounded, IsOutcome, IsRooted, most_held, most_nodes, most_tree_steps}
 
 -- the first symbol of a list, and the rest
 abbrev first : List Symbol → Symbol
@@ -153,14 +155,14 @@ most-product m o n a b =
     let q = mul-le-mul_right n a in
     omega (arith, p, q)
 
-most-all : (n : ℕ) → 10 * (n + 1) * n + n + (4 + 128 * (n + 1)) ≤ most_held n
+most-all : (n : ℕ) → 10 * (n + 1) * n + n + 8 * (1 + 16 * (n + 1)) ≤ most_held n
 most-all zero = omega arith
 most-all (suc n) = grind arith
 
 -- what the nodes hold, by the tokens
-held-most : (s : Setting) (l : Option Limits) (ts : List TokenKind) (b : BuilderState) (n : ℕ) (t : Tree) → Handed s l ts b → CostAtMost n ts → bare t ≡ b.page.tree.tree → WellFormed t → t.held ≡ capped (sum_by label_weight t.labels)
-    → length b.page.ledger.fates ≤ n + 1 → t.held ≤ most_held n
-held-most s l ts b n t h c e w d f =
+held-most : (s : Setting) (l : Option Limits) (ts : List TokenKind) (b : BuilderState) (n : ℕ) (t : Tree) → Handed s l ts b → CostAtMost n ts → bare t ≡ b.page.tree.tree → WellFormed t
+    → length b.page.ledger.fates ≤ n + 1 → sum_by label_weight t.labels ≤ most_held n
+held-most s l ts b n t h c e w f =
     let same : t.labels ≡ b.page.tree.tree.labels = ap (λ (u : Tree). u.labels) e in
     let all = holding ts b.page.ledger.fates b.page.tree.tree.labels h.built.origins h.built.made h.built.texts (subst (λ ls. (x : ℕ) → tag_in (label_in ls x) ≡ tag_of (name_in (label_in ls x))) same w.tagged) in
     let sum : sum_by label_weight t.labels ≡ sum_by label_weight b.page.tree.tree.labels = ap (λ ls. sum_by label_weight ls) same in
@@ -170,10 +172,23 @@ held-most s l ts b n t h c e w d f =
     let count = c.count in
     let product = most-product (most_clones b.page.tree.tree.labels) (own_total ts) n (omega (arith, clones, f)) own in
     let last = most-all n in
-    omega (arith, d, all, sum, implied, own, count, product, last)
+    omega (arith, all, sum, implied, own, count, product, last)
 
-pub bounded : (s : Setting) (l : Option Limits) (ts : List TokenKind) (b : BuilderState) (n : ℕ) (t : Tree) → Handed s l ts b → CostAtMost n ts → bare t ≡ b.page.tree.tree → WellFormed t → t.held ≡ capped (sum_by label_weight t.labels) → IsBounded n t
-bounded s l ts b n t h c e w d =
+-- how many steps it counted, by the tokens
+steps-most : (s : Setting) (l : Option Limits) (ts : List TokenKind) (b : BuilderState) (n : ℕ) (t : Tree) → Handed s l ts b → CostAtMost n ts → bare t ≡ b.page.tree.tree → WellFormed t
+    → length b.page.ledger.fates ≤ length ts → b.page.tree.steps ≤ most_tree_steps n
+steps-most s l ts b n t h c e w f =
+    let same : t.labels ≡ b.page.tree.tree.labels = ap (λ (u : Tree). u.labels) e in
+    let few : tokenless b.page.tree.tree.labels ≤ implied_count b.page.tree.tree.labels =
+    tokenless-few ts b.page.ledger.fates b.page.tree.tree.labels h.built.origins (subst (λ ls. (x : ℕ) → tag_in (label_in ls x) ≡ tag_of (name_in (label_in ls x))) same w.tagged) in
+    let implied = h.implied in
+    let paid = h.paid in
+    let counted = h.counted in
+    counted-most ts b.page n f c.count c.attributes (omega (arith, paid)) (omega (arith, few, implied)) (omega (arith, counted))
+
+pub bounded : (s : Setting) (l : Option Limits) (ts : List TokenKind) (b : BuilderState) (n : ℕ) (t : Tree) → Handed s l ts b → CostAtMost n ts → bare t ≡ b.page.tree.tree → WellFormed t → t.held ≡ capped (sum_by label_weight t.labels)
+    → t.steps ≡ b.page.tree.steps → IsBounded n t
+bounded s l ts b n t h c e w d z =
     let same : length t.labels ≡ length b.page.tree.tree.labels = ap (λ (u : Tree). length u.labels) e in
     let count : length ts ≡ length b.page.ledger.fates + length b.page.ledger.kept = handed-count (given s l ts) b.page h.built in
     let few : length b.page.ledger.fates ≤ n + 1 = let k = c.count in omega (arith, count, k) in
@@ -181,7 +196,9 @@ bounded s l ts b n t h c e w d =
     let all : 40 + 32 * (n + 1) + allowance (n + 1) ≤ most_nodes n = most-allowance n in
     let tokens = c.count in
     let paid = h.paid in
-    record { nodes = omega (arith, same, fates, all, tokens, paid); held = held-most s l ts b n t h c e w d few }
+    let steps = steps-most s l ts b n t h c e w (omega (arith, count)) in
+    let weighs = held-most s l ts b n t h c e w few in
+    record { nodes = omega (arith, same, fates, all, tokens, paid); held = omega (arith, d, weighs); weighs = weighs; steps = omega (arith, steps, z) }
 
 -- WHAT IS HANDED OUT
 

@@ -1,6 +1,6 @@
 -- The tokens handed in, after each call.
 use Rattle.std.proofs.lemmas.Bool.{false≢true}
-use Rattle.std.proofs.Common.{ℕ, zero, suc, true, false, ◌≡◌, ◌+◌, ◌*◌, ◌<◌, ◌≤◌, List, [], ◌∷◌, ◌++◌, length, take, refl, sym, ap, subst, ◌∙◌, arith, length-append}
+use Rattle.std.proofs.Common.{ℕ, zero, suc, Bool, true, false, ◌≡◌, ◌+◌, ◌*◌, ◌<◌, ◌≤◌, List, [], ◌∷◌, ◌++◌, length, take, refl, sym, ap, subst, ◌∙◌, arith, length-append}
 use Rattle.std.specs.Prelude.{Option, Some, None}
 use Rattle.std.proofs.lemmas.List.{append_assoc, append-nil}
 use Rattle.html_names.specs.declared.tag.Tag.{Tag}
@@ -15,26 +15,38 @@ use Rattle.html_ledger.specs.declared.symbol.Symbol.{Symbol}
 use Rattle.html_ledger.specs.declared.symbol.Symbol.TheVariants.{Start, End, Char, Comment, Doctype, Eof}
 use Rattle.html_ledger.specs.declared.fate.Fate.{Fate}
 use Rattle.html_ledger.specs.declared.fate.Fate.TheVariants as fate
-use Rattle.html_ledger.specs.Symbols.{symbol_of, chars_of as symbol_chars}
-use Rattle.html_ledger.specs.Entries.{Fed}
+use Rattle.html_ledger.specs.Symbols.{symbol_of}
 use Rattle.html_ledger.specs.Runs.{last_of}
-use Rattle.html_construction.specs.Built.{BeginsWith, Handed as Given, IsBuilt, Takes, TakesRun, chars_of, ends_made, nothing_of, some_made, symbols, with_tokens}
+use Rattle.html_construction.specs.Built.{BeginsWith, Handed as Given, IsBuilt, Takes, TakesRun, chars_of, ends_made, nothing_of, some_made, with_tokens}
+use Rattle.html_construction.specs.Modes.{is_reset}
 use Rattle.html_construction.specs.States.{State}
-use Rattle.html_construction.specs.Copies.{implied_length, most_clones}
+use Rattle.html_construction.specs.declared.mode.Mode.{Mode}
+use Rattle.html_construction.specs.declared.mode.Mode.TheVariants as mode
+use Rattle.html_construction.specs.Copies.{implied_count, most_clones}
 use Rattle.html_construction.specs.Weights.{weight}
+use Rattle.html_construction.specs.Works.{reach_of, span_of}
 use Rattle.html_construction.specs.declared.refusal.Refusal.{Refusal}
 use Rattle.html_construction.specs.declared.refusal.Refusal.TheVariants as refusal
 use Rattle.html_modes.specs.Ranks.{top_rank}
-use Rattle.html_modes.specs.Steps.{Pays, allowance, root_of}
+use Rattle.html_modes.specs.Steps.{Pays, Toils, compared, root_of}
 use Rattle.html_modes.specs.declared.outcome.Foreign.{Foreign}
 use Rattle.html_modes.specs.declared.outcome.Foreign.TheVariants as foreign
 use Rattle.html_builder.specs.Builders.{BuilderState}
 use Rattle.html_builder.specs.Errors.{error_at}
-use Rattle.html_builder.specs.Handed.{AddsFates, Handed, HandsIn, IsBuildCause, IsTextCause, Starts, fates_of, foreign_tag, given}
+use Rattle.html_builder.specs.Handed.{AddsFates, Handed, HandsIn, attribute_total, IsBuildCause, IsTextCause, Starts, fates_of, foreign_tag, given}
 use Rattle.html_builder.specs.Switches.{said_after, switch_after}
 use Rattle.html_builder.specs.declared.error.BuildError.{BuildError}
 use Rattle.html_builder.specs.declared.error.BuildError.TheVariants as error
+use Rattle.html_builder.proofs.Counting.{compared-one, counted-in, counted-none}
 use Rattle.html_builder.proofs.Endings.{handed-count, have-fates}
+use Rattle.html_builder.proofs.Plainly.{begun-plain, plain-run, plain-token}
+use Rattle.html_builder.specs.Plain.{IsPlainSoFar}
+use Rattle.html_modes.specs.Plain.{GoesOn, GoesOnText}
+use Rattle.html_ledger.specs.Entries.{begun as begun_ledger}
+use Rattle.html_ledger.specs.Flags.{is_not_null}
+use Rattle.html_ledger.specs.declared.setting.Setting.TheVariants as setting
+use Rattle.html_tree.specs.States.{document_state}
+use Rattle.std.specs.List.{list_all}
 
 with-given : (s : Setting) (l : Option Limits) (ts us : List TokenKind) → with_tokens (given s l ts) us ≡ given s l (ts ++ us)
 unfolding with_tokens
@@ -53,26 +65,32 @@ pub built-knowing : (h : Given) (a : State) → IsBuilt h a → IsBuilt (knowing
 built-knowing h a w = record { fed = w.fed; known = ([], sym (append-nil a.ledger.fates)); rooted = w.rooted; limits = w.limits; root = w.root; origins = w.origins; made = w.made; texts = w.texts }
 
 -- so many tokens, handed in at once
-handed-in : (us : List TokenKind) (v w : BuilderState) → ((h : Given) → IsBuilt h v.page → IsBuilt (with_tokens h us) w.page) → Pays v.page w.page → 0 < length us → w.stopped ≡ false → HandsIn us v w
-handed-in us v w f p k g = λ s l ts h.
-    let n : length (ts ++ us) ≡ length ts + length us = length-append ts us in record {
+handed-in : (us : List TokenKind) (more : ℕ) (v w : BuilderState) → ((h : Given) → IsBuilt h v.page → IsBuilt (with_tokens h us) w.page) → Pays v.page w.page
+    → Toils more v.page w.page → more ≤ attribute_total us * span_of w.page → ((s : Setting) (ts : List TokenKind) → IsPlainSoFar s ts v.page → IsPlainSoFar s (ts ++ us) w.page) → 0 < length us → w.stopped ≡ false → HandsIn us v w
+handed-in us more v w f p o m q k g = λ s l ts h.
+    let n : length (ts ++ us) ≡ length ts + length us = length-append ts us in
+    let b : IsBuilt (given s l (ts ++ us)) w.page = subst (λ x. IsBuilt x w.page) (with-given s l ts us) (f (given s l ts) h.built) in
+    let c = handed-count (given s l (ts ++ us)) w.page b in record {
       going = g;
-      built = subst (λ x. IsBuilt x w.page) (with-given s l ts us) (f (given s l ts) h.built);
+      built = b;
       paid = omega (arith, p.0, h.paid, n, k);
       cloned = omega (arith, p.1.0, h.cloned);
       implied = omega (arith, p.1.1.0, h.implied_paid, n, k);
       implied_paid = omega (arith, p.1.1.1, h.implied_paid, n, k);
+      counted = counted-in ts us more (given s l (ts ++ us)) v.page w.page refl b (omega (arith, c)) k h.counted (omega (arith, h.implied_paid)) o m;
+      plain = q s ts h.plain;
     }
 
-pub handed-token : (t : TokenKind) (v w : BuilderState) → Takes t v.page w.page → Pays v.page w.page → w.stopped ≡ false → HandsIn (t ∷ []) v w
-handed-token t v w f p g = handed-in (t ∷ []) v w f p (omega arith) g
+pub handed-token : (t : TokenKind) (v w : BuilderState) → Takes t v.page w.page → Pays v.page w.page → Toils (compared t w.page) v.page w.page → GoesOn (symbol_of t) t v.page w.page → w.stopped ≡ false → HandsIn (t ∷ []) v w
+handed-token t v w f p o q g = handed-in (t ∷ []) (compared t w.page) v w f p o (compared-one t (span_of w.page)) (plain-token t v.page w.page q) (omega arith) g
 
 length-chars : (cs : List ℕ) → length (chars_of cs) ≡ length cs
 length-chars [] = refl
 length-chars (c ∷ cs) = ap suc (length-chars cs)
 
-pub handed-run : (cs : List ℕ) (v w : BuilderState) → TakesRun cs v.page w.page → Pays v.page w.page → 0 < length cs → w.stopped ≡ false → HandsIn (chars_of cs) v w
-handed-run cs v w f p k g = handed-in (chars_of cs) v w f p (let e = length-chars cs in omega (arith, e, k)) g
+pub handed-run : (cs : List ℕ) (v w : BuilderState) → TakesRun cs v.page w.page → Pays v.page w.page → Toils 0 v.page w.page → (list_all is_not_null cs ≡ true → GoesOnText cs v.page w.page) → 0 < length cs → w.stopped ≡ false
+    → HandsIn (chars_of cs) v w
+handed-run cs v w f p o q k g = handed-in (chars_of cs) 0 v w f p o (omega arith) (plain-run cs v.page w.page k q) (let e = length-chars cs in omega (arith, e, k)) g
 
 -- fates are only added
 added : (us : List TokenKind) (v w : BuilderState) → ((h : Given) → IsBuilt h v.page → IsBuilt (with_tokens h us) w.page) → AddsFates v w
@@ -118,9 +136,31 @@ length-none (f ∷ fs) e = absurd (omega (arith, e))
 pub none-fated : (s : Setting) (l : Option Limits) (a : State) → IsBuilt (nothing_of s l) a → a.ledger.fates ≡ []
 none-fated s l a w = let c = handed-count (nothing_of s l) a w in length-none a.ledger.fates (omega (arith, c))
 
-pub begun : (s : Setting) (l : Option Limits) (b : BuilderState) → b.stopped ≡ false → IsBuilt (nothing_of s l) b.page → length b.page.tree.tree.labels + 2 * (weight b.page.stack + top_rank b.page.mode) ≤ 40
-    → most_clones b.page.tree.tree.labels ≡ 0 → implied_length b.page.tree.tree.labels ≤ 4 → weight b.page.stack + top_rank b.page.mode ≤ 14 → Handed s l [] b
-begun s l b g w p c i r = record { going = g; built = w; paid = omega (arith, p); cloned = omega (arith, c); implied = omega (arith, i); implied_paid = omega (arith, i, r) }
+begun : (s : Setting) (l : Option Limits) (b : BuilderState) → b.stopped ≡ false → IsBuilt (nothing_of s l) b.page → length b.page.tree.tree.labels + 2 * (weight b.page.stack + top_rank b.page.mode) ≤ 40
+    → most_clones b.page.tree.tree.labels ≡ 0 → implied_count b.page.tree.tree.labels ≤ 1 → b.page.tree.steps ≤ 2 + reach_of b.page → weight b.page.stack + top_rank b.page.mode ≤ 14 → IsPlainSoFar s [] b.page → Handed s l [] b
+begun s l b g w p c i t r q = record { going = g; built = w; paid = omega (arith, p); cloned = omega (arith, c); implied = omega (arith, i); implied_paid = omega (arith, i, r); counted = counted-none [] b.page t r; plain = q }
+
+pub begun-document : (l : Option Limits) (b : BuilderState) → b.stopped ≡ false → IsBuilt (nothing_of setting.Document l) b.page → b.page.mode ≡ mode.Initial → b.page.stack ≡ [] → length b.page.tree.tree.labels ≡ 1
+    → most_clones b.page.tree.tree.labels ≡ 0 → implied_count b.page.tree.tree.labels ≤ 1 → b.page.tree.steps ≤ 2 + reach_of b.page → (z : Option Limits) × (j : ℕ) × (b.page.tree ≡ document_state z j)
+    → b.page.ledger ≡ begun_ledger setting.Document → b.page.fostering ≡ false → b.page.context ≡ None → Handed setting.Document l [] b
+begun-document l b g w m k n c i t d e f o =
+    let p : top_rank b.page.mode ≡ 14 = ap top_rank m in
+    let q : weight b.page.stack ≡ 0 = ap weight k in
+    begun setting.Document l b g w (omega (arith, p, q, n)) c i t (omega (arith, p, q)) (λ z. begun-plain b.page m k d.0 d.1 d.2 e f o)
+
+reset-low : (m : Mode) → is_reset m ≡ true → top_rank m ≤ 10
+reset-low mode.Initial e = absurd (false≢true e)
+reset-low mode.BeforeHtml e = absurd (false≢true e)
+reset-low mode.Text e = absurd (false≢true e)
+reset-low mode.InTableText e = absurd (false≢true e)
+reset-low _ e = omega arith
+
+pub begun-fragment : (u : Tag) (form : Bool) (l : Option Limits) (b : BuilderState) → b.stopped ≡ false → IsBuilt (nothing_of (setting.Fragment u form) l) b.page → is_reset b.page.mode ≡ true → b.page.stack ≡ tag.Html ∷ []
+    → length b.page.tree.tree.labels ≡ 1 → most_clones b.page.tree.tree.labels ≡ 0 → implied_count b.page.tree.tree.labels ≤ 1 → b.page.tree.steps ≤ 2 + reach_of b.page → Handed (setting.Fragment u form) l [] b
+begun-fragment u form l b g w m k n c i t =
+    let p : top_rank b.page.mode ≤ 10 = reset-low b.page.mode m in
+    let q : weight b.page.stack ≡ 4 = ap weight k in
+    begun (setting.Fragment u form) l b g w (omega (arith, p, q, n)) c i t (omega (arith, p, q)) tt
 
 -- WHAT IS SAID AND REFUSED
 
@@ -188,11 +228,12 @@ text-cause-part s l ts us fs gs text part start at (error.NodeBudget place) p q 
 text-cause-part s l ts us fs gs text part start at (error.HeldBudget place) p q c = let a = c.0 in let b = c.1 in (omega (arith, p, a), omega (arith, q, b))
 
 -- the same, where the state is seen as a view
-pub viewed-token : (t : TokenKind) (u v w : BuilderState) → u ≡ v → Takes t u.page w.page → Pays u.page w.page → w.stopped ≡ false → HandsIn (t ∷ []) v w
-viewed-token t u v w e f p g = subst (λ x. HandsIn (t ∷ []) x w) e (handed-token t u w f p g)
+pub viewed-token : (t : TokenKind) (y : Symbol) (u v w : BuilderState) → u ≡ v → y ≡ symbol_of t → Takes t u.page w.page → Pays u.page w.page → Toils (compared t w.page) u.page w.page → GoesOn y t u.page w.page
+    → w.stopped ≡ false → HandsIn (t ∷ []) v w
+viewed-token t y u v w e i f p o q g = subst (λ x. HandsIn (t ∷ []) x w) e (handed-token t u w f p o (subst (λ z. GoesOn z t u.page w.page) i q) g)
 
-pub viewed-run : (cs : List ℕ) (u v w : BuilderState) → u ≡ v → TakesRun cs u.page w.page → Pays u.page w.page → 0 < length cs → w.stopped ≡ false → HandsIn (chars_of cs) v w
-viewed-run cs u v w e f p k g = subst (λ x. HandsIn (chars_of cs) x w) e (handed-run cs u w f p k g)
+pub viewed-run : (cs : List ℕ) (u v w : BuilderState) → u ≡ v → TakesRun cs u.page w.page → Pays u.page w.page → Toils 0 u.page w.page → (list_all is_not_null cs ≡ true → GoesOnText cs u.page w.page) → 0 < length cs → w.stopped ≡ false → HandsIn (chars_of cs) v w
+viewed-run cs u v w e f p o q k g = subst (λ x. HandsIn (chars_of cs) x w) e (handed-run cs u w f p o q k g)
 
 pub viewed-added : (cs : List ℕ) (u v w : BuilderState) → u ≡ v → TakesRun cs u.page w.page → AddsFates v w
 viewed-added cs u v w e f = subst (λ x. AddsFates x w) e (added-run cs u w f)
@@ -219,7 +260,7 @@ not-stopped refusal.OutOfMemory at e = absurd (let k = e in cc)
 not-stopped refusal.NodeBudget at e = absurd (let k = e in cc)
 not-stopped refusal.HeldBudget at e = absurd (let k = e in cc)
 
-pub ruleset begin_rules = (begun, none-fated)
+pub ruleset begin_rules = (none-fated)
 
 pub ruleset process_rules = (handed-token, added-token, said-by, cause-foreign, cause-at, not-stopped)
 

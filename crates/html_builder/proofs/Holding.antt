@@ -30,7 +30,7 @@ use Rattle.html_ledger.specs.Symbols.{symbol_of}
 use Rattle.html_ledger.specs.Texts.{code_point, is_text_in, text_of}
 use Rattle.html_construction.specs.Accounts.{AreMade, AreTexts}
 use Rattle.html_construction.specs.Built.{symbols}
-use Rattle.html_construction.specs.Copies.{clone_count, clones_of, implied_in, implied_length, is_token, most_clones}
+use Rattle.html_construction.specs.Copies.{clone_count, clones_of, implied_count, implied_in, is_token, most_clones}
 use Rattle.html_construction.specs.Origins.{AreHomes, AreOrigins, HasOrigin, IsHome, is_made_alone, with_later}
 use Rattle.html_construction.specs.Tokens.{attrs_of, node_name}
 use Rattle.html_construction.proofs.Copying.{clones-most}
@@ -298,7 +298,7 @@ name-short name = by (is_same (tag_of name) tag.Image) refl
         rw e (omega (arith, l))
     by false e = rw e (omega arith)
 
-alone-plain : (g : Tag) → is_made_alone g ≡ true → is_formatting (tag_of (name_of g)) ≡ true → ⊥
+pub alone-plain : (g : Tag) → is_made_alone g ≡ true → is_formatting (tag_of (name_of g)) ≡ true → ⊥
 unfolding tag_of
 alone-plain tag.Html e f = absurd (false≢true f)
 alone-plain tag.Head e f = absurd (false≢true f)
@@ -310,13 +310,25 @@ alone-plain tag.Tbody e f = absurd (false≢true f)
 alone-plain tag.Tr e f = absurd (false≢true f)
 alone-plain _ e f = absurd (false≢true e)
 
+-- the longest is colgroup
+alone-short : (g : Tag) → is_made_alone g ≡ true → length (name_of g) ≤ 8
+alone-short tag.Html e = omega arith
+alone-short tag.Head e = omega arith
+alone-short tag.Body e = omega arith
+alone-short tag.P e = omega arith
+alone-short tag.Br e = omega arith
+alone-short tag.Colgroup e = omega arith
+alone-short tag.Tbody e = omega arith
+alone-short tag.Tr e = omega arith
+alone-short _ e = absurd (false≢true e)
+
 ids-same : (o : Option (List ℕ)) → optional_weight o ≡ optional_len o
 ids-same None = refl
 ids-same (Some s) = refl
 
 module _ (ts : List TokenKind) (fs : List Fate) (ls : List NodeData) (w : AreOrigins ts fs ls) (m : AreMade fs ls) (k : AreTexts (symbols ts) fs ls) (g : (x : ℕ) → tag_in (label_in ls x) ≡ tag_of (name_in (label_in ls x))) where
   abbrev holds-most : ℕ → NodeData → ℕ
-  holds-most x d = share x ts fs w.homes + (clone_own 0 ts d + implied_in d)
+  holds-most x d = share x ts fs w.homes + (clone_own 0 ts d + 8 * implied_in d)
 
   -- the node of a token that is no clone
   made-of : (x i : ℕ) → origin_in (label_in ls x) ≡ Token i → is_clone_in (label_in ls x) ≡ false → slice_get fs i ≡ Some (fate.Made x)
@@ -346,7 +358,9 @@ module _ (ts : List TokenKind) (fs : List Fate) (ls : List NodeData) (w : AreOri
       let p = subst (λ d. HasOrigin x ts w.homes d) e (w.each x) in
       let a = later-within x [] ls ts fs w.homes w.merged_into in
       let z : attrs_weight own ≡ attrs_weight (with_later x [] ts w.homes) = ap attrs_weight p.attrs_are in
-      rw e (omega (arith, a, z))
+      let n : length name ≡ length (name_of p.name_tag) = ap (λ cs. length cs) p.name_is in
+      let s = alone-short p.name_tag p.alone in
+      rw e (omega (arith, a, z, n, s))
   element-holds x name t own Implied true h e =
       let p = subst (λ d. HasOrigin x ts w.homes d) e (w.each x) in
       let f = w.clones x (ap is_clone_in e) in
@@ -390,14 +404,23 @@ sum-both : (f g : NodeData → ℕ) (ds : List NodeData) → sum_by (λ d. f d +
 sum-both f g [] = refl
 sum-both f g (d ∷ ds) = let p = sum_by-cons f d ds in let q = sum_by-cons g d ds in let r = sum_by-cons (λ x. f x + g x) d ds in let a = sum-both f g ds in omega (arith, p, q, r, a)
 
--- All nodes hold no more than the tokens have of their own, that once more for each clone of an element, and the names that no token asked for.
+sum-times : (k : ℕ) (f : NodeData → ℕ) (ds : List NodeData) → sum_by (λ d. k * f d) ds ≡ k * sum_by f ds
+sum-times k f [] = omega arith
+sum-times k f (d ∷ ds) = sum_by-cons (λ x. k * f x) d ds ∙ ap (λ n. k * f d + n) (sum-times k f ds) ∙ sym (ap (λ n. k * n) (sum_by-cons f d ds) ∙ spread k (f d) (sum_by f ds))
+  where
+    spread : (a b c : ℕ) → a * (b + c) ≡ a * b + a * c
+    spread a b c = grind arith
+
+-- All nodes hold no more than the tokens have of their own, that once more for each clone of an element, and eight for each element that no token asked
+-- for.
 pub holding : (ts : List TokenKind) (fs : List Fate) (ls : List NodeData) → AreOrigins ts fs ls → AreMade fs ls → AreTexts (symbols ts) fs ls → ((x : ℕ) → tag_in (label_in ls x) ≡ tag_of (name_in (label_in ls x)))
-    → sum_by weight ls ≤ most_clones ls * sum_by own_len ts + sum_by own_len ts + implied_length ls
-unfolding implied_length
+    → sum_by weight ls ≤ most_clones ls * sum_by own_len ts + sum_by own_len ts + 8 * implied_count ls
+unfolding implied_count
 holding ts fs ls w m k g =
-    let a = sum-holds weight (λ d. clone_own 0 ts d + implied_in d) (λ x. share x ts fs w.homes) 0 ls
-    (λ y l. subst (λ j. weight (label_in ls y) ≤ share j ts fs w.homes + (clone_own 0 ts (label_in ls y) + implied_in (label_in ls y))) (let z : y ≡ 0 + y = omega arith in z) (label-holds ts fs ls w m k g y (label_in ls y) refl)) in
-    let b = sum-both (clone_own 0 ts) implied_in ls in
+    let a = sum-holds weight (λ d. clone_own 0 ts d + 8 * implied_in d) (λ x. share x ts fs w.homes) 0 ls
+    (λ y l. subst (λ j. weight (label_in ls y) ≤ share j ts fs w.homes + (clone_own 0 ts (label_in ls y) + 8 * implied_in (label_in ls y))) (let z : y ≡ 0 + y = omega arith in z) (label-holds ts fs ls w m k g y (label_in ls y) refl)) in
+    let b = sum-both (clone_own 0 ts) (λ d. 8 * implied_in d) ls in
+    let e = sum-times 8 implied_in ls in
     let c = shares-within 0 (length ls) ts fs w.homes in
     let d = clones-within (most_clones ls) 0 ts ls (λ i. clones-most i ls) in
-    omega (arith, a, b, c, d)
+    omega (arith, a, b, c, d, e)

@@ -1,3 +1,9 @@
+pub mod Counting
 pub mod Endings
 pub mod Handing
 pub mod Holding
+pub mod Adding
+pub mod Opened
+pub mod Standing
+pub mod Going
+pub mod Plainly

@@ -1,5 +1,5 @@
 -- The context of a fragment, and which names it may have (13.4).
-use Rattle.std.specs.Prelude.{ℕ, ◌≡◌, ◌==◌, ◌<◌, Bool, true, false, not, ◌||◌, ◌&&◌, nat_lt, List, [], ◌∷◌}
+use Rattle.std.specs.Prelude.{ℕ, ◌≡◌, ◌==◌, Bool, true, false, not, ◌||◌, ◌&&◌, nat_lt, List, [], ◌∷◌}
 use Rattle.std.specs.List.{list_all}
 use Rattle.html_names.specs.declared.tag.Tag.{Tag}
 use Rattle.html_names.specs.declared.tag.Tag.TheVariants as tag

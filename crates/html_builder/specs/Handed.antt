@@ -1,5 +1,5 @@
 -- What callers know of a builder: what it was begun with, the tokens handed in, and what became of them.
-use Rattle.std.specs.Prelude.{◌≡◌, ℕ, ◌+◌, ◌*◌, ◌<◌, ◌≤◌, Bool, false, List, [], ◌∷◌, ◌++◌, length, Option, Some, None}
+use Rattle.std.specs.Prelude.{◌≡◌, ℕ, ◌+◌, ◌*◌, ◌<◌, ◌≤◌, Bool, false, List, [], ◌∷◌, ◌++◌, length, Option}
 use Rattle.std.specs.List.{sum_by}
 use Rattle.html_names.specs.declared.tag.Tag.{Tag}
 use Rattle.html_names.specs.declared.tag.Tag.TheVariants as tag
@@ -12,13 +12,15 @@ use Rattle.html_ledger.specs.declared.setting.Setting.{Setting}
 use Rattle.html_ledger.specs.declared.fate.Fate.{Fate}
 use Rattle.html_ledger.specs.Fated.{Fated}
 use Rattle.html_construction.specs.Built.{Handed as Given, IsBuilt, chars_of, symbols}
-use Rattle.html_construction.specs.Copies.{implied_length, most_clones}
+use Rattle.html_construction.specs.Copies.{implied_count, most_clones}
+use Rattle.html_construction.specs.Tokens.{attrs_of}
 use Rattle.html_construction.specs.Weights.{weight}
 use Rattle.html_modes.specs.declared.outcome.Foreign.{Foreign}
 use Rattle.html_modes.specs.declared.outcome.Foreign.TheVariants.{Svg, Math}
 use Rattle.html_modes.specs.Ranks.{top_rank}
-use Rattle.html_modes.specs.Steps.{allowance}
+use Rattle.html_modes.specs.Steps.{allowance, fee_of, turn_of}
 use Rattle.html_builder.specs.Builders.{BuilderState}
+use Rattle.html_builder.specs.Plain.{IsPlainSoFar}
 use Rattle.html_builder.specs.declared.error.BuildError.{BuildError}
 use Rattle.html_builder.specs.declared.error.BuildError.TheVariants as refusal
 
@@ -34,16 +36,32 @@ is_stopped b = b.stopped
 abbrev pub given : Setting → Option Limits → List TokenKind → Given
 given s limits tokens = record { setting = s; limits = limits; tokens = tokens; known = [] }
 
+-- how many attributes a token has, and tokens have together
+abbrev pub attribute_count : TokenKind → ℕ
+attribute_count token = length (attrs_of token)
+
+abbrev pub attribute_total : List TokenKind → ℕ
+attribute_total tokens = sum_by attribute_count tokens
+
+-- the most steps in which attributes of tokens are compared with those of nodes
+abbrev pub most_compared : List TokenKind → ℕ
+most_compared tokens = 2 * (attribute_total tokens * attribute_total tokens * (length tokens + 1))
+
 -- It was begun in this setting, within these limits, it was handed these tokens and refused none, and what it holds was built of them: its nodes, and
 -- those for which the open elements and the mode are room, are no more than so many tokens grant; of one token's element there are ten clones at most
--- for each fate; and so are bounded the code points in the names of elements that no token asked for.
+-- for each fate; and so are bounded the elements that no token asked for, and the steps that it counted: a fee for each fate, and for each token so many
+-- entries into the rules, less those for which the open elements and the mode are still room. Where the tokens begin those of a plain page, the tree is
+-- that page's so far.
 pub record Handed (s : Setting) (limits : Option Limits) (tokens : List TokenKind) (b : BuilderState) : Type 0 where
   pub going : b.stopped ≡ false
   pub built : IsBuilt (given s limits tokens) b.page
   pub paid : length b.page.tree.tree.labels + 2 * (weight b.page.stack + top_rank b.page.mode) ≤ 40 + 32 * length tokens + allowance (length b.page.ledger.fates)
   pub cloned : most_clones b.page.tree.tree.labels ≤ 10 * length b.page.ledger.fates
-  pub implied : implied_length b.page.tree.tree.labels ≤ 4 + 128 * length tokens
-  pub implied_paid : implied_length b.page.tree.tree.labels + 8 * (weight b.page.stack + top_rank b.page.mode) ≤ 116 + 128 * length tokens
+  pub implied : implied_count b.page.tree.tree.labels ≤ 1 + 16 * length tokens
+  pub implied_paid : implied_count b.page.tree.tree.labels + (weight b.page.stack + top_rank b.page.mode) ≤ 15 + 16 * length tokens
+  pub counted : b.page.tree.steps + (weight b.page.stack + top_rank b.page.mode) * turn_of b.page
+      ≤ length b.page.ledger.fates * fee_of b.page + (16 + 16 * length tokens) * turn_of b.page + most_compared tokens
+  pub plain : IsPlainSoFar s tokens b.page
 
 -- These tokens were handed in.
 abbrev pub HandsIn : List TokenKind → BuilderState → BuilderState → Type 0
@@ -101,7 +119,8 @@ IsTextCause s limits tokens fates text start refusal.Stopped = ⊥
 abbrev pub own_total : List TokenKind → ℕ
 own_total tokens = sum_by own_len tokens
 
--- Tokens that a text of n code points can have: at most one more than code points, and together they hold no more.
+-- Tokens that a text of n code points can have: at most one more than code points, and together they hold no more, and have no more attributes.
 pub record CostAtMost (n : ℕ) (tokens : List TokenKind) : Type 0 where
   pub count : length tokens ≤ n + 1
   pub own : own_total tokens ≤ n
+  pub attributes : attribute_total tokens ≤ n

@@ -3,4 +3,5 @@ pub mod Contexts
 pub mod Errors
 pub mod Handed
 pub mod Outcome
+pub mod Plain
 pub mod Switches

@@ -1,7 +1,9 @@
 -- What tree construction makes of the tokens of a page: its tree against the tokens and their fates (13.2.6).
-use Rattle.std.specs.Prelude.{◌≡◌, ◌≢◌, ℕ, ◌+◌, ◌*◌, ◌<◌, ◌≤◌, ◌⊎◌, true, List, length, Option, Some, None}
+use Rattle.std.specs.Prelude.{◌≡◌, ◌≢◌, ℕ, ◌+◌, ◌*◌, ◌<◌, ◌≤◌, ◌⊎◌, true, List, length, Some, None}
+use Rattle.std.specs.List.{sum_by}
 use Rattle.html_names.specs.declared.tag.Tag.TheVariants as tag
 use Rattle.html_arena.specs.Tree.{Tree, WellFormed, host_at, label_of, named, parent_of}
+use Rattle.html_arena.specs.Weight.{weight}
 use Rattle.html_tokens.specs.declared.token.TokenKind.{TokenKind}
 use Rattle.html_ledger.specs.declared.setting.Setting.{Setting}
 use Rattle.html_ledger.specs.declared.fate.Fate.{Fate}
@@ -34,10 +36,17 @@ most_nodes n = 2 * ((n + 32) * (n + 32))
 abbrev pub most_held : ℕ → ℕ
 most_held n = 34 * ((n + 2) * (n + 2))
 
--- Of tokens that hold no more than n code points, and are one more at most, no more is made than this.
+-- the most counted steps in which it is built
+abbrev pub most_tree_steps : ℕ → ℕ
+most_tree_steps n = 512 * ((n + 32) * (n + 32) * (n + 32))
+
+-- Of tokens that a text of n code points can have, no more is made than this, in no more counted steps. What the nodes hold is so little that it was
+-- counted to its end.
 pub record IsBounded (n : ℕ) (t : Tree) : Type 0 where
   pub nodes : length t.labels ≤ most_nodes n
   pub held : t.held ≤ most_held n
+  pub weighs : sum_by weight t.labels ≤ most_held n
+  pub steps : t.steps ≤ most_tree_steps n
 
 -- ALL OF IT
 

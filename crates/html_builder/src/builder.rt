@@ -1,11 +1,16 @@
 // Tree construction, token by token.
 ghost use Rattle.std.specs.Prelude.{◌≡◌, ◌↔◌, ◌⊎◌, ◌<◌, ◌≤◌, ℕ, ◌∷◌, [], IfOk, IfErr, OnOk, OnErr, Err, List, None, Option, Some, length, take, true, false};
+ghost use Rattle.html_arena.specs.Forest.{Forest};
 ghost use Rattle.html_arena.specs.declared.arena.Limits.{Limits};
 ghost use Rattle.html_construction.specs.Built.{chars_of};
 ghost use Rattle.html_ledger.specs.Runs.{last_of};
 ghost use Rattle.html_ledger.specs.declared.setting.Setting.{Setting};
 ghost use Rattle.html_ledger.specs.declared.setting.Setting.TheVariants.{Document};
 ghost use Rattle.html_tokens.specs.declared.token.TokenKind.{TokenKind};
+ghost use Rattle.html_page.specs.Label.{Label};
+ghost use Rattle.html_page.specs.PageTokens.{page_kinds};
+ghost use Rattle.html_page.specs.Plain.{IsPlainPage};
+ghost use Rattle.html_page.specs.Shows.{Shows};
 ghost use Rattle.html_builder.specs.Contexts.{IsGood, setting_of};
 ghost use Rattle.html_builder.specs.Handed.{AddsFates, CostAtMost, EndsAtEof, Handed, HandsIn, HaveFates, IsBuildCause, IsTextCause, fates_of, is_stopped};
 ghost use Rattle.html_builder.specs.Outcome.{IsBounded, IsOutcome};
@@ -252,6 +257,8 @@ impl Builder {
         ensures outcome { (s : Setting) (l : Option Limits) (tokens : List TokenKind) → Handed s l tokens self → EndsAtEof tokens
             → IsOutcome s tokens result.1 result.2.items result.0 }
         ensures bounds { (s : Setting) (l : Option Limits) (tokens : List TokenKind) → Handed s l tokens self → (n : ℕ) → CostAtMost n tokens → IsBounded n result.0 }
+        ensures plain { (l : Option Limits) (tokens : List TokenKind) → Handed Document l tokens self → (page : Forest Label) → IsPlainPage page
+            → tokens ≡ page_kinds page → Shows result.0 (0 ∷ []) page }
     {
         self.construction.into_parts()
     }

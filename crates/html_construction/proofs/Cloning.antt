@@ -31,7 +31,7 @@ use Rattle.html_open.proofs.Upwards.{has-first}
 use Rattle.html_tree.specs.Listing.{IsAdopted, IsReopened}
 use Rattle.html_tree.specs.States.{IsSound, State as Tree}
 use Rattle.html_tree.proofs.Inserted.{made-labels, put-labels}
-use Rattle.html_construction.specs.Copies.{clone_count, clones_of, implied_in, implied_length, is_token}
+use Rattle.html_construction.specs.Copies.{clone_count, clones_of, implied_in, implied_count, is_token}
 use Rattle.html_construction.proofs.Copying.{Copies, count-of, most-more}
 use Rattle.html_construction.proofs.Labels.{label-old}
 
@@ -108,7 +108,7 @@ clones-implied t (x ∷ xs) =
 
 -- of each token so many more clones at most, and no more names that no token asked for
 abbrev Multiplies : ℕ → List NodeData → List NodeData → Type 0
-Multiplies r ls ks = ((i : ℕ) → clones_of (Token i) ks ≤ clones_of (Token i) ls + r) × (implied_length ks ≤ implied_length ls + 0)
+Multiplies r ls ks = ((i : ℕ) → clones_of (Token i) ks ≤ clones_of (Token i) ls + r) × (implied_count ks ≤ implied_count ls + 0)
 
 to-copies : (r : ℕ) (t u : Nodes) → Multiplies r t.labels u.labels → Copies r 0 t u
 to-copies r t u m = (most-more r t.labels u.labels m.0, m.1)
@@ -116,7 +116,7 @@ to-copies r t u m = (most-more r t.labels u.labels m.0, m.1)
 -- clones of elements of which each token has one
 multiplied : (t : Nodes) (xs : List ℕ) → Distinct xs → ((i x y : ℕ) → has x xs ≡ true → has y xs ≡ true → origin_in (label_of t x) ≡ Token i → origin_in (label_of t y) ≡ Token i → x ≡ y)
     → Multiplies 1 t.labels (t.labels ++ map (λ x. cloned (label_of t x)) xs)
-unfolding implied_length
+unfolding implied_count
 multiplied t xs d h = (
   (λ i.
       let p = sum_by-append (clone_count (Token i)) t.labels (map (λ x. cloned (label_of t x)) xs) in

@@ -1,9 +1,8 @@
 -- What calls do to clones, and to the elements that no token asked for.
-use Rattle.std.proofs.Common.{ℕ, zero, suc, ◌+◌, ◌≡◌, ◌≢◌, ◌<◌, ◌≤◌, ◌⊎◌, ◌&&◌, Bool, true, false, cond, List, [], ◌∷◌, ◌++◌, length, length-append, Option, Some, None, inl, inr, refl, replicate, sym, take, ap, subst, ◌∙◌, arith}
+use Rattle.std.proofs.Common.{ℕ, zero, suc, ◌+◌, ◌≡◌, ◌<◌, ◌≤◌, ◌⊎◌, ◌&&◌, Bool, true, false, cond, List, [], ◌∷◌, ◌++◌, length, length-append, Option, Some, None, inl, inr, refl, replicate, sym, take, ap, subst, ◌∙◌, arith}
 use Rattle.std.specs.Prelude.{slice_set}
 use Rattle.std.specs.List.{sum_by}
 use Rattle.std.proofs.Math.Nat.{le-max_left, le-max_right, max-le}
-use Rattle.std.proofs.lemmas.Bool.{false≢true}
 use Rattle.std.proofs.lemmas.List.{length-replicate, length-take-le}
 use Rattle.std.proofs.lemmas.List.Sums.{sum_by-append, sum_by-cons}
 use Rattle.html_names.specs.declared.tag.Tag.{Tag}
@@ -17,7 +16,7 @@ use Rattle.html_arena.specs.declared.data.NodeData.TheVariants as node
 use Rattle.html_arena.specs.declared.data.Origin.{Origin}
 use Rattle.html_arena.specs.declared.data.Origin.TheVariants.{Implied, Nothing, Token}
 use Rattle.html_arena.specs.Data.{attrs_in, is_clone_in, label_in, origin_in, with_attrs, with_run}
-use Rattle.html_arena.specs.Make.{has_contents, label_for, made}
+use Rattle.html_arena.specs.Make.{has_contents, label_for}
 use Rattle.html_arena.specs.Merge.{merged}
 use Rattle.html_arena.specs.declared.arena.Limits.{Limits}
 use Rattle.html_arena.specs.Tree.{Tree as Nodes, empty_tree, label_of, texted_run, with_merged}
@@ -34,8 +33,7 @@ use Rattle.html_ledger.specs.declared.fate.Fate.{Fate}
 use Rattle.html_ledger.specs.declared.symbol.Symbol.{Symbol}
 use Rattle.html_ledger.specs.Entries.{Entries, given_run}
 use Rattle.html_construction.specs.Calls.{HasFate, implied_of}
-use Rattle.html_construction.specs.Copies.{clone_count, clones_of, greatest, implied_in, implied_length, is_kin, is_token, most_clones, unasked}
-use Rattle.html_construction.specs.Origins.{is_made_alone}
+use Rattle.html_construction.specs.Copies.{clone_count, clones_of, greatest, implied_in, implied_count, is_kin, is_token, most_clones, unasked}
 use Rattle.html_construction.specs.States.{State}
 use Rattle.html_construction.proofs.Accounting.{new-labels}
 use Rattle.html_construction.proofs.Kept.{run-given}
@@ -113,9 +111,9 @@ most-more r ls ks h = most-within (most_clones ls + r) ks (λ i. let a = h i in 
 
 -- MORE NODES
 
-pub length-append-implied : (ls ds : List NodeData) → implied_length (ls ++ ds) ≡ implied_length ls + implied_length ds
-unfolding implied_length
-length-append-implied ls ds = sum_by-append implied_in ls ds
+pub count-append-implied : (ls ds : List NodeData) → implied_count (ls ++ ds) ≡ implied_count ls + implied_count ds
+unfolding implied_count
+count-append-implied ls ds = sum_by-append implied_in ls ds
 
 pub most-append : (r : ℕ) (ls ds : List NodeData) → ((i : ℕ) → clones_of (Token i) ds ≤ r) → most_clones (ls ++ ds) ≤ most_clones ls + r
 most-append r ls ds h = most-more r ls (ls ++ ds) (λ i. let a = h i in let b = sum_by-append (clone_count (Token i)) ls ds in omega (arith, a, b))
@@ -135,17 +133,17 @@ rest-implied n true = refl
 new-clones : (o : Origin) (d : NodeData) (n : ℕ) (b : Bool) → is_clone_in d ≡ false → clones_of o (d ∷ rest_of n b) ≡ 0
 new-clones o d n b e = let p = sum_by-cons (clone_count o) d (rest_of n b) in let q = rest-clones o n b in let r = first-count o d e in omega (arith, p, q, r)
 
-new-implied : (d : NodeData) (n : ℕ) (b : Bool) → implied_length (d ∷ rest_of n b) ≡ implied_in d
-unfolding implied_length
+new-implied : (d : NodeData) (n : ℕ) (b : Bool) → implied_count (d ∷ rest_of n b) ≡ implied_in d
+unfolding implied_count
 new-implied d n b = let p = sum_by-cons implied_in d (rest_of n b) in let q = rest-implied n b in omega (arith, p, q)
 
--- a new node that holds so much of a name that no token asked for
+-- a new node, which no token asked for, or one did
 pub copied-new : (m : ℕ) (t u : Nodes) (at : Place) (d : NewNode) → is_clone_in (label_for t d) ≡ false → implied_in (label_for t d) ≤ m → u ≡ with_new t at d
-    → (most_clones u.labels ≤ most_clones t.labels + 0) × (implied_length u.labels ≤ implied_length t.labels + m)
+    → (most_clones u.labels ≤ most_clones t.labels + 0) × (implied_count u.labels ≤ implied_count t.labels + m)
 copied-new m t u at d c i e =
-    subst (λ (ls : List NodeData). (most_clones ls ≤ most_clones t.labels + 0) × (implied_length ls ≤ implied_length t.labels + m)) (sym (ap (λ (z : Nodes). z.labels) e ∙ new-labels t at d)) (
+    subst (λ (ls : List NodeData). (most_clones ls ≤ most_clones t.labels + 0) × (implied_count ls ≤ implied_count t.labels + m)) (sym (ap (λ (z : Nodes). z.labels) e ∙ new-labels t at d)) (
       most-append 0 t.labels (label_for t d ∷ rest_of n b) (λ j. let a = new-clones (Token j) (label_for t d) n b c in omega (arith, a)),
-      (let p = length-append-implied t.labels (label_for t d ∷ rest_of n b) in let q = new-implied (label_for t d) n b in omega (arith, p, q, i)),
+      (let p = count-append-implied t.labels (label_for t d ∷ rest_of n b) in let q = new-implied (label_for t d) n b in omega (arith, p, q, i)),
     )
   where
     n : ℕ
@@ -162,41 +160,29 @@ element-first t name attrs o = by (is_template (tag_of name)) refl
     by true h = rw h refl
     by false h = rw h refl
 
-element-implied : (t : Nodes) (name : List ℕ) (attrs : List Attr) (o : Origin) → implied_in (label_for t (new.Element name attrs o)) ≡ unasked o name
+element-implied : (t : Nodes) (name : List ℕ) (attrs : List Attr) (o : Origin) → implied_in (label_for t (new.Element name attrs o)) ≡ unasked o
 element-implied t name attrs o = by (is_template (tag_of name)) refl
   where
-    by : (b : Bool) → is_template (tag_of name) ≡ b → implied_in (label_for t (new.Element name attrs o)) ≡ unasked o name
+    by : (b : Bool) → is_template (tag_of name) ≡ b → implied_in (label_for t (new.Element name attrs o)) ≡ unasked o
     by true h = rw h refl
     by false h = rw h refl
 
 pub copied-element : (t u : Nodes) (at : Place) (name : List ℕ) (attrs : List Attr) (k : ℕ) → u ≡ with_new t at (new.Element name attrs (Token k))
-    → (most_clones u.labels ≤ most_clones t.labels + 0) × (implied_length u.labels ≤ implied_length t.labels + 0)
+    → (most_clones u.labels ≤ most_clones t.labels + 0) × (implied_count u.labels ≤ implied_count t.labels + 0)
 copied-element t u at name attrs k e = copied-new 0 t u at (new.Element name attrs (Token k)) (element-first t name attrs (Token k)) (let a = element-implied t name attrs (Token k) in omega (arith, a)) e
 
 pub copied-comment : (t u : Nodes) (at : Place) (text : List ℕ) (k : ℕ) → u ≡ with_new t at (new.Comment text k)
-    → (most_clones u.labels ≤ most_clones t.labels + 0) × (implied_length u.labels ≤ implied_length t.labels + 0)
+    → (most_clones u.labels ≤ most_clones t.labels + 0) × (implied_count u.labels ≤ implied_count t.labels + 0)
 copied-comment t u at text k e = copied-new 0 t u at (new.Comment text k) refl (omega arith) e
 
 pub copied-doctype : (t u : Nodes) (at : Place) (x y z : Option (List ℕ)) (k : ℕ) → u ≡ with_new t at (new.Doctype x y z k)
-    → (most_clones u.labels ≤ most_clones t.labels + 0) × (implied_length u.labels ≤ implied_length t.labels + 0)
+    → (most_clones u.labels ≤ most_clones t.labels + 0) × (implied_count u.labels ≤ implied_count t.labels + 0)
 copied-doctype t u at x y z k e = copied-new 0 t u at (new.Doctype x y z k) refl (omega arith) e
 
--- the names that no token asks for are short
-alone-short : (g : Tag) → is_made_alone g ≡ true → length (name_of g) ≤ 8
-alone-short tag.Html e = omega arith
-alone-short tag.Head e = omega arith
-alone-short tag.Body e = omega arith
-alone-short tag.P e = omega arith
-alone-short tag.Br e = omega arith
-alone-short tag.Colgroup e = omega arith
-alone-short tag.Tbody e = omega arith
-alone-short tag.Tr e = omega arith
-alone-short _ e = absurd (false≢true e)
-
-pub copied-implied : (t u : Nodes) (at : Place) (g : Tag) → is_made_alone g ≡ true → u ≡ with_new t at (implied_of g)
-    → (most_clones u.labels ≤ most_clones t.labels + 0) × (implied_length u.labels ≤ implied_length t.labels + 8)
-copied-implied t u at g a e =
-    copied-new 8 t u at (implied_of g) (element-first t (name_of g) [] Implied) (let p = element-implied t (name_of g) [] Implied in let q = alone-short g a in omega (arith, p, q)) e
+pub copied-implied : (t u : Nodes) (at : Place) (g : Tag) → u ≡ with_new t at (implied_of g)
+    → (most_clones u.labels ≤ most_clones t.labels + 0) × (implied_count u.labels ≤ implied_count t.labels + 1)
+copied-implied t u at g e =
+    copied-new 1 t u at (implied_of g) (element-first t (name_of g) [] Implied) (let p = element-implied t (name_of g) [] Implied in omega (arith, p)) e
 
 -- OTHER ATTRIBUTES, AND MORE TEXT
 
@@ -234,28 +220,28 @@ with-run-implied (node.Doctype n p s i) cs = refl
 
 -- a node that counts what the one in its place counted
 copied-set : (ls ks : List NodeData) (x : ℕ) (d : NodeData) → ((o : Origin) → clone_count o d ≡ clone_count o (label_in ls x)) → implied_in d ≡ implied_in (label_in ls x) → ks ≡ slice_set ls x d
-    → (most_clones ks ≤ most_clones ls + 0) × (implied_length ks ≤ implied_length ls + 0)
-unfolding implied_length
+    → (most_clones ks ≤ most_clones ls + 0) × (implied_count ks ≤ implied_count ls + 0)
+unfolding implied_count
 copied-set ls ks x d c i e =
     subst (λ (hs : List NodeData). (most_clones hs ≤ most_clones ls + 0) × (sum_by implied_in hs ≤ sum_by implied_in ls + 0)) (sym e) (
       most-more 0 ls (slice_set ls x d) (λ j. let a = sum-set (clone_count (Token j)) ls x d (c (Token j)) in omega (arith, a)),
       (let a = sum-set implied_in ls x d i in omega (arith, a)),
     )
 
-pub copied-merged : (t u : Nodes) (y : ℕ) (own : List Attr) → u ≡ bare (with_merged t y own) → (most_clones u.labels ≤ most_clones t.labels + 0) × (implied_length u.labels ≤ implied_length t.labels + 0)
+pub copied-merged : (t u : Nodes) (y : ℕ) (own : List Attr) → u ≡ bare (with_merged t y own) → (most_clones u.labels ≤ most_clones t.labels + 0) × (implied_count u.labels ≤ implied_count t.labels + 0)
 copied-merged t u y own e =
     copied-set t.labels u.labels y (with_attrs (label_of t y) (merged (attrs_in (label_of t y)) own)) (λ o. with-attrs-count o (label_of t y) (merged (attrs_in (label_of t y)) own))
     (with-attrs-implied (label_of t y) (merged (attrs_in (label_of t y)) own)) (ap (λ (z : Nodes). z.labels) e)
 
-copied-run : (t u : Nodes) (x : ℕ) (cs : List ℕ) → u ≡ bare (texted_run t x cs) → (most_clones u.labels ≤ most_clones t.labels + 0) × (implied_length u.labels ≤ implied_length t.labels + 0)
+copied-run : (t u : Nodes) (x : ℕ) (cs : List ℕ) → u ≡ bare (texted_run t x cs) → (most_clones u.labels ≤ most_clones t.labels + 0) × (implied_count u.labels ≤ implied_count t.labels + 0)
 copied-run t u x cs e =
     copied-set t.labels u.labels x (with_run (label_of t x) cs) (λ o. with-run-count o (label_of t x) cs) (with-run-implied (label_of t x) cs) (ap (λ (z : Nodes). z.labels) e)
 
-copied-node : (t : Nodes) (at : Place) (o : Option ℕ) → (most_clones (tree_or_new t at o).labels ≤ most_clones t.labels + 0) × (implied_length (tree_or_new t at o).labels ≤ implied_length t.labels + 0)
+copied-node : (t : Nodes) (at : Place) (o : Option ℕ) → (most_clones (tree_or_new t at o).labels ≤ most_clones t.labels + 0) × (implied_count (tree_or_new t at o).labels ≤ implied_count t.labels + 0)
 copied-node t at None = copied-new 0 t (with_new t at new.Text) at new.Text refl (omega arith) refl
 copied-node t at (Some x) = (omega arith, omega arith)
 
-pub copied-text : (a : Tree) (u : Nodes) (foster : Bool) (cs : List ℕ) → u ≡ with_text a foster cs → (most_clones u.labels ≤ most_clones a.tree.labels + 0) × (implied_length u.labels ≤ implied_length a.tree.labels + 0)
+pub copied-text : (a : Tree) (u : Nodes) (foster : Bool) (cs : List ℕ) → u ≡ with_text a foster cs → (most_clones u.labels ≤ most_clones a.tree.labels + 0) × (implied_count u.labels ≤ implied_count a.tree.labels + 0)
 copied-text a u foster cs e =
     let p = copied-node a.tree (place_here a foster) (text_before a.tree (place_here a foster)) in
     let q = copied-run (tree_or_new a.tree (place_here a foster) (text_before a.tree (place_here a foster))) u (text_node a foster) cs e in
@@ -271,11 +257,11 @@ Adds fates nodes entries clones implied a t l =
     × ((length t.list ≤ length a.tree.list + entries)
     × ((length a.tree.tree.labels ≤ length t.tree.labels)
     × ((most_clones t.tree.labels ≤ most_clones a.tree.tree.labels + clones)
-    × (implied_length t.tree.labels ≤ implied_length a.tree.tree.labels + implied)))))
+    × (implied_count t.tree.labels ≤ implied_count a.tree.tree.labels + implied)))))
 
 -- the same of the clones and names of nodes
 abbrev pub Copies : ℕ → ℕ → Nodes → Nodes → Type 0
-Copies clones implied t u = (most_clones u.labels ≤ most_clones t.labels + clones) × (implied_length u.labels ≤ implied_length t.labels + implied)
+Copies clones implied t u = (most_clones u.labels ≤ most_clones t.labels + clones) × (implied_count u.labels ≤ implied_count t.labels + implied)
 
 -- the next node is made of the token
 pub grown-made : (nodes entries o h : ℕ) (n g v : State) (t : Tree) (l : Entries) (y : Symbol) (f : Fate) → v ≡ g → g ≡ record n { ledger = g.ledger } → l ≡ v.ledger → HasFate y f n g → TreeGrown nodes o entries h v.tree t
@@ -328,8 +314,8 @@ pub document-uncloned : (t : Tree) → ((l : Option Limits) × (k : ℕ) × (t �
 unfolding most_clones
 document-uncloned t b = ap (λ (a : Tree). greatest (λ d. clones_of (origin_in d) a.tree.labels) a.tree.labels) b.2
 
-pub document-implied : (t : Tree) → ((l : Option Limits) × (k : ℕ) × (t ≡ document_state l k)) → implied_length t.tree.labels ≤ 4
-unfolding implied_length
+pub document-implied : (t : Tree) → ((l : Option Limits) × (k : ℕ) × (t ≡ document_state l k)) → implied_count t.tree.labels ≤ 1
+unfolding implied_count
 document-implied t b = let e : sum_by implied_in t.tree.labels ≡ 0 = ap (λ (a : Tree). sum_by implied_in a.tree.labels) b.2 in omega (arith, e)
 
 fragment-labels : (t : Tree) (l : Option Limits) (k : ℕ) → t ≡ fragment_state l k → t.tree.labels ≡ label_for (empty_tree l) (implied_of tag.Html) ∷ rest_of 0 (has_contents (implied_of tag.Html))
@@ -343,11 +329,11 @@ fragment-uncloned t b =
     let e = ap most_clones (fragment-labels t b.0 b.1 b.2) in
     omega (arith, m, e)
 
-pub fragment-implied : (t : Tree) → ((l : Option Limits) × (k : ℕ) × (t ≡ fragment_state l k)) → implied_length t.tree.labels ≤ 4
+pub fragment-implied : (t : Tree) → ((l : Option Limits) × (k : ℕ) × (t ≡ fragment_state l k)) → implied_count t.tree.labels ≤ 1
 fragment-implied t b =
     let d = label_for (empty_tree b.0) (implied_of tag.Html) in
     let c = has_contents (implied_of tag.Html) in
     let m = new-implied d 0 c in
-    let n : implied_in d ≡ 4 = element-implied (empty_tree b.0) (name_of tag.Html) [] Implied in
-    let e = ap implied_length (fragment-labels t b.0 b.1 b.2) in
+    let n : implied_in d ≡ 1 = element-implied (empty_tree b.0) (name_of tag.Html) [] Implied in
+    let e = ap implied_count (fragment-labels t b.0 b.1 b.2) in
     omega (arith, m, n, e)

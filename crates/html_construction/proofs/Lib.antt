@@ -11,3 +11,4 @@ pub mod Kept
 pub mod Refusing
 pub mod Results
 pub mod Weighing
+pub mod Working

@@ -1,6 +1,6 @@
 -- Why a fragment could not be begun.
-use Rattle.std.proofs.Common.{ℕ, ◌≡◌, ◌<◌, ◌⊎◌, Bool, true, false, cond, [], Result, Ok, Err, inl, inr, refl, sym, ap, subst, ◌∙◌}
-use Rattle.std.specs.Prelude.{Option, Some, nat_lt}
+use Rattle.std.proofs.Common.{◌≡◌, ◌<◌, ◌⊎◌, Bool, true, false, cond, Result, Ok, Err, inl, inr, refl, sym, ◌∙◌}
+use Rattle.std.specs.Prelude.{Some, nat_lt}
 use Rattle.std.proofs.lemmas.Bool.{ltb-true}
 use Rattle.html_names.specs.Names.{tag_of}
 use Rattle.html_arena.specs.declared.arena.ArenaError.{ArenaError}

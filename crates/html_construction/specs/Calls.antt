@@ -8,6 +8,8 @@ use Rattle.html_arena.specs.declared.data.NewNode.{NewNode}
 use Rattle.html_arena.specs.declared.data.NewNode.TheVariants.{Element, Comment, Doctype}
 use Rattle.html_arena.specs.declared.data.Origin.TheVariants.{Implied, Token}
 use Rattle.html_tokens.specs.declared.attributes.Attr.{Attr}
+use Rattle.html_open.specs.declared.adoption.AdoptEnd.{AdoptEnd}
+use Rattle.html_open.specs.declared.adoption.AdoptEnd.TheVariants.{Done, OtherEndTag}
 use Rattle.html_open.specs.Entries.{pushed}
 use Rattle.html_tokens.specs.declared.token.TokenKind.{TokenKind}
 use Rattle.html_tree.specs.declared.groups.Group.{Group}
@@ -15,7 +17,10 @@ use Rattle.html_tree.specs.declared.groups.Group.TheVariants as group
 use Rattle.html_tree.specs.declared.groups.Target.{Target}
 use Rattle.html_tree.specs.declared.groups.Target.TheVariants as target
 use Rattle.html_tree.specs.Groups.{in_group}
+use Rattle.html_tree.specs.Closing.{before_index}
 use Rattle.html_tree.specs.Inserting.{with_new, with_open}
+use Rattle.html_tree.specs.Listing.{IsAdopted}
+use Rattle.html_tree.specs.Searching.{found_name}
 use Rattle.html_tree.specs.States.{State as Tree}
 use Rattle.html_tree.specs.Targets.{place_for}
 use Rattle.html_ledger.specs.declared.fate.Fate.{Fate}
@@ -63,6 +68,14 @@ comment_of a token = Comment (data_of token) (number_of a.ledger)
 
 abbrev pub doctype_of : State → TokenKind → NewNode
 doctype_of a token = Doctype (name_id token) (public_id token) (system_id token) (number_of a.ledger)
+
+-- the end tag of a formatting element: the adoption agency, and where it says so the rules for any other end tag (13.2.6.4.7)
+pub record HasEnded (t : Tag) (foster : Bool) (a z : Tree) : Type 0 where
+  pub end : AdoptEnd
+  pub middle : Tree
+  pub adopted : IsAdopted t foster end a middle
+  pub done : end ≡ Done → z ≡ record middle { steps = z.steps }
+  pub other : end ≡ OtherEndTag → z ≡ record middle { stack = before_index (found_name middle (name_of t)) middle.stack; steps = z.steps }
 
 -- the list items that one of this name closes (13.2.6.4.7)
 abbrev pub item_group : Tag → Group

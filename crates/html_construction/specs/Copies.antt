@@ -1,5 +1,5 @@
 -- What the labels of nodes tell of clones (13.2.4.3, 13.2.6.4.7), and of elements that no token asked for (13.2.6.1).
-use Rattle.std.specs.Prelude.{ℕ, Bool, false, ◌&&◌, cond, eqb, max, List, [], ◌∷◌, length}
+use Rattle.std.specs.Prelude.{ℕ, Bool, false, ◌&&◌, cond, eqb, max, List, [], ◌∷◌}
 use Rattle.std.specs.List.{sum_by}
 use Rattle.html_arena.specs.declared.data.NodeData.{NodeData}
 use Rattle.html_arena.specs.declared.data.NodeData.TheVariants as node
@@ -32,24 +32,24 @@ abbrev pub greatest : (NodeData → ℕ) → List NodeData → ℕ
 greatest f [] = 0
 greatest f (d ∷ ds) = max (f d) (greatest f ds)
 
--- how many clones come from one token, of which the most do
+-- how many clones come from the token from which the most come
 unfoldable pub most_clones : List NodeData → ℕ
 most_clones labels = greatest (λ d. clones_of (origin_in d) labels) labels
 
--- the code points of a name, where no token asked for the element
-abbrev pub unasked : Origin → List ℕ → ℕ
-unasked Implied name = length name
-unasked (Token i) name = 0
-unasked Nothing name = 0
+-- one where no token asked for the element
+abbrev pub unasked : Origin → ℕ
+unasked Implied = 1
+unasked (Token i) = 0
+unasked Nothing = 0
 
 abbrev pub implied_in : NodeData → ℕ
-implied_in (node.Element e) = cond e.is_clone 0 (unasked e.origin e.name)
+implied_in (node.Element e) = cond e.is_clone 0 (unasked e.origin)
 implied_in node.Document = 0
 implied_in (node.Contents h) = 0
 implied_in (node.Text s) = 0
 implied_in (node.Comment s i) = 0
 implied_in (node.Doctype n p s i) = 0
 
--- the code points of the names of all elements that no token asked for
-unfoldable pub implied_length : List NodeData → ℕ
-implied_length labels = sum_by implied_in labels
+-- how many elements no token asked for
+unfoldable pub implied_count : List NodeData → ℕ
+implied_count labels = sum_by implied_in labels

@@ -11,3 +11,4 @@ pub mod Grown
 pub mod Modes
 pub mod Targets
 pub mod UnderWay
+pub mod Works

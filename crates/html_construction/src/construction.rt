@@ -1,9 +1,11 @@
 // The state of tree construction.
-ghost use Rattle.std.specs.Prelude.{◌≡◌, ◌⊎◌, ◌<◌, ◌≤◌, ℕ, ◌∷◌, [], IfErr, IfOk, None, OnOk, Option, Some, length, true};
+ghost use Rattle.std.specs.Prelude.{◌≡◌, ◌⊎◌, ◌<◌, ◌≤◌, ◌+◌, ℕ, ◌∷◌, [], IfErr, IfOk, None, OnOk, Option, Some, false, length, true};
 ghost use Rattle.html_arena.specs.declared.arena.Limits.{Limits};
 ghost use Rattle.html_ledger.specs.declared.setting.Setting.TheVariants.{Document, Fragment};
 ghost use Rattle.html_names.specs.declared.tag.Tag.TheVariants as tag;
-ghost use Rattle.html_tree.specs.States.{IsNamed, document_state, fragment_state};
+ghost use Rattle.html_tree.specs.OpenTags.{open_tags};
+ghost use Rattle.html_tree.specs.States.{IsNamed, IsSound, document_state, fragment_state};
+ghost use Rattle.html_ledger.specs.Entries.{begun};
 ghost use Rattle.std.specs.List.{sum_by};
 ghost use Rattle.html_arena.specs.Tree.{WellFormed};
 ghost use Rattle.html_arena.specs.Weight.{capped, weight};
@@ -11,8 +13,9 @@ ghost use Rattle.html_open.specs.Marking.{bare};
 ghost use Rattle.html_ledger.specs.Errors.{AreErrors};
 ghost use Rattle.html_ledger.specs.Fated.{Fated};
 ghost use Rattle.html_construction.specs.Built.{Handed, IsBuilt, Keeps, nothing_of, symbols};
-ghost use Rattle.html_construction.specs.Copies.{implied_length, most_clones};
+ghost use Rattle.html_construction.specs.Copies.{implied_count, most_clones};
 ghost use Rattle.html_construction.specs.Grown.{Grown};
+ghost use Rattle.html_construction.specs.Works.{Works, reach_of};
 ghost use Rattle.html_construction.specs.Modes.{is_reset};
 
 use crate::mode::Mode;
@@ -86,7 +89,12 @@ impl Construction {
         ensures listed { IfOk result (λ b. b.tree.list ≡ []) }
         ensures nodes { IfOk result (λ b. length b.tree.tree.labels ≡ 1) }
         ensures uncloned { IfOk result (λ b. most_clones b.tree.tree.labels ≡ 0) }
-        ensures implied { IfOk result (λ b. implied_length b.tree.tree.labels ≤ 4) }
+        ensures implied { IfOk result (λ b. implied_count b.tree.tree.labels ≤ 1) }
+        ensures counted { IfOk result (λ b. b.tree.steps ≤ 2 + reach_of b) }
+        ensures tree { IfOk result (λ b. (l : Option Limits) × (k : ℕ) × (b.tree ≡ document_state l k)) }
+        ensures ledger { IfOk result (λ b. b.ledger ≡ begun Document) }
+        ensures fostering { IfOk result (λ b. b.fostering ≡ false) }
+        ensures context { IfOk result (λ b. b.context ≡ None) }
         ensures cause { IfErr result (λ e. e ≡ Refusal.OutOfMemory) }
     {
         let tree = OpenTree::document(alloc)?;
@@ -106,7 +114,12 @@ impl Construction {
         ensures listed { IfOk result (λ b. b.tree.list ≡ []) }
         ensures nodes { IfOk result (λ b. length b.tree.tree.labels ≡ 1) }
         ensures uncloned { IfOk result (λ b. most_clones b.tree.tree.labels ≡ 0) }
-        ensures implied { IfOk result (λ b. implied_length b.tree.tree.labels ≤ 4) }
+        ensures implied { IfOk result (λ b. implied_count b.tree.tree.labels ≤ 1) }
+        ensures counted { IfOk result (λ b. b.tree.steps ≤ 2 + reach_of b) }
+        ensures tree { IfOk result (λ b. (l : Option Limits) × (k : ℕ) × (b.tree ≡ document_state l k)) }
+        ensures ledger { IfOk result (λ b. b.ledger ≡ begun Document) }
+        ensures fostering { IfOk result (λ b. b.fostering ≡ false) }
+        ensures context { IfOk result (λ b. b.context ≡ None) }
         ensures cause { IfErr result (λ e. (e ≡ Refusal.OutOfMemory) ⊎ ((e ≡ Refusal.NodeBudget) × (limits.nodes < 1))) }
     {
         let tree = OpenTree::document_within(alloc, limits)?;
@@ -131,7 +144,8 @@ impl Construction {
         ensures listed { IfOk result (λ b. b.tree.list ≡ []) }
         ensures nodes { IfOk result (λ b. length b.tree.tree.labels ≡ 1) }
         ensures uncloned { IfOk result (λ b. most_clones b.tree.tree.labels ≡ 0) }
-        ensures implied { IfOk result (λ b. implied_length b.tree.tree.labels ≤ 4) }
+        ensures implied { IfOk result (λ b. implied_count b.tree.tree.labels ≤ 1) }
+        ensures counted { IfOk result (λ b. b.tree.steps ≤ 2 + reach_of b) }
         ensures cause { IfErr result (λ e. e ≡ Refusal.OutOfMemory) }
     {
         let tree = OpenTree::fragment(alloc)?;
@@ -157,11 +171,20 @@ impl Construction {
         ensures listed { IfOk result (λ b. b.tree.list ≡ []) }
         ensures nodes { IfOk result (λ b. length b.tree.tree.labels ≡ 1) }
         ensures uncloned { IfOk result (λ b. most_clones b.tree.tree.labels ≡ 0) }
-        ensures implied { IfOk result (λ b. implied_length b.tree.tree.labels ≤ 4) }
+        ensures implied { IfOk result (λ b. implied_count b.tree.tree.labels ≤ 1) }
+        ensures counted { IfOk result (λ b. b.tree.steps ≤ 2 + reach_of b) }
         ensures cause { IfErr result (λ e. (e ≡ Refusal.OutOfMemory) ⊎ (((e ≡ Refusal.NodeBudget) × (limits.nodes < 1)) ⊎ ((e ≡ Refusal.HeldBudget) × (limits.held < 4)))) }
     {
         let tree = OpenTree::fragment_within(alloc, limits)?;
         Construction::of_fragment(alloc, tree, context, in_form, quirks)
+    }
+
+    /// What is always true of the tree, and of the tags of its open elements: a law.
+    pub fn laws(&self)
+        ensures sound { IsSound self.now.tree }
+        ensures tags { self.now.stack ≡ open_tags self.now.tree }
+    {
+        self.tree.laws();
     }
 
     /// The nodes, the fate of each token, and the rising numbers of the tokens with an error.
@@ -194,7 +217,12 @@ impl Construction {
         ensures listed { result.tree.list ≡ [] }
         ensures nodes { length result.tree.tree.labels ≡ 1 }
         ensures uncloned { most_clones result.tree.tree.labels ≡ 0 }
-        ensures implied { implied_length result.tree.tree.labels ≤ 4 }
+        ensures implied { implied_count result.tree.tree.labels ≤ 1 }
+        ensures counted { result.tree.steps ≡ tree.steps }
+        ensures tree { result.tree ≡ tree }
+        ensures ledger { result.ledger ≡ begun Document }
+        ensures fostering { result.fostering ≡ false }
+        ensures context { result.context ≡ None }
     {
         Construction {
             tree,
@@ -219,7 +247,8 @@ impl Construction {
         ensures listed { IfOk result (λ b. b.tree.list ≡ []) }
         ensures nodes { IfOk result (λ b. length b.tree.tree.labels ≡ 1) }
         ensures uncloned { IfOk result (λ b. most_clones b.tree.tree.labels ≡ 0) }
-        ensures implied { IfOk result (λ b. implied_length b.tree.tree.labels ≤ 4) }
+        ensures implied { IfOk result (λ b. implied_count b.tree.tree.labels ≤ 1) }
+        ensures counted { IfOk result (λ b. b.tree.steps ≤ tree.steps + reach_of b) }
         ensures cause { IfErr result (λ e. e ≡ Refusal.OutOfMemory) }
     {
         let outer_form = in_form || context.is(Tag::Form);
@@ -237,6 +266,7 @@ impl Construction {
         ensures rest { OnOk result (self.new ≡ record self.old { tree = self.new.tree; mode = self.new.mode; templates = self.new.templates }) }
         ensures keeps { OnOk result (Keeps self.old self.new) }
         ensures grown { OnOk result (Grown 0 0 0 0 0 self.old self.new) }
+        ensures works { OnOk result (Works 1 0 0 self.old self.new) }
         ensures reset { OnOk result (is_reset self.new.mode ≡ true) }
         ensures cause { IfErr result (λ e. e ≡ Refusal.OutOfMemory) }
     {

@@ -3,3 +3,8 @@ pub mod Tagged
 pub mod Settled
 pub mod Handing
 pub mod Counting
+pub mod InBody
+pub mod Current
+pub mod Closing
+pub mod Plain
+pub mod TextRuns

@@ -1,14 +1,13 @@
 -- States that fit, and the lemmas that the modes are proved with.
-use Rattle.std.proofs.Common.{ℕ, zero, suc, ◌+◌, ◌≡◌, ◌<◌, ◌≤◌, Bool, true, false, List, [], ◌∷◌, ◌*◌, length, refl, sym, subst, arith}
+use Rattle.std.proofs.Common.{ℕ, zero, suc, ◌+◌, ◌≡◌, ◌<◌, ◌≤◌, Bool, true, false, [], ◌∷◌, ◌*◌, ◌-◌, length, refl, sym, ap, subst, arith}
+use Rattle.std.proofs.lemmas.Nat.{mul-le}
 use Rattle.std.specs.Prelude.{IfSome, Option, Some, None}
-use Rattle.html_names.specs.declared.tag.Tag.{Tag}
-use Rattle.html_construction.specs.declared.mode.Mode.{Mode}
 use Rattle.html_construction.specs.declared.mode.Mode.TheVariants as mode
 use Rattle.html_construction.specs.States.{State}
 use Rattle.html_modes.specs.Fitting.{is_loose, is_table_mode, ModeFits, Quiet, Fits, Calls}
 use Rattle.html_modes.specs.Guards.{is_table_text}
-use Rattle.html_modes.specs.Ranks.{top_rank}
-use Rattle.html_modes.specs.Steps.{Steps, Falls, Grows, Pays, Spends, allowance, root_of}
+use Rattle.html_modes.specs.Ranks.{rank, top_rank}
+use Rattle.html_modes.specs.Steps.{ClonesFew, Counted, Counts, Falls, Grows, Pays, Spends, Steps, Toils, Worked, allowance, compared, fee_of, root_of, turn_of}
 use Rattle.html_modes.specs.declared.outcome.Foreign.{Foreign as Root}
 use Rattle.html_modes.specs.declared.outcome.Foreign.TheVariants as root
 use Rattle.html_construction.specs.Weights.{weight}
@@ -18,10 +17,12 @@ use Rattle.html_modes.specs.declared.outcome.Outcome.TheVariants.{Done, Reproces
 use Rattle.html_tokens.specs.declared.token.TokenKind.{TokenKind}
 use Rattle.html_ledger.specs.declared.symbol.Symbol.{Symbol}
 use Rattle.html_construction.specs.Built.{Keeps, with_tokens}
+use Rattle.html_construction.specs.Copies.{implied_count}
 use Rattle.html_construction.specs.Grown.{Grown}
+use Rattle.html_construction.specs.Works.{Works, reach_of, toll_of}
 use Rattle.html_modes.proofs.Counting.{Settles-grows}
 use Rattle.html_modes.proofs.Moded.{ModeFits-loose, opened-loose, Quiet-none, top_rank-loose, top_rank-reset, loose-reset, loose-table, rank-reset_table, rank-reset_eof, rank-char_table, rank-start_table, rank-top, rank-reset, rank-loose, rank-table_text, top_rank-all, Quiet-other, is-table_text, other-loose, other-runs, loose-runs, is-text, other-text}
-use Rattle.html_modes.proofs.Tagged.{named-is_block, named-is_heading, named-is_preformatted, named-takes_marker, named-is_head_text, named-is_section, named-is_cell, small-other, small-is_block, small-is_heading, small-is_preformatted, small-takes_marker, small-is_head_text, small-is_section, small-is_cell, small-is_formatting, weight_of-most, placed-is_table_piece, placed-ends_section, placed-ends_row, rank-section, rank-row, rank-cell, rank-caption, rank-group, group-least, rank-table_part, outside-ends_select, outside-ends_select_in_table, may_misplace-placed, is_visible-space}
+use Rattle.html_modes.proofs.Tagged.{named-is_block, unlisted-is_block, named-is_heading, named-is_preformatted, named-takes_marker, named-is_head_text, named-is_section, named-is_cell, small-other, small-is_block, small-is_heading, small-is_preformatted, small-takes_marker, small-is_head_text, small-is_section, small-is_cell, small-is_formatting, weight_of-most, placed-is_table_piece, placed-ends_section, placed-ends_row, rank-section, rank-row, rank-cell, rank-caption, rank-group, group-least, rank-table_part, outside-ends_select, outside-ends_select_in_table, may_misplace-placed, is_visible-space}
 
 pub Fits-loose : (s : State) → is_loose s.mode ≡ true → 0 < length s.stack → s.ledger.kept ≡ [] → length s.tree.list ≤ length s.ledger.fates → Fits s
 Fits-loose s l h q k = record { stack = ModeFits-loose s.mode s.original s.stack l h; quiet = Quiet-none s.mode s.ledger.kept q; listed = k }
@@ -64,7 +65,7 @@ pub ruleset text_rules = (Fits-loose, Fits-text, text-stack, text-original, top_
 
 pub ruleset head_rules = (Fits-loose, Calls-loose, Fits-text, small-is_head_text, named-is_head_text)
 
-pub ruleset body_rules = (Fits-loose, Calls-loose, small-other, small-is_block, small-is_heading, small-is_preformatted, small-takes_marker, named-is_block, named-is_heading, named-is_preformatted, named-takes_marker, small-is_formatting, may_misplace-placed)
+pub ruleset body_rules = (Fits-loose, Calls-loose, small-other, small-is_block, small-is_heading, small-is_preformatted, small-takes_marker, named-is_block, named-is_heading, named-is_preformatted, named-takes_marker, small-is_formatting, may_misplace-placed, unlisted-is_block)
 
 pub ruleset reset_rules = (outside-ends_select, Fits-loose, Calls-loose, loose-reset, top_rank-reset, rank-reset)
 
@@ -102,7 +103,7 @@ pub ruleset select_rules = (Fits-loose, Calls-loose, Fits-opened, loose-reset, t
 pub allowance-next : (t u : ℕ) → u ≡ t + 1 → allowance u ≡ allowance t + (t + t + 36)
 allowance-next t u e = rw e (grind arith)
 
-Spends-same : (a b : State) → Grown 0 2 0 0 8 a b → Spends 2 a b
+Spends-same : (a b : State) → Grown 0 2 0 0 1 a b → Spends 2 a b
 Spends-same a b g =
     let e : length b.ledger.fates ≡ length a.ledger.fates = omega (arith, g.0) in
     (rw e (omega (arith, g.1.0)), (omega (arith, e, g.1.1.1.1.0), omega (arith, g.1.1.1.1.1)))
@@ -124,7 +125,82 @@ Spends-dropped a b g = (omega (arith, allowance-next (length a.ledger.fates) (le
 pub Spends-more : (a b : State) → Spends 0 a b → Spends 2 a b
 Spends-more a b w = (omega (arith, w.0), (w.1.0, omega (arith, w.1.1)))
 
-pub ruleset table_text_rules = (Fits-loose, Fits-table_text, table_text-stack, table_text-original, loose-table, rank-table_text, Spends-none, Spends-more)
+-- HOW MANY STEPS
+
+-- a token that got its fate
+one-fate : (f g p : ℕ) → g ≡ f + 1 → g * p ≡ f * p + p
+one-fate f g p e = rw e (grind arith)
+
+Counts-done : (t : TokenKind) (a b : State) → length b.ledger.fates ≡ length a.ledger.fates + 1 → Worked Done t a b → Counts 1 (compared t b) a b
+Counts-done t a b e w = let p = one-fate (length a.ledger.fates) (length b.ledger.fates) (fee_of b) e in (w.0, (w.1.0, (omega (arith, e), omega (arith, p, w.1.1))))
+
+Counts-same : (c m : ℕ) (a b : State) → c ≤ 24 → m ≤ 24 → length b.ledger.fates ≡ length a.ledger.fates → Works c 0 m a b → Counts 1 0 a b
+Counts-same c m a b h k e w =
+    let p : length b.ledger.fates * fee_of b ≡ length a.ledger.fates * fee_of b = ap (λ n. n * fee_of b) e in
+    let q = mul-le c (reach_of b) 24 (reach_of b) h (omega arith) in
+    (w.0, (w.1.0, (omega (arith, e), omega (arith, p, q, k, w.1.1))))
+
+pub Counted-worked : (o : Outcome) (t : TokenKind) (a b : State) → Grows o a b → Worked o t a b → Counted o t a b
+Counted-worked Done t a b g w = Counts-done t a b g.0 w
+Counted-worked Reprocess t a b g w = Counts-same 24 24 a b (omega arith) (omega arith) (omega (arith, g.0)) w
+Counted-worked (Foreign name) t a b g w = tt
+
+pub Counts-none : (a b : State) → Grown 0 0 0 0 0 a b → Works 0 0 0 a b → Counts 1 0 a b
+Counts-none a b g w = Counts-same 0 0 a b (omega arith) (omega arith) (omega (arith, g.0)) w
+
+-- a code point is kept
+pub Counts-held : (t : TokenKind) (a b : State) → Grown 0 0 0 0 0 a b → Works 0 0 0 a b → Counts 1 (compared t b) a b
+Counts-held t a b g w = let h = Counts-none a b g w in (h.0, (h.1.0, (h.1.1.0, omega (arith, h.1.1.1))))
+
+pub Counts-dropped : (t : TokenKind) (a b : State) → Grown 1 0 0 0 0 a b → Works 0 0 0 a b → Counts 1 (compared t b) a b
+Counts-dropped t a b g w = Counts-done t a b g.0 (w.0, (w.1.0, omega (arith, w.1.1)))
+
+-- fees one after another
+fees-then : (f g h p q : ℕ) → f ≤ g → p ≤ q → h * q + g * p + f * q ≤ h * q + f * p + g * q
+fees-then f g h p q e r = let k = mul-le (g - f) p (g - f) q (omega arith) r in let d : g ≡ f + (g - f) = omega (arith, e) in by (g - f) d k
+  where
+    by : (d : ℕ) → g ≡ f + d → d * p ≤ d * q → h * q + g * p + f * q ≤ h * q + f * p + g * q
+    by d e k = rw e (let x : (f + d) * p ≡ f * p + d * p = grind arith in let y : (f + d) * q ≡ f * q + d * q = grind arith in omega (arith, x, y, k))
+
+-- one kept code point more
+pub Counts-kept : (a b c : State) → Counts 0 0 a b → Grown 1 (length b.ledger.fates + 1) 0 1 0 b c → Works 6 1 6 b c → Counts 0 0 a c
+Counts-kept a b c v g w =
+    let p = one-fate (length b.ledger.fates) (length c.ledger.fates) (fee_of c) g.0 in
+    let q : fee_of b ≤ fee_of c = omega (arith, w.0, w.1.0) in
+    let r = fees-then (length a.ledger.fates) (length b.ledger.fates) 0 (fee_of b) (fee_of c) v.1.1.0 q in
+    (omega (arith, v.0, w.0), (omega (arith, v.1.0, w.1.0), (omega (arith, v.1.1.0, g.0), omega (arith, v.1.1.1, w.1.1, p, r))))
+
+-- nothing but what was kept was taken out before
+pub Counts-taken : (a b c : State) → Grown 0 0 0 0 0 a b → Works 0 0 0 a b → Counts 0 0 b c → Counts 0 0 a c
+Counts-taken a b c g w v =
+    let p : length b.ledger.fates * fee_of c ≡ length a.ledger.fates * fee_of c = ap (λ n. n * fee_of c) (let e : length b.ledger.fates ≡ length a.ledger.fates = omega (arith, g.0) in e) in
+    (omega (arith, v.0, w.0), (omega (arith, v.1.0, w.1.0), (omega (arith, g.0, v.1.1.0), omega (arith, v.1.1.1, w.1.1, p))))
+
+pub Counts-more : (a b : State) → Counts 0 0 a b → Counts 1 0 a b
+Counts-more a b v = (v.0, (v.1.0, (v.1.1.0, omega (arith, v.1.1.1))))
+
+-- one more entry
+turn-then : (si sm sb fi fm fb ai am ab p q u w : ℕ) → fi ≤ fm → p ≤ q → ab < am → am ≤ ai → u ≤ w → sm + fi * p + am * u ≤ si + fm * p + ai * u → sb + fm * q ≤ sm + fb * q + w
+    → sb + fi * q + ab * w ≤ si + fb * q + ai * w
+turn-then si sm sb fi fm fb ai am ab p q u w f e a i v h k =
+    let x = fees-then fi fm 0 p q f e in
+    let y = fees-then am ai 0 u w i v in
+    let z = mul-le (ab + 1) w am w (omega (arith, a)) (omega arith) in
+    let z1 : (ab + 1) * w ≡ ab * w + w = grind arith in
+    omega (arith, h, k, x, y, z, z1)
+
+-- the last entry
+turn-last : (si sm sb fi fm fb ai am wb more p q u w : ℕ) → fi ≤ fm → p ≤ q → am ≤ ai → u ≤ w → wb ≤ am + 15 → sm + fi * p + am * u ≤ si + fm * p + ai * u → sb + fm * q ≤ sm + fb * q + w + more
+    → sb + fi * q + wb * w ≤ si + fb * q + (ai + 16) * w + more
+turn-last si sm sb fi fm fb ai am wb more p q u w f e i v b h k =
+    let x = fees-then fi fm 0 p q f e in
+    let y = fees-then am ai 0 u w i v in
+    let z = mul-le wb w (am + 15) w b (omega arith) in
+    let z1 : (am + 15) * w ≡ am * w + 15 * w = grind arith in
+    let z2 : (ai + 16) * w ≡ ai * w + 16 * w = grind arith in
+    omega (arith, h, k, x, y, z, z1, z2)
+
+pub ruleset table_text_rules = (Fits-loose, Fits-table_text, table_text-stack, table_text-original, loose-table, rank-table_text, Spends-none, Spends-more, Counts-held, Counts-more)
 
 -- what every mode drops
 pub Fits-dropped : (a b : State) → Fits a → b.mode ≡ a.mode → b.original ≡ a.original → b.stack ≡ a.stack → b.ledger.kept ≡ [] → length b.tree.list ≤ length b.ledger.fates → Fits b
@@ -134,7 +210,7 @@ pub Fits-quiet : (s : State) → is_table_text s.mode ≡ false → Fits s → s
 Fits-quiet s n f = Quiet-other s.mode s.ledger.kept n f.quiet
 
 -- steps one after another
-pub ruleset step_rules = (Fits-loose, Fits-opened, Fits-dropped, Fits-quiet, is-table_text, other-loose, top_rank-all, Spends-none, Spends-dropped)
+pub ruleset step_rules = (Fits-loose, Fits-opened, Fits-dropped, Fits-quiet, is-table_text, other-loose, top_rank-all, Spends-none, Spends-dropped, Counts-none, Counts-dropped)
 
 -- no code point is the start tag of foreign content
 pub char-foreign : (c : ℕ) (f : Option Root) → IfSome f (λ name. Char c ≡ root_of name) → f ≡ None
@@ -153,9 +229,112 @@ Pays-run (suc m) a b k g w r = (
   (omega (arith, g.0, g.1.1.1.1.0), (omega (arith, g.1.1.1.1.1), omega (arith, g.1.1.1.1.1, w, r))),
 )
 
-pub ruleset run_rules = (char-foreign, Pays-run, Fits-loose, Fits-opened, Fits-dropped, Fits-quiet, other-loose, other-runs, loose-runs, is-text, other-text, text-stack)
+-- so many fees
+fees-many : (n f g p x : ℕ) → 0 < n → g ≡ f + n → x + 2 ≤ p → f * p + x + 2 * n ≤ g * p
+fees-many zero f g p x k e h = absurd (omega (arith, k))
+fees-many (suc m) f g p x k e h =
+    let y : (f + suc m) * p ≡ f * p + m * p + p = grind arith in
+    let z = mul-le m 2 m p (omega arith) (omega (arith, h)) in
+    rw e (omega (arith, y, z, h))
 
-pub ruleset rules_rules = (Spends-one, Settles-grows)
+pub Toils-run : (n : ℕ) (a m b : State) → 0 < n → Grown n (length a.ledger.fates + 1) 0 1 0 a m → Grown 0 0 0 0 0 m b → Works 6 1 (n + 6) a m → Works 0 0 n m b → weight b.stack ≤ weight a.stack → top_rank b.mode ≤ top_rank a.mode → Toils 0 a b
+Toils-run n a m b k g h w v l r =
+    let x = fees-many n (length a.ledger.fates) (length b.ledger.fates) (fee_of b) (toll_of b) k (omega (arith, g.0, h.0)) (omega arith) in
+    let y = mul-le (weight b.stack + top_rank b.mode) (turn_of b) (weight a.stack + top_rank a.mode) (turn_of b) (omega (arith, l, r)) (omega arith) in
+    let z : (weight a.stack + top_rank a.mode + 16) * turn_of b ≡ (weight a.stack + top_rank a.mode) * turn_of b + 16 * turn_of b = grind arith in
+    (omega (arith, w.0, v.0), (omega (arith, w.1.0, v.1.0), omega (arith, w.0, w.1.0, w.1.1, v.0, v.1.0, v.1.1, x, y, z)))
+
+pub ruleset run_rules = (char-foreign, Pays-run, Toils-run, Fits-loose, Fits-opened, Fits-dropped, Fits-quiet, other-loose, other-runs, loose-runs, is-text, other-text, text-stack)
+
+pub ruleset rules_rules = (Spends-one, Settles-grows, Counted-worked)
+
+-- what is true of a token's entries so far
+abbrev pub Entered : Symbol → State → State → Type 0
+Entered y i m =
+    (length m.tree.tree.labels + 2 * (weight m.stack + rank m.mode y) + allowance (length i.ledger.fates)
+    ≤ length i.tree.tree.labels + 2 * (weight i.stack + rank i.mode y) + allowance (length m.ledger.fates))
+    × (ClonesFew i m
+    × ((implied_count m.tree.tree.labels + (weight m.stack + rank m.mode y) ≤ implied_count i.tree.tree.labels + (weight i.stack + rank i.mode y))
+    × ((reach_of i ≤ reach_of m)
+    × ((toll_of i ≤ toll_of m)
+    × ((m.tree.steps + length i.ledger.fates * fee_of m + (weight m.stack + rank m.mode y) * turn_of m
+    ≤ i.tree.steps + length m.ledger.fates * fee_of m + (weight i.stack + rank i.mode y) * turn_of m)
+    × ((length i.ledger.fates ≤ length m.ledger.fates)
+    × (weight m.stack + rank m.mode y ≤ weight i.stack + rank i.mode y)))))))
+
+-- an entry is counted
+entered-one : (y : Symbol) (i m n : State) → n ≡ record m { tree = n.tree } → Grown 0 0 0 0 0 m n → Works 0 0 1 m n → Entered y i m
+    → (length n.tree.tree.labels + 2 * (weight n.stack + rank n.mode y) + allowance (length i.ledger.fates)
+    ≤ length i.tree.tree.labels + 2 * (weight i.stack + rank i.mode y) + allowance (length n.ledger.fates))
+    × (ClonesFew i n × (implied_count n.tree.tree.labels + (weight n.stack + rank n.mode y) ≤ implied_count i.tree.tree.labels + (weight i.stack + rank i.mode y)))
+entered-one y i m n e g w h =
+    let s : weight n.stack ≡ weight m.stack = ap (λ (x : State). weight x.stack) e in
+    let r : rank n.mode y ≡ rank m.mode y = ap (λ (x : State). rank x.mode y) e in
+    let f : length n.ledger.fates ≡ length m.ledger.fates = ap (λ (x : State). length x.ledger.fates) e in
+    let l : allowance (length n.ledger.fates) ≡ allowance (length m.ledger.fates) = ap allowance f in
+    (omega (arith, h.0, s, r, l, g.1.0), (omega (arith, h.1.0, f, g.1.1.1.1.0), omega (arith, h.1.1.0, s, r, g.1.1.1.1.1)))
+
+pub entered-next : (o : Outcome) (y : Symbol) (t : TokenKind) (i m n b : State) → o ≡ Reprocess → n ≡ record m { tree = n.tree } → Grown 0 0 0 0 0 m n → Works 0 0 1 m n → Spends 2 n b → Counted o t n b → Falls o y n b
+    → Entered y i m → Entered y i b
+entered-next o y t i m n b q e g w p c f h =
+    let k = entered-one y i m n e g w h in
+    let d : Counts 1 0 n b = subst (λ x. Counted x t n b) q c in
+    let v : weight b.stack + rank b.mode y < weight n.stack + rank n.mode y = subst (λ x. Falls x y n b) q f in
+    let s : weight n.stack ≡ weight m.stack = ap (λ (x : State). weight x.stack) e in
+    let r : rank n.mode y ≡ rank m.mode y = ap (λ (x : State). rank x.mode y) e in
+    let fates : length n.ledger.fates ≡ length m.ledger.fates = ap (λ (x : State). length x.ledger.fates) e in
+    let product : length n.ledger.fates * fee_of b ≡ length m.ledger.fates * fee_of b = ap (λ z. z * fee_of b) fates in
+    let less : weight b.stack + rank b.mode y < weight m.stack + rank m.mode y = omega (arith, v, s, r) in
+    let fee : fee_of m ≤ fee_of b = omega (arith, w.0, w.1.0, d.0, d.1.0) in
+    let turn : turn_of m ≤ turn_of b = omega (arith, w.0, d.0) in
+    let all = turn-then i.tree.steps m.tree.steps b.tree.steps (length i.ledger.fates) (length m.ledger.fates) (length b.ledger.fates) (weight i.stack + rank i.mode y) (weight m.stack + rank m.mode y) (weight b.stack + rank b.mode y)
+    (fee_of m) (fee_of b) (turn_of m) (turn_of b) h.1.1.1.1.1.1.0 fee less h.1.1.1.1.1.1.1 turn h.1.1.1.1.1.0 (omega (arith, d.1.1.1, w.1.1, product)) in (
+      omega (arith, k.0, p.0, v),
+      (
+        omega (arith, k.1.0, p.1.0),
+        (
+          omega (arith, k.1.1, p.1.1, v),
+          (omega (arith, h.1.1.1.0, w.0, d.0), (omega (arith, h.1.1.1.1.0, w.1.0, d.1.0), (all, (omega (arith, h.1.1.1.1.1.1.0, fates, d.1.1.0), omega (arith, h.1.1.1.1.1.1.1, less))))),
+        ),
+      ),
+    )
+
+-- the token is done with
+pub toils-done : (o : Outcome) (y : Symbol) (t : TokenKind) (i m n b d : State) → o ≡ Done → n ≡ record m { tree = n.tree } → Works 0 0 1 m n → Counted o t n b → Falls o y n b
+    → d ≡ record b { mode = d.mode } → top_rank d.mode ≤ top_rank b.mode → Entered y i m → Toils (compared t d) i d
+toils-done o y t i m n b d q e w c f z l h =
+    subst (λ (x : State). Toils (compared t x) i x) (sym z)
+    (omega (arith, h.1.1.1.0, w.0, k.0), (omega (arith, h.1.1.1.1.0, w.1.0, k.1.0), omega (arith, all, a)))
+  where
+    k : Counts 1 (compared t b) n b
+    k = subst (λ x. Counted x t n b) q c
+
+    v : weight b.stack + top_rank b.mode ≤ weight n.stack + 15
+    v = subst (λ x. Falls x y n b) q f
+
+    s : weight n.stack ≡ weight m.stack
+    s = ap (λ (x : State). weight x.stack) e
+
+    fates : length n.ledger.fates ≡ length m.ledger.fates
+    fates = ap (λ (x : State). length x.ledger.fates) e
+
+    product : length n.ledger.fates * fee_of b ≡ length m.ledger.fates * fee_of b
+    product = ap (λ x. x * fee_of b) fates
+
+    fee : fee_of m ≤ fee_of b
+    fee = omega (arith, w.0, w.1.0, k.0, k.1.0)
+
+    turn : turn_of m ≤ turn_of b
+    turn = omega (arith, w.0, k.0)
+
+    all : b.tree.steps + length i.ledger.fates * fee_of b + (weight b.stack + top_rank d.mode) * turn_of b
+        ≤ i.tree.steps + length b.ledger.fates * fee_of b + (weight i.stack + rank i.mode y + 16) * turn_of b + compared t b
+    all = turn-last i.tree.steps m.tree.steps b.tree.steps (length i.ledger.fates) (length m.ledger.fates) (length b.ledger.fates) (weight i.stack + rank i.mode y) (weight m.stack + rank m.mode y)
+        (weight b.stack + top_rank d.mode) (compared t b) (fee_of m) (fee_of b) (turn_of m) (turn_of b) h.1.1.1.1.1.1.0 fee h.1.1.1.1.1.1.1 turn (omega (arith, v, s, l)) h.1.1.1.1.1.0
+        (omega (arith, k.1.1.1, w.1.1, product))
+
+    a : (weight i.stack + rank i.mode y + 16) * turn_of b ≤ (weight i.stack + top_rank i.mode + 16) * turn_of b
+    a = mul-le (weight i.stack + rank i.mode y + 16) (turn_of b) (weight i.stack + top_rank i.mode + 16) (turn_of b) (let r = rank-top i.mode y in omega (arith, r)) (omega arith)
 
 pub ruleset take_rules = (rank-top)
 

@@ -44,6 +44,24 @@ pub named-is_block : (t : Tag) → is_block t ≡ true → is_same t tag.Image �
 named-is_block tag.Image e = absurd (false≢true e)
 named-is_block _ e = refl
 
+-- no block is a formatting element
+pub unlisted-is_block : (t : Tag) → is_block t ≡ true → is_formatting t ≡ false
+unlisted-is_block tag.A e = absurd (false≢true e)
+unlisted-is_block tag.B e = absurd (false≢true e)
+unlisted-is_block tag.Big e = absurd (false≢true e)
+unlisted-is_block tag.Code e = absurd (false≢true e)
+unlisted-is_block tag.Em e = absurd (false≢true e)
+unlisted-is_block tag.Font e = absurd (false≢true e)
+unlisted-is_block tag.I e = absurd (false≢true e)
+unlisted-is_block tag.Nobr e = absurd (false≢true e)
+unlisted-is_block tag.S e = absurd (false≢true e)
+unlisted-is_block tag.Small e = absurd (false≢true e)
+unlisted-is_block tag.Strike e = absurd (false≢true e)
+unlisted-is_block tag.Strong e = absurd (false≢true e)
+unlisted-is_block tag.Tt e = absurd (false≢true e)
+unlisted-is_block tag.U e = absurd (false≢true e)
+unlisted-is_block _ e = refl
+
 pub named-is_heading : (t : Tag) → is_heading t ≡ true → is_same t tag.Image ≡ false
 named-is_heading tag.Image e = absurd (false≢true e)
 named-is_heading _ e = refl

@@ -2,3 +2,4 @@ pub mod Ranks
 pub mod Fitting
 pub mod Steps
 pub mod Guards
+pub mod Plain

@@ -17,6 +17,7 @@ use html_ledger::Symbol;
 pub(crate) fn is_astray(page: &Construction, symbol: Symbol) -> bool
     ensures select { result ≡ false → is_droppable symbol ≡ true → is_of_selects page.now.mode ≡ true → may_select page.now.ledger.history ≡ true }
     ensures frameset { result ≡ false → is_droppable symbol ≡ true → is_of_frames page.now.mode ≡ true → page.now.ledger.history.frameset ≡ true }
+    ensures other { is_of_selects page.now.mode ≡ false → is_of_frames page.now.mode ≡ false → result ≡ false }
     ensures loose { result ≡ true → is_loose page.now.mode ≡ true }
     ensures high { (s : AnySymbol) → result ≡ true → 2 ≤ rank page.now.mode s }
 {
@@ -36,6 +37,7 @@ pub(crate) fn is_astray(page: &Construction, symbol: Symbol) -> bool
 /// At the end of a call: a mode of selects or of frames, to which nothing that was seen leads. Never: a select or a frameset was made, or
 /// is the context, and is open. Would leave the mode in body. So a start tag `svg` in a select is always dropped.
 pub(crate) fn is_unfounded(page: &Construction) -> bool
+    ensures other { is_of_selects page.now.mode ≡ false → is_of_frames page.now.mode ≡ false → result ≡ false }
     ensures loose { result ≡ true → is_loose page.now.mode ≡ true }
     ensures high { result ≡ true → 2 ≤ top_rank page.now.mode }
 {

@@ -4,7 +4,8 @@ ghost use Rattle.html_ledger.specs.Symbols.{symbol_of};
 ghost use Rattle.html_ledger.specs.Flags.{is_free, may_select};
 ghost use Rattle.html_construction.specs.Built.{Keeps, Takes};
 ghost use Rattle.html_modes.specs.Fitting.{Fits};
-ghost use Rattle.html_modes.specs.Steps.{Falls, Pays, Settles, Spends, Steps, root_of};
+ghost use Rattle.html_modes.specs.Plain.{GoesOn, Turns};
+ghost use Rattle.html_modes.specs.Steps.{Counted, Falls, Pays, Settles, Spends, Steps, Toils, compared, root_of};
 ghost use Rattle.html_modes.specs.Ranks.{top_rank};
 ghost use Rattle.html_modes.specs.Guards.{is_droppable, is_of_frames, is_of_selects, is_table_text};
 
@@ -46,6 +47,8 @@ pub fn take(
     ensures takes { IfOk result (λ f. f ≡ None → Takes token.now page.old page.new) }
     ensures foreign { IfOk result (λ f. IfSome f (λ name. symbol ≡ root_of name)) }
     ensures pays { IfOk result (λ f. f ≡ None → Pays page.old page.new) }
+    ensures toils { IfOk result (λ f. f ≡ None → Toils (compared token.now page.new) page.old page.new) }
+    ensures plain { IfOk result (λ f. f ≡ None → GoesOn symbol token.now page.old page.new) }
 {
     page.begin_call();
     'steps: loop {
@@ -53,6 +56,7 @@ pub fn take(
         match step(page, token, symbol)? {
             Outcome::Done => {
                 settle(page);
+                page.laws();
                 return Ok(None);
             }
             Outcome::Reprocess => {}
@@ -69,6 +73,7 @@ fn settle(page: &mut Construction)
     ensures keeps { Keeps page.old page.new }
     ensures fits { Fits page.new }
     ensures top { top_rank page.new.mode ≤ top_rank page.old.mode }
+    ensures same { is_of_selects page.old.mode ≡ false → is_of_frames page.old.mode ≡ false → page.new ≡ page.old }
 {
     if is_unfounded(page) {
         page.set_mode(Mode::InBody);
@@ -76,7 +81,7 @@ fn settle(page: &mut Construction)
 }
 
 /// One entry: the text of a table, what every mode drops, or the rules of the mode that is set.
-#[tactic(auto, using(crate::proofs::Settled::step_rules))]
+#[tactic(auto, using(crate::proofs::Settled::step_rules, crate::proofs::Plain::step_plain))]
 fn step(page: &mut Construction, token: &TokenKind, symbol: Symbol) -> Result<Outcome, Refusal>
     requires symbol { symbol_of token.now ≡ symbol }
     requires fits { Fits page.old }
@@ -84,7 +89,9 @@ fn step(page: &mut Construction, token: &TokenKind, symbol: Symbol) -> Result<Ou
     ensures takes { IfOk result (λ o. Steps o token.now page.old page.new) }
     ensures falls { IfOk result (λ o. Falls o symbol page.old page.new) }
     ensures spends { OnOk result (Spends 2 page.old page.new) }
+    ensures counts { IfOk result (λ o. Counted o token.now page.old page.new) }
     ensures settles { IfOk result (λ o. Settles o symbol page.old page.new) }
+    ensures plain { IfOk result (λ o. Turns o symbol token.now page.old page.new) }
 {
     if is_table_text(page.mode()) {
         let outcome = in_table_text(page, token, symbol)?;
@@ -103,7 +110,7 @@ fn step(page: &mut Construction, token: &TokenKind, symbol: Symbol) -> Result<Ou
 }
 
 /// The rules of the mode that is set.
-#[tactic(auto, using(crate::proofs::Settled::rules_rules))]
+#[tactic(auto, using(crate::proofs::Settled::rules_rules, crate::proofs::Plain::rules_plain))]
 fn rules(page: &mut Construction, token: &TokenKind, symbol: Symbol) -> Result<Outcome, Refusal>
     requires symbol { symbol_of token.now ≡ symbol }
     requires fits { Fits page.old }
@@ -116,7 +123,9 @@ fn rules(page: &mut Construction, token: &TokenKind, symbol: Symbol) -> Result<O
     ensures takes { IfOk result (λ o. Steps o token.now page.old page.new) }
     ensures falls { IfOk result (λ o. Falls o symbol page.old page.new) }
     ensures spends { OnOk result (Spends 2 page.old page.new) }
+    ensures counts { IfOk result (λ o. Counted o token.now page.old page.new) }
     ensures settles { IfOk result (λ o. Settles o symbol page.old page.new) }
+    ensures plain { IfOk result (λ o. Turns o symbol token.now page.old page.new) }
 {
     match page.mode() {
         Mode::Initial => initial(page, token, symbol),

@@ -1,11 +1,12 @@
 // Text that is taken in runs (13.2.6.1).
-ghost use Rattle.std.specs.Prelude.{◌≡◌, ◌<◌, ◌≤◌, ◌==◌, ℕ, IfOk, IsTrue, OnOk, Some, false, length, slice_get, take, true};
+ghost use Rattle.std.specs.Prelude.{◌≡◌, ◌<◌, ◌≤◌, ◌==◌, ℕ, IfOk, IsTrue, OnOk, Some, [], ◌∷◌, false, length, slice_get, take, true};
 ghost use Rattle.std.specs.List.{list_all};
 ghost use Rattle.html_ledger.specs.Flags.{is_not_null, may_text_run};
 ghost use Rattle.html_construction.specs.Built.{Takes, TakesRun};
 ghost use Rattle.html_modes.specs.Fitting.{Fits, is_loose};
 ghost use Rattle.html_modes.specs.Guards.{is_text, takes_runs};
-ghost use Rattle.html_modes.specs.Steps.{Pays};
+ghost use Rattle.html_modes.specs.Plain.{GoesOnText};
+ghost use Rattle.html_modes.specs.Steps.{Pays, Toils};
 
 use crate::guards::{is_text, takes_run};
 use crate::modes::body_start::body_run;
@@ -27,6 +28,8 @@ pub fn take_front(page: &mut Construction, text: &[char]) -> Result<usize, Refus
     ensures takes { IfOk result (λ n. TakesRun (take n text.now) page.old page.new) }
     ensures count { IfOk result (λ n. (0 < n) × (n ≤ length text.now)) }
     ensures pays { OnOk result (Pays page.old page.new) }
+    ensures toils { OnOk result (Toils 0 page.old page.new) }
+    ensures plain { IfOk result (λ n. list_all is_not_null (take n text.now) ≡ true → GoesOnText (take n text.now) page.old page.new) }
 {
     if takes_run(page, text[0]) {
         let end = null_index(text);
@@ -44,6 +47,8 @@ fn take_char(page: &mut Construction, c: char) -> Result<(), Refusal>
     ensures fits { OnOk result (Fits page.new) }
     ensures takes { OnOk result (Takes (TokenKind.Char c) page.old page.new) }
     ensures pays { OnOk result (Pays page.old page.new) }
+    ensures toils { OnOk result (Toils 0 page.old page.new) }
+    ensures plain { (c == 0) ≡ false → OnOk result (GoesOnText (c ∷ []) page.old page.new) }
 {
     let token = TokenKind::Char(c);
     let _ = take(page, &token, Symbol::Char(c))?;
@@ -61,6 +66,8 @@ fn take_run(page: &mut Construction, run: &[char]) -> Result<usize, Refusal>
     ensures takes { IfOk result (λ n. TakesRun (take n run.now) page.old page.new) }
     ensures count { IfOk result (λ n. (0 < n) × (n ≤ length run.now)) }
     ensures pays { OnOk result (Pays page.old page.new) }
+    ensures toils { OnOk result (Toils 0 page.old page.new) }
+    ensures plain { IfOk result (λ n. GoesOnText (take n run.now) page.old page.new) }
 {
     if is_text(page.mode()) {
         let count = take_text_run(page, run)?;
@@ -81,6 +88,7 @@ fn take_text_run(page: &mut Construction, run: &[char]) -> Result<usize, Refusal
     ensures takes { IfOk result (λ n. TakesRun (take n run.now) page.old page.new) }
     ensures count { IfOk result (λ n. (0 < n) × (n ≤ length run.now)) }
     ensures pays { OnOk result (Pays page.old page.new) }
+    ensures toils { OnOk result (Toils 0 page.old page.new) }
 {
     page.begin_call();
     let count = page.insert_run(run)?;
@@ -99,10 +107,13 @@ fn take_body_run(page: &mut Construction, run: &[char]) -> Result<usize, Refusal
     ensures takes { IfOk result (λ n. TakesRun (take n run.now) page.old page.new) }
     ensures count { IfOk result (λ n. (0 < n) × (n ≤ length run.now)) }
     ensures pays { OnOk result (Pays page.old page.new) }
+    ensures toils { OnOk result (Toils 0 page.old page.new) }
+    ensures plain { IfOk result (λ n. GoesOnText (take n run.now) page.old page.new) }
 {
     page.begin_call();
     let count = body_run(page, run)?;
     page.count_steps(count);
+    page.laws();
     Ok(count)
 }
 

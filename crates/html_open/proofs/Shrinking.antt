@@ -139,20 +139,18 @@ counted-round i j s t u n m k h l h0 l0 e b p q x y a c =
 
 -- and in the end
 pub counted-end : (i s t u n m h l : ℕ) → i ≤ 8 → IsCounted s t 1 3 → IsCounted t u (m - n) (times i (m + 4 * h + 3 * l + 36))
-    → IsCounted s u (m - n) (32 * ((h + l + 4) * (h + l + 4)) + 8 * m)
+    → IsCounted s u (m - n) (8 * m + 32 * h + 24 * l + 291)
 counted-end i s t u n m h l b p r =
     let p1 = p.least in
     let p2 = p.most in
     let r1 = r.least in
     let r2 = r.most in
     let d = times-few i (m + 4 * h + 3 * l + 36) b in
-    let q : 4 * (h + l + 4) ≤ (h + l + 4) * (h + l + 4) = mul-le 4 (h + l + 4) (h + l + 4) (h + l + 4) (omega arith) (omega arith) in
-    record { least = omega (arith, p1, r1); most = omega (arith, p2, r2, d, q) }
+    record { least = omega (arith, p1, r1); most = omega (arith, p2, r2, d) }
 
 -- the current node alone was popped
-pub counted-popped : (s t n m h l : ℕ) → m ≡ n → IsCounted s t 1 3 → IsCounted s t (m - n) (32 * ((h + l + 4) * (h + l + 4)) + 8 * m)
+pub counted-popped : (s t n m h l : ℕ) → m ≡ n → IsCounted s t 1 3 → IsCounted s t (m - n) (8 * m + 32 * h + 24 * l + 291)
 counted-popped s t n m h l e p =
     let p1 = p.least in
     let p2 = p.most in
-    let q : 4 * (h + l + 4) ≤ (h + l + 4) * (h + l + 4) = mul-le 4 (h + l + 4) (h + l + 4) (h + l + 4) (omega arith) (omega arith) in
-    record { least = omega (arith, p1, e); most = omega (arith, p2, q) }
+    record { least = omega (arith, p1, e); most = omega (arith, p2) }

@@ -49,8 +49,8 @@ pub enum AdoptEnd {
 /// The stack and the list are then as the rounds before left them.
 ///
 /// Steps: at least one for each node made, for each element that left the stack, and for each that left the list; with `h` elements on
-/// the stack, `l` entries in the list and, in the end, `c` nodes at most `32 (h + l + 4)² + 8 c`. After a refusal too, at least one for
-/// each node made, and at most so many.
+/// the stack, `l` entries in the list and, in the end, `c` nodes at most `8 c + 32 h + 24 l + 291`, which is never more than
+/// `32 (h + l + 4)² + 8 c`. After a refusal too, at least one for each node made, and at most so many.
 pub fn adopt(
     stack: &mut OpenStack,
     list: &mut FormattingList,
@@ -75,7 +75,7 @@ pub fn adopt(
     ensures no_more_open { length stack.new ≤ length stack.old }
     ensures no_more_listed { length list.new ≤ length list.old }
     ensures cause { IfErr result (λ e. IsRefusal name foster (open_at stack.old list.old arena.old) (open_at stack.new list.new arena.new) e) }
-    ensures steps { IsCounted arena.old.steps arena.new.steps (length arena.new.labels - length arena.old.labels) (32 * ((length stack.old + length list.old + 4) * (length stack.old + length list.old + 4)) + 8 * length arena.new.labels) }
+    ensures steps { IsCounted arena.old.steps arena.new.steps (length arena.new.labels - length arena.old.labels) (8 * length arena.new.labels + 32 * length stack.old + 24 * length list.old + 291) }
     ensures paid { OnOk result (IsPaid (open_at stack.old list.old arena.old) (open_at stack.new list.new arena.new)) }
     ensures well_formed { WellFormed arena.new }
 {

@@ -15,12 +15,13 @@ use Rattle.html_arena.specs.Forest.Forest.{empty}
 use Rattle.html_page.specs.PageTokens.{kinds, kinds_then, page_kinds, ArePlain, IsPlainFront}
 use Rattle.html_page.specs.Pieces.{prolog, epilog, IsTextKind, IsTagKind}
 use Rattle.html_page.specs.Open.{Before, IsAround, IsOpenAt, innermost, innermost_name, top_label}
+use Rattle.html_page.specs.Begun.{front_then}
 use Rattle.html_page.specs.Shows.{Shows}
 use Rattle.html_page.specs.Trees.{EndsAt, IsTreeOf, SharesEpilog}
 use Rattle.html_page.specs.declared.build.Builder.{Builder}
 use Rattle.html_page.specs.declared.build.OpenElement.{OpenElement}
 use Rattle.html_page.proofs.Fits.{get-drop, kinds-drop}
-use Rattle.html_page.proofs.Fronts.{front_then, front-more, names_of, Follows, plain-follows, plain-written, front-plain}
+use Rattle.html_page.proofs.Fronts.{front-more, names_of, Follows, plain-follows, plain-written, front-plain}
 use Rattle.html_page.proofs.Once.{kinds-length}
 use Rattle.html_page.proofs.Opens.{Shows-page}
 use Rattle.html_page.proofs.Steps.{HasRead, follows-piece}

@@ -11,23 +11,11 @@ use Rattle.html_tokens.specs.declared.token.TokenKind.TheVariants.{Start, End, C
 use Rattle.html_page.specs.Forest.{join, single}
 use Rattle.html_page.specs.Label.{Label}
 use Rattle.html_page.specs.Label.Label.{document, doctype, element, text, comment}
-use Rattle.html_page.specs.Plain.{name_of, page_of, IsPlainChar, ArePlainAttrs, IsContent}
+use Rattle.html_page.specs.Plain.{page_of, IsPlainChar, ArePlainAttrs, IsContent}
 use Rattle.html_page.specs.PageTokens.{chars_then, kinds_then, page_kinds, ArePlain, IsPlainFront}
 use Rattle.html_page.specs.Pieces.{prolog, epilog}
 use Rattle.html_page.specs.Open.{Before}
-use Rattle.html_page.specs.declared.plain.PlainName.{PlainName}
-
-abbrev pub IsPlainName : List ℕ → Type 0
-IsPlainName n = (name : PlainName) × (n ≡ name_of name)
-
--- of the open elements the start tags, and all that is done, and then others
-abbrev pub front_then : Forest Label → List Before → List TokenKind → List TokenKind
-front_then d [] rest = kinds_then d rest
-front_then d ((n, attrs, before) ∷ outer) rest = front_then before outer (Start n attrs false ∷ kinds_then d rest)
-
-abbrev pub IsContentOuter : List Before → Type 0
-IsContentOuter [] = Unit {0}
-IsContentOuter ((n, attrs, before) ∷ outer) = IsPlainName n × ArePlainAttrs attrs × IsContent false before × IsContentOuter outer
+use Rattle.html_page.specs.Begun.{IsContentOuter, IsPlainName, ends_after, front_then, is_text_label}
 
 chars-more : (s : List ℕ) (x y : List TokenKind) → chars_then s (x ++ y) ≡ chars_then s x ++ y
 chars-more [] x y = refl
@@ -59,19 +47,6 @@ kinds-join (tree (comment s) below after) g k = ap (λ (x : List TokenKind). Com
 pub front-join : (f g : Forest Label) (outer : List Before) (k : List TokenKind) → front_then (join f g) outer k ≡ front_then f outer (kinds_then g k)
 front-join f g [] k = kinds-join f g k
 front-join f g ((n, a, before) ∷ outer) k = ap (λ (x : List TokenKind). front_then before outer (Start n a false ∷ x)) (kinds-join f g k)
-
--- rows of trees that end with a text or not
-
-abbrev pub is_text_label : Label → Bool
-is_text_label (text s) = true
-is_text_label document = false
-is_text_label (doctype n p s) = false
-is_text_label (element n a) = false
-is_text_label (comment s) = false
-
-abbrev pub ends_after : Bool → Forest Label → Bool
-ends_after after empty = after
-ends_after after (tree l k r) = ends_after (is_text_label l) r
 
 pub ends-join : (b : Bool) (f : Forest Label) (l : Label) (k : Forest Label) → ends_after b (join f (single l k)) ≡ is_text_label l
 ends-join b empty l k = refl

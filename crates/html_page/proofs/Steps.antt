@@ -18,12 +18,13 @@ use Rattle.html_page.specs.Plain.{name_of, ArePlainAttrs, IsContent, IsPlainChar
 use Rattle.html_page.specs.PageTokens.{kinds, chars_then}
 use Rattle.html_page.specs.Pieces.{prolog, chars_in, IsTextKind, IsTagKind}
 use Rattle.html_page.specs.Open.{Before, Builds, IsAround, innermost_name}
+use Rattle.html_page.specs.Begun.{IsContentOuter, ends_after, front_then}
 use Rattle.html_page.specs.Trees.{with_text, TakesText}
 use Rattle.html_page.specs.declared.build.Builder.{Builder}
 use Rattle.html_page.specs.declared.build.OpenElement.{OpenElement}
 use Rattle.html_page.specs.declared.plain.PlainName.{PlainName}
 use Rattle.html_page.proofs.Fits.{kinds-drop, kinds-take, get-drop, get-within, take-next}
-use Rattle.html_page.proofs.Fronts.{front_then, front-more, front-join, IsContentOuter, ends_after, ends-join, content-element, content-text, names_of, Follows}
+use Rattle.html_page.proofs.Fronts.{front-more, front-join, ends-join, content-element, content-text, names_of, Follows}
 use Rattle.html_page.proofs.Once.{kinds-length}
 use Rattle.html_page.proofs.TextTokens.{texts-kinds, texts-plain}
 

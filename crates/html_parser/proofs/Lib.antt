@@ -9,6 +9,7 @@ pub mod Fronts
 pub mod Further
 pub mod Making
 pub mod MaySaying
+pub mod Naming
 pub mod Openings
 pub mod Refusals
 pub mod Rewritten
@@ -17,3 +18,4 @@ pub mod Switching
 pub mod Taken
 pub mod Tokenizing
 pub mod Unsaid
+pub mod Plain

@@ -1,9 +1,11 @@
 -- What is made of an input at its end is what parsing is to answer.
-use Rattle.std.proofs.Common.{ℕ, suc, ◌+◌, ◌-◌, ◌*◌, ◌^◌, ◌≤◌, ◌≡◌, ◌∙◌, arith, min, true, false, List, [], ◌∷◌, length, map, Option, refl, sym, ap, subst, length-append}
+use Rattle.std.proofs.Common.{ℕ, suc, ◌+◌, ◌-◌, ◌*◌, ◌^◌, ◌≤◌, ◌≡◌, ◌∙◌, arith, min, true, false, List, [], ◌∷◌, length, map, Option, None, refl, sym, ap, subst, length-append}
 use Rattle.std.proofs.lemmas.List.{length-map}
-use Rattle.std.proofs.Math.Nat.{mul_comm, mul-le-mul_left}
+use Rattle.std.proofs.Math.Nat.{min-le_left, mul_comm, mul-le-mul_left}
 use Rattle.std.specs.Prelude.{nat_lt, cond, Bool}
+use Rattle.html_arena.specs.Forest.{Forest}
 use Rattle.html_arena.specs.Tree.{Tree as Nodes}
+use Rattle.html_charref.specs.Table.{IsTable}
 use Rattle.html_arena.specs.declared.arena.Limits.{Limits}
 use Rattle.html_input.specs.Decode.{code_points, decode}
 use Rattle.html_input.specs.Fed.{Fed as Decodes}
@@ -11,8 +13,14 @@ use Rattle.html_input.specs.declared.decoder.Decoder.{Decoder}
 use Rattle.html_ledger.specs.Errors.{AreBetween}
 use Rattle.html_ledger.specs.declared.fate.Fate.{Fate}
 use Rattle.html_ledger.specs.declared.setting.Setting.{Setting}
+use Rattle.html_ledger.specs.declared.setting.Setting.TheVariants.{Document}
+use Rattle.html_page.specs.Label.{Label}
+use Rattle.html_page.specs.PageTokens.{page_kinds}
+use Rattle.html_page.specs.Plain.{IsPlainPage}
+use Rattle.html_page.specs.Shows.{Shows}
 use Rattle.html_tokens.specs.Given.{Fed, fed_len}
-use Rattle.html_tokens.specs.Stream.{Run, tokens_of}
+use Rattle.html_tokens.specs.Stream.{Run, Start as TextStart, tokens_of}
+use Rattle.html_tokens.specs.Tokens.{tokens_after}
 use Rattle.html_tokens.specs.declared.faults.Fault.{Fault}
 use Rattle.html_tokens.specs.declared.token.Token.{Token}
 use Rattle.html_tokens.specs.declared.token.TokenKind.{TokenKind}
@@ -21,16 +29,18 @@ use Rattle.html_builder.specs.Builders.{BuilderState}
 use Rattle.html_builder.specs.Handed.{CostAtMost, EndsAtEof, Handed, fates_of}
 use Rattle.html_builder.specs.Switches.{switches_by}
 use Rattle.html_construction.specs.Built.{symbols}
-use Rattle.html_builder.specs.Outcome.{IsBounded, IsOutcome}
+use Rattle.html_builder.specs.Outcome.{IsBounded, IsOutcome, most_tree_steps}
+use Rattle.html_parser.proofs.Plain.{text-kinds}
 use Rattle.html_parser.specs.Faults.{construction_fault, fault_list, front_below, places_of, rest_from, told_fault}
 use Rattle.html_parser.specs.Kinds.{kinds, starts_of}
 use Rattle.html_parser.specs.Made.{IsWhole}
-use Rattle.html_parser.specs.Parsed.{IsParsed, IsTreeOf}
+use Rattle.html_parser.specs.Parsed.{IsParsed, IsTreeOf, most_steps, most_token_steps}
 use Rattle.html_parser.specs.Staged.{IsEnded}
 use Rattle.html_parser.specs.Start.{Start, most_input, text_start}
 use Rattle.html_parser.specs.declared.faults.PageFault.{PageFault}
 use Rattle.html_parser.specs.declared.page.Tree.{Tree as TreeType}
 use Rattle.html_parser.specs.declared.stages.Stages.{Stages}
+use Rattle.html_parser.proofs.Naming.{kinds-named, named-tree}
 use Rattle.html_parser.proofs.Costs.{costs, kinds-length, run-costed}
 use Rattle.html_parser.proofs.Counts.{decode_few}
 use Rattle.html_parser.proofs.Ends.{ends_at_eof}
@@ -76,6 +86,7 @@ pub record Ended (d : Decoder) (t : Tokenizer) (b : BuilderState) (starts : List
   pub in_limit : (limit : ℕ) (bytes text : List ℕ) → Decodes limit true d bytes text → length (code_points bytes) ≤ limit
   pub fates_are : fates ≡ fates_of b
   pub outcome : (s : Setting) (l : Option Limits) (tokens : List TokenKind) → Handed s l tokens b → EndsAtEof tokens → IsOutcome s tokens fates numbers arena
+  pub plain : (l : Option Limits) (tokens : List TokenKind) → Handed Document l tokens b → (page : Forest Label) → IsPlainPage page → tokens ≡ page_kinds page → Shows arena (0 ∷ []) page
   pub bounds : (s : Setting) (l : Option Limits) (tokens : List TokenKind) → Handed s l tokens b → (m : ℕ) → CostAtMost m tokens → IsBounded m arena
   pub told_few : length told ≤ 11 * (fed_len t + 2)
   pub fed : (run : Run) → Fed t run → fed_len t ≡ length run.text
@@ -89,6 +100,28 @@ square a b less =
     let left : (a + 2) * (a + 2) ≤ (a + 2) * (b + 2) = mul-le-mul_left (a + 2) more in
     let right : (b + 2) * (a + 2) ≤ (b + 2) * (b + 2) = mul-le-mul_left (b + 2) more in
     omega (arith, left, right, mul_comm (a + 2) (b + 2))
+
+-- the steps of both together
+most-all : (n : ℕ) → most_token_steps n + most_tree_steps n ≤ most_steps n
+most-all n = let all = ring n in omega (arith, all)
+  where
+    ring : (n : ℕ) → 512 * ((n + 32) * (n + 32) * (n + 32))
+        ≡ 8 * (n + 2) + (n + 2) * (n + 2) + (512 * ((n + 2) * (n + 2) * (n + 2)) + 46079 * ((n + 2) * (n + 2)) + 1382392 * (n + 2) + 13824000)
+    ring n = grind arith
+
+few-steps : (n own tree steps : ℕ) → own ≤ most_token_steps n → tree ≤ most_tree_steps n → steps ≡ min (own + tree) (2 ^ 128 - 1) → steps ≤ most_steps n
+few-steps n own tree steps a b e =
+    let least = min-le_left (own + tree) (2 ^ 128 - 1) in
+    let all = most-all n in
+    omega (arith, a, b, e, least, all)
+
+-- the table of references keeps the rule of tables
+table-of : (t : Tokenizer) (run : Run) → Fed t run → IsTable run.start.rows
+unfolding Fed
+table-of t run f = f.rule
+
+ap-table : (a b : TextStart) → a ≡ b → IsTable a.rows → IsTable b.rows
+ap-table a b e h = subst (λ (x : TextStart). IsTable x.rows) e h
 
 pub made : (start : Start) (bytes : List ℕ) (run : Run) (d : Decoder) (t : Tokenizer) (b : BuilderState) (starts : List ℕ) (told : List Fault) (numbers : List ℕ) (fates : List Fate)
     (arena : Nodes) (errors : List PageFault) (n own steps : ℕ) → Ended d t b starts told numbers fates arena errors n own steps
@@ -104,13 +137,22 @@ made start bytes run d t b starts told numbers fates arena errors n own steps e 
     let switched : run.switches ≡ switches_by (kinds run.given) fates = w.switched ∙ ap (switches_by (kinds run.given)) (sym e.fates_are) in
     let rising : 0 + length numbers ≤ length fates = between-length 0 numbers (length fates) outcome.told.rising in
     let all : length fates ≡ length run.given = outcome.fated.counted ∙ symbols-length (kinds run.given) ∙ kinds-length run.given in
+    let bounds = e.bounds start.setting start.limits (kinds run.given) w.handed n (costs (length run.text) n run.given costed few) in
+    let own_few : own ≤ most_token_steps n = omega (arith, e.own_few, fed, few, square (fed_len t) n (omega (arith, fed, few))) in
     let faults : errors ≡ fault_list told (places_of (starts_of run.given) numbers)
     = e.errors_are ∙ ap (λ ss. fault_list told (places_of ss numbers)) w.starts_are in
+    let tokens : run.given ≡ tokens_of (decode bytes) (switches_by (kinds run.given) fates) (text_start start)
+    = sym w.all
+    ∙ ap (λ s. tokens_of run.text run.switches s) w.begun
+    ∙ ap (λ ss. tokens_of run.text ss (text_start start)) switched
+    ∙ ap (λ x. tokens_of x (switches_by (kinds run.given) fates) (text_start start)) text in
+    let table : IsTable start.rows = ap-table run.start (text_start start) w.begun (table-of t run w.tokenized) in
     record {
-      tokens_are = sym w.all
-          ∙ ap (λ s. tokens_of run.text run.switches s) w.begun
-          ∙ ap (λ ss. tokens_of run.text ss (text_start start)) switched
-          ∙ ap (λ x. tokens_of x (switches_by (kinds run.given) fates) (text_start start)) text;
+      tokens_are = tokens;
+      plain = λ document core p page h written.
+          e.plain start.limits (kinds run.given) (subst (λ s. Handed s start.limits (kinds run.given) b) document.setting_is w.handed) page h
+          (text-kinds start.rows p page (decode bytes) run.given fates table core h written
+          (tokens ∙ ap (λ m. tokens_after start.rows 0 m None 0 (decode bytes) (switches_by (kinds run.given) fates)) document.mode_is));
       numbers = numbers;
       outcome = outcome;
       root_is = refl;
@@ -119,13 +161,15 @@ made start bytes run d t b starts told numbers fates arena errors n own steps e 
         are = faults;
       };
       n_is = count;
+      names = named-tree (kinds run.given) fates arena (kinds-named 0 (length run.text) run.given costed.order) outcome.origins;
       within = subst (λ m. m ≤ most_input start) (sym count) (e.in_limit (most_input start) bytes run.text w.decoded);
-      bounded = e.bounds start.setting start.limits (kinds run.given) w.handed n (costs (length run.text) n run.given costed few);
+      bounded = bounds;
       steps_are = record {
         own = own;
-        few = omega (arith, e.own_few, fed, few, square (fed_len t) n (omega (arith, fed, few)));
+        few = own_few;
         are = e.steps_are;
       };
+      few_steps = few-steps n own arena.steps steps own_few bounds.steps e.steps_are;
       few_errors = omega (
         arith,
         ap length faults,

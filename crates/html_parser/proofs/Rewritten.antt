@@ -1,5 +1,5 @@
 -- What is written of a page, from what parsing and serialising say.
-use Rattle.std.proofs.Common.{◌≡◌, ◌⊎◌, ℕ, ◌≤◌, Bool, true, List, length, Option, sym, subst}
+use Rattle.std.proofs.Common.{◌≡◌, ◌⊎◌, ℕ, ◌≤◌, Bool, true, List, length, Option, sym, subst, arith}
 use Rattle.std.specs.Prelude.{Result, Ok, Err, OnOk, OnErr, IfErr}
 use Rattle.std.specs.Str.{encode_utf8_all}
 use Rattle.std.specs.Io.KnownBytes.{Consumes, IsAtEnd}
@@ -7,7 +7,7 @@ use Rattle.html_arena.specs.Walking.{IsRoot}
 use Rattle.html_device.specs.Device.{AppendsFront}
 use Rattle.html_page.specs.Serialised.{HasNames, html_below, most_written}
 use Rattle.html_page.specs.declared.profile.Profile.{Profile}
-use Rattle.html_parser.specs.Normalised.{IsNormalised, IsNormaliseCause}
+use Rattle.html_parser.specs.Normalised.{IsNormalised, IsNormaliseCause, most_written as most_text}
 use Rattle.html_parser.specs.Parsed.{IsTreeOf}
 use Rattle.html_parser.specs.Start.{Start}
 use Rattle.html_parser.specs.declared.error.ParseError.{ParseError}
@@ -22,13 +22,22 @@ root-of start bytes tree t = subst (IsRoot tree.arena) (sym t.is.root_is) (recor
   no_host = t.is.outcome.rooted.no_host;
 })
 
+-- how long the text of a tree is, by the number of code points
+pub text-few : (start : Start) (bytes : List ℕ) (profile : Profile) (tree : Tree) → IsTreeOf start bytes tree → (HasNames tree.arena → length (html_below profile tree.arena tree.root) ≤ most_written tree.arena)
+    → length (html_below profile tree.arena tree.root) ≤ most_text tree.n
+text-few start bytes profile tree t few =
+    let all = few t.is.names in
+    let nodes = t.is.bounded.nodes in
+    let weighs = t.is.bounded.weighs in
+    omega (arith, all, nodes, weighs)
+
 module _ (start : Start) (profile : Profile) (tree : Tree) (bytes : List ℕ) (old new : Option (List ℕ)) (r : Result (Unit {0}) ParseError) (consumed : Consumes old new bytes) (at_end : IsAtEnd new) (is_tree : IsTreeOf start bytes tree)
     (few : HasNames tree.arena → length (html_below profile tree.arena tree.root) ≤ most_written tree.arena) where
   abbrev text : List ℕ
   text = encode_utf8_all (html_below profile tree.arena tree.root)
 
   normalised : (W : List ℕ → Type 0) → W text → IsNormalised start profile W old new
-  normalised W w = record { bytes = bytes; consumed = consumed; at_end = at_end; tree = tree; is_tree = is_tree; written = w; few = few }
+  normalised W w = record { bytes = bytes; consumed = consumed; at_end = at_end; tree = tree; is_tree = is_tree; written = w; few = text-few start bytes profile tree is_tree few }
 
   pub normalised_ok : (W : List ℕ → Type 0) → OnOk r (W text) → OnOk r (IsNormalised start profile W old new)
   normalised_ok W h = go r h

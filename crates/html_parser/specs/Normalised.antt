@@ -1,9 +1,10 @@
 -- What is written of a page that was read.
-use Rattle.std.specs.Prelude.{◌≡◌, ◌≤◌, ◌⊎◌, ℕ, Bool, true, List, Option, length}
+use Rattle.std.specs.Prelude.{◌≡◌, ◌≤◌, ◌⊎◌, ◌+◌, ◌*◌, ℕ, Bool, true, List, Option, length}
 use Rattle.std.specs.Str.{encode_utf8_all}
 use Rattle.std.specs.Io.KnownBytes.{Consumes, IsAtEnd}
 use Rattle.html_device.specs.Device.{AppendsFront}
-use Rattle.html_page.specs.Serialised.{HasNames, html_below, most_written}
+use Rattle.html_builder.specs.Outcome.{most_held, most_nodes}
+use Rattle.html_page.specs.Serialised.{html_below}
 use Rattle.html_page.specs.declared.profile.Profile.{Profile}
 use Rattle.html_parser.specs.Parsed.{IsTreeOf}
 use Rattle.html_parser.specs.Reading.{IsReaderCause}
@@ -11,6 +12,10 @@ use Rattle.html_parser.specs.Start.{Start}
 use Rattle.html_parser.specs.declared.error.ParseError.{ParseError}
 use Rattle.html_parser.specs.declared.error.ParseError.TheVariants.{Write}
 use Rattle.html_parser.specs.declared.page.Tree.{Tree}
+
+-- the most code points that are written for a page of n code points
+abbrev pub most_written : ℕ → ℕ
+most_written n = 12 * most_held n + 16 * most_nodes n
 
 -- A reader was read from `old` to its end, and of the text of its tree was written what `Written` says.
 pub record IsNormalised (start : Start) (profile : Profile) (Written : List ℕ → Type 0) (old new : Option (List ℕ)) : Type 0 where
@@ -20,7 +25,7 @@ pub record IsNormalised (start : Start) (profile : Profile) (Written : List ℕ 
   pub tree : Tree
   pub is_tree : IsTreeOf start bytes tree
   pub written : Written (encode_utf8_all (html_below profile tree.arena tree.root))
-  pub few : HasNames tree.arena → length (html_below profile tree.arena tree.root) ≤ most_written tree.arena
+  pub few : length (html_below profile tree.arena tree.root) ≤ most_written tree.n
 
 -- Why not all was written: the writer failed or took no bytes, and a front was written; or nothing was, since the input was refused.
 abbrev pub IsNormaliseCause : Start → Profile → (reader new_reader : Option (List ℕ)) → Bool → (writer new_writer : Option (List ℕ)) → (failed stalled : Bool) → ParseError → Type 0

@@ -1,13 +1,23 @@
 -- What parsing answers.
-use Rattle.std.specs.Prelude.{◌≡◌, ℕ, ◌≤◌, ◌+◌, ◌-◌, ◌*◌, ◌^◌, min, List, length}
+use Rattle.std.specs.Prelude.{◌≡◌, ℕ, ◌≤◌, ◌+◌, ◌-◌, ◌*◌, ◌^◌, min, false, List, [], ◌∷◌, length}
 use Rattle.html_input.specs.Decode.{decode, code_points}
 use Rattle.html_tokens.specs.Stream.{tokens_of}
 use Rattle.html_tokens.specs.declared.token.Token.{Token}
 use Rattle.html_tokens.specs.declared.faults.Fault.{Fault}
+use Rattle.html_tokens.specs.declared.token.TextMode.TheVariants.{Data}
+use Rattle.html_arena.specs.Forest.{Forest}
 use Rattle.html_arena.specs.Tree.{Tree as Nodes}
 use Rattle.html_ledger.specs.declared.fate.Fate.{Fate}
 use Rattle.html_builder.specs.Switches.{switches_by}
 use Rattle.html_builder.specs.Outcome.{IsBounded, IsOutcome}
+use Rattle.html_ledger.specs.declared.setting.Setting.TheVariants.{Document}
+use Rattle.html_page.specs.declared.profile.Profile.{Profile}
+use Rattle.html_page.specs.Html.{html_of}
+use Rattle.html_page.specs.Label.{Label}
+use Rattle.html_page.specs.PageTokens.{HasCore}
+use Rattle.html_page.specs.Plain.{IsPlainPage}
+use Rattle.html_page.specs.Serialised.{HasNames}
+use Rattle.html_page.specs.Shows.{Shows}
 use Rattle.html_parser.specs.Faults.{fault_list, places_of}
 use Rattle.html_parser.specs.Kinds.{kinds, starts_of}
 use Rattle.html_parser.specs.Start.{Start, most_input, text_start}
@@ -15,16 +25,26 @@ use Rattle.html_parser.specs.declared.faults.PageFault.{PageFault}
 use Rattle.html_parser.specs.declared.page.Page.{Page}
 use Rattle.html_parser.specs.declared.page.Tree.{Tree}
 
--- the most counted steps of the tokenizer and the most errors for a page of n code points
+-- the most counted steps of the tokenizer for a page of n code points
 abbrev pub most_token_steps : ℕ → ℕ
 most_token_steps n = 8 * (n + 2) + (n + 2) * (n + 2)
 
+-- the most counted steps of all of it
+abbrev pub most_steps : ℕ → ℕ
+most_steps n = 1024 * ((n + 32) * (n + 32) * (n + 32))
+
+-- the most errors
 abbrev pub most_errors : ℕ → ℕ
 most_errors n = 12 * (n + 2)
 
 -- The tokens are those of the text, read by the switches of their fates, and no others.
 abbrev pub AreTokensOf : Start → List ℕ → List Token → List Fate → Type 0
 AreTokensOf start text tokens fates = tokens ≡ tokens_of text (switches_by (kinds tokens) fates) (text_start start)
+
+-- a document, whose text is first read as data
+pub record IsDocument (start : Start) : Type 0 where
+  pub setting_is : start.setting ≡ Document
+  pub mode_is : start.mode ≡ Data
 
 -- The errors in order of their places: those that the tokenizer told, and one of tree construction for each token of these numbers.
 pub record AreFaults (tokens : List Token) (numbers : List ℕ) (faults : List PageFault) : Type 0 where
@@ -45,13 +65,18 @@ pub record IsParsed (start : Start) (bytes : List ℕ) (tokens : List Token) (fa
   pub numbers : List ℕ
   pub outcome : IsOutcome start.setting (kinds tokens) fates numbers t
   pub root_is : root ≡ 0
+  -- the page's own tree, where a document's text is that of a plain page, in either profile, and the table has the five core rows
+  pub plain : IsDocument start → HasCore start.rows → (p : Profile) (page : Forest Label) → IsPlainPage page → html_of p false page ≡ decode bytes → Shows t (root ∷ []) page
   pub faults : AreFaults tokens numbers errors
   -- how many code points there are
   pub n_is : n ≡ length (code_points bytes)
   pub within : n ≤ most_input start
+  -- no element has an attribute with an empty name
+  pub names : HasNames t
   -- how large it is
   pub bounded : IsBounded n t
   pub steps_are : AreSteps n t steps
+  pub few_steps : steps ≤ most_steps n
   pub few_errors : length errors ≤ most_errors n
 
 -- the page of an input

@@ -13,6 +13,7 @@ use Rattle.html_parser.specs.Start.{Start}
 use Rattle.html_parser.specs.declared.error.ParseError.{ParseError}
 use Rattle.html_parser.specs.declared.error.ParseError.TheVariants.{OutOfMemory, InputTooLong, ForeignContent, BadContext, Read, Write, Stopped, NodeBudget, HeldBudget, StepBudget}
 use Rattle.html_parser.specs.declared.page.Tree.{Tree}
+use Rattle.html_parser.proofs.Rewritten.{text-few}
 use Rattle.html_run.specs.Outcome.{status_of}
 
 -- what holds anyway, holds of an answer
@@ -34,7 +35,7 @@ module _ (start : Start) (given named : Profile) (same : given ≡ named) (tree 
 
   normalised : (W : List ℕ → Type 0) → W text → IsNormalised start named W old new
   normalised W w = subst (λ (p : Profile). IsNormalised start p W old new) same
-      (record { bytes = bytes; consumed = consumed; at_end = at_end; tree = tree; is_tree = is_tree; written = w; few = few })
+      (record { bytes = bytes; consumed = consumed; at_end = at_end; tree = tree; is_tree = is_tree; written = w; few = text-few start bytes given tree is_tree few })
 
   pub all-written : OnOk r (Appends writer new_writer text) → OnOk r (IsNormalised start named (Appends writer new_writer) old new)
   all-written h = go r h

@@ -5,6 +5,7 @@ ghost use Rattle.html_names.specs.Tags.{is_same};
 ghost use Rattle.html_tree.specs.Groups.{in_group};
 ghost use Rattle.html_construction.specs.Built.{Keeps};
 ghost use Rattle.html_construction.specs.Grown.{Grown};
+ghost use Rattle.html_construction.specs.Works.{Works};
 ghost use Rattle.html_construction.specs.Weights.{group_weight, weight, weight_of};
 ghost use Rattle.std.specs.Str.{chars};
 ghost use Rattle.html_names.specs.declared.sets.Scope.TheVariants as scope;
@@ -13,6 +14,7 @@ ghost use Rattle.html_open.specs.Scopes.{stays};
 ghost use Rattle.html_tree.specs.declared.groups.Group.TheVariants as group;
 ghost use Rattle.html_tree.specs.declared.groups.Stop.TheVariants as stop;
 ghost use Rattle.html_tree.specs.Closing.{before_index, cleared_to, closed_through, first_few, popped, remaining};
+ghost use Rattle.html_tree.specs.OpenTags.{open_tags};
 ghost use Rattle.html_tree.specs.Searching.{found, found_name};
 ghost use Rattle.html_construction.specs.Calls.{IsTree, is_first, item_group};
 
@@ -28,9 +30,11 @@ impl Construction {
         ensures rest { self.new ≡ record self.old { tree = self.new.tree; stack = drop 1 self.old.stack } }
         ensures keeps { Keeps self.old self.new }
         ensures grown { Grown 0 0 0 0 0 self.old self.new }
+        ensures works { Works 1 0 0 self.old self.new }
         ensures lighter { weight self.new.stack ≤ weight self.old.stack }
         ensures exact { IsTree (record self.old.tree { stack = popped self.old.tree.stack }) self.new }
     {
+        self.tree.laws();
         self.tree.pop();
     }
 
@@ -40,8 +44,10 @@ impl Construction {
         ensures rest { self.new ≡ record self.old { tree = self.new.tree; stack = self.new.stack } }
         ensures keeps { Keeps self.old self.new }
         ensures grown { Grown 0 0 0 0 0 self.old self.new }
+        ensures works { Works 2 0 0 self.old self.new }
         ensures lighter { weight self.new.stack ≤ weight self.old.stack }
         ensures found { result ≡ true → weight self.new.stack + group_weight group ≤ weight self.old.stack }
+        ensures tags { result ≡ true → self.new.stack ≡ drop 1 self.old.stack }
         ensures same { result ≡ false → self.new.stack ≡ self.old.stack }
         ensures opened { 0 < length self.new.stack }
         ensures exact { result ≡ true → IsTree (record self.old.tree { stack = popped self.old.tree.stack }) self.new }
@@ -62,12 +68,14 @@ impl Construction {
         ensures rest { self.new ≡ record self.old { tree = self.new.tree; stack = self.new.stack } }
         ensures keeps { Keeps self.old self.new }
         ensures grown { Grown 0 0 0 0 0 self.old self.new }
+        ensures works { Works 1 0 0 self.old self.new }
         ensures lighter { weight self.new.stack ≤ weight self.old.stack }
         ensures found { result ≡ true → is_same html.Html tag ≡ false → weight self.new.stack + weight_of tag ≤ weight self.old.stack }
         ensures opened { 0 < length self.new.stack }
         ensures answer { result ≡ is_some (found self.old.tree (group.Named tag) stop.Never) }
         ensures exact { IsTree (record self.old.tree { stack = closed_through self.old.tree (group.Named tag) stop.Never }) self.new }
     {
+        self.tree.laws();
         self.tree.close(Group::Named(tag), Stop::Never)
     }
 
@@ -77,12 +85,15 @@ impl Construction {
         ensures rest { self.new ≡ record self.old { tree = self.new.tree; stack = self.new.stack } }
         ensures keeps { Keeps self.old self.new }
         ensures grown { Grown 0 0 0 0 0 self.old self.new }
+        ensures works { Works 1 0 0 self.old self.new }
         ensures lighter { weight self.new.stack ≤ weight self.old.stack }
         ensures found { result ≡ true → is_same html.Html tag ≡ false → weight self.new.stack + weight_of tag ≤ weight self.old.stack }
         ensures opened { 0 < length self.new.stack }
+        ensures tags { self.new.stack ≡ open_tags self.new.tree }
         ensures answer { result ≡ is_some (found self.old.tree (group.Named tag) (stop.EndOf scope)) }
         ensures exact { IsTree (record self.old.tree { stack = closed_through self.old.tree (group.Named tag) (stop.EndOf scope) }) self.new }
     {
+        self.tree.laws();
         self.tree.close(Group::Named(tag), Stop::EndOf(scope))
     }
 
@@ -92,12 +103,14 @@ impl Construction {
         ensures rest { self.new ≡ record self.old { tree = self.new.tree; stack = self.new.stack } }
         ensures keeps { Keeps self.old self.new }
         ensures grown { Grown 0 0 0 0 0 self.old self.new }
+        ensures works { Works 1 0 0 self.old self.new }
         ensures lighter { weight self.new.stack ≤ weight self.old.stack }
         ensures found { result ≡ true → in_group group html.Html ≡ false → weight self.new.stack + group_weight group ≤ weight self.old.stack }
         ensures opened { 0 < length self.new.stack }
         ensures answer { result ≡ is_some (found self.old.tree group (stop.EndOf scope)) }
         ensures exact { IsTree (record self.old.tree { stack = closed_through self.old.tree group (stop.EndOf scope) }) self.new }
     {
+        self.tree.laws();
         self.tree.close(group, Stop::EndOf(scope))
     }
 
@@ -107,8 +120,10 @@ impl Construction {
         ensures rest { self.new ≡ record self.old { tree = self.new.tree; stack = self.new.stack } }
         ensures keeps { Keeps self.old self.new }
         ensures grown { Grown 0 0 0 0 0 self.old self.new }
+        ensures works { Works 1 0 0 self.old self.new }
         ensures lighter { weight self.new.stack ≤ weight self.old.stack }
         ensures opened { 0 < length self.new.stack }
+        ensures tags { self.new.stack ≡ open_tags self.new.tree }
         ensures exact { IsTree (record self.old.tree { stack = closed_through self.old.tree (group.Named html.P) (stop.EndOf scope.Button) }) self.new }
     {
         let _ = self.close_in_scope(Tag::P, Scope::Button);
@@ -120,10 +135,12 @@ impl Construction {
         ensures rest { self.new ≡ record self.old { tree = self.new.tree; stack = self.new.stack } }
         ensures keeps { Keeps self.old self.new }
         ensures grown { Grown 0 0 0 0 0 self.old self.new }
+        ensures works { Works 1 0 0 self.old self.new }
         ensures lighter { weight self.new.stack ≤ weight self.old.stack }
         ensures opened { 0 < length self.new.stack }
         ensures exact { IsTree (record self.old.tree { stack = cleared_to self.old.tree context }) self.new }
     {
+        self.tree.laws();
         self.tree.clear_to(context);
     }
 
@@ -133,10 +150,12 @@ impl Construction {
         ensures rest { self.new ≡ record self.old { tree = self.new.tree; stack = self.new.stack } }
         ensures keeps { Keeps self.old self.new }
         ensures grown { Grown 0 0 0 0 0 self.old self.new }
+        ensures works { Works 1 0 0 self.old self.new }
         ensures lighter { weight self.new.stack ≤ weight self.old.stack }
         ensures opened { 0 < length self.new.stack }
         ensures exact { IsTree (record self.old.tree { stack = up_to (stays self.old.tree.tree except) self.old.tree.stack }) self.new }
     {
+        self.tree.laws();
         self.tree.implied(except);
     }
 
@@ -147,8 +166,10 @@ impl Construction {
         ensures rest { self.new ≡ record self.old { tree = self.new.tree; stack = self.new.stack } }
         ensures keeps { Keeps self.old self.new }
         ensures grown { Grown 0 0 0 0 0 self.old self.new }
+        ensures works { Works 2 0 0 self.old self.new }
         ensures lighter { weight self.new.stack ≤ weight self.old.stack }
         ensures opened { 0 < length self.new.stack }
+        ensures tags { self.new.stack ≡ open_tags self.new.tree }
         ensures exact { IsTree (record self.old.tree { stack = before_index (found_name self.old.tree (chars name.now)) self.old.tree.stack }) self.new }
     {
         if let Some(index) = self.index_of_name(name) {
@@ -161,9 +182,12 @@ impl Construction {
         ensures rest { self.new ≡ record self.old { tree = self.new.tree } }
         ensures keeps { Keeps self.old self.new }
         ensures grown { Grown 0 0 0 0 0 self.old self.new }
+        ensures works { Works 1 0 0 self.old self.new }
+        ensures tags { self.new.stack ≡ open_tags self.new.tree }
         ensures index { result ≡ found_name self.old.tree (chars name.now) }
         ensures same { IsTree self.old.tree self.new }
     {
+        self.tree.laws();
         self.tree.find_name(name)
     }
 
@@ -173,10 +197,13 @@ impl Construction {
         ensures rest { self.new ≡ record self.old { tree = self.new.tree; stack = self.new.stack } }
         ensures keeps { Keeps self.old self.new }
         ensures grown { Grown 0 0 0 0 0 self.old self.new }
+        ensures works { Works 1 0 0 self.old self.new }
         ensures lighter { weight self.new.stack ≤ weight self.old.stack }
         ensures opened { 0 < length self.new.stack }
+        ensures tags { self.new.stack ≡ open_tags self.new.tree }
         ensures exact { IsTree (record self.old.tree { stack = first_few depth self.old.tree.stack }) self.new }
     {
+        self.tree.laws();
         self.tree.pop_to(depth);
     }
 
@@ -187,10 +214,12 @@ impl Construction {
         ensures rest { self.new ≡ record self.old { tree = self.new.tree; stack = self.new.stack } }
         ensures keeps { Keeps self.old self.new }
         ensures grown { Grown 0 0 0 0 0 self.old self.new }
+        ensures works { Works 1 0 0 self.old self.new }
         ensures lighter { weight self.new.stack ≤ weight self.old.stack }
         ensures opened { 0 < length self.new.stack }
         ensures exact { IsTree (record self.old.tree { stack = remaining node self.old.tree.stack }) self.new }
     {
+        self.tree.laws();
         self.tree.remove_open(node);
     }
 
@@ -200,6 +229,7 @@ impl Construction {
         ensures rest { self.new ≡ record self.old { tree = self.new.tree; stack = self.new.stack } }
         ensures keeps { Keeps self.old self.new }
         ensures grown { Grown 0 0 0 0 0 self.old self.new }
+        ensures works { Works 1 0 0 self.old self.new }
         ensures lighter { weight self.new.stack ≤ weight self.old.stack }
         ensures opened { 0 < length self.new.stack }
         ensures exact { IsTree (record self.old.tree { stack = closed_through self.old.tree (item_group item) stop.PastItem }) self.new }
@@ -209,6 +239,7 @@ impl Construction {
         } else {
             Group::Named(item)
         };
+        self.tree.laws();
         let _ = self.tree.close(group, Stop::PastItem);
     }
 }

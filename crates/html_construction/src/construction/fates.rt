@@ -4,11 +4,12 @@ ghost use Rattle.html_ledger.specs.Symbols.{symbol_of};
 ghost use Rattle.html_ledger.specs.Entries.{Takes as LedgerTakes, ended, given, number_of};
 ghost use Rattle.html_ledger.specs.Fated.{is_end};
 ghost use Rattle.html_ledger.specs.Fates.{is_made};
-ghost use Rattle.html_ledger.specs.Flags.{is_free, may_drop, may_make};
+ghost use Rattle.html_ledger.specs.Flags.{is_free, may_drop, may_make, must_drop};
 ghost use Rattle.html_ledger.specs.declared.symbol.Symbol.TheVariants.{Char};
 ghost use Rattle.html_tokens.specs.declared.token.TokenKind.TheVariants as kind;
 ghost use Rattle.html_construction.specs.Built.{Keeps, Releases, Takes, ends_made};
 ghost use Rattle.html_construction.specs.Grown.{Grown};
+ghost use Rattle.html_construction.specs.Works.{Works};
 ghost use Rattle.html_ledger.specs.declared.fate.Fate.TheVariants.{Dropped, Made};
 ghost use Rattle.html_construction.specs.Calls.{HasFate, is_idle};
 
@@ -52,6 +53,7 @@ impl Construction {
         ensures takes { OnOk result (Takes token.now self.old self.new) }
         ensures quiet { OnOk result (self.new.ledger.kept ≡ []) }
         ensures grown { OnOk result (Grown 1 0 0 0 0 self.old self.new) }
+        ensures works { OnOk result (Works 0 0 0 self.old self.new) }
         ensures fate { OnOk result (HasFate symbol (Dropped cause) self.old self.new) }
     {
         self.ledger.give(symbol, Fate::Dropped(cause))?;
@@ -67,6 +69,7 @@ impl Construction {
         ensures takes { OnOk result (Takes token.now self.old self.new) }
         ensures quiet { OnOk result (self.new.ledger.kept ≡ []) }
         ensures grown { OnOk result (Grown 1 0 0 0 0 self.old self.new) }
+        ensures works { OnOk result (Works 0 0 0 self.old self.new) }
         ensures ended { OnOk result (self.new.ledger ≡ ended self.old.ledger symbol (is_idle self.old)) }
     {
         let ignored = self.is_idle();
@@ -88,6 +91,7 @@ impl Construction {
     pub fn must_drop(&self, symbol: Symbol) -> Option<Cause>
         ensures may { IfSome result (λ cause. IsTrue (may_drop self.now.ledger.history symbol cause)) }
         ensures free { result ≡ None → IsTrue (is_free self.now.ledger.history symbol) }
+        ensures value { result ≡ must_drop self.now.ledger.history symbol }
     {
         self.ledger.history().must_drop(symbol)
     }
@@ -98,6 +102,7 @@ impl Construction {
         ensures rest { OnOk result (self.new ≡ record self.old { ledger = self.new.ledger }) }
         ensures takes { OnOk result (Takes token.now self.old self.new) }
         ensures grown { OnOk result (Grown 0 0 0 0 0 self.old self.new) }
+        ensures works { OnOk result (Works 0 0 0 self.old self.new) }
         ensures kept { OnOk result (self.new.ledger.kept ≡ self.old.ledger.kept ++ c ∷ []) }
     {
         self.ledger.keep(c)?;
@@ -110,6 +115,7 @@ impl Construction {
         ensures releases { Releases result.items self.old self.new }
         ensures quiet { self.new.ledger.kept ≡ [] }
         ensures grown { Grown 0 0 0 0 0 self.old self.new }
+        ensures works { Works 0 0 0 self.old self.new }
         ensures taken { result.items ≡ self.old.ledger.kept }
     {
         self.ledger.take_kept()

@@ -1,6 +1,6 @@
 // Nodes that are made of tokens, or implied by them. A token gets its fate first, and then its node is made: so no node comes from a token
 // without a fate, also where the node is refused.
-ghost use Rattle.std.specs.Prelude.{◌≡◌, ◌+◌, ◌<◌, ◌≤◌, ◌∷◌, [], IfOk, IsTrue, OnOk, false, length, true, slice_index};
+ghost use Rattle.std.specs.Prelude.{◌≡◌, ◌+◌, ◌*◌, ◌<◌, ◌≤◌, ◌∷◌, [], IfOk, IsTrue, OnOk, false, length, true, slice_index};
 ghost use Rattle.html_names.specs.declared.tag.Tag.TheVariants as tag;
 ghost use Rattle.html_names.specs.declared.tag.Tag.TheVariants.{Image};
 ghost use Rattle.html_names.specs.Groups.{is_outermost};
@@ -12,6 +12,7 @@ ghost use Rattle.html_ledger.specs.Symbols.{symbol_of};
 ghost use Rattle.html_ledger.specs.declared.symbol.Symbol.TheVariants.{Comment, Doctype, Start};
 ghost use Rattle.html_construction.specs.Built.{Keeps, Takes};
 ghost use Rattle.html_construction.specs.Grown.{Grown};
+ghost use Rattle.html_construction.specs.Works.{Works, span_of};
 ghost use Rattle.html_construction.specs.Targets.{CanTarget};
 ghost use Rattle.html_construction.specs.Weights.{weight};
 ghost use Rattle.html_open.specs.Marking.{bare};
@@ -41,6 +42,7 @@ impl Construction {
         ensures takes { OnOk result (Takes token.now self.old self.new) }
         ensures quiet { OnOk result (self.new.ledger.kept ≡ []) }
         ensures grown { OnOk result (Grown 1 2 0 0 0 self.old self.new) }
+        ensures works { OnOk result (Works 1 0 0 self.old self.new) }
         ensures exact { OnOk result (IsTree (opened_at (element_of self.old token.now) (Current self.old.fostering) (counting (number_of self.old.ledger + 1) self.old.tree)) self.new) }
         ensures fate { OnOk result (HasFate (Start tag) (Made (length self.old.tree.tree.labels)) self.old self.new) }
     {
@@ -58,6 +60,7 @@ impl Construction {
         ensures takes { OnOk result (Takes token.now self.old self.new) }
         ensures quiet { OnOk result (self.new.ledger.kept ≡ []) }
         ensures grown { OnOk result (Grown 1 2 0 0 0 self.old self.new) }
+        ensures works { OnOk result (Works 1 0 0 self.old self.new) }
         ensures exact { OnOk result (IsTree (opened_at (element_of self.old token.now) target (counting (number_of self.old.ledger + 1) self.old.tree)) self.new) }
         ensures fate { OnOk result (HasFate (Start tag) (Made (length self.old.tree.tree.labels)) self.old self.new) }
     {
@@ -80,13 +83,16 @@ impl Construction {
         ensures takes { OnOk result (Takes token.now self.old self.new) }
         ensures quiet { OnOk result (self.new.ledger.kept ≡ []) }
         ensures grown { OnOk result (Grown 1 2 0 0 0 self.old self.new) }
+        ensures works { OnOk result (Works 1 0 0 self.old self.new) }
         ensures node { IfOk result (λ x. (x < length self.new.tree.tree.labels) × (tag_at self.new.tree.tree x ≡ tag)) }
+        ensures made { IfOk result (λ x. x ≡ length self.old.tree.tree.labels) }
         ensures exact { OnOk result (IsTree (opened_at (element_of self.old token.now) target (counting (number_of self.old.ledger + 1) self.old.tree)) self.new) }
         ensures fate { OnOk result (HasFate (Start tag) (Made (length self.old.tree.tree.labels)) self.old self.new) }
     {
         let name = copy_name(self.alloc(), token)?;
         let attrs = copy_attrs(self.alloc(), token)?;
         let number = self.give_made(Symbol::Start(tag))?;
+        self.tree.laws();
         let node = self.tree.insert(name, attrs, number, target)?;
         Ok(node)
     }
@@ -100,6 +106,7 @@ impl Construction {
         ensures takes { OnOk result (Takes token.now self.old self.new) }
         ensures quiet { OnOk result (self.new.ledger.kept ≡ []) }
         ensures grown { OnOk result (Grown 1 2 0 0 0 self.old self.new) }
+        ensures works { OnOk result (Works 1 0 0 self.old self.new) }
         ensures exact { OnOk result (IsTree (placed_at (void_of self.old tag token.now) (Current self.old.fostering) (counting (number_of self.old.ledger + 1) self.old.tree)) self.new) }
         ensures fate { OnOk result (HasFate (Start tag) (Made (length self.old.tree.tree.labels)) self.old self.new) }
     {
@@ -121,6 +128,7 @@ impl Construction {
         ensures takes { OnOk result (Takes token.now self.old self.new) }
         ensures quiet { OnOk result (self.new.ledger.kept ≡ []) }
         ensures grown { OnOk result (Grown 1 2 0 0 0 self.old self.new) }
+        ensures works { OnOk result (Works 1 0 0 self.old self.new) }
         ensures exact { OnOk result (IsTree (placed_at (void_of self.old tag token.now) target (counting (number_of self.old.ledger + 1) self.old.tree)) self.new) }
         ensures fate { OnOk result (HasFate (Start tag) (Made (length self.old.tree.tree.labels)) self.old self.new) }
     {
@@ -142,6 +150,7 @@ impl Construction {
         ensures takes { OnOk result (Takes token.now self.old self.new) }
         ensures quiet { OnOk result (self.new.ledger.kept ≡ []) }
         ensures grown { OnOk result (Grown 1 2 0 0 0 self.old self.new) }
+        ensures works { OnOk result (Works 1 0 0 self.old self.new) }
         ensures node { IfOk result (λ x. x < length self.new.tree.tree.labels) }
         ensures exact { OnOk result (IsTree (placed_at (void_of self.old tag token.now) target (counting (number_of self.old.ledger + 1) self.old.tree)) self.new) }
         ensures fate { OnOk result (HasFate (Start tag) (Made (length self.old.tree.tree.labels)) self.old self.new) }
@@ -149,6 +158,7 @@ impl Construction {
         let name = copy_element_name(self.alloc(), token, tag)?;
         let attrs = copy_attrs(self.alloc(), token)?;
         let number = self.give_made(Symbol::Start(tag))?;
+        self.tree.laws();
         let node = self.tree.insert_void(name, attrs, number, target)?;
         Ok(node)
     }
@@ -159,10 +169,12 @@ impl Construction {
         requires opened { 0 < length self.old.stack }
         requires formatting { is_formatting tag ≡ true }
         requires quiet { self.old.ledger.kept ≡ [] }
+        requires listed { length self.old.tree.list ≤ length self.old.ledger.fates }
         ensures rest { OnOk result (self.new ≡ record self.old { tree = self.new.tree; ledger = self.new.ledger; stack = tag ∷ self.old.stack }) }
         ensures takes { OnOk result (Takes token.now self.old self.new) }
         ensures quiet { OnOk result (self.new.ledger.kept ≡ []) }
         ensures grown { OnOk result (Grown 1 2 1 0 0 self.old self.new) }
+        ensures works { OnOk result (Works 2 0 (length (attrs_of token.now) * span_of self.new) self.old self.new) }
         ensures exact { OnOk result (IsTree (listed_at self.old.fostering (tag_name token.now) (attrs_of token.now) (number_of self.old.ledger) self.old.tree) self.new) }
         ensures fate { OnOk result (HasFate (Start tag) (Made (length self.old.tree.tree.labels)) self.old self.new) }
     {
@@ -170,6 +182,7 @@ impl Construction {
         let attrs = copy_attrs(self.alloc(), token)?;
         let number = self.give_made(Symbol::Start(tag))?;
         let foster = self.registers.fostering;
+        self.tree.laws();
         self.tree.insert_listed(name, attrs, number, foster)?;
         Ok(())
     }
@@ -182,11 +195,13 @@ impl Construction {
         ensures takes { OnOk result (Takes token.now self.old self.new) }
         ensures quiet { OnOk result (self.new.ledger.kept ≡ []) }
         ensures grown { OnOk result (Grown 1 2 0 0 0 self.old self.new) }
+        ensures works { OnOk result (Works 1 0 0 self.old self.new) }
         ensures exact { OnOk result (IsTree (opened_at (root_of self.old token.now) Document (counting (number_of self.old.ledger + 1) self.old.tree)) self.new) }
         ensures fate { OnOk result (HasFate (Start tag.Html) (Made (length self.old.tree.tree.labels)) self.old self.new) }
     {
         let attrs = copy_attrs(self.alloc(), token)?;
         let number = self.give_made(Symbol::Start(Tag::Html))?;
+        self.tree.laws();
         self.tree.insert_root(attrs, number)?;
         Ok(())
     }
@@ -200,6 +215,7 @@ impl Construction {
         ensures takes { OnOk result (Takes token.now self.old self.new) }
         ensures quiet { OnOk result (self.new.ledger.kept ≡ []) }
         ensures grown { OnOk result (Grown 1 2 0 0 0 self.old self.new) }
+        ensures works { OnOk result (Works 1 0 0 self.old self.new) }
         ensures exact { OnOk result (IsTree (placed_at (comment_of self.old token.now) (Current self.old.fostering) (counting (number_of self.old.ledger + 1) self.old.tree)) self.new) }
         ensures fate { OnOk result (HasFate Comment (Made (length self.old.tree.tree.labels)) self.old self.new) }
     {
@@ -216,11 +232,13 @@ impl Construction {
         ensures takes { OnOk result (Takes token.now self.old self.new) }
         ensures quiet { OnOk result (self.new.ledger.kept ≡ []) }
         ensures grown { OnOk result (Grown 1 2 0 0 0 self.old self.new) }
+        ensures works { OnOk result (Works 1 0 0 self.old self.new) }
         ensures exact { OnOk result (IsTree (placed_at (comment_of self.old token.now) target (counting (number_of self.old.ledger + 1) self.old.tree)) self.new) }
         ensures fate { OnOk result (HasFate Comment (Made (length self.old.tree.tree.labels)) self.old self.new) }
     {
         let text = copy_data(self.alloc(), token)?;
         let number = self.give_made(Symbol::Comment)?;
+        self.tree.laws();
         self.tree.insert_comment(text, number, target)?;
         Ok(())
     }
@@ -234,11 +252,13 @@ impl Construction {
         ensures takes { OnOk result (Takes token.now self.old self.new) }
         ensures quiet { OnOk result (self.new.ledger.kept ≡ []) }
         ensures grown { OnOk result (Grown 1 2 0 0 0 self.old self.new) }
+        ensures works { OnOk result (Works 1 0 0 self.old self.new) }
         ensures exact { OnOk result (IsTree (placed_at (doctype_of self.old token.now) Document (counting (number_of self.old.ledger + 1) self.old.tree)) self.new) }
         ensures fate { OnOk result (HasFate Doctype (Made (length self.old.tree.tree.labels)) self.old self.new) }
     {
         let ids = copy_doctype(token)?;
         let number = self.give_made(Symbol::Doctype)?;
+        self.tree.laws();
         self.tree
             .insert_doctype(ids.name, ids.public, ids.system, number)?;
         Ok(())
@@ -253,6 +273,7 @@ impl Construction {
         ensures takes { OnOk result (Takes token.now self.old self.new) }
         ensures quiet { OnOk result (self.new.ledger.kept ≡ []) }
         ensures grown { OnOk result (Grown 1 0 0 0 0 self.old self.new) }
+        ensures works { OnOk result (Works 1 0 (length (attrs_of token.now) * span_of self.new) self.old self.new) }
         ensures exact { OnOk result (IsTree (record self.old.tree { tree = bare (with_merged self.old.tree.tree (slice_index self.old.tree.stack 0) (attrs_of token.now)) }) self.new) }
         ensures fate { OnOk result (HasFate (Start tag.Html) Merged self.old self.new) }
     {
@@ -270,6 +291,7 @@ impl Construction {
         ensures takes { OnOk result (Takes token.now self.old self.new) }
         ensures quiet { OnOk result (self.new.ledger.kept ≡ []) }
         ensures grown { OnOk result (Grown 1 0 0 0 0 self.old self.new) }
+        ensures works { OnOk result (Works 1 0 (length (attrs_of token.now) * span_of self.new) self.old self.new) }
         ensures exact { OnOk result (IsTree (record self.old.tree { tree = bare (with_merged self.old.tree.tree (slice_index self.old.tree.stack 1) (attrs_of token.now)) }) self.new) }
         ensures fate { OnOk result (HasFate (Start tag.Body) Merged self.old self.new) }
     {
@@ -288,6 +310,7 @@ impl Construction {
         ensures takes { OnOk result (Takes token.now self.old self.new) }
         ensures quiet { OnOk result (self.new.ledger.kept ≡ []) }
         ensures grown { OnOk result (Grown 1 0 0 0 0 self.old self.new) }
+        ensures works { OnOk result (Works 1 0 (length (attrs_of token.now) * span_of self.new) self.old self.new) }
         ensures exact { OnOk result (IsTree (record self.old.tree { tree = bare (with_merged self.old.tree.tree (slice_index self.old.tree.stack index) (attrs_of token.now)) }) self.new) }
         ensures fate { OnOk result (HasFate (Start tag) Merged self.old self.new) }
     {
@@ -305,7 +328,8 @@ impl Construction {
         requires opened { 0 < length self.old.stack }
         ensures rest { OnOk result (self.new ≡ record self.old { tree = self.new.tree; stack = tag ∷ self.old.stack }) }
         ensures keeps { OnOk result (Keeps self.old self.new) }
-        ensures grown { OnOk result (Grown 0 2 0 0 8 self.old self.new) }
+        ensures grown { OnOk result (Grown 0 2 0 0 1 self.old self.new) }
+        ensures works { OnOk result (Works 1 0 0 self.old self.new) }
         ensures exact { OnOk result (IsTree (opened_at (implied_of tag) (Current self.old.fostering) self.old.tree) self.new) }
     {
         let _ = self.open_implied(tag)?;
@@ -318,10 +342,12 @@ impl Construction {
         requires opened { 0 < length self.old.stack }
         ensures rest { OnOk result (self.new ≡ record self.old { tree = self.new.tree; stack = tag ∷ self.old.stack }) }
         ensures keeps { OnOk result (Keeps self.old self.new) }
-        ensures grown { OnOk result (Grown 0 2 0 0 8 self.old self.new) }
+        ensures grown { OnOk result (Grown 0 2 0 0 1 self.old self.new) }
+        ensures works { OnOk result (Works 1 0 0 self.old self.new) }
         ensures node { IfOk result (λ x. (x < length self.new.tree.tree.labels) × (tag_at self.new.tree.tree x ≡ tag)) }
         ensures exact { OnOk result (IsTree (opened_at (implied_of tag) (Current self.old.fostering) self.old.tree) self.new) }
     {
+        self.tree.laws();
         let node = self.tree.insert_implied(tag, self.registers.fostering)?;
         Ok(node)
     }
@@ -332,9 +358,11 @@ impl Construction {
         requires opened { 0 < length self.old.stack }
         ensures rest { OnOk result (self.new ≡ record self.old { tree = self.new.tree }) }
         ensures keeps { OnOk result (Keeps self.old self.new) }
-        ensures grown { OnOk result (Grown 0 2 0 0 8 self.old self.new) }
+        ensures grown { OnOk result (Grown 0 2 0 0 1 self.old self.new) }
+        ensures works { OnOk result (Works 1 0 0 self.old self.new) }
         ensures exact { OnOk result (IsTree (placed_at (implied_of tag) (Current self.old.fostering) self.old.tree) self.new) }
     {
+        self.tree.laws();
         self.tree
             .insert_implied_void(tag, self.registers.fostering)?;
         Ok(())
@@ -344,9 +372,11 @@ impl Construction {
     pub fn insert_implied_root(&mut self) -> Result<(), Refusal>
         ensures rest { OnOk result (self.new ≡ record self.old { tree = self.new.tree; stack = tag.Html ∷ self.old.stack }) }
         ensures keeps { OnOk result (Keeps self.old self.new) }
-        ensures grown { OnOk result (Grown 0 2 0 0 8 self.old self.new) }
+        ensures grown { OnOk result (Grown 0 2 0 0 1 self.old self.new) }
+        ensures works { OnOk result (Works 1 0 0 self.old self.new) }
         ensures exact { OnOk result (IsTree (opened_at (implied_of tag.Html) Document self.old.tree) self.new) }
     {
+        self.tree.laws();
         self.tree.insert_implied_root()?;
         Ok(())
     }

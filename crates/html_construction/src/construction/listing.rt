@@ -3,12 +3,14 @@ ghost use Rattle.std.specs.Prelude.{◌≡◌, ◌<◌, ◌≤◌, IfSome, OnOk,
 ghost use Rattle.html_names.specs.Sets.{is_formatting};
 ghost use Rattle.html_construction.specs.Built.{Keeps};
 ghost use Rattle.html_construction.specs.Grown.{Grown};
+ghost use Rattle.html_construction.specs.Works.{Works};
 ghost use Rattle.html_construction.specs.Weights.{weight};
 ghost use Rattle.html_open.specs.declared.entry.Entry.TheVariants.{Marker};
 ghost use Rattle.html_open.specs.Entries.{is_marker, last_named, without_node};
 ghost use Rattle.html_open.specs.Lists.{below};
 ghost use Rattle.html_tree.specs.Listing.{IsAdopted, IsReopened};
-ghost use Rattle.html_construction.specs.Calls.{IsTree};
+ghost use Rattle.html_tree.specs.OpenTags.{open_tags};
+ghost use Rattle.html_construction.specs.Calls.{HasEnded, IsTree};
 
 use super::Construction;
 use crate::refusal::Refusal;
@@ -22,6 +24,7 @@ impl Construction {
         ensures rest { OnOk result (self.new ≡ record self.old { tree = self.new.tree }) }
         ensures keeps { OnOk result (Keeps self.old self.new) }
         ensures grown { OnOk result (Grown 0 0 1 0 0 self.old self.new) }
+        ensures works { OnOk result (Works 0 0 1 self.old self.new) }
         ensures exact { OnOk result (IsTree (record self.old.tree { list = self.old.tree.list ++ Marker ∷ [] }) self.new) }
     {
         self.tree.add_marker()?;
@@ -30,9 +33,11 @@ impl Construction {
 
     /// Takes entries off the list up to the last marker.
     pub fn clear_to_marker(&mut self)
+        requires listed { length self.old.tree.list ≤ length self.old.ledger.fates }
         ensures rest { self.new ≡ record self.old { tree = self.new.tree } }
         ensures keeps { Keeps self.old self.new }
         ensures grown { Grown 0 0 0 0 0 self.old self.new }
+        ensures works { Works 1 0 0 self.old self.new }
         ensures exact { IsTree (record self.old.tree { list = below is_marker self.old.tree.list }) self.new }
     {
         self.tree.clear_to_marker();
@@ -45,8 +50,10 @@ impl Construction {
         ensures rest { OnOk result (self.new ≡ record self.old { tree = self.new.tree; stack = self.new.stack }) }
         ensures keeps { OnOk result (Keeps self.old self.new) }
         ensures grown { OnOk result (Grown 0 (length self.old.ledger.fates) 0 1 0 self.old self.new) }
+        ensures works { OnOk result (Works 0 1 0 self.old self.new) }
         ensures lighter { OnOk result (weight self.new.stack ≤ weight self.old.stack) }
         ensures opened { OnOk result (0 < length self.new.stack) }
+        ensures tags { OnOk result (self.new.stack ≡ open_tags self.new.tree) }
         ensures exact { OnOk result (IsReopened self.old.fostering self.old.tree self.new.tree) }
     {
         self.tree.laws();
@@ -58,11 +65,15 @@ impl Construction {
     pub fn end_formatting(&mut self, tag: Tag) -> Result<(), Refusal>
         requires opened { 0 < length self.old.stack }
         requires formatting { is_formatting tag ≡ true }
+        requires listed { length self.old.tree.list ≤ length self.old.ledger.fates }
         ensures rest { OnOk result (self.new ≡ record self.old { tree = self.new.tree; stack = self.new.stack }) }
         ensures keeps { OnOk result (Keeps self.old self.new) }
         ensures grown { OnOk result (Grown 0 32 0 8 0 self.old self.new) }
+        ensures works { OnOk result (Works 2 8 0 self.old self.new) }
         ensures lighter { OnOk result (weight self.new.stack ≤ weight self.old.stack) }
         ensures opened { OnOk result (0 < length self.new.stack) }
+        ensures tags { OnOk result (self.new.stack ≡ open_tags self.new.tree) }
+        ensures exact { OnOk result (HasEnded tag self.old.fostering self.old.tree self.new.tree) }
     {
         match self.adopt(tag)? {
             AdoptEnd::Done => {}
@@ -75,11 +86,14 @@ impl Construction {
     fn adopt(&mut self, tag: Tag) -> Result<AdoptEnd, Refusal>
         requires opened { 0 < length self.old.stack }
         requires formatting { is_formatting tag ≡ true }
+        requires listed { length self.old.tree.list ≤ length self.old.ledger.fates }
         ensures rest { OnOk result (self.new ≡ record self.old { tree = self.new.tree; stack = self.new.stack }) }
         ensures keeps { OnOk result (Keeps self.old self.new) }
         ensures grown { OnOk result (Grown 0 32 0 8 0 self.old self.new) }
+        ensures works { OnOk result (Works 0 8 0 self.old self.new) }
         ensures lighter { OnOk result (weight self.new.stack ≤ weight self.old.stack) }
         ensures opened { OnOk result (0 < length self.new.stack) }
+        ensures tags { OnOk result (self.new.stack ≡ open_tags self.new.tree) }
         ensures exact { IfOk result (λ end. IsAdopted tag self.old.fostering end self.old.tree self.new.tree) }
     {
         self.tree.laws();
@@ -90,9 +104,11 @@ impl Construction {
     /// Closes a link that is listed after the last marker, and takes it out of the list and off the stack where it is still there.
     pub fn close_link(&mut self) -> Result<(), Refusal>
         requires opened { 0 < length self.old.stack }
+        requires listed { length self.old.tree.list ≤ length self.old.ledger.fates }
         ensures rest { OnOk result (self.new ≡ record self.old { tree = self.new.tree; stack = self.new.stack }) }
         ensures keeps { OnOk result (Keeps self.old self.new) }
         ensures grown { OnOk result (Grown 0 32 0 8 0 self.old self.new) }
+        ensures works { OnOk result (Works 5 8 0 self.old self.new) }
         ensures lighter { OnOk result (weight self.new.stack ≤ weight self.old.stack) }
         ensures opened { OnOk result (0 < length self.new.stack) }
     {
@@ -106,9 +122,11 @@ impl Construction {
 
     /// The last listed element of this name after the last marker.
     fn last_listed(&mut self, tag: Tag) -> Option<NodeId>
+        requires listed { length self.old.tree.list ≤ length self.old.ledger.fates }
         ensures rest { self.new ≡ record self.old { tree = self.new.tree } }
         ensures keeps { Keeps self.old self.new }
         ensures grown { Grown 0 0 0 0 0 self.old self.new }
+        ensures works { Works 1 0 0 self.old self.new }
         ensures node { IfSome result (λ x. x < length self.new.tree.tree.labels) }
         ensures listed { result ≡ last_named self.old.tree.tree tag self.old.tree.list }
         ensures same { IsTree self.old.tree self.new }
@@ -119,9 +137,11 @@ impl Construction {
     /// Takes an element out of the list.
     fn unlist(&mut self, node: NodeId)
         requires node { node < length self.old.tree.tree.labels }
+        requires listed { length self.old.tree.list ≤ length self.old.ledger.fates }
         ensures rest { self.new ≡ record self.old { tree = self.new.tree } }
         ensures keeps { Keeps self.old self.new }
         ensures grown { Grown 0 0 0 0 0 self.old self.new }
+        ensures works { Works 1 0 0 self.old self.new }
         ensures exact { IsTree (record self.old.tree { list = without_node node self.old.tree.list }) self.new }
     {
         self.tree.unlist(node);

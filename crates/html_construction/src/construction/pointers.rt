@@ -7,8 +7,12 @@ ghost use Rattle.html_ledger.specs.Symbols.{symbol_of};
 ghost use Rattle.html_ledger.specs.declared.symbol.Symbol.TheVariants.{Start};
 ghost use Rattle.html_construction.specs.Built.{Keeps, Takes};
 ghost use Rattle.html_construction.specs.Grown.{Grown};
+ghost use Rattle.html_construction.specs.Works.{Works};
 ghost use Rattle.html_construction.specs.Weights.{weight};
-ghost use Rattle.html_construction.specs.Calls.{IsTree, is_idle};
+ghost use Rattle.html_ledger.specs.declared.fate.Fate.TheVariants.{Made};
+ghost use Rattle.html_ledger.specs.Entries.{number_of};
+ghost use Rattle.html_tree.specs.declared.groups.Target.TheVariants.{Current};
+ghost use Rattle.html_construction.specs.Calls.{HasFate, IsTree, counting, element_of, is_idle, opened_at};
 
 use super::Construction;
 use crate::mode::Mode;
@@ -29,6 +33,9 @@ impl Construction {
         ensures takes { OnOk result (Takes token.now self.old self.new) }
         ensures quiet { OnOk result (self.new.ledger.kept ≡ []) }
         ensures grown { OnOk result (Grown 1 2 0 0 0 self.old self.new) }
+        ensures works { OnOk result (Works 1 0 0 self.old self.new) }
+        ensures exact { OnOk result (IsTree (record (opened_at (element_of self.old token.now) (Current self.old.fostering) (counting (number_of self.old.ledger + 1) self.old.tree)) { head = Some (length self.old.tree.tree.labels) }) self.new) }
+        ensures fate { OnOk result (HasFate (Start tag.Head) (Made (length self.old.tree.tree.labels)) self.old self.new) }
     {
         let target = self.here();
         let head = self.open_at(token, Tag::Head, target)?;
@@ -41,7 +48,8 @@ impl Construction {
         requires opened { 0 < length self.old.stack }
         ensures rest { OnOk result (self.new ≡ record self.old { tree = self.new.tree; stack = tag.Head ∷ self.old.stack }) }
         ensures keeps { OnOk result (Keeps self.old self.new) }
-        ensures grown { OnOk result (Grown 0 2 0 0 8 self.old self.new) }
+        ensures grown { OnOk result (Grown 0 2 0 0 1 self.old self.new) }
+        ensures works { OnOk result (Works 1 0 0 self.old self.new) }
     {
         let head = self.open_implied(Tag::Head)?;
         self.set_head(head);
@@ -56,6 +64,7 @@ impl Construction {
         ensures rest { self.new ≡ record self.old { tree = self.new.tree } }
         ensures keeps { Keeps self.old self.new }
         ensures grown { Grown 0 0 0 0 0 self.old self.new }
+        ensures works { Works 0 0 0 self.old self.new }
     {
         self.tree.set_head(head);
     }
@@ -67,6 +76,7 @@ impl Construction {
         ensures rest { self.new ≡ record self.old { tree = self.new.tree } }
         ensures keeps { Keeps self.old self.new }
         ensures grown { Grown 0 0 0 0 0 self.old self.new }
+        ensures works { Works 0 0 0 self.old self.new }
     {
         self.tree.set_form(Some(form));
     }
@@ -80,6 +90,7 @@ impl Construction {
         ensures takes { OnOk result (Takes token.now self.old self.new) }
         ensures quiet { OnOk result (self.new.ledger.kept ≡ []) }
         ensures grown { OnOk result (Grown 1 2 0 0 0 self.old self.new) }
+        ensures works { OnOk result (Works 1 0 0 self.old self.new) }
     {
         let target = self.here();
         let form = self.open_at(token, Tag::Form, target)?;
@@ -96,6 +107,7 @@ impl Construction {
         ensures takes { OnOk result (Takes token.now self.old self.new) }
         ensures quiet { OnOk result (self.new.ledger.kept ≡ []) }
         ensures grown { OnOk result (Grown 1 2 0 0 0 self.old self.new) }
+        ensures works { OnOk result (Works 1 0 0 self.old self.new) }
     {
         let target = self.here();
         let form = self.void_at(token, Tag::Form, target)?;
@@ -116,6 +128,7 @@ impl Construction {
         ensures rest { self.new ≡ record self.old { tree = self.new.tree; stack = self.new.stack; outer_form = false } }
         ensures keeps { Keeps self.old self.new }
         ensures grown { Grown 0 0 0 0 0 self.old self.new }
+        ensures works { Works 3 0 0 self.old self.new }
         ensures lighter { weight self.new.stack ≤ weight self.old.stack }
         ensures opened { 0 < length self.new.stack }
     {
@@ -132,6 +145,7 @@ impl Construction {
         ensures rest { self.new ≡ record self.old { tree = self.new.tree; outer_form = false } }
         ensures keeps { Keeps self.old self.new }
         ensures grown { Grown 0 0 0 0 0 self.old self.new }
+        ensures works { Works 0 0 0 self.old self.new }
         ensures node { IfSome result (λ x. x < length self.new.tree.tree.labels) }
         ensures taken { result ≡ self.old.tree.form }
         ensures exact { IsTree (record self.old.tree { form = None }) self.new }
@@ -148,7 +162,10 @@ impl Construction {
         ensures rest { self.new ≡ record self.old { tree = self.new.tree } }
         ensures keeps { Keeps self.old self.new }
         ensures grown { Grown 0 0 0 0 0 self.old self.new }
+        ensures works { Works 1 0 0 self.old self.new }
+        ensures same { IsTree self.old.tree self.new }
     {
+        self.tree.laws();
         self.tree.is_in_scope(node)
     }
 
@@ -157,10 +174,12 @@ impl Construction {
         ensures rest { self.new ≡ record self.old { tree = self.new.tree } }
         ensures keeps { Keeps self.old self.new }
         ensures grown { Grown 0 0 0 0 0 self.old self.new }
+        ensures works { Works 0 0 1 self.old self.new }
         ensures second { result ≡ true → 1 < length self.new.stack }
         ensures element { result ≡ true → 1 < length self.new.tree.stack }
         ensures body { result ≡ true → named self.new.tree.tree tag.Body (slice_index self.new.tree.stack 1) ≡ true }
         ensures detached { self.new.tree.detached ≡ self.old.tree.detached }
+        ensures same { IsTree self.old.tree self.new }
     {
         self.depth() > 1 && self.tag_at(1).is(Tag::Body)
     }
@@ -172,6 +191,7 @@ impl Construction {
         ensures rest { self.new ≡ record self.old { tree = self.new.tree; stack = self.new.stack } }
         ensures keeps { Keeps self.old self.new }
         ensures grown { Grown 0 0 0 0 0 self.old self.new }
+        ensures works { Works 1 0 3 self.old self.new }
         ensures lighter { weight self.new.stack ≤ weight self.old.stack }
         ensures opened { 0 < length self.new.stack }
     {
@@ -198,6 +218,7 @@ impl Construction {
         ensures rest { self.new ≡ record self.old { tree = self.new.tree } }
         ensures keeps { Keeps self.old self.new }
         ensures grown { Grown 0 0 0 0 0 self.old self.new }
+        ensures works { Works 0 0 2 self.old self.new }
     {
         self.tree.detach_body();
     }
@@ -247,6 +268,8 @@ impl Construction {
         ensures rest { self.new ≡ record self.old { tree = self.new.tree } }
         ensures keeps { Keeps self.old self.new }
         ensures grown { Grown 0 0 0 0 0 self.old self.new }
+        ensures works { Works 0 0 count self.old self.new }
+        ensures same { IsTree self.old.tree self.new }
     {
         self.tree.charge(count as u128);
     }

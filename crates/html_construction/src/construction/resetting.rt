@@ -1,7 +1,8 @@
 // The mode that the open elements call for (13.2.4.1).
-ghost use Rattle.std.specs.Prelude.{◌≡◌, ◌<◌, IfSome, length, true};
+ghost use Rattle.std.specs.Prelude.{◌≡◌, ◌<◌, IfSome, None, length, true};
 ghost use Rattle.html_construction.specs.Built.{Keeps};
 ghost use Rattle.html_construction.specs.Grown.{Grown};
+ghost use Rattle.html_construction.specs.Works.{Works};
 ghost use Rattle.html_construction.specs.Modes.{is_reset};
 
 use super::Construction;
@@ -14,8 +15,10 @@ impl Construction {
         ensures rest { self.new ≡ record self.old { tree = self.new.tree; mode = self.new.mode } }
         ensures keeps { Keeps self.old self.new }
         ensures grown { Grown 0 0 0 0 0 self.old self.new }
+        ensures works { Works 1 0 0 self.old self.new }
         ensures reset { is_reset self.new.mode ≡ true }
     {
+        self.tree.laws();
         let mode = self.appropriate_mode();
         self.set_mode(mode);
     }
@@ -25,6 +28,7 @@ impl Construction {
         ensures rest { self.new ≡ record self.old { tree = self.new.tree } }
         ensures keeps { Keeps self.old self.new }
         ensures grown { Grown 0 0 0 0 0 self.old self.new }
+        ensures works { Works 0 0 (length self.old.stack) self.old self.new }
         ensures reset { is_reset result ≡ true }
     {
         let mut index = self.depth();
@@ -44,6 +48,8 @@ impl Construction {
         ensures rest { self.new ≡ record self.old { tree = self.new.tree } }
         ensures keeps { Keeps self.old self.new }
         ensures grown { Grown 0 0 0 0 0 self.old self.new }
+        ensures works { Works 0 0 index self.old self.new }
+        ensures idle { result ≡ None → self.new ≡ self.old }
         ensures reset { IfSome result (λ m. is_reset m ≡ true) }
     {
         match tag {
@@ -89,6 +95,7 @@ impl Construction {
         ensures rest { self.new ≡ record self.old { tree = self.new.tree } }
         ensures keeps { Keeps self.old self.new }
         ensures grown { Grown 0 0 0 0 0 self.old self.new }
+        ensures works { Works 0 0 select self.old self.new }
         ensures reset { is_reset result ≡ true }
     {
         let mut index = select;

@@ -3,6 +3,7 @@ ghost use Rattle.std.specs.Prelude.{◌≡◌, ◌+◌, ◌<◌, ◌≤◌, Some
 ghost use Rattle.html_arena.specs.Tree.{tag_at};
 ghost use Rattle.html_construction.specs.Built.{Keeps};
 ghost use Rattle.html_construction.specs.Grown.{Grown};
+ghost use Rattle.html_construction.specs.Works.{Works};
 ghost use Rattle.html_construction.specs.Weights.{group_weight, weight};
 ghost use Rattle.html_names.specs.declared.tag.Tag.TheVariants as html;
 ghost use Rattle.html_tree.specs.declared.groups.Group.TheVariants as group;
@@ -30,6 +31,7 @@ impl Construction {
         ensures rest { self.new ≡ record self.old { tree = self.new.tree } }
         ensures keeps { Keeps self.old self.new }
         ensures grown { Grown 0 0 0 0 0 self.old self.new }
+        ensures works { Works 0 0 1 self.old self.new }
         ensures same { self.new ≡ record self.old { tree = record self.old.tree { steps = self.new.tree.steps } } }
         ensures tag { result ≡ tag_at self.new.tree.tree (slice_index self.new.tree.stack index) }
     {
@@ -42,9 +44,11 @@ impl Construction {
         ensures rest { self.new ≡ record self.old { tree = self.new.tree } }
         ensures keeps { Keeps self.old self.new }
         ensures grown { Grown 0 0 0 0 0 self.old self.new }
+        ensures works { Works 1 0 0 self.old self.new }
         ensures tag { 0 < length self.old.stack → slice_get self.old.stack 0 ≡ Some result }
         ensures same { IsTree self.old.tree self.new }
     {
+        self.tree.laws();
         self.tree.current_tag().unwrap_or(Tag::Other)
     }
 
@@ -53,6 +57,7 @@ impl Construction {
         ensures rest { self.new ≡ record self.old { tree = self.new.tree } }
         ensures keeps { Keeps self.old self.new }
         ensures grown { Grown 0 0 0 0 0 self.old self.new }
+        ensures works { Works 1 0 0 self.old self.new }
         ensures member { result ≡ true → 0 < length self.old.stack → weight (drop 1 self.old.stack) + group_weight group ≤ weight self.old.stack }
         ensures answer { 0 < length self.old.stack → result ≡ is_first group self.old.stack }
         ensures same { IsTree self.old.tree self.new }
@@ -65,9 +70,11 @@ impl Construction {
         ensures rest { self.new ≡ record self.old { tree = self.new.tree } }
         ensures keeps { Keeps self.old self.new }
         ensures grown { Grown 0 0 0 0 0 self.old self.new }
+        ensures works { Works 1 0 0 self.old self.new }
         ensures answer { result ≡ is_some (found self.old.tree (group.Named tag) (stop.EndOf scope)) }
         ensures same { IsTree self.old.tree self.new }
     {
+        self.tree.laws();
         self.tree.has(Group::Named(tag), Stop::EndOf(scope))
     }
 
@@ -76,9 +83,11 @@ impl Construction {
         ensures rest { self.new ≡ record self.old { tree = self.new.tree } }
         ensures keeps { Keeps self.old self.new }
         ensures grown { Grown 0 0 0 0 0 self.old self.new }
+        ensures works { Works 1 0 0 self.old self.new }
         ensures answer { result ≡ is_some (found self.old.tree group (stop.EndOf scope)) }
         ensures same { IsTree self.old.tree self.new }
     {
+        self.tree.laws();
         self.tree.has(group, Stop::EndOf(scope))
     }
 
@@ -87,6 +96,7 @@ impl Construction {
         ensures rest { self.new ≡ record self.old { tree = self.new.tree } }
         ensures keeps { Keeps self.old self.new }
         ensures grown { Grown 0 0 0 0 0 self.old self.new }
+        ensures works { Works 1 0 0 self.old self.new }
         ensures made { result ≡ true → self.old.ledger.history.template ≡ true }
         ensures answer { result ≡ (self.old.ledger.history.template && is_some (found self.old.tree (group.Named html.Template) stop.Never)) }
         ensures same { IsTree self.old.tree self.new }
@@ -99,9 +109,11 @@ impl Construction {
         ensures rest { self.new ≡ record self.old { tree = self.new.tree } }
         ensures keeps { Keeps self.old self.new }
         ensures grown { Grown 0 0 0 0 0 self.old self.new }
+        ensures works { Works 1 0 0 self.old self.new }
         ensures answer { result ≡ is_some (found self.old.tree (group.Named html.Template) stop.Never) }
         ensures same { IsTree self.old.tree self.new }
     {
+        self.tree.laws();
         self.tree.has(Group::Named(Tag::Template), Stop::Never)
     }
 
@@ -110,7 +122,9 @@ impl Construction {
         ensures rest { self.new ≡ record self.old { tree = self.new.tree } }
         ensures keeps { Keeps self.old self.new }
         ensures grown { Grown 0 0 0 0 0 self.old self.new }
+        ensures works { Works 0 0 2 self.old self.new }
         ensures second { result ≡ true → 1 < length self.new.stack }
+        ensures same { IsTree self.old.tree self.new }
     {
         let depth = self.depth();
         depth > 1

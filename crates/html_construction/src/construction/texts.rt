@@ -5,6 +5,7 @@ ghost use Rattle.html_ledger.specs.Flags.{is_free, may_text_run};
 ghost use Rattle.html_ledger.specs.declared.symbol.Symbol.TheVariants.{Char};
 ghost use Rattle.html_construction.specs.Built.{Takes, TakesRun};
 ghost use Rattle.html_construction.specs.Grown.{Grown};
+ghost use Rattle.html_construction.specs.Works.{Works};
 ghost use Rattle.html_tree.specs.Texts.{text_node, with_text};
 ghost use Rattle.html_ledger.specs.declared.fate.Fate.TheVariants.{Text};
 ghost use Rattle.html_ledger.specs.Entries.{given_run};
@@ -27,9 +28,11 @@ impl Construction {
         ensures takes { OnOk result (Takes token.now self.old self.new) }
         ensures quiet { OnOk result (self.new.ledger.kept ≡ []) }
         ensures grown { OnOk result (Grown 1 1 0 0 0 self.old self.new) }
+        ensures works { OnOk result (Works 1 0 1 self.old self.new) }
         ensures exact { OnOk result (IsTree (record self.old.tree { tree = with_text self.old.tree self.old.fostering (c ∷ []) }) self.new) }
         ensures fate { OnOk result (HasFate (Char c) (Text (text_node self.old.tree self.old.fostering)) self.old self.new) }
     {
+        self.tree.laws();
         let run = [c];
         let (node, _) = self
             .tree
@@ -50,9 +53,11 @@ impl Construction {
         ensures quiet { OnOk result (self.new.ledger.kept ≡ []) }
         ensures count { IfOk result (λ n. (0 < n) × (n ≤ length run.now)) }
         ensures grown { IfOk result (λ n. Grown n 1 0 0 0 self.old self.new) }
+        ensures works { IfOk result (λ n. Works 1 0 n self.old self.new) }
         ensures exact { IfOk result (λ n. IsTree (record self.old.tree { tree = with_text self.old.tree self.old.fostering (take n run.now) }) self.new) }
         ensures fate { IfOk result (λ n. self.new.ledger ≡ given_run self.old.ledger (take n run.now) (Text (text_node self.old.tree self.old.fostering))) }
     {
+        self.tree.laws();
         let (node, count) = self.tree.append_run(run, self.registers.fostering)?;
         self.ledger.give_run(&run[..count], node)?;
         Ok(count)

@@ -1,10 +1,13 @@
 // The modes after the body (13.2.6.4.19 and 13.2.6.4.22).
-ghost use Rattle.std.specs.Prelude.{◌≡◌, [], IfOk, OnOk, IsTrue};
+ghost use Rattle.std.specs.Prelude.{◌≡◌, [], IfOk, None, OnOk, IsTrue};
 ghost use Rattle.html_ledger.specs.Symbols.{symbol_of};
 ghost use Rattle.html_ledger.specs.Flags.{is_free};
+ghost use Rattle.html_ledger.specs.Entries.{ended};
 ghost use Rattle.html_construction.specs.Built.{Takes};
+ghost use Rattle.html_construction.specs.Calls.{is_idle};
 ghost use Rattle.html_modes.specs.Fitting.{Fits, Calls};
-ghost use Rattle.html_modes.specs.Steps.{Steps, Falls, Grows};
+ghost use Rattle.html_modes.specs.Plain.{Turns};
+ghost use Rattle.html_modes.specs.Steps.{Falls, Grows, Steps, Worked};
 ghost use Rattle.html_modes.specs.declared.outcome.Outcome.TheVariants.{Done};
 
 use crate::modes::body_start::{body_char, html_start};
@@ -32,6 +35,8 @@ pub(crate) fn after_body(
     ensures takes { IfOk result (λ o. Steps o token.now page.old page.new) }
     ensures falls { IfOk result (λ o. Falls o symbol page.old page.new) }
     ensures grows { IfOk result (λ o. Grows o page.old page.new) }
+    ensures works { IfOk result (λ o. Worked o token.now page.old page.new) }
+    ensures plain { IfOk result (λ o. Turns o symbol token.now page.old page.new) }
 {
     match symbol {
         // A character token that is one of U+0009, U+000A, U+000C, U+000D, U+0020: process the token using the rules for "in body".
@@ -65,6 +70,10 @@ fn end_page(page: &mut Construction, token: &TokenKind) -> Result<(), Refusal>
     ensures takes { OnOk result (Takes token.now page.old page.new) }
     ensures falls { OnOk result (Falls Done (Symbol.End Tag.Html) page.old page.new) }
     ensures grows { OnOk result (Grows Done page.old page.new) }
+    ensures works { OnOk result (Worked Done token.now page.old page.new) }
+    ensures rest { OnOk result (page.new ≡ record page.old { ledger = page.new.ledger; mode = page.new.mode }) }
+    ensures document { OnOk result (page.old.context ≡ None → page.new.mode ≡ Mode.AfterAfterBody) }
+    ensures ended { OnOk result (page.new.ledger ≡ ended page.old.ledger (Symbol.End Tag.Html) (is_idle page.old)) }
 {
     if !page.is_fragment() {
         page.set_mode(Mode::AfterAfterBody);
@@ -88,6 +97,8 @@ pub(crate) fn after_after_body(
     ensures takes { IfOk result (λ o. Steps o token.now page.old page.new) }
     ensures falls { IfOk result (λ o. Falls o symbol page.old page.new) }
     ensures grows { IfOk result (λ o. Grows o page.old page.new) }
+    ensures works { IfOk result (λ o. Worked o token.now page.old page.new) }
+    ensures plain { IfOk result (λ o. Turns o symbol token.now page.old page.new) }
 {
     match symbol {
         // A character token that is one of U+0009, U+000A, U+000C, U+000D, U+0020: process the token using the rules for "in body".

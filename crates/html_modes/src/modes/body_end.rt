@@ -1,12 +1,22 @@
 // The end tags of the mode in body (13.2.6.4.7).
-ghost use Rattle.std.specs.Prelude.{◌≡◌, ◌+◌, ◌<◌, ◌≤◌, IfOk, OnOk, length, true};
+ghost use Rattle.std.specs.Prelude.{◌≡◌, ◌+◌, ◌<◌, ◌≤◌, IfOk, OnOk, false, is_some, length, true};
 ghost use Rattle.html_ledger.specs.Symbols.{symbol_of};
 ghost use Rattle.html_construction.specs.Built.{Keeps, Takes};
 ghost use Rattle.html_construction.specs.Grown.{Grown};
+ghost use Rattle.html_construction.specs.Works.{Works};
 ghost use Rattle.html_construction.specs.Weights.{weight};
 ghost use Rattle.html_modes.specs.Fitting.{Fits, Calls, is_loose};
-ghost use Rattle.html_modes.specs.Steps.{Steps, Falls, Grows};
+ghost use Rattle.html_modes.specs.Steps.{Falls, Grows, Steps, Worked};
 ghost use Rattle.html_modes.specs.Ranks.{top_rank};
+ghost use Rattle.html_modes.specs.Plain.{EndsCurrent, IsClosed, IsCurrent, TurnsInBody};
+ghost use Rattle.html_names.specs.declared.sets.Scope.TheVariants as scope;
+ghost use Rattle.html_names.specs.declared.tag.Tag.{Tag as AnyTag};
+ghost use Rattle.html_names.specs.Sets.{is_formatting};
+ghost use Rattle.html_names.specs.Tags.{is_same as same_tag};
+ghost use Rattle.html_tree.specs.declared.groups.Group.TheVariants as group;
+ghost use Rattle.html_tree.specs.declared.groups.Stop.TheVariants as stop;
+ghost use Rattle.html_tree.specs.Searching.{found};
+ghost use Rattle.html_construction.specs.Calls.{IsTree};
 ghost use Rattle.html_modes.specs.declared.outcome.Outcome.TheVariants.{Done};
 
 use crate::modes::template::template_end;
@@ -26,6 +36,8 @@ pub(crate) fn body_end(page: &mut Construction, token: &TokenKind, tag: Tag) -> 
     ensures takes { OnOk result (Takes token.now page.old page.new) }
     ensures falls { OnOk result (Falls Done (Symbol.End tag) page.old page.new) }
     ensures grows { OnOk result (Grows Done page.old page.new) }
+    ensures works { OnOk result (Worked Done token.now page.old page.new) }
+    ensures plain { OnOk result (TurnsInBody Done (Symbol.End tag) token.now page.old page.new) }
 {
     match tag {
         // An end tag whose tag name is "template": process the token using the rules for "in head".
@@ -35,11 +47,24 @@ pub(crate) fn body_end(page: &mut Construction, token: &TokenKind, tag: Tag) -> 
             let _ = close_body(page);
             page.end(token, Symbol::End(tag))
         }
-        _ => {
-            element_end(page, token, tag)?;
-            page.end(token, Symbol::End(tag))
-        }
+        _ => current_end(page, token, tag),
     }
+}
+
+/// The end tag of an element in the body.
+#[tactic(auto, using(crate::proofs::Settled::body_rules))]
+fn current_end(page: &mut Construction, token: &TokenKind, tag: Tag) -> Result<(), Refusal>
+    requires symbol { symbol_of token.now ≡ Symbol.End tag }
+    requires calls { Calls page.old }
+    ensures fits { OnOk result (Fits page.new) }
+    ensures takes { OnOk result (Takes token.now page.old page.new) }
+    ensures falls { OnOk result (Falls Done (Symbol.End tag) page.old page.new) }
+    ensures grows { OnOk result (Grows Done page.old page.new) }
+    ensures works { OnOk result (Worked Done token.now page.old page.new) }
+    ensures plain { same_tag tag Tag.Body ≡ false → OnOk result (TurnsInBody Done (Symbol.End tag) token.now page.old page.new) }
+{
+    element_end(page, token, tag)?;
+    page.end(token, Symbol::End(tag))
 }
 
 /// The end tag of the root.
@@ -52,6 +77,8 @@ pub(crate) fn html_end(page: &mut Construction, token: &TokenKind) -> Result<Out
     ensures takes { IfOk result (λ o. Steps o token.now page.old page.new) }
     ensures falls { IfOk result (λ o. Falls o (Symbol.End Tag.Html) page.old page.new) }
     ensures grows { IfOk result (λ o. Grows o page.old page.new) }
+    ensures works { IfOk result (λ o. Worked o token.now page.old page.new) }
+    ensures plain { IfOk result (λ o. TurnsInBody o (Symbol.End Tag.Html) token.now page.old page.new) }
 {
     if close_body(page) {
         return Ok(Outcome::Reprocess);
@@ -67,9 +94,12 @@ fn close_body(page: &mut Construction) -> bool
     ensures rest { page.new ≡ record page.old { tree = page.new.tree; mode = page.new.mode } }
     ensures keeps { Keeps page.old page.new }
     ensures grown { Grown 0 0 0 0 0 page.old page.new }
+    ensures works { Works 6 0 6 page.old page.new }
     ensures loose { is_loose page.new.mode ≡ true }
     ensures top { top_rank page.new.mode ≤ 10 }
     ensures closed { result ≡ true → page.new.mode ≡ Mode.AfterBody }
+    ensures same { IsTree page.old.tree page.new }
+    ensures scope { result ≡ is_some (found page.old.tree (group.Named Tag.Body) (stop.EndOf scope.Default)) }
 {
     if page.has_in_scope(Tag::Body, Scope::Default) {
         page.set_mode(Mode::AfterBody);
@@ -84,9 +114,11 @@ fn element_end(page: &mut Construction, token: &TokenKind, tag: Tag) -> Result<(
     requires listed { length page.old.tree.list ≤ length page.old.ledger.fates }
     ensures rest { OnOk result (page.new ≡ record page.old { tree = page.new.tree; stack = page.new.stack; outer_form = page.new.outer_form; frameset_ok = page.new.frameset_ok }) }
     ensures keeps { OnOk result (Keeps page.old page.new) }
-    ensures grown { OnOk result (Grown 0 (length page.old.ledger.fates + 32) 0 8 8 page.old page.new) }
+    ensures grown { OnOk result (Grown 0 (length page.old.ledger.fates + 32) 0 8 1 page.old page.new) }
+    ensures works { OnOk result (Works 6 8 6 page.old page.new) }
     ensures opened { OnOk result (0 < length page.new.stack) }
     ensures heavier { OnOk result (weight page.new.stack ≤ weight page.old.stack + 4) }
+    ensures plain { symbol_of token.now ≡ Symbol.End tag → OnOk result (IsCurrent tag page.old → EndsCurrent Mode.InBody (Symbol.End tag) token.now page.old → IsClosed tag page.old page.new) }
 {
     match tag {
         // An end tag whose tag name is "form".
@@ -96,20 +128,39 @@ fn element_end(page: &mut Construction, token: &TokenKind, tag: Tag) -> Result<(
         // An end tag whose tag name is "br": act as if this was a start tag token without attributes.
         Tag::Br => break_end(page)?,
         // An end tag whose tag name is one of: "a", "b", "big", .., "tt", "u".
-        _ if tag.is_formatting() => page.end_formatting(tag)?,
+        _ if tag.is_formatting() => formatting_end(page, tag)?,
         _ => plain_end(page, token, tag),
     }
     Ok(())
 }
 
+/// The end tag of a formatting element.
+fn formatting_end(page: &mut Construction, tag: Tag) -> Result<(), Refusal>
+    requires opened { 0 < length page.old.stack }
+    requires formatting { is_formatting tag ≡ true }
+    requires listed { length page.old.tree.list ≤ length page.old.ledger.fates }
+    ensures rest { OnOk result (page.new ≡ record page.old { tree = page.new.tree; stack = page.new.stack }) }
+    ensures keeps { OnOk result (Keeps page.old page.new) }
+    ensures grown { OnOk result (Grown 0 32 0 8 0 page.old page.new) }
+    ensures works { OnOk result (Works 2 8 0 page.old page.new) }
+    ensures lighter { OnOk result (weight page.new.stack ≤ weight page.old.stack) }
+    ensures opened { OnOk result (0 < length page.new.stack) }
+    ensures plain { OnOk result (IsCurrent tag page.old → IsClosed tag page.old page.new) }
+{
+    page.end_formatting(tag)
+}
+
 /// What the end tag of an element in the body closes, where no more is to be done.
 fn plain_end(page: &mut Construction, token: &TokenKind, tag: Tag)
     requires opened { 0 < length page.old.stack }
+    requires listed { length page.old.tree.list ≤ length page.old.ledger.fates }
     ensures rest { page.new ≡ record page.old { tree = page.new.tree; stack = page.new.stack } }
     ensures keeps { Keeps page.old page.new }
     ensures grown { Grown 0 0 0 0 0 page.old page.new }
+    ensures works { Works 6 0 6 page.old page.new }
     ensures lighter { weight page.new.stack ≤ weight page.old.stack }
     ensures opened { 0 < length page.new.stack }
+    ensures plain { symbol_of token.now ≡ Symbol.End tag → is_formatting tag ≡ false → IsCurrent tag page.old → EndsCurrent Mode.InBody (Symbol.End tag) token.now page.old → IsClosed tag page.old page.new }
 {
     match tag {
         // An end tag whose tag name is "li".
@@ -137,8 +188,10 @@ fn block_end(page: &mut Construction, tag: Tag)
     ensures rest { page.new ≡ record page.old { tree = page.new.tree; stack = page.new.stack } }
     ensures keeps { Keeps page.old page.new }
     ensures grown { Grown 0 0 0 0 0 page.old page.new }
+    ensures works { Works 1 0 0 page.old page.new }
     ensures lighter { weight page.new.stack ≤ weight page.old.stack }
     ensures opened { 0 < length page.new.stack }
+    ensures plain { is_formatting tag ≡ false → IsCurrent tag page.old → IsClosed tag page.old page.new }
 {
     let _ = page.close_in_scope(tag, Scope::Default);
 }
@@ -148,6 +201,7 @@ fn form_end(page: &mut Construction)
     ensures rest { page.new ≡ record page.old { tree = page.new.tree; stack = page.new.stack; outer_form = page.new.outer_form } }
     ensures keeps { Keeps page.old page.new }
     ensures grown { Grown 0 0 0 0 0 page.old page.new }
+    ensures works { Works 6 0 6 page.old page.new }
     ensures lighter { weight page.new.stack ≤ weight page.old.stack }
     ensures opened { 0 < length page.new.stack }
 {
@@ -164,7 +218,8 @@ fn paragraph_end(page: &mut Construction) -> Result<(), Refusal>
     requires listed { length page.old.tree.list ≤ length page.old.ledger.fates }
     ensures rest { OnOk result (page.new ≡ record page.old { tree = page.new.tree; stack = page.new.stack }) }
     ensures keeps { OnOk result (Keeps page.old page.new) }
-    ensures grown { OnOk result (Grown 0 (2) 0 0 8 page.old page.new) }
+    ensures grown { OnOk result (Grown 0 (2) 0 0 1 page.old page.new) }
+    ensures works { OnOk result (Works 6 0 6 page.old page.new) }
     ensures opened { OnOk result (0 < length page.new.stack) }
     ensures heavier { OnOk result (weight page.new.stack ≤ weight page.old.stack + 4) }
 {
@@ -181,7 +236,8 @@ fn break_end(page: &mut Construction) -> Result<(), Refusal>
     requires listed { length page.old.tree.list ≤ length page.old.ledger.fates }
     ensures rest { OnOk result (page.new ≡ record page.old { tree = page.new.tree; stack = page.new.stack; frameset_ok = page.new.frameset_ok }) }
     ensures keeps { OnOk result (Keeps page.old page.new) }
-    ensures grown { OnOk result (Grown 0 (length page.old.ledger.fates + 2) 0 1 8 page.old page.new) }
+    ensures grown { OnOk result (Grown 0 (length page.old.ledger.fates + 2) 0 1 1 page.old page.new) }
+    ensures works { OnOk result (Works 6 1 6 page.old page.new) }
     ensures opened { OnOk result (0 < length page.new.stack) }
     ensures lighter { OnOk result (weight page.new.stack ≤ weight page.old.stack) }
 {
@@ -194,9 +250,11 @@ fn break_end(page: &mut Construction) -> Result<(), Refusal>
 /// The end tag of an element that put a marker into the list.
 fn marker_end(page: &mut Construction, tag: Tag)
     requires opened { 0 < length page.old.stack }
+    requires listed { length page.old.tree.list ≤ length page.old.ledger.fates }
     ensures rest { page.new ≡ record page.old { tree = page.new.tree; stack = page.new.stack } }
     ensures keeps { Keeps page.old page.new }
     ensures grown { Grown 0 0 0 0 0 page.old page.new }
+    ensures works { Works 6 0 6 page.old page.new }
     ensures lighter { weight page.new.stack ≤ weight page.old.stack }
     ensures opened { 0 < length page.new.stack }
 {
@@ -211,8 +269,10 @@ fn other_end(page: &mut Construction, token: &TokenKind)
     ensures rest { page.new ≡ record page.old { tree = page.new.tree; stack = page.new.stack } }
     ensures keeps { Keeps page.old page.new }
     ensures grown { Grown 0 0 0 0 0 page.old page.new }
+    ensures works { Works 6 0 6 page.old page.new }
     ensures lighter { weight page.new.stack ≤ weight page.old.stack }
     ensures opened { 0 < length page.new.stack }
+    ensures plain { (t : AnyTag) → symbol_of token.now ≡ Symbol.End t → is_formatting t ≡ false → IsCurrent t page.old → EndsCurrent Mode.InBody (Symbol.End t) token.now page.old → IsClosed t page.old page.new }
 {
     if let TokenKind::End { name } = token {
         page.close_named(name.as_str());

@@ -4,10 +4,13 @@ ghost use Rattle.html_ledger.specs.Symbols.{symbol_of};
 ghost use Rattle.html_ledger.specs.Flags.{is_free, may_text_run};
 ghost use Rattle.html_construction.specs.Built.{Keeps, Takes, TakesRun};
 ghost use Rattle.html_construction.specs.Grown.{Grown};
+ghost use Rattle.html_construction.specs.Works.{Works};
 ghost use Rattle.html_construction.specs.Weights.{weight, weight_of};
 ghost use Rattle.html_modes.specs.Fitting.{Fits, Calls};
-ghost use Rattle.html_modes.specs.Steps.{Steps, Falls, Grows};
+ghost use Rattle.html_modes.specs.Plain.{IsPlainState, IsRunTurn, Turns, TurnsInBody};
+ghost use Rattle.html_modes.specs.Steps.{Falls, Grows, Steps, Worked, compared};
 ghost use Rattle.html_modes.specs.declared.outcome.Outcome.TheVariants.{Done};
+ghost use Rattle.html_names.specs.Sets.{is_formatting};
 ghost use Rattle.html_names.specs.Tags.{is_same as same_tag};
 
 use crate::guards::has_form;
@@ -41,6 +44,8 @@ pub(crate) fn in_body(
     ensures takes { IfOk result (λ o. Steps o token.now page.old page.new) }
     ensures falls { IfOk result (λ o. Falls o symbol page.old page.new) }
     ensures grows { IfOk result (λ o. Grows o page.old page.new) }
+    ensures works { IfOk result (λ o. Worked o token.now page.old page.new) }
+    ensures plain { IfOk result (λ o. Turns o symbol token.now page.old page.new) }
 {
     match symbol {
         // An end tag whose tag name is "html".
@@ -74,6 +79,8 @@ pub(crate) fn body_rules(
     ensures takes { IfOk result (λ o. Steps o token.now page.old page.new) }
     ensures falls { IfOk result (λ o. Falls o symbol page.old page.new) }
     ensures grows { IfOk result (λ o. Grows o page.old page.new) }
+    ensures works { IfOk result (λ o. Worked o token.now page.old page.new) }
+    ensures plain { IfOk result (λ o. TurnsInBody o symbol token.now page.old page.new) }
 {
     match symbol {
         // A character token.
@@ -107,6 +114,8 @@ fn body_eof(page: &mut Construction, token: &TokenKind) -> Result<Outcome, Refus
     ensures takes { IfOk result (λ o. Steps o token.now page.old page.new) }
     ensures falls { IfOk result (λ o. Falls o (Symbol.Eof) page.old page.new) }
     ensures grows { IfOk result (λ o. Grows o page.old page.new) }
+    ensures works { IfOk result (λ o. Worked o token.now page.old page.new) }
+    ensures plain { IfOk result (λ o. TurnsInBody o Symbol.Eof token.now page.old page.new) }
 {
     if page.has_template_mode() {
         let outcome = template_eof(page, token)?;
@@ -127,8 +136,10 @@ pub(crate) fn body_char(page: &mut Construction, token: &TokenKind, c: char) -> 
     ensures takes { OnOk result (Takes token.now page.old page.new) }
     ensures quiet { OnOk result (page.new.ledger.kept ≡ []) }
     ensures grown { OnOk result (Grown 1 (length page.old.ledger.fates + 1) 0 1 0 page.old page.new) }
+    ensures works { OnOk result (Works 6 1 6 page.old page.new) }
     ensures lighter { OnOk result (weight page.new.stack ≤ weight page.old.stack) }
     ensures opened { OnOk result (0 < length page.new.stack) }
+    ensures plain { OnOk result (TurnsInBody Done (Symbol.Char c) token.now page.old page.new) }
 {
     if c == '\0' {
         return page.drop_token(token, Symbol::Char(c), Cause::Null);
@@ -153,8 +164,10 @@ pub(crate) fn body_run(page: &mut Construction, run: &[char]) -> Result<usize, R
     ensures quiet { OnOk result (page.new.ledger.kept ≡ []) }
     ensures count { IfOk result (λ n. (0 < n) × (n ≤ length run.now)) }
     ensures grown { IfOk result (λ n. Grown n (length page.old.ledger.fates + 1) 0 1 0 page.old page.new) }
+    ensures works { IfOk result (λ n. Works 6 1 (n + 6) page.old page.new) }
     ensures lighter { OnOk result (weight page.new.stack ≤ weight page.old.stack) }
     ensures opened { OnOk result (0 < length page.new.stack) }
+    ensures plain { IfOk result (λ n. IsPlainState page.old → page.old.mode ≡ Mode.InBody → IsRunTurn (take n run.now) page.old page.new) }
 {
     page.reconstruct()?;
     let count = page.insert_run(run)?;
@@ -178,6 +191,8 @@ fn body_start(page: &mut Construction, token: &TokenKind, tag: Tag) -> Result<()
     ensures takes { OnOk result (Takes token.now page.old page.new) }
     ensures falls { OnOk result (Falls Done (Symbol.Start tag) page.old page.new) }
     ensures grows { OnOk result (Grows Done page.old page.new) }
+    ensures works { OnOk result (Worked Done token.now page.old page.new) }
+    ensures plain { OnOk result (TurnsInBody Done (Symbol.Start tag) token.now page.old page.new) }
 {
     match tag {
         // A start tag whose tag name is "html".
@@ -224,6 +239,8 @@ fn phrase_start(page: &mut Construction, token: &TokenKind, tag: Tag) -> Result<
     ensures takes { OnOk result (Takes token.now page.old page.new) }
     ensures falls { OnOk result (Falls Done (Symbol.Start tag) page.old page.new) }
     ensures grows { OnOk result (Grows Done page.old page.new) }
+    ensures works { OnOk result (Worked Done token.now page.old page.new) }
+    ensures plain { OnOk result (TurnsInBody Done (Symbol.Start tag) token.now page.old page.new) }
 {
     match tag {
         // A start tag whose tag name is "a".
@@ -265,6 +282,8 @@ fn other_start(page: &mut Construction, token: &TokenKind, tag: Tag) -> Result<(
     ensures takes { OnOk result (Takes token.now page.old page.new) }
     ensures falls { OnOk result (Falls Done (Symbol.Start tag) page.old page.new) }
     ensures grows { OnOk result (Grows Done page.old page.new) }
+    ensures works { OnOk result (Worked Done token.now page.old page.new) }
+    ensures plain { is_formatting tag ≡ false → OnOk result (TurnsInBody Done (Symbol.Start tag) token.now page.old page.new) }
 {
     match tag {
         // A start tag whose tag name is "textarea".
@@ -297,6 +316,7 @@ pub(crate) fn html_start(page: &mut Construction, token: &TokenKind) -> Result<(
     ensures takes { OnOk result (Takes token.now page.old page.new) }
     ensures quiet { OnOk result (page.new.ledger.kept ≡ []) }
     ensures grown { OnOk result (Grown 1 0 0 0 0 page.old page.new) }
+    ensures works { OnOk result (Works 6 0 (compared token.now page.new + 6) page.old page.new) }
 {
     if page.has_template() {
         return page.drop_token(token, Symbol::Start(Tag::Html), Cause::Misplaced);
@@ -314,6 +334,7 @@ fn second_body_start(page: &mut Construction, token: &TokenKind) -> Result<(), R
     ensures takes { OnOk result (Takes token.now page.old page.new) }
     ensures falls { OnOk result (Falls Done (Symbol.Start Tag.Body) page.old page.new) }
     ensures grows { OnOk result (Grows Done page.old page.new) }
+    ensures works { OnOk result (Worked Done token.now page.old page.new) }
 {
     if !page.has_template() && page.has_body() {
         page.frameset_off();
@@ -334,6 +355,7 @@ fn late_frameset_start(page: &mut Construction, token: &TokenKind) -> Result<(),
     ensures takes { OnOk result (Takes token.now page.old page.new) }
     ensures falls { OnOk result (Falls Done (Symbol.Start Tag.Frameset) page.old page.new) }
     ensures grows { OnOk result (Grows Done page.old page.new) }
+    ensures works { OnOk result (Worked Done token.now page.old page.new) }
 {
     if !page.is_frameset_ok() || !page.replace_body() {
         return page.drop_token(token, Symbol::Start(Tag::Frameset), Cause::Misplaced);
@@ -354,6 +376,8 @@ fn block_start(page: &mut Construction, token: &TokenKind, tag: Tag) -> Result<(
     ensures takes { OnOk result (Takes token.now page.old page.new) }
     ensures falls { OnOk result (Falls Done (Symbol.Start tag) page.old page.new) }
     ensures grows { OnOk result (Grows Done page.old page.new) }
+    ensures works { OnOk result (Worked Done token.now page.old page.new) }
+    ensures plain { is_formatting tag ≡ false → OnOk result (TurnsInBody Done (Symbol.Start tag) token.now page.old page.new) }
 {
     page.close_p();
     page.insert(token, tag)
@@ -369,6 +393,7 @@ fn heading_start(page: &mut Construction, token: &TokenKind, tag: Tag) -> Result
     ensures takes { OnOk result (Takes token.now page.old page.new) }
     ensures falls { OnOk result (Falls Done (Symbol.Start tag) page.old page.new) }
     ensures grows { OnOk result (Grows Done page.old page.new) }
+    ensures works { OnOk result (Worked Done token.now page.old page.new) }
 {
     page.close_p();
     let _ = page.pop_if(Group::Heading);
@@ -385,6 +410,7 @@ fn preformatted_start(page: &mut Construction, token: &TokenKind, tag: Tag) -> R
     ensures takes { OnOk result (Takes token.now page.old page.new) }
     ensures falls { OnOk result (Falls Done (Symbol.Start tag) page.old page.new) }
     ensures grows { OnOk result (Grows Done page.old page.new) }
+    ensures works { OnOk result (Worked Done token.now page.old page.new) }
 {
     page.close_p();
     page.insert(token, tag)?;
@@ -400,6 +426,7 @@ fn form_start(page: &mut Construction, token: &TokenKind) -> Result<(), Refusal>
     ensures takes { OnOk result (Takes token.now page.old page.new) }
     ensures falls { OnOk result (Falls Done (Symbol.Start Tag.Form) page.old page.new) }
     ensures grows { OnOk result (Grows Done page.old page.new) }
+    ensures works { OnOk result (Worked Done token.now page.old page.new) }
 {
     let inside = page.has_template();
     if !inside && has_form(page) {
@@ -423,6 +450,7 @@ fn item_start(page: &mut Construction, token: &TokenKind, tag: Tag) -> Result<()
     ensures takes { OnOk result (Takes token.now page.old page.new) }
     ensures falls { OnOk result (Falls Done (Symbol.Start tag) page.old page.new) }
     ensures grows { OnOk result (Grows Done page.old page.new) }
+    ensures works { OnOk result (Worked Done token.now page.old page.new) }
 {
     page.frameset_off();
     page.close_item(tag);
@@ -438,6 +466,7 @@ fn table_start(page: &mut Construction, token: &TokenKind) -> Result<(), Refusal
     ensures takes { OnOk result (Takes token.now page.old page.new) }
     ensures falls { OnOk result (Falls Done (Symbol.Start Tag.Table) page.old page.new) }
     ensures grows { OnOk result (Grows Done page.old page.new) }
+    ensures works { OnOk result (Worked Done token.now page.old page.new) }
 {
     close_p_before_table(page);
     page.insert(token, Tag::Table)?;
@@ -452,6 +481,7 @@ fn close_p_before_table(page: &mut Construction)
     ensures rest { page.new ≡ record page.old { tree = page.new.tree; stack = page.new.stack } }
     ensures keeps { Keeps page.old page.new }
     ensures grown { Grown 0 0 0 0 0 page.old page.new }
+    ensures works { Works 6 0 6 page.old page.new }
     ensures lighter { weight page.new.stack ≤ weight page.old.stack }
     ensures opened { 0 < length page.new.stack }
 {
@@ -469,6 +499,7 @@ fn rule_start(page: &mut Construction, token: &TokenKind) -> Result<(), Refusal>
     ensures takes { OnOk result (Takes token.now page.old page.new) }
     ensures falls { OnOk result (Falls Done (Symbol.Start Tag.Hr) page.old page.new) }
     ensures grows { OnOk result (Grows Done page.old page.new) }
+    ensures works { OnOk result (Worked Done token.now page.old page.new) }
 {
     page.close_p();
     page.insert_void(token, Tag::Hr)?;
@@ -487,6 +518,8 @@ fn plain_start(page: &mut Construction, token: &TokenKind, tag: Tag) -> Result<(
     ensures takes { OnOk result (Takes token.now page.old page.new) }
     ensures falls { OnOk result (Falls Done (Symbol.Start tag) page.old page.new) }
     ensures grows { OnOk result (Grows Done page.old page.new) }
+    ensures works { OnOk result (Works 2 1 0 page.old page.new) }
+    ensures plain { is_formatting tag ≡ false → OnOk result (TurnsInBody Done (Symbol.Start tag) token.now page.old page.new) }
 {
     page.reconstruct()?;
     page.insert(token, tag)
@@ -501,6 +534,7 @@ fn void_start(page: &mut Construction, token: &TokenKind, tag: Tag) -> Result<()
     ensures takes { OnOk result (Takes token.now page.old page.new) }
     ensures falls { OnOk result (Falls Done (Symbol.Start tag) page.old page.new) }
     ensures grows { OnOk result (Grows Done page.old page.new) }
+    ensures works { OnOk result (Worked Done token.now page.old page.new) }
 {
     page.reconstruct()?;
     page.insert_void(token, tag)?;
@@ -516,6 +550,7 @@ fn input_start(page: &mut Construction, token: &TokenKind) -> Result<(), Refusal
     ensures takes { OnOk result (Takes token.now page.old page.new) }
     ensures falls { OnOk result (Falls Done (Symbol.Start Tag.Input) page.old page.new) }
     ensures grows { OnOk result (Grows Done page.old page.new) }
+    ensures works { OnOk result (Worked Done token.now page.old page.new) }
 {
     page.reconstruct()?;
     page.insert_void(token, Tag::Input)?;
@@ -533,6 +568,7 @@ fn button_start(page: &mut Construction, token: &TokenKind) -> Result<(), Refusa
     ensures takes { OnOk result (Takes token.now page.old page.new) }
     ensures falls { OnOk result (Falls Done (Symbol.Start Tag.Button) page.old page.new) }
     ensures grows { OnOk result (Grows Done page.old page.new) }
+    ensures works { OnOk result (Worked Done token.now page.old page.new) }
 {
     let _ = page.close_in_scope(Tag::Button, Scope::Default);
     page.reconstruct()?;
@@ -552,6 +588,7 @@ fn marker_start(page: &mut Construction, token: &TokenKind, tag: Tag) -> Result<
     ensures takes { OnOk result (Takes token.now page.old page.new) }
     ensures falls { OnOk result (Falls Done (Symbol.Start tag) page.old page.new) }
     ensures grows { OnOk result (Grows Done page.old page.new) }
+    ensures works { OnOk result (Worked Done token.now page.old page.new) }
 {
     page.reconstruct()?;
     page.insert(token, tag)?;
@@ -576,6 +613,7 @@ fn ruby_start(
     ensures takes { OnOk result (Takes token.now page.old page.new) }
     ensures falls { OnOk result (Falls Done (Symbol.Start tag) page.old page.new) }
     ensures grows { OnOk result (Grows Done page.old page.new) }
+    ensures works { OnOk result (Worked Done token.now page.old page.new) }
 {
     close_ruby_part(page, except);
     page.insert(token, tag)
@@ -587,6 +625,7 @@ fn close_ruby_part(page: &mut Construction, except: Option<Tag>)
     ensures rest { page.new ≡ record page.old { tree = page.new.tree; stack = page.new.stack } }
     ensures keeps { Keeps page.old page.new }
     ensures grown { Grown 0 0 0 0 0 page.old page.new }
+    ensures works { Works 6 0 6 page.old page.new }
     ensures lighter { weight page.new.stack ≤ weight page.old.stack }
     ensures opened { 0 < length page.new.stack }
 {
@@ -603,6 +642,7 @@ fn textarea_start(page: &mut Construction, token: &TokenKind) -> Result<(), Refu
     ensures takes { OnOk result (Takes token.now page.old page.new) }
     ensures falls { OnOk result (Falls Done (Symbol.Start Tag.Textarea) page.old page.new) }
     ensures grows { OnOk result (Grows Done page.old page.new) }
+    ensures works { OnOk result (Worked Done token.now page.old page.new) }
 {
     page.frameset_off();
     text_start(page, token, Tag::Textarea)
@@ -616,6 +656,7 @@ fn xmp_start(page: &mut Construction, token: &TokenKind) -> Result<(), Refusal>
     ensures takes { OnOk result (Takes token.now page.old page.new) }
     ensures falls { OnOk result (Falls Done (Symbol.Start Tag.Xmp) page.old page.new) }
     ensures grows { OnOk result (Grows Done page.old page.new) }
+    ensures works { OnOk result (Worked Done token.now page.old page.new) }
 {
     page.close_p();
     page.reconstruct()?;
@@ -631,6 +672,7 @@ fn iframe_start(page: &mut Construction, token: &TokenKind) -> Result<(), Refusa
     ensures takes { OnOk result (Takes token.now page.old page.new) }
     ensures falls { OnOk result (Falls Done (Symbol.Start Tag.Iframe) page.old page.new) }
     ensures grows { OnOk result (Grows Done page.old page.new) }
+    ensures works { OnOk result (Worked Done token.now page.old page.new) }
 {
     page.frameset_off();
     text_start(page, token, Tag::Iframe)
@@ -644,6 +686,7 @@ fn select_start(page: &mut Construction, token: &TokenKind) -> Result<(), Refusa
     ensures takes { OnOk result (Takes token.now page.old page.new) }
     ensures falls { OnOk result (Falls Done (Symbol.Start Tag.Select) page.old page.new) }
     ensures grows { OnOk result (Grows Done page.old page.new) }
+    ensures works { OnOk result (Worked Done token.now page.old page.new) }
 {
     page.reconstruct()?;
     page.insert(token, Tag::Select)?;
@@ -675,6 +718,7 @@ fn option_start(page: &mut Construction, token: &TokenKind, tag: Tag) -> Result<
     ensures takes { OnOk result (Takes token.now page.old page.new) }
     ensures falls { OnOk result (Falls Done (Symbol.Start tag) page.old page.new) }
     ensures grows { OnOk result (Grows Done page.old page.new) }
+    ensures works { OnOk result (Worked Done token.now page.old page.new) }
 {
     let _ = page.pop_if(Group::Named(Tag::Option));
     plain_start(page, token, tag)

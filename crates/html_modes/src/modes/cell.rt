@@ -4,9 +4,10 @@ ghost use Rattle.html_ledger.specs.Symbols.{symbol_of};
 ghost use Rattle.html_ledger.specs.Flags.{is_free};
 ghost use Rattle.html_construction.specs.Built.{Keeps, Takes};
 ghost use Rattle.html_construction.specs.Grown.{Grown};
+ghost use Rattle.html_construction.specs.Works.{Works};
 ghost use Rattle.html_construction.specs.Weights.{weight, weight_of};
 ghost use Rattle.html_modes.specs.Fitting.{Fits, Calls};
-ghost use Rattle.html_modes.specs.Steps.{Steps, Falls, Grows};
+ghost use Rattle.html_modes.specs.Steps.{Falls, Grows, Steps, Worked};
 ghost use Rattle.html_modes.specs.declared.outcome.Outcome.TheVariants.{Done};
 ghost use Rattle.html_names.specs.Tags.{is_same};
 
@@ -33,6 +34,7 @@ pub(crate) fn cell_start(
     ensures takes { OnOk result (Takes token.now page.old page.new) }
     ensures falls { OnOk result (Falls Done (Symbol.Start tag) page.old page.new) }
     ensures grows { OnOk result (Grows Done page.old page.new) }
+    ensures works { OnOk result (Worked Done token.now page.old page.new) }
 {
     page.clear_to(TableContext::Row);
     page.insert(token, tag)?;
@@ -57,6 +59,7 @@ pub(crate) fn in_cell(
     ensures takes { IfOk result (λ o. Steps o token.now page.old page.new) }
     ensures falls { IfOk result (λ o. Falls o symbol page.old page.new) }
     ensures grows { IfOk result (λ o. Grows o page.old page.new) }
+    ensures works { IfOk result (λ o. Worked o token.now page.old page.new) }
 {
     match symbol {
         // A start tag whose tag name is one of: "caption", "col", "colgroup", "tbody", "td", "tfoot", "th",
@@ -74,10 +77,8 @@ pub(crate) fn in_cell(
         }
         // An end tag whose tag name is one of: "table", "tbody", "tfoot", "thead", "tr".
         Symbol::End(tag) if tag.ends_cell() => {
-            if page.has_in_scope(tag, Scope::Table) && close_cell(page) {
-                return Ok(Outcome::Reprocess);
-            }
-            page.end(token, symbol)?;
+            let outcome = outer_end(page, token, tag)?;
+            return Ok(outcome);
         }
         // An end tag whose tag name is one of: "body", "caption", "col", "colgroup", "html": ignore the token.
         Symbol::End(tag) if tag.is_ignored_in_table() => page.end(token, symbol)?,
@@ -95,12 +96,34 @@ pub(crate) fn in_cell(
     Ok(Outcome::Done)
 }
 
+/// An end tag of what a cell stands in, which closes the cell first.
+#[tactic(auto, using(crate::proofs::Settled::part_rules))]
+fn outer_end(page: &mut Construction, token: &TokenKind, tag: Tag) -> Result<Outcome, Refusal>
+    requires symbol { symbol_of token.now ≡ Symbol.End tag }
+    requires mode { page.old.mode ≡ Mode.InCell }
+    requires fits { Fits page.old }
+    requires quiet { page.old.ledger.kept ≡ [] }
+    ensures fits { OnOk result (Fits page.new) }
+    ensures takes { IfOk result (λ o. Steps o token.now page.old page.new) }
+    ensures falls { IfOk result (λ o. Falls o (Symbol.End tag) page.old page.new) }
+    ensures grows { IfOk result (λ o. Grows o page.old page.new) }
+    ensures works { IfOk result (λ o. Worked o token.now page.old page.new) }
+{
+    if page.has_in_scope(tag, Scope::Table) && close_cell(page) {
+        return Ok(Outcome::Reprocess);
+    }
+    page.end(token, Symbol::End(tag))?;
+    Ok(Outcome::Done)
+}
+
 /// Closes the cell that is in scope and goes back to the row, and says whether there was one.
 fn close_cell(page: &mut Construction) -> bool
     requires opened { 0 < length page.old.stack }
+    requires listed { length page.old.tree.list ≤ length page.old.ledger.fates }
     ensures rest { page.new ≡ record page.old { tree = page.new.tree; stack = page.new.stack; mode = page.new.mode } }
     ensures keeps { Keeps page.old page.new }
     ensures grown { Grown 0 0 0 0 0 page.old page.new }
+    ensures works { Works 6 0 6 page.old page.new }
     ensures lighter { weight page.new.stack ≤ weight page.old.stack }
     ensures opened { 0 < length page.new.stack }
     ensures mode { page.new.mode ≡ (if result then Mode.InRow else page.old.mode) }
@@ -117,9 +140,11 @@ fn close_cell(page: &mut Construction) -> bool
 /// Closes the cell of this name that is in scope and goes back to the row, and says whether there was one.
 fn close_cell_of(page: &mut Construction, tag: Tag) -> bool
     requires opened { 0 < length page.old.stack }
+    requires listed { length page.old.tree.list ≤ length page.old.ledger.fates }
     ensures rest { page.new ≡ record page.old { tree = page.new.tree; stack = page.new.stack; mode = page.new.mode } }
     ensures keeps { Keeps page.old page.new }
     ensures grown { Grown 0 0 0 0 0 page.old page.new }
+    ensures works { Works 6 0 6 page.old page.new }
     ensures lighter { weight page.new.stack ≤ weight page.old.stack }
     ensures opened { 0 < length page.new.stack }
     ensures mode { page.new.mode ≡ (if result then Mode.InRow else page.old.mode) }

@@ -4,9 +4,11 @@ ghost use Rattle.html_names.specs.Sets.{is_formatting};
 ghost use Rattle.html_ledger.specs.Symbols.{symbol_of};
 ghost use Rattle.html_construction.specs.Built.{Keeps, Takes};
 ghost use Rattle.html_construction.specs.Grown.{Grown};
+ghost use Rattle.html_construction.specs.Works.{Works};
 ghost use Rattle.html_construction.specs.Weights.{weight};
 ghost use Rattle.html_modes.specs.Fitting.{Fits, Calls};
-ghost use Rattle.html_modes.specs.Steps.{Falls, Grows};
+ghost use Rattle.html_modes.specs.Plain.{TurnsInBody};
+ghost use Rattle.html_modes.specs.Steps.{Falls, Grows, Worked};
 ghost use Rattle.html_modes.specs.declared.outcome.Outcome.TheVariants.{Done};
 
 use html_construction::{Construction, Refusal};
@@ -27,6 +29,8 @@ pub(crate) fn formatting_start(
     ensures takes { OnOk result (Takes token.now page.old page.new) }
     ensures falls { OnOk result (Falls Done (Symbol.Start tag) page.old page.new) }
     ensures grows { OnOk result (Grows Done page.old page.new) }
+    ensures works { OnOk result (Worked Done token.now page.old page.new) }
+    ensures plain { OnOk result (TurnsInBody Done (Symbol.Start tag) token.now page.old page.new) }
 {
     page.reconstruct()?;
     page.insert_listed(token, tag)
@@ -41,6 +45,7 @@ pub(crate) fn link_start(page: &mut Construction, token: &TokenKind) -> Result<(
     ensures takes { OnOk result (Takes token.now page.old page.new) }
     ensures falls { OnOk result (Falls Done (Symbol.Start Tag.A) page.old page.new) }
     ensures grows { OnOk result (Grows Done page.old page.new) }
+    ensures works { OnOk result (Worked Done token.now page.old page.new) }
 {
     page.close_link()?;
     page.reconstruct()?;
@@ -56,6 +61,7 @@ pub(crate) fn nobr_start(page: &mut Construction, token: &TokenKind) -> Result<(
     ensures takes { OnOk result (Takes token.now page.old page.new) }
     ensures falls { OnOk result (Falls Done (Symbol.Start Tag.Nobr) page.old page.new) }
     ensures grows { OnOk result (Grows Done page.old page.new) }
+    ensures works { OnOk result (Worked Done token.now page.old page.new) }
 {
     page.reconstruct()?;
     close_nobr(page)?;
@@ -69,6 +75,7 @@ fn close_nobr(page: &mut Construction) -> Result<(), Refusal>
     ensures rest { OnOk result (page.new ≡ record page.old { tree = page.new.tree; stack = page.new.stack }) }
     ensures keeps { OnOk result (Keeps page.old page.new) }
     ensures grown { OnOk result (Grown 0 (length page.old.ledger.fates + 32) 0 9 0 page.old page.new) }
+    ensures works { OnOk result (Works 6 9 6 page.old page.new) }
     ensures opened { OnOk result (0 < length page.new.stack) }
     ensures lighter { OnOk result (weight page.new.stack ≤ weight page.old.stack) }
 {

@@ -1,12 +1,18 @@
 // The modes of the head (13.2.6.4.4 to 13.2.6.4.6).
-ghost use Rattle.std.specs.Prelude.{◌≡◌, ◌+◌, ◌<◌, ◌≤◌, [], IfOk, OnOk, IsTrue, length, true};
+ghost use Rattle.std.specs.Prelude.{◌≡◌, ◌+◌, ◌<◌, ◌≤◌, ◌&&◌, [], IfOk, OnOk, IsTrue, drop, length, nat_lt, true};
+ghost use Rattle.html_names.specs.declared.tag.Tag.TheVariants as tag;
+ghost use Rattle.html_tree.specs.Closing.{popped};
+ghost use Rattle.html_tree.specs.declared.groups.Group.TheVariants as group;
 ghost use Rattle.html_ledger.specs.Symbols.{symbol_of};
 ghost use Rattle.html_ledger.specs.Flags.{is_free};
 ghost use Rattle.html_construction.specs.Built.{Keeps, Takes};
+ghost use Rattle.html_construction.specs.Calls.{IsTree, is_first};
 ghost use Rattle.html_construction.specs.Grown.{Grown};
+ghost use Rattle.html_construction.specs.Works.{Works};
 ghost use Rattle.html_construction.specs.Weights.{weight};
 ghost use Rattle.html_modes.specs.Fitting.{Fits, Calls, is_loose};
-ghost use Rattle.html_modes.specs.Steps.{Steps, Falls, Grows};
+ghost use Rattle.html_modes.specs.Plain.{Turns};
+ghost use Rattle.html_modes.specs.Steps.{Falls, Grows, Steps, Worked};
 ghost use Rattle.html_modes.specs.Ranks.{rank, top_rank};
 ghost use Rattle.html_modes.specs.declared.outcome.Outcome.TheVariants.{Done};
 
@@ -37,6 +43,8 @@ pub(crate) fn in_head(
     ensures takes { IfOk result (λ o. Steps o token.now page.old page.new) }
     ensures falls { IfOk result (λ o. Falls o symbol page.old page.new) }
     ensures grows { IfOk result (λ o. Grows o page.old page.new) }
+    ensures works { IfOk result (λ o. Worked o token.now page.old page.new) }
+    ensures plain { IfOk result (λ o. Turns o symbol token.now page.old page.new) }
 {
     match symbol {
         // A character token that is one of U+0009, U+000A, U+000C, U+000D, U+0020: insert the character.
@@ -82,11 +90,14 @@ fn leave_head(page: &mut Construction)
     ensures rest { page.new ≡ record page.old { tree = page.new.tree; stack = page.new.stack; mode = page.new.mode } }
     ensures keeps { Keeps page.old page.new }
     ensures grown { Grown 0 0 0 0 0 page.old page.new }
+    ensures works { Works 6 0 6 page.old page.new }
     ensures lighter { weight page.new.stack ≤ weight page.old.stack }
     ensures opened { 0 < length page.new.stack }
     ensures falls { (s : Symbol) → weight page.new.stack + rank page.new.mode s < weight page.old.stack + rank page.old.mode s }
     ensures loose { is_loose page.new.mode ≡ true }
     ensures top { top_rank page.new.mode ≤ 6 }
+    ensures closed { (nat_lt 1 (length page.old.stack) && is_first (group.Named tag.Head) page.old.stack) ≡ true → page.new ≡ record page.old { tree = page.new.tree; stack = drop 1 page.old.stack; mode = Mode.AfterHead } }
+    ensures exact { (nat_lt 1 (length page.old.stack) && is_first (group.Named tag.Head) page.old.stack) ≡ true → IsTree (record page.old.tree { stack = popped page.old.tree.stack }) page.new }
 {
     if page.pop_if(Group::Named(Tag::Head)) {
         page.set_mode(Mode::AfterHead);
@@ -108,6 +119,7 @@ pub(crate) fn head_start(
     ensures takes { OnOk result (Takes token.now page.old page.new) }
     ensures falls { OnOk result (Falls Done (Symbol.Start tag) page.old page.new) }
     ensures grows { OnOk result (Grows Done page.old page.new) }
+    ensures works { OnOk result (Worked Done token.now page.old page.new) }
 {
     let target = page.here();
     head_start_at(page, token, tag, target)
@@ -128,6 +140,7 @@ fn head_start_at(
     ensures takes { OnOk result (Takes token.now page.old page.new) }
     ensures falls { OnOk result (Falls Done (Symbol.Start tag) page.old page.new) }
     ensures grows { OnOk result (Grows Done page.old page.new) }
+    ensures works { OnOk result (Worked Done token.now page.old page.new) }
 {
     if tag.is_head_text() {
         return text_start_at(page, token, tag, target);
@@ -154,6 +167,7 @@ pub(crate) fn in_head_noscript(
     ensures takes { IfOk result (λ o. Steps o token.now page.old page.new) }
     ensures falls { IfOk result (λ o. Falls o symbol page.old page.new) }
     ensures grows { IfOk result (λ o. Grows o page.old page.new) }
+    ensures works { IfOk result (λ o. Worked o token.now page.old page.new) }
 {
     match symbol {
         // A character token that is one of U+0009, U+000A, U+000C, U+000D, U+0020: insert the character.
@@ -194,6 +208,7 @@ fn leave_noscript(page: &mut Construction)
     ensures rest { page.new ≡ record page.old { tree = page.new.tree; stack = page.new.stack; mode = page.new.mode } }
     ensures keeps { Keeps page.old page.new }
     ensures grown { Grown 0 0 0 0 0 page.old page.new }
+    ensures works { Works 6 0 6 page.old page.new }
     ensures lighter { weight page.new.stack ≤ weight page.old.stack }
     ensures opened { 0 < length page.new.stack }
     ensures falls { (s : Symbol) → weight page.new.stack + rank page.new.mode s < weight page.old.stack + rank page.old.mode s }
@@ -223,6 +238,8 @@ pub(crate) fn after_head(
     ensures takes { IfOk result (λ o. Steps o token.now page.old page.new) }
     ensures falls { IfOk result (λ o. Falls o symbol page.old page.new) }
     ensures grows { IfOk result (λ o. Grows o page.old page.new) }
+    ensures works { IfOk result (λ o. Worked o token.now page.old page.new) }
+    ensures plain { IfOk result (λ o. Turns o symbol token.now page.old page.new) }
 {
     match symbol {
         // A character token that is one of U+0009, U+000A, U+000C, U+000D, U+0020: insert the character.

@@ -1,11 +1,17 @@
 // The modes before the head (13.2.6.4.1 to 13.2.6.4.3). White space there is dropped before any of their rules.
-ghost use Rattle.std.specs.Prelude.{◌≡◌, [], IfOk, OnOk, IsTrue};
+ghost use Rattle.std.specs.Prelude.{◌≡◌, ◌+◌, [], IfOk, OnOk, IsTrue, length, true};
 ghost use Rattle.html_ledger.specs.Symbols.{symbol_of};
 ghost use Rattle.html_ledger.specs.Flags.{is_free};
+ghost use Rattle.html_ledger.specs.Entries.{number_of};
+ghost use Rattle.html_ledger.specs.declared.fate.Fate.TheVariants.{Made};
+ghost use Rattle.html_tree.specs.declared.groups.Target.TheVariants.{Document};
 ghost use Rattle.html_construction.specs.Built.{Takes};
+ghost use Rattle.html_construction.specs.Calls.{HasFate, IsTree, counting, doctype_of, placed_at};
 ghost use Rattle.html_construction.specs.Grown.{Grown};
+ghost use Rattle.html_construction.specs.Works.{Works};
 ghost use Rattle.html_modes.specs.Fitting.{Fits};
-ghost use Rattle.html_modes.specs.Steps.{Steps, Falls, Grows};
+ghost use Rattle.html_modes.specs.Plain.{Turns};
+ghost use Rattle.html_modes.specs.Steps.{Falls, Grows, Steps, Worked};
 
 use crate::modes::body_start::html_start;
 use crate::outcome::Outcome;
@@ -32,6 +38,8 @@ pub(crate) fn initial(
     ensures takes { IfOk result (λ o. Steps o token.now page.old page.new) }
     ensures falls { IfOk result (λ o. Falls o symbol page.old page.new) }
     ensures grows { IfOk result (λ o. Grows o page.old page.new) }
+    ensures works { IfOk result (λ o. Worked o token.now page.old page.new) }
+    ensures plain { IfOk result (λ o. Turns o symbol token.now page.old page.new) }
 {
     match symbol {
         // A comment token: insert a comment as the last child of the Document object.
@@ -68,6 +76,8 @@ pub(crate) fn before_html(
     ensures takes { IfOk result (λ o. Steps o token.now page.old page.new) }
     ensures falls { IfOk result (λ o. Falls o symbol page.old page.new) }
     ensures grows { IfOk result (λ o. Grows o page.old page.new) }
+    ensures works { IfOk result (λ o. Worked o token.now page.old page.new) }
+    ensures plain { IfOk result (λ o. Turns o symbol token.now page.old page.new) }
 {
     match symbol {
         // A comment token: insert a comment as the last child of the Document object.
@@ -107,6 +117,8 @@ pub(crate) fn before_head(
     ensures takes { IfOk result (λ o. Steps o token.now page.old page.new) }
     ensures falls { IfOk result (λ o. Falls o symbol page.old page.new) }
     ensures grows { IfOk result (λ o. Grows o page.old page.new) }
+    ensures works { IfOk result (λ o. Worked o token.now page.old page.new) }
+    ensures plain { IfOk result (λ o. Turns o symbol token.now page.old page.new) }
 {
     match symbol {
         // A comment token: insert a comment.
@@ -140,6 +152,9 @@ pub(crate) fn doctype(page: &mut Construction, token: &TokenKind) -> Result<(), 
     ensures takes { OnOk result (Takes token.now page.old page.new) }
     ensures quiet { OnOk result (page.new.ledger.kept ≡ []) }
     ensures grown { OnOk result (Grown 1 2 0 0 0 page.old page.new) }
+    ensures works { OnOk result (Works 6 0 6 page.old page.new) }
+    ensures exact { OnOk result (page.old.ledger.history.awaits_doctype ≡ true → IsTree (placed_at (doctype_of page.old token.now) Document (counting (number_of page.old.ledger + 1) page.old.tree)) page.new) }
+    ensures fate { OnOk result (page.old.ledger.history.awaits_doctype ≡ true → HasFate Symbol.Doctype (Made (length page.old.tree.tree.labels)) page.old page.new) }
 {
     if page.history().awaits_doctype {
         return page.insert_doctype(token);

@@ -5,9 +5,10 @@ ghost use Rattle.html_ledger.specs.Flags.{is_free, may_select};
 ghost use Rattle.html_construction.specs.Built.{Keeps, Takes};
 ghost use Rattle.html_construction.specs.Grown.{Grown};
 ghost use Rattle.html_construction.specs.Modes.{is_reset};
+ghost use Rattle.html_construction.specs.Works.{Works};
 ghost use Rattle.html_construction.specs.Weights.{weight};
 ghost use Rattle.html_modes.specs.Fitting.{Fits, Calls, is_loose};
-ghost use Rattle.html_modes.specs.Steps.{Steps, Falls, Grows};
+ghost use Rattle.html_modes.specs.Steps.{Falls, Grows, Steps, Worked};
 ghost use Rattle.html_modes.specs.Ranks.{rank};
 ghost use Rattle.html_modes.specs.declared.outcome.Outcome.TheVariants.{Done};
 ghost use Rattle.html_ledger.specs.MayDrop.{is_in_select};
@@ -42,6 +43,7 @@ pub(crate) fn in_select(
     ensures takes { IfOk result (λ o. Steps o token.now page.old page.new) }
     ensures falls { IfOk result (λ o. Falls o symbol page.old page.new) }
     ensures grows { IfOk result (λ o. Grows o page.old page.new) }
+    ensures works { IfOk result (λ o. Worked o token.now page.old page.new) }
 {
     let outcome = select_rules(page, token, symbol)?;
     Ok(outcome)
@@ -63,6 +65,7 @@ fn select_rules(
     ensures takes { IfOk result (λ o. Steps o token.now page.old page.new) }
     ensures falls { IfOk result (λ o. Falls o symbol page.old page.new) }
     ensures grows { IfOk result (λ o. Grows o page.old page.new) }
+    ensures works { IfOk result (λ o. Worked o token.now page.old page.new) }
 {
     match symbol {
         // A character token: insert the token's character, unless it is U+0000 NULL.
@@ -101,6 +104,7 @@ fn select_start_tag(
     ensures takes { IfOk result (λ o. Steps o token.now page.old page.new) }
     ensures falls { IfOk result (λ o. Falls o (Symbol.Start tag) page.old page.new) }
     ensures grows { IfOk result (λ o. Grows o page.old page.new) }
+    ensures works { IfOk result (λ o. Worked o token.now page.old page.new) }
 {
     match tag {
         // A start tag whose tag name is "html": process the token using the rules for "in body".
@@ -146,6 +150,7 @@ fn select_end_tag(page: &mut Construction, token: &TokenKind, tag: Tag) -> Resul
     ensures takes { OnOk result (Takes token.now page.old page.new) }
     ensures falls { OnOk result (Falls Done (Symbol.End tag) page.old page.new) }
     ensures grows { OnOk result (Grows Done page.old page.new) }
+    ensures works { OnOk result (Worked Done token.now page.old page.new) }
 {
     match tag {
         // An end tag whose tag name is "template": process the token using the rules for "in head".
@@ -176,6 +181,7 @@ fn close_options(page: &mut Construction)
     ensures rest { page.new ≡ record page.old { tree = page.new.tree; stack = page.new.stack } }
     ensures keeps { Keeps page.old page.new }
     ensures grown { Grown 0 0 0 0 0 page.old page.new }
+    ensures works { Works 6 0 6 page.old page.new }
     ensures lighter { weight page.new.stack ≤ weight page.old.stack }
     ensures opened { 0 < length page.new.stack }
 {
@@ -189,6 +195,7 @@ fn close_group(page: &mut Construction)
     ensures rest { page.new ≡ record page.old { tree = page.new.tree; stack = page.new.stack } }
     ensures keeps { Keeps page.old page.new }
     ensures grown { Grown 0 0 0 0 0 page.old page.new }
+    ensures works { Works 6 0 6 page.old page.new }
     ensures lighter { weight page.new.stack ≤ weight page.old.stack }
     ensures opened { 0 < length page.new.stack }
 {
@@ -202,6 +209,7 @@ fn close_grouped_option(page: &mut Construction)
     ensures rest { page.new ≡ record page.old { tree = page.new.tree; stack = page.new.stack } }
     ensures keeps { Keeps page.old page.new }
     ensures grown { Grown 0 0 0 0 0 page.old page.new }
+    ensures works { Works 1 0 2 page.old page.new }
     ensures lighter { weight page.new.stack ≤ weight page.old.stack }
     ensures opened { 0 < length page.new.stack }
 {
@@ -222,6 +230,7 @@ fn leave_select(page: &mut Construction, token: &TokenKind, tag: Tag) -> Result<
     ensures takes { IfOk result (λ o. Steps o token.now page.old page.new) }
     ensures falls { IfOk result (λ o. Falls o (Symbol.Start tag) page.old page.new) }
     ensures grows { IfOk result (λ o. Grows o page.old page.new) }
+    ensures works { IfOk result (λ o. Worked o token.now page.old page.new) }
 {
     if close_select(page) {
         return Ok(Outcome::Reprocess);
@@ -238,6 +247,7 @@ fn close_select(page: &mut Construction) -> bool
     ensures rest { page.new ≡ record page.old { tree = page.new.tree; stack = page.new.stack; mode = page.new.mode } }
     ensures keeps { Keeps page.old page.new }
     ensures grown { Grown 0 0 0 0 0 page.old page.new }
+    ensures works { Works 6 0 6 page.old page.new }
     ensures lighter { weight page.new.stack ≤ weight page.old.stack }
     ensures opened { 0 < length page.new.stack }
     ensures loose { is_loose page.new.mode ≡ true }
@@ -268,6 +278,7 @@ pub(crate) fn in_select_in_table(
     ensures takes { IfOk result (λ o. Steps o token.now page.old page.new) }
     ensures falls { IfOk result (λ o. Falls o symbol page.old page.new) }
     ensures grows { IfOk result (λ o. Grows o page.old page.new) }
+    ensures works { IfOk result (λ o. Worked o token.now page.old page.new) }
 {
     match symbol {
         // A start tag whose tag name is one of: "caption", "table", "tbody", "tfoot", "thead", "tr", "td", "th".

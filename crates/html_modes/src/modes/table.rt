@@ -5,15 +5,17 @@ ghost use Rattle.html_ledger.specs.Flags.{is_free};
 ghost use Rattle.html_construction.specs.Built.{Keeps, Takes};
 ghost use Rattle.html_construction.specs.Grown.{Grown};
 ghost use Rattle.html_construction.specs.Modes.{is_reset};
+ghost use Rattle.html_construction.specs.Works.{Works};
 ghost use Rattle.html_construction.specs.Weights.{weight};
 ghost use Rattle.html_modes.specs.Fitting.{Fits, Calls, is_loose, is_table_mode};
-ghost use Rattle.html_modes.specs.Steps.{Steps, Falls, Grows};
+ghost use Rattle.html_modes.specs.Steps.{Falls, Grows, Steps, Worked};
 ghost use Rattle.html_modes.specs.declared.outcome.Outcome.TheVariants.{Done};
 
 use crate::guards::has_form;
 use crate::modes::body_start::{body_rules, is_hidden};
 use crate::modes::head::head_start;
 use crate::modes::initial::doctype;
+use crate::modes::table_text::foster_char;
 use crate::modes::template::template_end;
 use crate::outcome::Outcome;
 use html_construction::{Construction, Mode, Refusal};
@@ -38,6 +40,7 @@ pub(crate) fn in_table(
     ensures takes { IfOk result (λ o. Steps o token.now page.old page.new) }
     ensures falls { IfOk result (λ o. Falls o symbol page.old page.new) }
     ensures grows { IfOk result (λ o. Grows o page.old page.new) }
+    ensures works { IfOk result (λ o. Worked o token.now page.old page.new) }
 {
     match symbol {
         // A start tag whose tag name is "caption".
@@ -94,7 +97,8 @@ fn imply_section(page: &mut Construction) -> Result<(), Refusal>
     requires listed { length page.old.tree.list ≤ length page.old.ledger.fates }
     ensures rest { OnOk result (page.new ≡ record page.old { tree = page.new.tree; stack = page.new.stack; mode = Mode.InTableBody }) }
     ensures keeps { OnOk result (Keeps page.old page.new) }
-    ensures grown { OnOk result (Grown 0 (2) 0 0 8 page.old page.new) }
+    ensures grown { OnOk result (Grown 0 (2) 0 0 1 page.old page.new) }
+    ensures works { OnOk result (Works 6 0 6 page.old page.new) }
     ensures opened { OnOk result (0 < length page.new.stack) }
     ensures heavier { OnOk result (weight page.new.stack ≤ weight page.old.stack + 4) }
 {
@@ -119,6 +123,7 @@ pub(crate) fn table_rules(
     ensures takes { IfOk result (λ o. Steps o token.now page.old page.new) }
     ensures falls { IfOk result (λ o. Falls o symbol page.old page.new) }
     ensures grows { IfOk result (λ o. Grows o page.old page.new) }
+    ensures works { IfOk result (λ o. Worked o token.now page.old page.new) }
 {
     match symbol {
         // A character token.
@@ -159,13 +164,14 @@ fn table_rules_char(page: &mut Construction, token: &TokenKind, c: char) -> Resu
     ensures takes { IfOk result (λ o. Steps o token.now page.old page.new) }
     ensures falls { IfOk result (λ o. Falls o (Symbol.Char c) page.old page.new) }
     ensures grows { IfOk result (λ o. Grows o page.old page.new) }
+    ensures works { IfOk result (λ o. Worked o token.now page.old page.new) }
 {
     if collects_text(page) {
         page.enter(Mode::InTableText);
         return Ok(Outcome::Reprocess);
     }
-    let outcome = foster_rules(page, token, Symbol::Char(c))?;
-    Ok(outcome)
+    foster_char(page, token, c)?;
+    Ok(Outcome::Done)
 }
 
 /// Whether text in the current node is collected before it is put anywhere.
@@ -173,6 +179,7 @@ fn collects_text(page: &mut Construction) -> bool
     ensures rest { page.new ≡ record page.old { tree = page.new.tree } }
     ensures keeps { Keeps page.old page.new }
     ensures grown { Grown 0 0 0 0 0 page.old page.new }
+    ensures works { Works 6 0 6 page.old page.new }
 {
     let tag = page.current();
     tag.is_fostering() || tag.is(Tag::Template)
@@ -191,6 +198,7 @@ fn table_rules_start(
     ensures takes { IfOk result (λ o. Steps o token.now page.old page.new) }
     ensures falls { IfOk result (λ o. Falls o (Symbol.Start tag) page.old page.new) }
     ensures grows { IfOk result (λ o. Grows o page.old page.new) }
+    ensures works { IfOk result (λ o. Worked o token.now page.old page.new) }
 {
     match tag {
         // A start tag whose tag name is "table".
@@ -222,6 +230,7 @@ fn table_rules_end(page: &mut Construction, token: &TokenKind, tag: Tag) -> Resu
     ensures takes { IfOk result (λ o. Steps o token.now page.old page.new) }
     ensures falls { IfOk result (λ o. Falls o (Symbol.End tag) page.old page.new) }
     ensures grows { IfOk result (λ o. Grows o page.old page.new) }
+    ensures works { IfOk result (λ o. Worked o token.now page.old page.new) }
 {
     match tag {
         // An end tag whose tag name is "table".
@@ -254,6 +263,7 @@ fn table_in_table(page: &mut Construction, token: &TokenKind) -> Result<Outcome,
     ensures takes { IfOk result (λ o. Steps o token.now page.old page.new) }
     ensures falls { IfOk result (λ o. Falls o (Symbol.Start Tag.Table) page.old page.new) }
     ensures grows { IfOk result (λ o. Grows o page.old page.new) }
+    ensures works { IfOk result (λ o. Worked o token.now page.old page.new) }
 {
     if close_table(page) {
         return Ok(Outcome::Reprocess);
@@ -274,6 +284,7 @@ fn close_table(page: &mut Construction) -> bool
     ensures rest { page.new ≡ record page.old { tree = page.new.tree; stack = page.new.stack; mode = page.new.mode } }
     ensures keeps { Keeps page.old page.new }
     ensures grown { Grown 0 0 0 0 0 page.old page.new }
+    ensures works { Works 6 0 6 page.old page.new }
     ensures lighter { weight page.new.stack ≤ weight page.old.stack }
     ensures opened { 0 < length page.new.stack }
     ensures loose { is_loose page.new.mode ≡ true }
@@ -296,6 +307,7 @@ fn form_in_table(page: &mut Construction, token: &TokenKind) -> Result<(), Refus
     ensures takes { OnOk result (Takes token.now page.old page.new) }
     ensures falls { OnOk result (Falls Done (Symbol.Start Tag.Form) page.old page.new) }
     ensures grows { OnOk result (Grows Done page.old page.new) }
+    ensures works { OnOk result (Worked Done token.now page.old page.new) }
 {
     if page.has_template() {
         return page.drop_token(token, Symbol::Start(Tag::Form), Cause::Misplaced);
@@ -320,6 +332,7 @@ fn foster_rules(
     ensures takes { IfOk result (λ o. Steps o token.now page.old page.new) }
     ensures falls { IfOk result (λ o. Falls o symbol page.old page.new) }
     ensures grows { IfOk result (λ o. Grows o page.old page.new) }
+    ensures works { IfOk result (λ o. Worked o token.now page.old page.new) }
 {
     page.foster_on();
     let outcome = body_rules(page, token, symbol)?;

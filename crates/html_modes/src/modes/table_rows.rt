@@ -2,11 +2,13 @@
 ghost use Rattle.std.specs.Prelude.{◌≡◌, ◌+◌, ◌<◌, ◌≤◌, [], IfOk, OnOk, IsTrue, length, true, if◌then◌else◌};
 ghost use Rattle.html_ledger.specs.Symbols.{symbol_of};
 ghost use Rattle.html_ledger.specs.Flags.{is_free};
-ghost use Rattle.html_construction.specs.Built.{Keeps};
+ghost use Rattle.html_construction.specs.Built.{Keeps, Takes};
 ghost use Rattle.html_construction.specs.Grown.{Grown};
+ghost use Rattle.html_construction.specs.Works.{Works};
 ghost use Rattle.html_construction.specs.Weights.{weight};
 ghost use Rattle.html_modes.specs.Fitting.{Fits, Calls};
-ghost use Rattle.html_modes.specs.Steps.{Steps, Falls, Grows};
+ghost use Rattle.html_modes.specs.declared.outcome.Outcome.TheVariants.{Done};
+ghost use Rattle.html_modes.specs.Steps.{Falls, Grows, Steps, Worked};
 
 use crate::modes::cell::cell_start;
 use crate::modes::table::table_rules;
@@ -33,6 +35,7 @@ pub(crate) fn in_table_body(
     ensures takes { IfOk result (λ o. Steps o token.now page.old page.new) }
     ensures falls { IfOk result (λ o. Falls o symbol page.old page.new) }
     ensures grows { IfOk result (λ o. Grows o page.old page.new) }
+    ensures works { IfOk result (λ o. Worked o token.now page.old page.new) }
 {
     match symbol {
         // A start tag whose tag name is "tr": clear the stack back to a table body context.
@@ -79,6 +82,7 @@ fn table_body_end(page: &mut Construction, token: &TokenKind, tag: Tag) -> Resul
     ensures takes { IfOk result (λ o. Steps o token.now page.old page.new) }
     ensures falls { IfOk result (λ o. Falls o (Symbol.End tag) page.old page.new) }
     ensures grows { IfOk result (λ o. Grows o page.old page.new) }
+    ensures works { IfOk result (λ o. Worked o token.now page.old page.new) }
 {
     match tag {
         // An end tag whose tag name is "table".
@@ -90,10 +94,7 @@ fn table_body_end(page: &mut Construction, token: &TokenKind, tag: Tag) -> Resul
         }
         // An end tag whose tag name is one of: "tbody", "tfoot", "thead".
         _ if tag.is_section() => {
-            if page.has_in_scope(tag, Scope::Table) {
-                let _ = close_section(page);
-            }
-            page.end(token, Symbol::End(tag))?;
+            section_end(page, token, tag)?;
         }
         // An end tag whose tag name is one of: "body", "caption", "col", "colgroup", "html", "td", "th", "tr":
         // ignore the token.
@@ -107,12 +108,31 @@ fn table_body_end(page: &mut Construction, token: &TokenKind, tag: Tag) -> Resul
     Ok(Outcome::Done)
 }
 
+/// An end tag of a section in the section.
+#[tactic(auto, using(crate::proofs::Settled::part_rules))]
+fn section_end(page: &mut Construction, token: &TokenKind, tag: Tag) -> Result<(), Refusal>
+    requires mode { page.old.mode ≡ Mode.InTableBody }
+    requires symbol { symbol_of token.now ≡ Symbol.End tag }
+    requires calls { Calls page.old }
+    ensures fits { OnOk result (Fits page.new) }
+    ensures takes { OnOk result (Takes token.now page.old page.new) }
+    ensures falls { OnOk result (Falls Done (Symbol.End tag) page.old page.new) }
+    ensures grows { OnOk result (Grows Done page.old page.new) }
+    ensures works { OnOk result (Worked Done token.now page.old page.new) }
+{
+    if page.has_in_scope(tag, Scope::Table) {
+        let _ = close_section(page);
+    }
+    page.end(token, Symbol::End(tag))
+}
+
 /// Closes the section that is in scope and goes back to the table, and says whether there was one.
 fn close_section(page: &mut Construction) -> bool
     requires opened { 0 < length page.old.stack }
     ensures rest { page.new ≡ record page.old { tree = page.new.tree; stack = page.new.stack; mode = page.new.mode } }
     ensures keeps { Keeps page.old page.new }
     ensures grown { Grown 0 0 0 0 0 page.old page.new }
+    ensures works { Works 6 0 6 page.old page.new }
     ensures lighter { weight page.new.stack ≤ weight page.old.stack }
     ensures opened { 0 < length page.new.stack }
     ensures mode { page.new.mode ≡ (if result then Mode.InTable else page.old.mode) }
@@ -145,6 +165,7 @@ pub(crate) fn in_row(
     ensures takes { IfOk result (λ o. Steps o token.now page.old page.new) }
     ensures falls { IfOk result (λ o. Falls o symbol page.old page.new) }
     ensures grows { IfOk result (λ o. Grows o page.old page.new) }
+    ensures works { IfOk result (λ o. Worked o token.now page.old page.new) }
 {
     match symbol {
         // A start tag whose tag name is one of: "th", "td".
@@ -179,6 +200,7 @@ fn row_end(page: &mut Construction, token: &TokenKind, tag: Tag) -> Result<Outco
     ensures takes { IfOk result (λ o. Steps o token.now page.old page.new) }
     ensures falls { IfOk result (λ o. Falls o (Symbol.End tag) page.old page.new) }
     ensures grows { IfOk result (λ o. Grows o page.old page.new) }
+    ensures works { IfOk result (λ o. Worked o token.now page.old page.new) }
 {
     match tag {
         // An end tag whose tag name is "tr".
@@ -195,10 +217,8 @@ fn row_end(page: &mut Construction, token: &TokenKind, tag: Tag) -> Result<Outco
         }
         // An end tag whose tag name is one of: "tbody", "tfoot", "thead".
         _ if tag.is_section() => {
-            if page.has_in_scope(tag, Scope::Table) && close_row(page) {
-                return Ok(Outcome::Reprocess);
-            }
-            page.end(token, Symbol::End(tag))?;
+            let outcome = section_end_in_row(page, token, tag)?;
+            return Ok(outcome);
         }
         // An end tag whose tag name is one of: "body", "caption", "col", "colgroup", "html", "td", "th": ignore
         // the token.
@@ -212,12 +232,36 @@ fn row_end(page: &mut Construction, token: &TokenKind, tag: Tag) -> Result<Outco
     Ok(Outcome::Done)
 }
 
+/// An end tag of a section in a row, which closes the row first.
+#[tactic(auto, using(crate::proofs::Settled::part_rules))]
+fn section_end_in_row(
+    page: &mut Construction,
+    token: &TokenKind,
+    tag: Tag,
+) -> Result<Outcome, Refusal>
+    requires mode { page.old.mode ≡ Mode.InRow }
+    requires symbol { symbol_of token.now ≡ Symbol.End tag }
+    requires calls { Calls page.old }
+    ensures fits { OnOk result (Fits page.new) }
+    ensures takes { IfOk result (λ o. Steps o token.now page.old page.new) }
+    ensures falls { IfOk result (λ o. Falls o (Symbol.End tag) page.old page.new) }
+    ensures grows { IfOk result (λ o. Grows o page.old page.new) }
+    ensures works { IfOk result (λ o. Worked o token.now page.old page.new) }
+{
+    if page.has_in_scope(tag, Scope::Table) && close_row(page) {
+        return Ok(Outcome::Reprocess);
+    }
+    page.end(token, Symbol::End(tag))?;
+    Ok(Outcome::Done)
+}
+
 /// Closes the row that is in scope and goes back to the section, and says whether there was one.
 fn close_row(page: &mut Construction) -> bool
     requires opened { 0 < length page.old.stack }
     ensures rest { page.new ≡ record page.old { tree = page.new.tree; stack = page.new.stack; mode = page.new.mode } }
     ensures keeps { Keeps page.old page.new }
     ensures grown { Grown 0 0 0 0 0 page.old page.new }
+    ensures works { Works 6 0 6 page.old page.new }
     ensures lighter { weight page.new.stack ≤ weight page.old.stack }
     ensures opened { 0 < length page.new.stack }
     ensures mode { page.new.mode ≡ (if result then Mode.InTableBody else page.old.mode) }

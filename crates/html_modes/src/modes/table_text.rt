@@ -1,11 +1,13 @@
 // The mode in table text (13.2.6.4.10).
-ghost use Rattle.std.specs.Prelude.{◌≡◌, ◌+◌, ◌<◌, ◌≤◌, [], IfOk, OnOk, length};
+ghost use Rattle.std.specs.Prelude.{◌≡◌, ◌+◌, ◌<◌, ◌≤◌, [], IfOk, IsTrue, OnOk, length};
+ghost use Rattle.html_ledger.specs.Flags.{is_free};
 ghost use Rattle.html_ledger.specs.Symbols.{symbol_of};
 ghost use Rattle.html_construction.specs.Built.{Keeps, Takes};
 ghost use Rattle.html_construction.specs.Grown.{Grown};
+ghost use Rattle.html_construction.specs.Works.{Works};
 ghost use Rattle.html_construction.specs.Weights.{weight};
 ghost use Rattle.html_modes.specs.Fitting.{Fits};
-ghost use Rattle.html_modes.specs.Steps.{Steps, Falls, Spends, Settles};
+ghost use Rattle.html_modes.specs.Steps.{Counted, Counts, Falls, Settles, Spends, Steps};
 
 use crate::modes::body_start::body_char;
 use crate::outcome::Outcome;
@@ -27,6 +29,7 @@ pub(crate) fn in_table_text(
     ensures takes { IfOk result (λ o. Steps o token.now page.old page.new) }
     ensures falls { IfOk result (λ o. Falls o symbol page.old page.new) }
     ensures spends { OnOk result (Spends 2 page.old page.new) }
+    ensures counts { IfOk result (λ o. Counted o token.now page.old page.new) }
     ensures settles { IfOk result (λ o. Settles o symbol page.old page.new) }
 {
     match symbol {
@@ -54,6 +57,7 @@ fn flush(page: &mut Construction) -> Result<(), Refusal>
     ensures keeps { OnOk result (Keeps page.old page.new) }
     ensures quiet { OnOk result (page.new.ledger.kept ≡ []) }
     ensures spends { OnOk result (Spends 0 page.old page.new) }
+    ensures counts { OnOk result (Counts 0 0 page.old page.new) }
     ensures listed { OnOk result (length page.new.tree.list ≤ length page.new.ledger.fates) }
     ensures lighter { OnOk result (weight page.new.stack ≤ weight page.old.stack) }
     ensures opened { OnOk result (0 < length page.new.stack) }
@@ -75,6 +79,7 @@ fn settle_kept(page: &mut Construction, c: char, stays: bool) -> Result<(), Refu
     ensures takes { OnOk result (Takes (TokenKind.Char c) page.old page.new) }
     ensures quiet { OnOk result (page.new.ledger.kept ≡ []) }
     ensures grown { OnOk result (Grown 1 (length page.old.ledger.fates + 1) 0 1 0 page.old page.new) }
+    ensures works { OnOk result (Works 6 1 6 page.old page.new) }
     ensures lighter { OnOk result (weight page.new.stack ≤ weight page.old.stack) }
     ensures opened { OnOk result (0 < length page.new.stack) }
 {
@@ -98,6 +103,7 @@ fn settle_char(
     ensures takes { OnOk result (Takes token.now page.old page.new) }
     ensures quiet { OnOk result (page.new.ledger.kept ≡ []) }
     ensures grown { OnOk result (Grown 1 (length page.old.ledger.fates + 1) 0 1 0 page.old page.new) }
+    ensures works { OnOk result (Works 6 1 6 page.old page.new) }
     ensures lighter { OnOk result (weight page.new.stack ≤ weight page.old.stack) }
     ensures opened { OnOk result (0 < length page.new.stack) }
 {
@@ -110,6 +116,28 @@ fn settle_char(
     if stays {
         return page.insert_char(token, c);
     }
+    foster_char(page, token, c)
+}
+
+/// Puts a code point before the table, by the rules of the mode in body.
+pub(crate) fn foster_char(
+    page: &mut Construction,
+    token: &TokenKind,
+    c: char,
+) -> Result<(), Refusal>
+    requires symbol { symbol_of token.now ≡ Symbol.Char c }
+    requires opened { 0 < length page.old.stack }
+    requires quiet { page.old.ledger.kept ≡ [] }
+    requires listed { length page.old.tree.list ≤ length page.old.ledger.fates }
+    requires free { IsTrue (is_free page.old.ledger.history (Symbol.Char c)) }
+    ensures rest { OnOk result (page.new ≡ record page.old { tree = page.new.tree; ledger = page.new.ledger; stack = page.new.stack; frameset_ok = page.new.frameset_ok; fostering = page.new.fostering }) }
+    ensures takes { OnOk result (Takes token.now page.old page.new) }
+    ensures quiet { OnOk result (page.new.ledger.kept ≡ []) }
+    ensures grown { OnOk result (Grown 1 (length page.old.ledger.fates + 1) 0 1 0 page.old page.new) }
+    ensures works { OnOk result (Works 6 1 6 page.old page.new) }
+    ensures lighter { OnOk result (weight page.new.stack ≤ weight page.old.stack) }
+    ensures opened { OnOk result (0 < length page.new.stack) }
+{
     page.foster_on();
     body_char(page, token, c)?;
     page.foster_off();

@@ -5,9 +5,10 @@ ghost use Rattle.html_ledger.specs.Flags.{is_free};
 ghost use Rattle.html_construction.specs.Built.{Keeps, Takes};
 ghost use Rattle.html_construction.specs.Grown.{Grown};
 ghost use Rattle.html_construction.specs.Modes.{is_reset};
+ghost use Rattle.html_construction.specs.Works.{Works};
 ghost use Rattle.html_construction.specs.Weights.{weight};
 ghost use Rattle.html_modes.specs.Fitting.{Fits, Calls, is_loose};
-ghost use Rattle.html_modes.specs.Steps.{Steps, Falls, Grows};
+ghost use Rattle.html_modes.specs.Steps.{Falls, Grows, Steps, Worked};
 ghost use Rattle.html_modes.specs.Ranks.{rank};
 ghost use Rattle.html_modes.specs.declared.outcome.Outcome.TheVariants.{Done};
 
@@ -33,6 +34,7 @@ pub(crate) fn template_start_at(
     ensures takes { OnOk result (Takes token.now page.old page.new) }
     ensures falls { OnOk result (Falls Done (Symbol.Start Tag.Template) page.old page.new) }
     ensures grows { OnOk result (Grows Done page.old page.new) }
+    ensures works { OnOk result (Worked Done token.now page.old page.new) }
 {
     page.insert_at(token, Tag::Template, target)?;
     page.add_marker()?;
@@ -51,6 +53,7 @@ pub(crate) fn template_end(page: &mut Construction, token: &TokenKind) -> Result
     ensures takes { OnOk result (Takes token.now page.old page.new) }
     ensures falls { OnOk result (Falls Done (Symbol.End Tag.Template) page.old page.new) }
     ensures grows { OnOk result (Grows Done page.old page.new) }
+    ensures works { OnOk result (Worked Done token.now page.old page.new) }
 {
     if page.has_template() {
         let _ = close_template(page);
@@ -62,9 +65,11 @@ pub(crate) fn template_end(page: &mut Construction, token: &TokenKind) -> Result
 #[tactic(auto, using(crate::proofs::Settled::reset_rules))]
 fn close_template(page: &mut Construction) -> bool
     requires opened { 0 < length page.old.stack }
+    requires listed { length page.old.tree.list ≤ length page.old.ledger.fates }
     ensures rest { page.new ≡ record page.old { tree = page.new.tree; stack = page.new.stack; mode = page.new.mode; templates = page.new.templates } }
     ensures keeps { Keeps page.old page.new }
     ensures grown { Grown 0 0 0 0 0 page.old page.new }
+    ensures works { Works 6 0 6 page.old page.new }
     ensures lighter { weight page.new.stack ≤ weight page.old.stack }
     ensures opened { 0 < length page.new.stack }
     ensures found { result ≡ true → weight page.new.stack + 10 ≤ weight page.old.stack }
@@ -96,6 +101,7 @@ pub(crate) fn in_template(
     ensures takes { IfOk result (λ o. Steps o token.now page.old page.new) }
     ensures falls { IfOk result (λ o. Falls o symbol page.old page.new) }
     ensures grows { IfOk result (λ o. Grows o page.old page.new) }
+    ensures works { IfOk result (λ o. Worked o token.now page.old page.new) }
 {
     match symbol {
         // A character token, a comment token, a DOCTYPE token: process the token using the rules for the "in
@@ -137,6 +143,7 @@ pub(crate) fn template_eof(page: &mut Construction, token: &TokenKind) -> Result
     ensures takes { IfOk result (λ o. Steps o token.now page.old page.new) }
     ensures falls { IfOk result (λ o. Falls o (Symbol.Eof) page.old page.new) }
     ensures grows { IfOk result (λ o. Grows o page.old page.new) }
+    ensures works { IfOk result (λ o. Worked o token.now page.old page.new) }
 {
     if page.has_template() && close_template(page) {
         return Ok(Outcome::Reprocess);

@@ -4,9 +4,10 @@ ghost use Rattle.html_ledger.specs.Symbols.{symbol_of};
 ghost use Rattle.html_ledger.specs.Flags.{is_free};
 ghost use Rattle.html_construction.specs.Built.{Takes};
 ghost use Rattle.html_construction.specs.Grown.{Grown};
+ghost use Rattle.html_construction.specs.Works.{Works};
 ghost use Rattle.html_construction.specs.Weights.{weight_of};
 ghost use Rattle.html_modes.specs.Fitting.{Fits, Calls};
-ghost use Rattle.html_modes.specs.Steps.{Steps, Falls, Grows};
+ghost use Rattle.html_modes.specs.Steps.{Falls, Grows, Steps, Worked};
 ghost use Rattle.html_modes.specs.declared.outcome.Outcome.TheVariants.{Done};
 ghost use Rattle.html_names.specs.Tags.{is_same};
 
@@ -32,6 +33,7 @@ pub(crate) fn text_start(
     ensures takes { OnOk result (Takes token.now page.old page.new) }
     ensures falls { OnOk result (Falls Done (Symbol.Start tag) page.old page.new) }
     ensures grown { OnOk result (Grown 1 2 0 0 0 page.old page.new) }
+    ensures works { OnOk result (Works 6 0 6 page.old page.new) }
 {
     let target = page.here();
     text_start_at(page, token, tag, target)
@@ -53,6 +55,7 @@ pub(crate) fn text_start_at(
     ensures takes { OnOk result (Takes token.now page.old page.new) }
     ensures falls { OnOk result (Falls Done (Symbol.Start tag) page.old page.new) }
     ensures grown { OnOk result (Grown 1 2 0 0 0 page.old page.new) }
+    ensures works { OnOk result (Works 6 0 6 page.old page.new) }
 {
     page.insert_at(token, tag, target)?;
     page.enter(Mode::Text);
@@ -75,6 +78,7 @@ pub(crate) fn text(
     ensures takes { IfOk result (λ o. Steps o token.now page.old page.new) }
     ensures falls { IfOk result (λ o. Falls o symbol page.old page.new) }
     ensures grows { IfOk result (λ o. Grows o page.old page.new) }
+    ensures works { IfOk result (λ o. Worked o token.now page.old page.new) }
 {
     match symbol {
         // A character token: insert the token's character. (No tokenizer gives U+0000 here.)
@@ -110,6 +114,7 @@ pub(crate) fn insert_text_char(
     ensures takes { OnOk result (Takes token.now page.old page.new) }
     ensures quiet { OnOk result (page.new.ledger.kept ≡ []) }
     ensures grown { OnOk result (Grown 1 1 0 0 0 page.old page.new) }
+    ensures works { OnOk result (Works 6 0 6 page.old page.new) }
 {
     if c == '\0' {
         return page.drop_token(token, Symbol::Char(c), Cause::Null);

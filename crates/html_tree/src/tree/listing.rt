@@ -122,7 +122,7 @@ impl OpenTree {
         ensures rest { self.new ≡ record self.old { stack = self.new.stack; list = self.new.list; tree = self.new.tree; steps = self.new.steps } }
         ensures exact { IfOk result (λ end. IsAdopted name foster end self.old self.new) }
         ensures clones { OnOk result (HasCloned self.old self.new) }
-        ensures steps { self.new.steps ≤ self.old.steps + (32 * ((length self.old.stack + length self.old.list + 4) * (length self.old.stack + length self.old.list + 4)) + 8 * length self.new.tree.labels) }
+        ensures steps { self.new.steps ≤ self.old.steps + (8 * length self.new.tree.labels + 32 * length self.old.stack + 24 * length self.old.list + 291) }
         ensures keeps { OnOk result (Keeps self.old self.new) }
         ensures grown { OnOk result (Grown 32 0 0 (32 * listed_weight self.old) self.old self.new) }
         ensures lighter { IsLighterBesides self.old self.new }

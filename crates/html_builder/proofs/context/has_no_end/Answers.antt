@@ -1,9 +1,8 @@
 use Rattle.std.proofs.Common.{ℕ, suc, Bool, true, false, not, ◌&&◌, ◌≡◌, ◌<◌, List, [], ◌∷◌, ◌++◌, length, take, drop, get_or, ◌+◌, sym, ap, subst, ◌∙◌, map-id, add-one, drop-cons, take-append-drop, chars, refl}
 use Rattle.std.specs.List.{list_all}
-use Rattle.std.proofs.lemmas.Bool.{true≢false}
 use Rattle.std.proofs.lemmas.Iterator.{YieldsList-from_chars}
 use Rattle.std.proofs.lemmas.Iterator.Consumers.{YieldsList-so_far, YieldsList-turn, YieldsList-end}
-use Rattle.html_builder.specs.Contexts.{ends_name, stays_in_name}
+use Rattle.html_builder.specs.Contexts.{stays_in_name}
 use Rattle.html_builder.proofs.context.has_no_end.Goals as goal
 
 -- a list is what was taken, the next item, and the rest

@@ -1,10 +1,13 @@
-use Rattle.std.proofs.Common.{ℕ, ◌≡◌, ◌+◌, ◌*◌, ◌<◌, ◌≤◌, length}
+use Rattle.std.proofs.Common.{◌+◌, ◌*◌, ◌≤◌, length}
 use Rattle.html_construction.specs.Built.{Keeps}
-use Rattle.html_construction.specs.Copies.{implied_length}
+use Rattle.html_construction.specs.Copies.{implied_count}
 use Rattle.html_construction.specs.Weights.{weight}
+use Rattle.html_construction.specs.Works.{reach_of, toll_of}
 use Rattle.html_modes.specs.Fitting.{Fits}
+use Rattle.html_modes.specs.Plain.{IsNext}
 use Rattle.html_modes.specs.Ranks.{rank}
-use Rattle.html_modes.specs.Steps.{ClonesFew, allowance}
+use Rattle.html_modes.specs.Steps.{ClonesFew, allowance, fee_of, turn_of}
+use Rattle.html_modes.proofs.Plain.{IsAlike}
 use Rattle.html_modes.proofs.process.take.Given as goal
 
 abbrev pub invariant-steps : goal.invariant-steps
@@ -14,8 +17,15 @@ invariant-steps l = record {
   nodes : length l.page.tree.tree.labels + 2 * (weight l.page.stack + rank l.page.mode l.symbol) + allowance (length l.initial.page.ledger.fates)
       ≤ length l.initial.page.tree.tree.labels + 2 * (weight l.initial.page.stack + rank l.initial.page.mode l.symbol) + allowance (length l.page.ledger.fates);
   clones : ClonesFew l.initial.page l.page;
-  implied : implied_length l.page.tree.tree.labels + 8 * (weight l.page.stack + rank l.page.mode l.symbol)
-      ≤ implied_length l.initial.page.tree.tree.labels + 8 * (weight l.initial.page.stack + rank l.initial.page.mode l.symbol);
+  implied : implied_count l.page.tree.tree.labels + (weight l.page.stack + rank l.page.mode l.symbol)
+      ≤ implied_count l.initial.page.tree.tree.labels + (weight l.initial.page.stack + rank l.initial.page.mode l.symbol);
+  reach : reach_of l.initial.page ≤ reach_of l.page;
+  toll : toll_of l.initial.page ≤ toll_of l.page;
+  counts : l.page.tree.steps + length l.initial.page.ledger.fates * fee_of l.page + (weight l.page.stack + rank l.page.mode l.symbol) * turn_of l.page
+      ≤ l.initial.page.tree.steps + length l.page.ledger.fates * fee_of l.page + (weight l.initial.page.stack + rank l.initial.page.mode l.symbol) * turn_of l.page;
+  fates : length l.initial.page.ledger.fates ≤ length l.page.ledger.fates;
+  plain : IsNext l.symbol l.token l.initial.page → IsAlike l.initial.page l.page;
+  falls : weight l.page.stack + rank l.page.mode l.symbol ≤ weight l.initial.page.stack + rank l.initial.page.mode l.symbol;
 }
 
 abbrev pub decreases-steps : goal.decreases-steps

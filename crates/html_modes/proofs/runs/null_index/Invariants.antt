@@ -1,4 +1,4 @@
-use Rattle.std.proofs.Common.{ℕ, ◌≡◌, ◌==◌, ◌-◌, ◌<◌, ◌≤◌, true, false, length, take}
+use Rattle.std.proofs.Common.{◌≡◌, ◌-◌, ◌≤◌, true, length, take}
 use Rattle.std.specs.List.{list_all}
 use Rattle.html_ledger.specs.Flags.{is_not_null}
 use Rattle.html_modes.proofs.runs.null_index.Given as goal

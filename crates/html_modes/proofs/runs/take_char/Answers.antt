@@ -1,5 +1,11 @@
 use Rattle.html_modes.proofs.Settled.{char-foreign}
+use Rattle.html_modes.proofs.TextRuns.{char-goes-on}
 use Rattle.html_modes.proofs.runs.take_char.Goals as goal
 
 pub returns-clause-takes : goal.returns-clause-takes
 returns-clause-takes c = c.in_ok-take.ensures.takes (char-foreign c.args.c c.in_ok-take.field-0 c.in_ok-take.ensures.foreign)
+
+pub returns-clause-plain : goal.returns-clause-plain
+returns-clause-plain c = λ v.
+    char-goes-on c.args.c c.args.page.now c.take.new.page v
+    (c.in_ok-take.ensures.plain (char-foreign c.args.c c.in_ok-take.field-0 c.in_ok-take.ensures.foreign))

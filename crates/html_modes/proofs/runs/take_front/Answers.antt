@@ -1,11 +1,11 @@
-use Rattle.std.proofs.Common.{rules, arith, ℕ, zero, suc, ◌≡◌, ◌==◌, ◌<◌, ◌≤◌, ◌∷◌, [], List, Bool, true, false, not, ◌&&◌, IsTrue, length, take, refl, sym, subst, ap, get_or}
+use Rattle.std.proofs.Common.{arith, ℕ, zero, suc, ◌==◌, ◌≡◌, ◌<◌, ◌∷◌, [], List, Bool, true, false, not, ◌&&◌, IsTrue, length, take, refl, sym, subst, ap, get_or}
 use Rattle.std.specs.Prelude.{slice_get, Some}
 use Rattle.std.specs.List.{list_all}
 use Rattle.std.proofs.lemmas.Bool.{false≢true}
-use Rattle.std.proofs.lemmas.Grind.{common_steps}
 use Rattle.html_ledger.specs.declared.history.History.{History}
 use Rattle.html_ledger.specs.declared.symbol.Symbol.TheVariants.{Char}
 use Rattle.html_ledger.specs.Flags.{is_free, is_not_null, may_text_run}
+use Rattle.html_modes.specs.Plain.{GoesOnText}
 use Rattle.html_modes.proofs.runs.take_front.Goals as goal
 
 three : (a b c : Bool) → a ≡ false → b ≡ true → IsTrue c → IsTrue (not a && (b && c))
@@ -30,3 +30,22 @@ take_run-requires-clause-may c =
     may-run c.args.page.now.ledger.history c.args.text.now c.null_index-end.result c.index-text-0.result first
     (c.null_index-end.ensures.some c.index-text-0.result first (c.takes_run.ensures.visible c.if-takes_run.true))
     (c.takes_run.ensures.doctype c.if-takes_run.true) c.null_index-end.ensures.visible (c.takes_run.ensures.free c.if-takes_run.true)
+
+-- the first of code points none of which is U+0000
+first-taken : (text : List ℕ) (x : ℕ) → 0 < length text → x ≡ get_or text 0 x → take 1 text ≡ x ∷ []
+first-taken [] x h e = absurd (omega arith)
+first-taken (y ∷ ys) x h e = ap (λ z. z ∷ []) (sym e)
+
+first-visible : (text : List ℕ) (x : ℕ) → 0 < length text → x ≡ get_or text 0 x → list_all is_not_null (take 1 text) ≡ true → (x == 0) ≡ false
+first-visible [] x h e v = absurd (omega arith)
+first-visible (y ∷ ys) x h e v = subst (λ z. (z == 0) ≡ false) (sym e) (by (y == 0) v)
+  where
+    by : (b : Bool) → (not b && true) ≡ true → b ≡ false
+    by true v = absurd (false≢true v)
+    by false v = refl
+
+pub returns-clause-plain : goal.returns-clause-plain
+returns-clause-plain c = λ v.
+    let x = c.index-text-0-2.result in
+    subst (λ run. GoesOnText run c.args.page.now c.take_char.new.page) (sym (first-taken c.args.text.now x c.requires.some c.index-text-0-2.is))
+    (c.in_ok-take_char.ensures.plain (first-visible c.args.text.now x c.requires.some c.index-text-0-2.is v))

@@ -140,7 +140,7 @@ returns-in_err-end-clause-cause c =
 pub returns-clause-steps : goal.returns-clause-steps
 returns-clause-steps c =
     let h = c.rounding.auto._index-end in
-    subst (λ (n : ℕ). IsCounted c.args.arena.now.steps c.rounding.arena.steps (length c.rounding.arena.labels - n) (32 * ((length c.args.stack.now + length c.args.list.now + 4) * (length c.args.stack.now + length c.args.list.now + 4)) + 8 * length c.rounding.arena.labels)) (ap (λ (t : Tree). length t.labels) (c.pop_unlisted.ensures.same_tree c.if-pop_unlisted.false))
+    subst (λ (n : ℕ). IsCounted c.args.arena.now.steps c.rounding.arena.steps (length c.rounding.arena.labels - n) (8 * length c.rounding.arena.labels + 32 * length c.args.stack.now + 24 * length c.args.list.now + 291)) (ap (λ (t : Tree). length t.labels) (c.pop_unlisted.ensures.same_tree c.if-pop_unlisted.false))
     (counted-end c.rounding._index c.args.arena.now.steps c.pop_unlisted.new.arena.steps c.rounding.arena.steps (length c.pop_unlisted.new.arena.labels) (length c.rounding.arena.labels) (length c.args.stack.now) (length c.args.list.now) (omega (arith, h)) c.pop_unlisted.ensures.steps
     (subst (λ (v : List ℕ). IsCounted c.pop_unlisted.new.arena.steps c.rounding.arena.steps (length c.rounding.arena.labels - length c.pop_unlisted.new.arena.labels) (times c.rounding._index (length c.rounding.arena.labels + 4 * length v + 3 * length c.args.list.now + 36))) (c.pop_unlisted.ensures.same_stack c.if-pop_unlisted.false)
     (c.rounding.invariant.counted)))
@@ -153,7 +153,7 @@ pub returns-in-Some-clause-steps : goal.returns-in-Some-clause-steps
 returns-in-Some-clause-steps c =
     let h = c.rounding-test.true in
     let k = ends-grown c.args.name c.in-Some.end (open_at c.rounding.stack c.rounding.list c.rounding.arena) (open_at c.turn-turned.new.stack c.turn-turned.new.list c.turn-turned.new.arena) (subst (λ (e : Option AdoptEnd). IsTurn c.args.name c.args.foster e (open_at c.rounding.stack c.rounding.list c.rounding.arena) (open_at c.turn-turned.new.stack c.turn-turned.new.list c.turn-turned.new.arena)) c.in-Some.is c.in_ok-end.ensures.turned) in
-    subst (λ (n : ℕ). IsCounted c.args.arena.now.steps c.turn-turned.new.arena.steps (length c.turn-turned.new.arena.labels - n) (32 * ((length c.args.stack.now + length c.args.list.now + 4) * (length c.args.stack.now + length c.args.list.now + 4)) + 8 * length c.turn-turned.new.arena.labels)) (ap (λ (t : Tree). length t.labels) (c.pop_unlisted.ensures.same_tree c.if-pop_unlisted.false))
+    subst (λ (n : ℕ). IsCounted c.args.arena.now.steps c.turn-turned.new.arena.steps (length c.turn-turned.new.arena.labels - n) (8 * length c.turn-turned.new.arena.labels + 32 * length c.args.stack.now + 24 * length c.args.list.now + 291)) (ap (λ (t : Tree). length t.labels) (c.pop_unlisted.ensures.same_tree c.if-pop_unlisted.false))
     (counted-end (suc c.rounding._index) c.args.arena.now.steps c.pop_unlisted.new.arena.steps c.turn-turned.new.arena.steps (length c.pop_unlisted.new.arena.labels) (length c.turn-turned.new.arena.labels) (length c.args.stack.now) (length c.args.list.now) (omega (arith, h)) c.pop_unlisted.ensures.steps
     (subst (λ (v : List ℕ). IsCounted c.pop_unlisted.new.arena.steps c.turn-turned.new.arena.steps (length c.turn-turned.new.arena.labels - length c.pop_unlisted.new.arena.labels) (times (suc c.rounding._index) (length c.turn-turned.new.arena.labels + 4 * length v + 3 * length c.args.list.now + 36))) (c.pop_unlisted.ensures.same_stack c.if-pop_unlisted.false)
     (counted-round c.rounding._index (suc c.rounding._index) c.pop_unlisted.new.arena.steps c.rounding.arena.steps c.turn-turned.new.arena.steps (length c.pop_unlisted.new.arena.labels) (length c.rounding.arena.labels) (length c.turn-turned.new.arena.labels) (length c.rounding.stack) (length c.rounding.list) (length c.pop_unlisted.new.stack) (length c.args.list.now) refl c.rounding-test.true (labels-longer (open_at c.pop_unlisted.new.stack c.args.list.now c.pop_unlisted.new.arena) c.rounding.arena c.rounding.invariant.descends.made) (omega (arith, k)) c.rounding.invariant.shorter c.rounding.invariant.listed c.rounding.invariant.counted c.turn-turned.ensures.steps)))
@@ -162,7 +162,7 @@ pub returns-in_err-end-clause-steps : goal.returns-in_err-end-clause-steps
 returns-in_err-end-clause-steps c =
     let h = c.rounding-test.true in
     let k = labels-longer (open_at c.rounding.stack c.rounding.list c.rounding.arena) c.turn-turned.new.arena (stopped-made c.args.name (open_at c.rounding.stack c.rounding.list c.rounding.arena) (open_at c.turn-turned.new.stack c.turn-turned.new.list c.turn-turned.new.arena) c.in_err-end.field-0.0 c.in_err-end.ensures.stopped) in
-    subst (λ (n : ℕ). IsCounted c.args.arena.now.steps c.turn-turned.new.arena.steps (length c.turn-turned.new.arena.labels - n) (32 * ((length c.args.stack.now + length c.args.list.now + 4) * (length c.args.stack.now + length c.args.list.now + 4)) + 8 * length c.turn-turned.new.arena.labels)) (ap (λ (t : Tree). length t.labels) (c.pop_unlisted.ensures.same_tree c.if-pop_unlisted.false))
+    subst (λ (n : ℕ). IsCounted c.args.arena.now.steps c.turn-turned.new.arena.steps (length c.turn-turned.new.arena.labels - n) (8 * length c.turn-turned.new.arena.labels + 32 * length c.args.stack.now + 24 * length c.args.list.now + 291)) (ap (λ (t : Tree). length t.labels) (c.pop_unlisted.ensures.same_tree c.if-pop_unlisted.false))
     (counted-end (suc c.rounding._index) c.args.arena.now.steps c.pop_unlisted.new.arena.steps c.turn-turned.new.arena.steps (length c.pop_unlisted.new.arena.labels) (length c.turn-turned.new.arena.labels) (length c.args.stack.now) (length c.args.list.now) (omega (arith, h)) c.pop_unlisted.ensures.steps
     (subst (λ (v : List ℕ). IsCounted c.pop_unlisted.new.arena.steps c.turn-turned.new.arena.steps (length c.turn-turned.new.arena.labels - length c.pop_unlisted.new.arena.labels) (times (suc c.rounding._index) (length c.turn-turned.new.arena.labels + 4 * length v + 3 * length c.args.list.now + 36))) (c.pop_unlisted.ensures.same_stack c.if-pop_unlisted.false)
     (counted-round c.rounding._index (suc c.rounding._index) c.pop_unlisted.new.arena.steps c.rounding.arena.steps c.turn-turned.new.arena.steps (length c.pop_unlisted.new.arena.labels) (length c.rounding.arena.labels) (length c.turn-turned.new.arena.labels) (length c.rounding.stack) (length c.rounding.list) (length c.pop_unlisted.new.stack) (length c.args.list.now) refl c.rounding-test.true (labels-longer (open_at c.pop_unlisted.new.stack c.args.list.now c.pop_unlisted.new.arena) c.rounding.arena c.rounding.invariant.descends.made) (omega (arith, k)) c.rounding.invariant.shorter c.rounding.invariant.listed c.rounding.invariant.counted c.turn-turned.ensures.steps)))

@@ -1,7 +1,14 @@
-use Rattle.std.proofs.Common.{inl, None}
-use Rattle.std.proofs.lemmas.Result.{IfErr-weaker, IfOk-weaker}
+use Rattle.std.proofs.Common.{◌∙◌, inl, None, subst, sym}
+use Rattle.std.proofs.lemmas.Result.{IfErr-weaker, IfOk-weaker, err_from_is_err_and}
+use Rattle.html_parser.specs.Causes.{IsCause}
 use Rattle.html_parser.specs.Start.{fragment_start}
 use Rattle.html_parser.proofs.parsing.parse_fragment.Goals as goal
+
+pub returns-in_err-check_length-clause-cause : goal.returns-in_err-check_length-clause-cause
+returns-in_err-check_length-clause-cause c =
+    let p = err_from_is_err_and c.from_residual-in_err-check_length.result c.from_residual-in_err-check_length.ensures.1 in
+    let long = c.in_err-check_length.ensures.too_long in
+    rw p.1 (inl (subst (λ e. IsCause (fragment_start c.args.table.now c.args.context.now None) c.args.bytes.now e) (sym (p.2 ∙ long.0)) long.1))
 
 pub returns-clause-page : goal.returns-clause-page
 returns-clause-page c = IfOk-weaker c.page_of.result _ _

@@ -1,6 +1,8 @@
 use Rattle.std.proofs.Common.{subst, sym}
+use Rattle.html_ledger.specs.declared.setting.Setting.TheVariants.{Document}
 use Rattle.html_builder.specs.Handed.{Handed}
 use Rattle.html_builder.proofs.Endings.{bounded, outcome}
+use Rattle.html_builder.proofs.Plainly.{page-shown}
 use Rattle.html_builder.proofs.builder.Builder.finish.Goals as goal
 
 pub returns-clause-outcome : goal.returns-clause-outcome
@@ -12,4 +14,9 @@ returns-clause-outcome c = λ s l ts h e.
 pub returns-clause-bounds : goal.returns-clause-bounds
 returns-clause-bounds c = λ s l ts h n k.
     bounded s l ts (record { page = c.self.inside.construction; stopped = c.self.inside.stopped }) n c.into_parts.result.0
-    (subst (λ b. Handed s l ts b) (sym c.self.view_is) h) k c.into_parts.ensures.nodes c.into_parts.ensures.well_formed c.into_parts.ensures.held
+    (subst (λ b. Handed s l ts b) (sym c.self.view_is) h) k c.into_parts.ensures.nodes c.into_parts.ensures.well_formed c.into_parts.ensures.held c.into_parts.ensures.steps
+
+pub returns-clause-plain : goal.returns-clause-plain
+returns-clause-plain c = λ l ts h page p e.
+    let k : Handed Document l ts (record { page = c.self.inside.construction; stopped = c.self.inside.stopped }) = subst (λ b. Handed Document l ts b) (sym c.self.view_is) h in
+    page-shown ts c.self.inside.construction page p e k.plain c.into_parts.result.0 c.into_parts.ensures.nodes

@@ -1,7 +1,8 @@
 use Rattle.std.proofs.Common.{refl}
-use Rattle.html_construction.proofs.Kept.{kept, lighter-besides, stack-is}
+use Rattle.html_construction.proofs.Kept.{kept, lighter-besides, stack-is, adds-none}
 use Rattle.html_construction.proofs.Copying.{grown-kept}
 use Rattle.html_construction.proofs.Cloning.{adopted-copies}
+use Rattle.html_construction.proofs.Working.{works-adopted}
 use Rattle.html_construction.proofs.construction.Construction.adopt.Goals as goal
 
 pub returns-clause-keeps : goal.returns-clause-keeps
@@ -14,3 +15,6 @@ pub returns-clause-grown : goal.returns-clause-grown
 returns-clause-grown c =
     grown-kept 32 0 8 0 0 _ c.args.self.now _ _ c.self.view_is c.in_ok-end.ensures.grown
     (adopted-copies c.args.tag c.self.inside.registers.fostering c.in_ok-end.end c.self.inside.tree _ c.laws.ensures.sound c.in_ok-end.ensures.exact)
+
+pub returns-clause-works : goal.returns-clause-works
+returns-clause-works c = works-adopted c.args.self.now _ _ c.self.view_is c.laws.ensures.sound c.self.invariant.tokens c.requires.listed c.in_ok-end.ensures.keeps (adds-none _ _ refl) c.adopt.ensures.steps

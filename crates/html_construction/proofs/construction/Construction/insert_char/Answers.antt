@@ -1,5 +1,5 @@
 use Rattle.html_ledger.specs.declared.symbol.Symbol.TheVariants.{Char}
-use Rattle.std.proofs.Common.{ap, ◌∙◌}
+use Rattle.std.proofs.Common.{ap, ◌∙◌, arith}
 use Rattle.html_ledger.specs.Entries.{Entries, given}
 use Rattle.html_construction.proofs.Kept.{adds, still, taken, told-char}
 use Rattle.html_construction.proofs.Building.{text-limits}
@@ -7,6 +7,8 @@ use Rattle.html_tree.specs.States.{State as Tree}
 use Rattle.html_construction.specs.States.{State}
 use Rattle.html_ledger.specs.declared.fate.Fate.TheVariants.{Text}
 use Rattle.html_construction.proofs.Copying.{copied-text, grown-given}
+use Rattle.html_construction.proofs.Working.{works-text}
+use Rattle.std.proofs.lemmas.Grind.{common_steps}
 use Rattle.html_construction.proofs.construction.Construction.insert_char.Goals as goal
 
 pub invariant_of-self : goal.invariant_of-self
@@ -19,3 +21,8 @@ pub returns-clause-grown : goal.returns-clause-grown
 returns-clause-grown c =
     grown-given 1 0 0 _ c.args.self.now _ _ c.give.new.self _ c.self.view_is (ap (λ (x : Entries). x.fates) c.in_ok-give.ensures.given) c.in_ok-node.ensures.grown
     (copied-text c.self.inside.tree _ c.self.inside.registers.fostering _ (ap (λ (x : Tree). x.tree) c.in_ok-node.ensures.exact))
+
+pub returns-clause-works : goal.returns-clause-works
+returns-clause-works c =
+    works-text 1 c.args.self.now _ _ c.give.new.self c.self.view_is c.laws.ensures.sound c.self.invariant.tokens c.in_ok-node.ensures.keeps (adds _ _ _ (ap (λ (x : Entries). x.fates) c.in_ok-give.ensures.given))
+    (let h = c.in_ok-node.ensures.steps in let k = c.in_ok-node.ensures.count.1 in grind (arith, common_steps, h, k))

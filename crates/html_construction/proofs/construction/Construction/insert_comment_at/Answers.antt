@@ -1,10 +1,11 @@
 use Rattle.html_ledger.specs.declared.symbol.Symbol.TheVariants.{Comment}
-use Rattle.std.proofs.Common.{refl, ap}
-use Rattle.html_construction.proofs.Kept.{adds-made, behind, made-next, taken-made, told-made, made-comment}
+use Rattle.std.proofs.Common.{refl, ap, arith}
+use Rattle.html_construction.proofs.Kept.{adds-made, behind, made-next, taken-made, told-made, made-comment, adds-none}
 use Rattle.html_tree.specs.States.{State as Tree}
 use Rattle.html_tree.specs.Targets.{place_for}
 use Rattle.html_arena.specs.declared.data.NewNode.TheVariants as new
 use Rattle.html_construction.proofs.Copying.{copied-comment, grown-made}
+use Rattle.html_construction.proofs.Working.{works-walk-made}
 use Rattle.html_construction.proofs.construction.Construction.insert_comment_at.Goals as goal
 
 pub insert_comment-requires-clause-token : goal.insert_comment-requires-clause-token
@@ -20,3 +21,8 @@ pub returns-clause-grown : goal.returns-clause-grown
 returns-clause-grown c =
     grown-made 2 0 0 _ c.args.self.now _ _ _ _ _ _ c.self.view_is c.in_ok-number.ensures.rest refl c.in_ok-number.ensures.fate c.in_ok-insert_comment.ensures.grown
     (copied-comment c.self.inside.tree.tree _ (place_for c.self.inside.tree c.args.target) c.in_ok-text.text c.in_ok-number.number (ap (λ (x : Tree). x.tree) c.in_ok-insert_comment.ensures.exact))
+
+pub returns-clause-works : goal.returns-clause-works
+returns-clause-works c =
+    works-walk-made c.args.self.now _ _ _ c.self.inside.ledger _ _ c.self.view_is c.in_ok-number.ensures.rest c.in_ok-number.ensures.fate
+    c.laws.ensures.sound c.self.invariant.tokens c.in_ok-insert_comment.ensures.keeps (adds-none _ _ refl) (let h = c.in_ok-insert_comment.ensures.steps in omega (arith, h))

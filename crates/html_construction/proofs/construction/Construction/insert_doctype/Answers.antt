@@ -1,11 +1,12 @@
 use Rattle.html_ledger.specs.declared.symbol.Symbol.TheVariants.{Doctype}
-use Rattle.std.proofs.Common.{refl, ap}
-use Rattle.html_construction.proofs.Kept.{adds-made, behind, made-next, taken-made, told-made, made-doctype}
+use Rattle.std.proofs.Common.{refl, ap, arith}
+use Rattle.html_construction.proofs.Kept.{adds-made, behind, made-next, taken-made, told-made, made-doctype, adds-none}
 use Rattle.html_tree.specs.States.{State as Tree}
 use Rattle.html_tree.specs.Targets.{place_for}
 use Rattle.html_arena.specs.declared.data.NewNode.TheVariants as new
 use Rattle.html_tree.specs.declared.groups.Target.TheVariants as target
 use Rattle.html_construction.proofs.Copying.{copied-doctype, grown-made}
+use Rattle.html_construction.proofs.Working.{works-walk-made}
 use Rattle.html_construction.proofs.construction.Construction.insert_doctype.Goals as goal
 
 pub insert_doctype-requires : goal.insert_doctype-requires
@@ -21,3 +22,8 @@ pub returns-clause-grown : goal.returns-clause-grown
 returns-clause-grown c =
     grown-made 2 0 0 _ c.args.self.now _ _ _ _ _ _ c.self.view_is c.in_ok-number.ensures.rest refl c.in_ok-number.ensures.fate c.in_ok-insert_doctype.ensures.grown
     (copied-doctype c.self.inside.tree.tree _ (place_for c.self.inside.tree target.Document) c.in_ok-ids.ids.name c.in_ok-ids.ids.«public» c.in_ok-ids.ids.system c.in_ok-number.number (ap (λ (x : Tree). x.tree) c.in_ok-insert_doctype.ensures.exact))
+
+pub returns-clause-works : goal.returns-clause-works
+returns-clause-works c =
+    works-walk-made c.args.self.now _ _ _ c.self.inside.ledger _ _ c.self.view_is c.in_ok-number.ensures.rest c.in_ok-number.ensures.fate
+    c.laws.ensures.sound c.self.invariant.tokens c.in_ok-insert_doctype.ensures.keeps (adds-none _ _ refl) (let h = c.in_ok-insert_doctype.ensures.steps in omega (arith, h))

@@ -1,10 +1,11 @@
-use Rattle.std.proofs.Common.{refl, ap}
-use Rattle.html_construction.proofs.Kept.{implied, still}
+use Rattle.std.proofs.Common.{refl, ap, arith}
+use Rattle.html_construction.proofs.Kept.{implied, still, adds-none}
 use Rattle.html_tree.specs.States.{State as Tree}
 use Rattle.html_names.specs.declared.tag.Tag.TheVariants as tag
 use Rattle.html_tree.specs.Targets.{place_for}
 use Rattle.html_tree.specs.declared.groups.Target.TheVariants as target
 use Rattle.html_construction.proofs.Copying.{copied-implied, grown-kept}
+use Rattle.html_construction.proofs.Working.{works-walk}
 use Rattle.html_construction.proofs.construction.Construction.insert_implied_root.Goals as goal
 
 pub invariant_of-self : goal.invariant_of-self
@@ -15,5 +16,8 @@ returns-clause-keeps c = implied _ c.args.self.now _ (place_for c.self.inside.tr
 
 pub returns-clause-grown : goal.returns-clause-grown
 returns-clause-grown c =
-    grown-kept 2 0 0 8 1 _ c.args.self.now _ _ c.self.view_is c.in_ok-insert_implied_root.ensures.grown
-    (copied-implied c.self.inside.tree.tree _ (place_for c.self.inside.tree target.Document) tag.Html refl (ap (λ (x : Tree). x.tree) c.in_ok-insert_implied_root.ensures.exact))
+    grown-kept 2 0 0 1 1 _ c.args.self.now _ _ c.self.view_is c.in_ok-insert_implied_root.ensures.grown
+    (copied-implied c.self.inside.tree.tree _ (place_for c.self.inside.tree target.Document) tag.Html (ap (λ (x : Tree). x.tree) c.in_ok-insert_implied_root.ensures.exact))
+
+pub returns-clause-works : goal.returns-clause-works
+returns-clause-works c = works-walk c.args.self.now _ _ c.self.inside.ledger c.self.view_is c.laws.ensures.sound c.self.invariant.tokens c.in_ok-insert_implied_root.ensures.keeps (adds-none _ _ refl) (let h = c.in_ok-insert_implied_root.ensures.steps in omega (arith, h))

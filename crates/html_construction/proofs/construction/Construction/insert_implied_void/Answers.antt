@@ -1,7 +1,8 @@
-use Rattle.std.proofs.Common.{refl, ap}
-use Rattle.html_construction.proofs.Kept.{implied, still}
+use Rattle.std.proofs.Common.{refl, ap, arith}
+use Rattle.html_construction.proofs.Kept.{implied, still, adds-none}
 use Rattle.html_tree.specs.States.{State as Tree}
 use Rattle.html_construction.proofs.Copying.{copied-implied, grown-kept}
+use Rattle.html_construction.proofs.Working.{works-walk}
 use Rattle.html_construction.proofs.construction.Construction.insert_implied_void.Goals as goal
 
 pub invariant_of-self : goal.invariant_of-self
@@ -12,5 +13,8 @@ returns-clause-keeps c = implied _ c.args.self.now _ _ c.args.tag c.self.view_is
 
 pub returns-clause-grown : goal.returns-clause-grown
 returns-clause-grown c =
-    grown-kept 2 0 0 8 0 _ c.args.self.now _ _ c.self.view_is c.in_ok-insert_implied_void.ensures.grown
-    (copied-implied c.self.inside.tree.tree _ (_) c.args.tag c.requires.alone (ap (λ (x : Tree). x.tree) c.in_ok-insert_implied_void.ensures.exact))
+    grown-kept 2 0 0 1 0 _ c.args.self.now _ _ c.self.view_is c.in_ok-insert_implied_void.ensures.grown
+    (copied-implied c.self.inside.tree.tree _ (_) c.args.tag (ap (λ (x : Tree). x.tree) c.in_ok-insert_implied_void.ensures.exact))
+
+pub returns-clause-works : goal.returns-clause-works
+returns-clause-works c = works-walk c.args.self.now _ _ c.self.inside.ledger c.self.view_is c.laws.ensures.sound c.self.invariant.tokens c.in_ok-insert_implied_void.ensures.keeps (adds-none _ _ refl) (let h = c.in_ok-insert_implied_void.ensures.steps in omega (arith, h))

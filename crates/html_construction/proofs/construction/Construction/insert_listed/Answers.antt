@@ -1,7 +1,7 @@
 use Rattle.html_ledger.specs.declared.symbol.Symbol.TheVariants.{Start}
 use Rattle.std.proofs.Common.{refl, ap}
 use Rattle.html_construction.specs.Tokens.{attrs_of, tag_name}
-use Rattle.html_construction.proofs.Kept.{adds-made, behind, listed-made, made-next, taken-made, told-made, made-element}
+use Rattle.html_construction.proofs.Kept.{adds-made, behind, listed-made, made-next, taken-made, told-made, made-element, adds-none}
 use Rattle.html_tree.specs.States.{State as Tree}
 use Rattle.html_tree.specs.Targets.{place_for}
 use Rattle.html_arena.specs.declared.data.NewNode.TheVariants as new
@@ -9,6 +9,7 @@ use Rattle.html_arena.specs.declared.data.Origin.TheVariants.{Token}
 use Rattle.html_tree.specs.declared.groups.Target.TheVariants as target
 use Rattle.html_construction.proofs.Originating.{named-formatting}
 use Rattle.html_construction.proofs.Copying.{copied-element, grown-made}
+use Rattle.html_construction.proofs.Working.{works-listed-made}
 use Rattle.html_construction.proofs.construction.Construction.insert_listed.Goals as goal
 
 pub insert_listed-requires-clause-token : goal.insert_listed-requires-clause-token
@@ -29,3 +30,9 @@ pub returns-clause-grown : goal.returns-clause-grown
 returns-clause-grown c =
     grown-made 2 1 1 _ c.args.self.now _ _ _ _ _ _ c.self.view_is c.in_ok-number.ensures.rest refl c.in_ok-number.ensures.fate c.in_ok-insert_listed.ensures.grown
     (copied-element c.self.inside.tree.tree _ (place_for c.self.inside.tree (target.Current c.self.inside.registers.fostering)) c.in_ok-name.name c.in_ok-attrs.attrs c.in_ok-number.number (ap (λ (x : Tree). x.tree) c.in_ok-insert_listed.ensures.exact))
+
+pub returns-clause-works : goal.returns-clause-works
+returns-clause-works c =
+    works-listed-made c.args.self.now _ _ _ c.self.inside.ledger _ _ (place_for c.self.inside.tree (target.Current c.self.inside.registers.fostering)) c.in_ok-name.name c.in_ok-attrs.attrs (attrs_of c.args.token.now) c.in_ok-number.number
+    c.self.view_is c.in_ok-number.ensures.rest c.in_ok-number.ensures.fate c.laws.ensures.sound c.self.invariant.tokens c.requires.listed c.in_ok-insert_listed.ensures.keeps (adds-none _ _ refl)
+    c.in_ok-attrs.ensures.attrs (ap (λ (x : Tree). x.tree) c.in_ok-insert_listed.ensures.exact) c.in_ok-insert_listed.ensures.steps

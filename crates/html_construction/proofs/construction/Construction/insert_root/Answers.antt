@@ -1,7 +1,7 @@
 use Rattle.html_ledger.specs.declared.symbol.Symbol.TheVariants.{Start}
 use Rattle.html_names.specs.declared.tag.Tag.TheVariants as tag
-use Rattle.std.proofs.Common.{refl, ap}
-use Rattle.html_construction.proofs.Kept.{adds-made, behind, made-next, taken-made, told-made, made-element}
+use Rattle.std.proofs.Common.{refl, ap, arith}
+use Rattle.html_construction.proofs.Kept.{adds-made, behind, made-next, taken-made, told-made, made-element, adds-none}
 use Rattle.html_tree.specs.States.{State as Tree}
 use Rattle.html_tree.specs.Targets.{place_for}
 use Rattle.html_arena.specs.declared.data.NewNode.TheVariants as new
@@ -10,6 +10,7 @@ use Rattle.html_tree.specs.declared.groups.Target.TheVariants as target
 use Rattle.html_names.specs.Names.{name_of}
 use Rattle.html_construction.proofs.Originating.{named-html}
 use Rattle.html_construction.proofs.Copying.{copied-element, grown-made}
+use Rattle.html_construction.proofs.Working.{works-walk-made}
 use Rattle.html_construction.proofs.construction.Construction.insert_root.Goals as goal
 
 pub insert_root-requires : goal.insert_root-requires
@@ -25,3 +26,8 @@ pub returns-clause-grown : goal.returns-clause-grown
 returns-clause-grown c =
     grown-made 2 0 1 _ c.args.self.now _ _ _ _ _ _ c.self.view_is c.in_ok-number.ensures.rest refl c.in_ok-number.ensures.fate c.in_ok-insert_root.ensures.grown
     (copied-element c.self.inside.tree.tree _ (place_for c.self.inside.tree target.Document) (name_of tag.Html) c.in_ok-attrs.attrs c.in_ok-number.number (ap (λ (x : Tree). x.tree) c.in_ok-insert_root.ensures.exact))
+
+pub returns-clause-works : goal.returns-clause-works
+returns-clause-works c =
+    works-walk-made c.args.self.now _ _ _ c.self.inside.ledger _ _ c.self.view_is c.in_ok-number.ensures.rest c.in_ok-number.ensures.fate
+    c.laws.ensures.sound c.self.invariant.tokens c.in_ok-insert_root.ensures.keeps (adds-none _ _ refl) (let h = c.in_ok-insert_root.ensures.steps in omega (arith, h))

@@ -8,6 +8,7 @@ use Rattle.html_construction.proofs.Building.{text-limits}
 use Rattle.html_tree.specs.States.{State as Tree}
 use Rattle.html_ledger.specs.Entries.{given_run}
 use Rattle.html_construction.proofs.Copying.{copied-text, grown-run}
+use Rattle.html_construction.proofs.Working.{works-text}
 use Rattle.html_construction.proofs.construction.Construction.insert_run.Goals as goal
 
 pub invariant_of-self : goal.invariant_of-self
@@ -23,3 +24,8 @@ pub returns-clause-grown : goal.returns-clause-grown
 returns-clause-grown c =
     grown-run c.in_ok-node.count 0 _ c.args.run.now c.args.self.now _ _ c.give_run.new.self _ c.in_ok-node.ensures.count.1 c.self.view_is c.in_ok-give_run.ensures.given c.in_ok-node.ensures.grown
     (copied-text c.self.inside.tree _ c.self.inside.registers.fostering _ (ap (λ (x : Tree). x.tree) c.in_ok-node.ensures.exact))
+
+pub returns-clause-works : goal.returns-clause-works
+returns-clause-works c =
+    works-text c.in_ok-node.count c.args.self.now _ _ c.give_run.new.self c.self.view_is c.laws.ensures.sound c.self.invariant.tokens c.in_ok-node.ensures.keeps
+    (adds-run _ _ (take c.in_ok-node.count c.args.run.now) (Text c.in_ok-node.node) c.in_ok-give_run.ensures.given) c.in_ok-node.ensures.steps

@@ -10,6 +10,8 @@ use Rattle.html_open.specs.Marking.{bare}
 use Rattle.html_construction.proofs.Originating.{outermost-in}
 use Rattle.html_construction.proofs.Copying.{copied-merged, grown-given}
 use Rattle.html_ledger.specs.declared.fate.Fate.TheVariants.{Merged}
+use Rattle.html_construction.proofs.Working.{works-merged}
+use Rattle.html_construction.specs.Tokens.{attrs_of}
 use Rattle.html_construction.proofs.construction.Construction.merge_into.Goals as goal
 
 pub invariant_of-self : goal.invariant_of-self
@@ -23,3 +25,8 @@ pub returns-clause-grown : goal.returns-clause-grown
 returns-clause-grown c =
     grown-given 0 0 0 _ c.args.self.now _ _ c.give.new.self Merged c.self.view_is (ap (λ (x : Entries). x.fates) c.in_ok-give.ensures.given) c.in_ok-merge.ensures.grown
     (copied-merged c.self.inside.tree.tree _ (slice_index c.self.inside.tree.stack c.args.index) c.in_ok-attrs.attrs (ap (λ (x : Tree). x.tree) c.in_ok-merge.ensures.exact))
+
+pub returns-clause-works : goal.returns-clause-works
+returns-clause-works c =
+    works-merged c.args.self.now _ _ c.give.new.self (slice_index c.self.inside.tree.stack c.args.index) c.in_ok-attrs.attrs (attrs_of c.args.token.now) c.self.view_is c.in_ok-merge.ensures.keeps
+    (adds _ _ _ (ap (λ (x : Entries). x.fates) c.in_ok-give.ensures.given)) c.in_ok-attrs.ensures.attrs (ap (λ (x : Tree). x.tree) c.in_ok-merge.ensures.exact) c.in_ok-merge.ensures.steps

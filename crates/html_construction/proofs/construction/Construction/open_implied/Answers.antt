@@ -1,7 +1,8 @@
-use Rattle.std.proofs.Common.{refl, ap}
-use Rattle.html_construction.proofs.Kept.{implied}
+use Rattle.std.proofs.Common.{refl, ap, arith}
+use Rattle.html_construction.proofs.Kept.{implied, adds-none}
 use Rattle.html_tree.specs.States.{State as Tree}
 use Rattle.html_construction.proofs.Copying.{copied-implied, grown-kept}
+use Rattle.html_construction.proofs.Working.{works-walk}
 use Rattle.html_construction.proofs.construction.Construction.open_implied.Goals as goal
 
 pub returns-clause-keeps : goal.returns-clause-keeps
@@ -9,5 +10,8 @@ returns-clause-keeps c = implied _ c.args.self.now _ _ c.args.tag c.self.view_is
 
 pub returns-clause-grown : goal.returns-clause-grown
 returns-clause-grown c =
-    grown-kept 2 0 0 8 1 _ c.args.self.now _ _ c.self.view_is c.in_ok-node.ensures.grown
-    (copied-implied c.self.inside.tree.tree _ (_) c.args.tag c.requires.alone (ap (λ (x : Tree). x.tree) c.in_ok-node.ensures.exact))
+    grown-kept 2 0 0 1 1 _ c.args.self.now _ _ c.self.view_is c.in_ok-node.ensures.grown
+    (copied-implied c.self.inside.tree.tree _ (_) c.args.tag (ap (λ (x : Tree). x.tree) c.in_ok-node.ensures.exact))
+
+pub returns-clause-works : goal.returns-clause-works
+returns-clause-works c = works-walk c.args.self.now _ _ c.self.inside.ledger c.self.view_is c.laws.ensures.sound c.self.invariant.tokens c.in_ok-node.ensures.keeps (adds-none _ _ refl) (let h = c.in_ok-node.ensures.steps in omega (arith, h))

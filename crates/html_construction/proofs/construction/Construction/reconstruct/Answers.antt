@@ -1,7 +1,8 @@
 use Rattle.std.proofs.Common.{refl}
-use Rattle.html_construction.proofs.Kept.{kept, reopened, stack-is}
+use Rattle.html_construction.proofs.Kept.{kept, reopened, stack-is, adds-none}
 use Rattle.html_construction.proofs.Copying.{grown-reopened}
 use Rattle.html_construction.proofs.Cloning.{reopened-copies}
+use Rattle.html_construction.proofs.Working.{works-reopened}
 use Rattle.html_construction.proofs.construction.Construction.reconstruct.Goals as goal
 
 pub returns-clause-keeps : goal.returns-clause-keeps
@@ -14,3 +15,6 @@ pub returns-clause-grown : goal.returns-clause-grown
 returns-clause-grown c =
     grown-reopened _ _ c.args.self.now _ _ c.self.view_is c.requires.listed c.in_ok-reopen.ensures.grown
     (reopened-copies c.self.inside.registers.fostering c.self.inside.tree _ c.laws.ensures.sound c.in_ok-reopen.ensures.exact)
+
+pub returns-clause-works : goal.returns-clause-works
+returns-clause-works c = works-reopened c.args.self.now _ _ c.self.view_is c.laws.ensures.sound c.self.invariant.tokens c.requires.listed c.in_ok-reopen.ensures.keeps (adds-none _ _ refl) c.reopen.ensures.steps

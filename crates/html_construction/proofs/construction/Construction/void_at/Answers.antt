@@ -1,11 +1,12 @@
 use Rattle.html_ledger.specs.declared.symbol.Symbol.TheVariants.{Start}
-use Rattle.std.proofs.Common.{refl, ap}
-use Rattle.html_construction.proofs.Kept.{adds-made, behind, made-next, taken-made, told-made, made-element}
+use Rattle.std.proofs.Common.{refl, ap, arith}
+use Rattle.html_construction.proofs.Kept.{adds-made, behind, made-next, taken-made, told-made, made-element, adds-none}
 use Rattle.html_tree.specs.States.{State as Tree}
 use Rattle.html_tree.specs.Targets.{place_for}
 use Rattle.html_arena.specs.declared.data.NewNode.TheVariants as new
 use Rattle.html_arena.specs.declared.data.Origin.TheVariants.{Token}
 use Rattle.html_construction.proofs.Copying.{copied-element, grown-made}
+use Rattle.html_construction.proofs.Working.{works-walk-made}
 use Rattle.html_construction.proofs.construction.Construction.void_at.Goals as goal
 
 pub insert_void-requires-clause-token : goal.insert_void-requires-clause-token
@@ -21,3 +22,8 @@ pub returns-clause-grown : goal.returns-clause-grown
 returns-clause-grown c =
     grown-made 2 0 0 _ c.args.self.now _ _ _ _ _ _ c.self.view_is c.in_ok-number.ensures.rest refl c.in_ok-number.ensures.fate c.in_ok-node.ensures.grown
     (copied-element c.self.inside.tree.tree _ (place_for c.self.inside.tree c.args.target) c.in_ok-name.name c.in_ok-attrs.attrs c.in_ok-number.number (ap (λ (x : Tree). x.tree) c.in_ok-node.ensures.exact))
+
+pub returns-clause-works : goal.returns-clause-works
+returns-clause-works c =
+    works-walk-made c.args.self.now _ _ _ c.self.inside.ledger _ _ c.self.view_is c.in_ok-number.ensures.rest c.in_ok-number.ensures.fate
+    c.laws.ensures.sound c.self.invariant.tokens c.in_ok-node.ensures.keeps (adds-none _ _ refl) (let h = c.in_ok-node.ensures.steps in omega (arith, h))

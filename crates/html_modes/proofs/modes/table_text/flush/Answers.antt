@@ -1,10 +1,10 @@
-use Rattle.std.proofs.Common.{rules, arith, ◌≡◌, ◌+◌, ◌<◌, ◌≤◌, ◌∷◌, ◌++◌, [], length, take, refl, sym, subst, ℕ}
+use Rattle.std.proofs.Common.{arith, ◌≡◌, ◌+◌, ◌∷◌, ◌++◌, [], length, take, refl, sym, subst}
 use Rattle.std.proofs.lemmas.Grind.{common_steps}
 use Rattle.std.proofs.lemmas.List.{take_more}
 use Rattle.std.proofs.Math.Seq.{take-length}
-use Rattle.html_construction.specs.Built.{TakesRun, Releases}
+use Rattle.html_construction.specs.Built.{TakesRun}
 use Rattle.html_modes.proofs.Handing.{run-none, run-next, run-released}
-use Rattle.html_modes.proofs.Settled.{Spends-kept}
+use Rattle.html_modes.proofs.Settled.{Counts-kept, Counts-taken, Spends-kept}
 use Rattle.html_modes.proofs.modes.table_text.flush.Goals as goal
 
 pub flushing-init : goal.flushing-init
@@ -16,6 +16,7 @@ flushing-init c = record {
   quiet = c.take_kept-kept.ensures.quiet;
   listed = grind (arith, common_steps);
   spends = (omega arith, (omega arith, omega arith));
+  counts = (omega arith, (omega arith, (omega arith, omega arith)));
 }
 
 pub flushing-preserved : goal.flushing-preserved
@@ -30,6 +31,7 @@ flushing-preserved c =
       quiet = c.in_ok-settle_kept.ensures.quiet;
       listed = grind (arith, common_steps);
       spends = Spends-kept c.take_kept-kept.new.self c.flushing.page c.settle_kept.new.page c.flushing.invariant.spends c.in_ok-settle_kept.ensures.grown;
+      counts = Counts-kept c.take_kept-kept.new.self c.flushing.page c.settle_kept.new.page c.flushing.invariant.counts c.in_ok-settle_kept.ensures.grown c.in_ok-settle_kept.ensures.works;
     }
 
 pub returns-clause-keeps : goal.returns-clause-keeps
@@ -44,3 +46,6 @@ pub returns-clause-spends : goal.returns-clause-spends
 returns-clause-spends c =
     let same : length c.take_kept-kept.new.self.ledger.fates ≡ length c.args.page.now.ledger.fates = grind (arith, common_steps) in
     rw (sym same) (grind (arith, common_steps))
+
+pub returns-clause-counts : goal.returns-clause-counts
+returns-clause-counts c = Counts-taken c.args.page.now c.take_kept-kept.new.self c.flushing.page c.take_kept-kept.ensures.grown c.take_kept-kept.ensures.works c.flushing.invariant.counts

@@ -1,7 +1,7 @@
 use Rattle.std.proofs.Common.{◌≡◌, ◌<◌, ◌≤◌, [], length, take}
 use Rattle.html_construction.specs.Built.{TakesRun}
 use Rattle.html_construction.specs.Weights.{weight}
-use Rattle.html_modes.specs.Steps.{Spends}
+use Rattle.html_modes.specs.Steps.{Counts, Spends}
 use Rattle.html_modes.proofs.modes.table_text.flush.Given as goal
 
 abbrev pub invariant-flushing : goal.invariant-flushing
@@ -13,4 +13,5 @@ invariant-flushing l = record {
   quiet : l.page.ledger.kept ≡ [];
   listed : length l.page.tree.list ≤ length l.page.ledger.fates;
   spends : Spends 0 l.initial.page l.page;
+  counts : Counts 0 0 l.initial.page l.page;
 }

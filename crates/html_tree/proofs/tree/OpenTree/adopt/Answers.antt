@@ -41,7 +41,7 @@ returns-clause-keeps c =
 
 pub returns-clause-steps : goal.returns-clause-steps
 returns-clause-steps c =
-    subst (λ (a : State). c.adopt-end.new.arena.steps ≤ a.steps + (32 * ((length a.stack + length a.list + 4) * (length a.stack + length a.list + 4)) + 8 * length c.adopt-end.new.arena.labels)) c.self.view_is c.adopt-end.ensures.steps.most
+    subst (λ (a : State). c.adopt-end.new.arena.steps ≤ a.steps + (8 * length c.adopt-end.new.arena.labels + 32 * length a.stack + 24 * length a.list + 291)) c.self.view_is c.adopt-end.ensures.steps.most
 
 pub returns-clause-grown : goal.returns-clause-grown
 returns-clause-grown c =

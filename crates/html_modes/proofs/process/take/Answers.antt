@@ -1,0 +1,46 @@
+use Rattle.std.proofs.Common.{length, subst}
+use Rattle.html_construction.specs.States.{State}
+use Rattle.html_modes.specs.Steps.{Steps, Toils, compared}
+use Rattle.html_modes.proofs.Settled.{Entered, entered-next, toils-done}
+use Rattle.html_modes.proofs.Plain.{IsAlike, alike-begun, alike-counted, alike-then, goes-not, goes-on, next-alike}
+use Rattle.html_modes.proofs.process.take.Goals as goal
+
+pub steps-preserved : goal.steps-preserved
+steps-preserved c =
+    let i = c.steps.invariant in
+    let before : Entered c.args.symbol c.begin_call.new.self c.steps.page = (i.nodes, (i.clones, (i.implied, (i.reach, (i.toll, (i.counts, (i.fates, i.falls))))))) in
+    let e = entered-next c.in_ok-step.field-0 c.args.symbol c.args.token.now c.begin_call.new.self c.steps.page c.count_steps.new.self c.step.new.page c.in-Reprocess.is c.count_steps.ensures.rest c.count_steps.ensures.grown c.count_steps.ensures.works
+    c.in_ok-step.ensures.spends c.in_ok-step.ensures.counts c.in_ok-step.ensures.falls before in
+    record {
+      fits = c.in_ok-step.ensures.fits;
+      keeps = λ h w. (subst (λ o. Steps o c.args.token.now c.count_steps.new.self c.step.new.page) c.in-Reprocess.is c.in_ok-step.ensures.takes) h (c.count_steps.ensures.keeps h (i.keeps h w));
+      nodes = e.0;
+      clones = e.1.0;
+      implied = e.1.1.0;
+      reach = e.1.1.1.0;
+      toll = e.1.1.1.1.0;
+      counts = e.1.1.1.1.1.0;
+      fates = e.1.1.1.1.1.1.0;
+      falls = e.1.1.1.1.1.1.1;
+      plain = λ h. absurd (
+          goes-not c.in_ok-step.field-0 c.args.symbol c.args.token.now c.begin_call.new.self c.count_steps.new.self c.step.new.page c.in-Reprocess.is
+          (alike-then c.begin_call.new.self c.steps.page c.count_steps.new.self (i.plain h) (alike-counted c.steps.page c.count_steps.new.self c.count_steps.ensures.rest c.count_steps.ensures.same))
+          c.in_ok-step.ensures.plain h
+          );
+    }
+
+pub returns-in-Done-clause-toils : goal.returns-in-Done-clause-toils
+returns-in-Done-clause-toils c = λ n.
+    let i = c.steps.invariant in
+    let before : Entered c.args.symbol c.begin_call.new.self c.steps.page = (i.nodes, (i.clones, (i.implied, (i.reach, (i.toll, (i.counts, (i.fates, i.falls))))))) in
+    subst (λ (x : State). Toils (compared c.args.token.now c.settle.new.page) x c.settle.new.page) c.begin_call.ensures.rest
+    (toils-done c.in_ok-step.field-0 c.args.symbol c.args.token.now c.begin_call.new.self c.steps.page c.count_steps.new.self c.step.new.page c.settle.new.page c.in-Done.is c.count_steps.ensures.rest c.count_steps.ensures.works
+    c.in_ok-step.ensures.counts c.in_ok-step.ensures.falls c.settle.ensures.rest c.settle.ensures.top before)
+
+pub returns-in-Done-clause-plain : goal.returns-in-Done-clause-plain
+returns-in-Done-clause-plain c = λ n h.
+    let begun : IsAlike c.args.page.now c.begin_call.new.self = alike-begun c.args.page.now c.begin_call.new.self c.args.page.now.mode (length c.args.page.now.stack) (length c.args.page.now.tree.tree.labels) c.begin_call.ensures.rest in
+    let sofar : IsAlike c.args.page.now c.steps.page = alike-then c.args.page.now c.begin_call.new.self c.steps.page begun (c.steps.invariant.plain (next-alike c.args.symbol c.args.token.now c.args.page.now c.begin_call.new.self begun h)) in
+    let before : IsAlike c.args.page.now c.count_steps.new.self = alike-then c.args.page.now c.steps.page c.count_steps.new.self sofar (alike-counted c.steps.page c.count_steps.new.self c.count_steps.ensures.rest c.count_steps.ensures.same) in
+    goes-on c.in_ok-step.field-0 c.args.symbol c.args.token.now c.args.page.now c.count_steps.new.self c.step.new.page c.settle.new.page c.in-Done.is before c.in_ok-step.ensures.plain c.settle.ensures.same
+    c.laws.ensures.sound c.laws.ensures.tags h
