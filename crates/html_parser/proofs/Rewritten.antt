@@ -27,8 +27,8 @@ pub text-few : (start : Start) (bytes : List ℕ) (profile : Profile) (tree : Tr
     → length (html_below profile tree.arena tree.root) ≤ most_text tree.n
 text-few start bytes profile tree t few =
     let all = few t.is.names in
-    let nodes = t.is.bounded.nodes in
-    let weighs = t.is.bounded.weighs in
+    let nodes = t.is.nodes in
+    let weighs = t.is.weighs in
     omega (arith, all, nodes, weighs)
 
 module _ (start : Start) (profile : Profile) (tree : Tree) (bytes : List ℕ) (old new : Option (List ℕ)) (r : Result (Unit {0}) ParseError) (consumed : Consumes old new bytes) (at_end : IsAtEnd new) (is_tree : IsTreeOf start bytes tree)
