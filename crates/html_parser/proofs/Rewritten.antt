@@ -3,24 +3,36 @@ use Rattle.std.proofs.Common.{◌≡◌, ◌⊎◌, ℕ, ◌≤◌, Bool, true, 
 use Rattle.std.specs.Prelude.{Result, Ok, Err, OnOk, OnErr, IfErr}
 use Rattle.std.specs.Str.{encode_utf8_all}
 use Rattle.std.specs.Io.KnownBytes.{Consumes, IsAtEnd}
+use Rattle.html_arena.specs.Tree.{Tree as Nodes}
 use Rattle.html_arena.specs.Walking.{IsRoot}
 use Rattle.html_device.specs.Device.{AppendsFront}
+use Rattle.html_ledger.specs.declared.fate.Fate.{Fate}
+use Rattle.html_tokens.specs.declared.token.Token.{Token}
 use Rattle.html_page.specs.Serialised.{HasNames, html_below, most_written}
 use Rattle.html_page.specs.declared.profile.Profile.{Profile}
 use Rattle.html_parser.specs.Normalised.{IsNormalised, IsNormaliseCause, most_written as most_text}
-use Rattle.html_parser.specs.Parsed.{IsTreeOf}
+use Rattle.html_parser.specs.Parsed.{Headline, IsPageOf, IsTreeOf}
 use Rattle.html_parser.specs.Start.{Start}
 use Rattle.html_parser.specs.declared.error.ParseError.{ParseError}
 use Rattle.html_parser.specs.declared.error.ParseError.TheVariants.{Write}
+use Rattle.html_parser.specs.declared.faults.PageFault.{PageFault}
+use Rattle.html_parser.specs.declared.page.Page.{Page}
 use Rattle.html_parser.specs.declared.page.Tree.{Tree}
 
--- the root of a tree that parsing answers
-pub root-of : (start : Start) (bytes : List ℕ) (tree : Tree) → IsTreeOf start bytes tree → IsRoot tree.arena tree.root
-root-of start bytes tree t = subst (IsRoot tree.arena) (sym t.is.root_is) (record {
-  inside = t.is.outcome.rooted.some_node;
-  alone = t.is.outcome.rooted.root;
-  no_host = t.is.outcome.rooted.no_host;
+-- the root of what parsing answers
+headline-root : (start : Start) (bytes : List ℕ) (tokens : List Token) (fates : List Fate) (t : Nodes) (root : ℕ) (errors : List PageFault) (n steps : ℕ)
+    → Headline start bytes tokens fates t root errors n steps → IsRoot t root
+headline-root start bytes tokens fates t root errors n steps h = subst (IsRoot t) (sym h.root_is) (record {
+  inside = h.outcome.rooted.some_node;
+  alone = h.outcome.rooted.root;
+  no_host = h.outcome.rooted.no_host;
 })
+
+pub page-root : (start : Start) (bytes : List ℕ) (page : Page) → IsPageOf start bytes page → IsRoot page.arena page.root
+page-root start bytes page h = headline-root start bytes page.tokens page.fates page.arena page.root page.errors.items page.n page.steps h
+
+pub root-of : (start : Start) (bytes : List ℕ) (tree : Tree) → IsTreeOf start bytes tree → IsRoot tree.arena tree.root
+root-of start bytes tree t = headline-root start bytes t.tokens t.fates tree.arena tree.root tree.errors.items tree.n tree.steps t.is
 
 -- how long the text of a tree is, by the number of code points
 pub text-few : (start : Start) (bytes : List ℕ) (profile : Profile) (tree : Tree) → IsTreeOf start bytes tree → (HasNames tree.arena → length (html_below profile tree.arena tree.root) ≤ most_written tree.arena)
