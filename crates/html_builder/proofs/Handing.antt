@@ -27,8 +27,9 @@ use Rattle.html_construction.specs.Weights.{weight}
 use Rattle.html_construction.specs.Works.{reach_of, span_of}
 use Rattle.html_construction.specs.declared.refusal.Refusal.{Refusal}
 use Rattle.html_construction.specs.declared.refusal.Refusal.TheVariants as refusal
+use Rattle.html_modes.specs.Entering.{Enters}
 use Rattle.html_modes.specs.Ranks.{top_rank}
-use Rattle.html_modes.specs.Steps.{Enters, Pays, Toils, compared, root_of}
+use Rattle.html_modes.specs.Steps.{Pays, Toils, compared, root_of}
 use Rattle.html_modes.specs.declared.outcome.Foreign.{Foreign}
 use Rattle.html_modes.specs.declared.outcome.Foreign.TheVariants as foreign
 use Rattle.html_builder.specs.Builders.{BuilderState}

@@ -80,12 +80,6 @@ Pays a b =
     × ((implied_count b.tree.tree.labels ≤ implied_count a.tree.tree.labels + (weight a.stack + top_rank a.mode) + 1)
     × (implied_count b.tree.tree.labels + (weight b.stack + top_rank b.mode) ≤ implied_count a.tree.tree.labels + (weight a.stack + top_rank a.mode) + 16)))
 
--- HOW MANY ENTRIES
-
--- From so many entries into the rules to so many: what the open elements and the mode count pays for them, and sixteen more for each token.
-abbrev pub Enters : (tokens before after : ℕ) → State → State → Type 0
-Enters tokens before after a b = after + (weight b.stack + top_rank b.mode) ≤ before + (weight a.stack + top_rank a.mode) + 16 * tokens
-
 -- HOW MANY STEPS
 
 -- the attributes of a token, each compared with as many as may be

@@ -3,11 +3,12 @@ ghost use Rattle.std.specs.Prelude.{◌≡◌, ◌<◌, ◌≤◌, ◌==◌, ℕ
 ghost use Rattle.std.specs.List.{list_all};
 ghost use Rattle.html_ledger.specs.Flags.{is_not_null, may_text_run};
 ghost use Rattle.html_construction.specs.Built.{Takes, TakesRun};
+ghost use Rattle.html_modes.specs.Entering.{Enters};
 ghost use Rattle.html_modes.specs.Fitting.{Fits, is_loose};
 ghost use Rattle.html_modes.specs.Guards.{is_text, takes_runs};
 ghost use Rattle.html_modes.specs.Plain.{GoesOnText};
 ghost use Rattle.html_modes.specs.Ranks.{top_rank};
-ghost use Rattle.html_modes.specs.Steps.{Enters, Pays, Toils};
+ghost use Rattle.html_modes.specs.Steps.{Pays, Toils};
 ghost use Rattle.html_construction.specs.Weights.{weight};
 
 use crate::guards::{is_text, takes_run};
