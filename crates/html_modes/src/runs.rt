@@ -1,5 +1,5 @@
 // Text that is taken in runs (13.2.6.1).
-ghost use Rattle.std.specs.Prelude.{◌≡◌, ◌<◌, ◌≤◌, ◌==◌, ℕ, IfOk, IsTrue, OnOk, Some, [], ◌∷◌, false, length, slice_get, take, true};
+ghost use Rattle.std.specs.Prelude.{◌≡◌, ◌+◌, ◌<◌, ◌≤◌, ◌==◌, ℕ, IfOk, IsTrue, OnOk, Some, [], ◌∷◌, false, length, slice_get, take, true};
 ghost use Rattle.std.specs.List.{list_all};
 ghost use Rattle.html_ledger.specs.Flags.{is_not_null, may_text_run};
 ghost use Rattle.html_construction.specs.Built.{Takes, TakesRun};
