@@ -35,14 +35,13 @@ use Rattle.html_construction.specs.Tokens.{tag_name}
 use Rattle.html_construction.specs.declared.mode.Mode.{Mode}
 use Rattle.html_construction.specs.declared.mode.Mode.TheVariants.{Initial, BeforeHtml, BeforeHead, InHead, AfterHead, InBody, AfterBody, AfterAfterBody}
 use Rattle.html_modes.specs.Plain.{EndsCurrent, GoesOn, IsNext, IsPlainState, IsTurn, closes, is_next, is_plain_tag, next_mode, next_nodes, next_stack, next_tags}
-use Rattle.html_page.specs.Begun.{IsContentOuter, IsPlainName, ends_after, front_then}
+use Rattle.html_page.specs.Begun.{IsContentOuter, ends_after, front_then}
 use Rattle.html_page.specs.Forest.{join, single}
 use Rattle.html_page.specs.Label.{Label, label_for}
 use Rattle.html_page.specs.Label.Label.{comment, doctype, document, element, text}
 use Rattle.html_page.specs.Open.{Before}
-use Rattle.html_page.specs.PageTokens.{ArePlain, IsPlainFront, chars_then, kinds_then, page_kinds}
-use Rattle.html_page.specs.Pieces.{epilog, prolog}
-use Rattle.html_page.specs.Plain.{ArePlainAttrs, IsContent, IsPlainChar}
+use Rattle.html_page.specs.PageTokens.{ArePlain, IsPlainFront, chars_then, epilog, kinds_then, page_kinds, prolog}
+use Rattle.html_page.specs.Plain.{ArePlainAttrs, IsContent, IsPlainChar, IsPlainName}
 use Rattle.html_page.proofs.Added.{body-not_template, head-not_template, html-not_template}
 use Rattle.html_page.proofs.Alls.{all-append}
 use Rattle.html_page.proofs.Fronts.{Follows, content-element, content-text, ends-join, front-more, names_of, plain-follows}

@@ -34,8 +34,7 @@ use Rattle.html_page.specs.Forest.{join, single}
 use Rattle.html_page.specs.Label.{Label}
 use Rattle.html_page.specs.Label.Label.{document, doctype, element}
 use Rattle.html_page.specs.Open.{Before, IsOpenAt}
-use Rattle.html_page.specs.PageTokens.{ArePlain, IsPlainFront, kinds_then, page_kinds}
-use Rattle.html_page.specs.Pieces.{epilog, prolog}
+use Rattle.html_page.specs.PageTokens.{ArePlain, IsPlainFront, epilog, kinds_then, page_kinds, prolog}
 use Rattle.html_page.specs.Plain.{IsPlainChar, IsPlainPage, page_of}
 use Rattle.html_page.specs.Shows.{Shows, label_at}
 use Rattle.html_page.proofs.Alls.{all-append}

@@ -14,8 +14,7 @@ use Rattle.html_page.specs.Forest.{single}
 use Rattle.html_page.specs.Label.{Label}
 use Rattle.html_page.specs.Label.Label.{doctype, document, element, text}
 use Rattle.html_page.specs.Open.{Before, IsLabelled, IsOpenAt}
-use Rattle.html_page.specs.PageTokens.{IsPlainFront, chars_then}
-use Rattle.html_page.specs.Pieces.{epilog}
+use Rattle.html_page.specs.PageTokens.{IsPlainFront, chars_then, epilog}
 use Rattle.html_page.specs.Plain.{IsContent, IsPlainChar}
 use Rattle.html_ledger.specs.declared.setting.Setting.{Setting}
 use Rattle.html_ledger.specs.declared.setting.Setting.TheVariants as setting
