@@ -17,8 +17,7 @@ returns-clause-bounds c = λ s l ts h n k.
     (subst (λ b. Handed s l ts b) (sym c.self.view_is) h) k c.into_parts.ensures.nodes c.into_parts.ensures.well_formed c.into_parts.ensures.held c.into_parts.ensures.steps
 
 pub returns-clause-entries : goal.returns-clause-entries
-returns-clause-entries c = λ s l ts h n k.
-    entries-most s l ts (record { page = c.self.inside.construction; entries = c.self.inside.entries; stopped = c.self.inside.stopped }) n (subst (λ b. Handed s l ts b) (sym c.self.view_is) h) k
+returns-clause-entries c = λ s l ts h n k. entries-most s l ts c.args.self n h k
 
 pub returns-clause-plain : goal.returns-clause-plain
 returns-clause-plain c = λ l ts h page p e.
