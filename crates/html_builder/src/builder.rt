@@ -14,6 +14,7 @@ ghost use Rattle.html_page.specs.Shows.{Shows};
 ghost use Rattle.html_builder.specs.Contexts.{IsGood, setting_of};
 ghost use Rattle.html_builder.specs.Handed.{AddsFates, CostAtMost, EndsAtEof, Handed, HandsIn, HaveFates, IsBuildCause, IsTextCause, fates_of, is_stopped};
 ghost use Rattle.html_builder.specs.Outcome.{IsBounded, IsOutcome, most_entries};
+ghost use Rattle.html_builder.specs.Plain.{HavePlainFates};
 ghost use Rattle.html_builder.specs.Switches.{switch_after};
 
 use crate::context::Context;
@@ -272,6 +273,8 @@ impl Builder {
         ensures entries { (s : Setting) (l : Option Limits) (tokens : List TokenKind) → Handed s l tokens self → (n : ℕ) → CostAtMost n tokens → self.entries ≤ most_entries n }
         ensures plain { (l : Option Limits) (tokens : List TokenKind) → Handed Document l tokens self → (page : Forest Label) → IsPlainPage page
             → tokens ≡ page_kinds page → Shows result.0 (0 ∷ []) page }
+        ensures plain_fates { (l : Option Limits) (tokens : List TokenKind) → Handed Document l tokens self → (page : Forest Label) → IsPlainPage page
+            → tokens ≡ page_kinds page → HavePlainFates tokens result.1 }
     {
         self.construction.into_parts()
     }

@@ -1,8 +1,9 @@
 use Rattle.std.proofs.Common.{subst, sym}
 use Rattle.html_ledger.specs.declared.setting.Setting.TheVariants.{Document}
 use Rattle.html_builder.specs.Handed.{Handed}
+use Rattle.html_builder.specs.Plain.{HavePlainFates}
 use Rattle.html_builder.proofs.Endings.{bounded, entries-most, outcome}
-use Rattle.html_builder.proofs.Plainly.{page-shown}
+use Rattle.html_builder.proofs.Plainly.{page-fates, page-shown}
 use Rattle.html_builder.proofs.builder.Builder.finish.Goals as goal
 
 pub returns-clause-outcome : goal.returns-clause-outcome
@@ -23,3 +24,8 @@ pub returns-clause-plain : goal.returns-clause-plain
 returns-clause-plain c = λ l ts h page p e.
     let k : Handed Document l ts (record { page = c.self.inside.construction; entries = c.self.inside.entries; stopped = c.self.inside.stopped }) = subst (λ b. Handed Document l ts b) (sym c.self.view_is) h in
     page-shown ts c.self.inside.construction page p e k.plain c.into_parts.result.0 c.into_parts.ensures.nodes
+
+pub returns-clause-plain_fates : goal.returns-clause-plain_fates
+returns-clause-plain_fates c = λ l ts h page p e.
+    let k : Handed Document l ts (record { page = c.self.inside.construction; entries = c.self.inside.entries; stopped = c.self.inside.stopped }) = subst (λ b. Handed Document l ts b) (sym c.self.view_is) h in
+    subst (HavePlainFates ts) (sym c.into_parts.ensures.fates) (page-fates ts c.self.inside.construction page p e k.plain)
