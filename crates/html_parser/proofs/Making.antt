@@ -30,6 +30,7 @@ use Rattle.html_builder.specs.Handed.{CostAtMost, EndsAtEof, Handed, fates_of}
 use Rattle.html_builder.specs.Switches.{switches_by}
 use Rattle.html_construction.specs.Built.{symbols}
 use Rattle.html_builder.specs.Outcome.{IsBounded, IsOutcome, most_tree_steps}
+use Rattle.html_builder.specs.Plain.{HavePlainFates}
 use Rattle.html_parser.proofs.Plain.{text-kinds}
 use Rattle.html_parser.specs.Faults.{construction_fault, fault_list, front_below, places_of, rest_from, told_fault}
 use Rattle.html_parser.specs.Kinds.{kinds, starts_of}
@@ -87,6 +88,7 @@ pub record Ended (d : Decoder) (t : Tokenizer) (b : BuilderState) (starts : List
   pub fates_are : fates ≡ fates_of b
   pub outcome : (s : Setting) (l : Option Limits) (tokens : List TokenKind) → Handed s l tokens b → EndsAtEof tokens → IsOutcome s tokens fates numbers arena
   pub plain : (l : Option Limits) (tokens : List TokenKind) → Handed Document l tokens b → (page : Forest Label) → IsPlainPage page → tokens ≡ page_kinds page → Shows arena (0 ∷ []) page
+  pub plain_fates : (l : Option Limits) (tokens : List TokenKind) → Handed Document l tokens b → (page : Forest Label) → IsPlainPage page → tokens ≡ page_kinds page → HavePlainFates tokens fates
   pub bounds : (s : Setting) (l : Option Limits) (tokens : List TokenKind) → Handed s l tokens b → (m : ℕ) → CostAtMost m tokens → IsBounded m arena
   pub told_few : length told ≤ 11 * (fed_len t + 2)
   pub fed : (run : Run) → Fed t run → fed_len t ≡ length run.text
@@ -150,9 +152,10 @@ made start bytes run d t b starts told numbers fates arena errors n own steps e 
     record {
       tokens_are = tokens;
       plain = λ document core p page h written.
-          e.plain start.limits (kinds run.given) (subst (λ s. Handed s start.limits (kinds run.given) b) document.setting_is w.handed) page h
-          (text-kinds start.rows p page (decode bytes) run.given fates table core h written
-          (tokens ∙ ap (λ m. tokens_after start.rows 0 m None 0 (decode bytes) (switches_by (kinds run.given) fates)) document.mode_is));
+          let handed : Handed Document start.limits (kinds run.given) b = subst (λ s. Handed s start.limits (kinds run.given) b) document.setting_is w.handed in
+          let same : kinds run.given ≡ page_kinds page = text-kinds start.rows p page (decode bytes) run.given fates table core h written
+          (tokens ∙ ap (λ m. tokens_after start.rows 0 m None 0 (decode bytes) (switches_by (kinds run.given) fates)) document.mode_is) in
+          (e.plain start.limits (kinds run.given) handed page h same, e.plain_fates start.limits (kinds run.given) handed page h same);
       numbers = numbers;
       outcome = outcome;
       root_is = refl;

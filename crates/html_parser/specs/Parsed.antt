@@ -12,6 +12,7 @@ use Rattle.html_arena.specs.Weight.{weight}
 use Rattle.html_ledger.specs.declared.fate.Fate.{Fate}
 use Rattle.html_builder.specs.Switches.{switches_by}
 use Rattle.html_builder.specs.Outcome.{IsOutcome, most_held}
+use Rattle.html_builder.specs.Plain.{HavePlainFates}
 use Rattle.html_ledger.specs.declared.setting.Setting.TheVariants.{Document}
 use Rattle.html_page.specs.declared.profile.Profile.{Profile}
 use Rattle.html_page.specs.Html.{html_of}
@@ -66,8 +67,10 @@ pub record Headline (start : Start) (bytes : List ℕ) (tokens : List Token) (fa
   pub numbers : List ℕ
   pub outcome : IsOutcome start.setting (kinds tokens) fates numbers t
   pub root_is : root ≡ 0
-  -- where a document's text is that of a plain page, in either profile, and the table has the five core rows, the tree is that page's own
-  pub plain : IsDocument start → HasCore start.rows → (p : Profile) (page : Forest Label) → IsPlainPage page → html_of p false page ≡ decode bytes → Shows t (root ∷ []) page
+  -- where a document's text is that of a plain page, in either profile, and the table has the five core rows: the page's own tree, and of its tokens each
+  -- but the end tags and the end of the page made a node or is text
+  pub plain : IsDocument start → HasCore start.rows → (p : Profile) (page : Forest Label) → IsPlainPage page → html_of p false page ≡ decode bytes
+      → Shows t (root ∷ []) page × HavePlainFates (kinds tokens) fates
   -- how large it is
   pub nodes : length t.labels ≤ 2 * ((n + 32) * (n + 32))
   pub held : t.held ≤ 34 * ((n + 2) * (n + 2))
