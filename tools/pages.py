@@ -1,4 +1,6 @@
-"""Random pages, the same for the same seed: pieces of markup that the rules tell apart, and bytes among them."""
+"""Random pages, the same for the same seed: pieces of markup that the rules tell apart, and bytes among them. And the model of the suites."""
+import importlib.util
+from pathlib import Path
 
 BLOCKS = "div p ul li dl dt dd address article center h1 h2 pre listing form fieldset blockquote".split()
 INLINE = "b i em strong a nobr font code u s small big tt span label".split()
@@ -34,3 +36,11 @@ def page(chance, is_bytes, most=30):
             at = chance.randrange(len(text) + 1)
             text = text[:at] + chance.randbytes(chance.randrange(1, 4)) + text[at + chance.randrange(2):]
     return text
+
+
+def model_of(suites):
+    """Returns the model in a folder of suites, as a module."""
+    spec = importlib.util.spec_from_file_location("profile_model", Path(suites, "model", "profile_model.py"))
+    model = importlib.util.module_from_spec(spec)
+    spec.loader.exec_module(model)
+    return model
