@@ -188,6 +188,13 @@ impl Construction {
         self.tree.laws();
     }
 
+    /// How many nodes there are.
+    pub fn node_count(&self) -> u64
+        ensures value { result ≡ length self.now.tree.tree.labels }
+    {
+        self.tree.node_count()
+    }
+
     /// The limits to which the tree keeps, where there are any.
     pub fn limits(&self) -> Option<Limits>
         ensures value { result ≡ self.now.tree.tree.limits }
