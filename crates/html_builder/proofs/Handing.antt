@@ -32,8 +32,8 @@ use Rattle.html_modes.specs.Steps.{Pays, Toils, compared, root_of}
 use Rattle.html_modes.specs.declared.outcome.Foreign.{Foreign}
 use Rattle.html_modes.specs.declared.outcome.Foreign.TheVariants as foreign
 use Rattle.html_builder.specs.Builders.{BuilderState}
-use Rattle.html_builder.specs.Errors.{error_at}
-use Rattle.html_builder.specs.Handed.{AddsFates, Handed, HandsIn, attribute_total, IsBuildCause, IsTextCause, Starts, fates_of, foreign_tag, given}
+use Rattle.html_builder.specs.Errors.{IsBorneOut, error_at}
+use Rattle.html_builder.specs.Handed.{AddsFates, Handed, HandsIn, attribute_total, IsBuildCause, IsSpent, IsTextCause, Starts, fates_of, foreign_tag, given}
 use Rattle.html_builder.specs.Switches.{said_after, switch_after}
 use Rattle.html_builder.specs.declared.error.BuildError.{BuildError}
 use Rattle.html_builder.specs.declared.error.BuildError.TheVariants as error
@@ -253,6 +253,12 @@ take-some (suc n) (x ∷ xs) p q = omega arith
 pub take-one : (xs : List ℕ) → length (take 1 xs) ≤ 1
 take-one [] = omega arith
 take-one (x ∷ xs) = omega arith
+
+-- what is borne out of a refusal is so of what it is told as
+pub spent-at : (o l : Option Limits) (b : BuilderState) (n at : ℕ) (r : Refusal) → o ≡ l → n ≡ length b.page.tree.tree.labels → IsBorneOut o n r → IsSpent l b (error_at r at)
+spent-at o l b n at refusal.OutOfMemory e k h = tt
+spent-at o l b n at refusal.NodeBudget e k (m, i, less) = (m, sym e ∙ i, subst (λ c. m.nodes < c + 2) k less)
+spent-at o l b n at refusal.HeldBudget e k (m, i) = (m, sym e ∙ i)
 
 -- no refusal is told as stopped
 pub not-stopped : (r : Refusal) (at : ℕ) → error_at r at ≡ error.Stopped → ⊥

@@ -1,5 +1,5 @@
 -- What callers know of a builder: what it was begun with, the tokens handed in, and what became of them.
-use Rattle.std.specs.Prelude.{◌≡◌, ℕ, ◌+◌, ◌*◌, ◌<◌, ◌≤◌, Bool, false, List, [], ◌∷◌, ◌++◌, length, Option}
+use Rattle.std.specs.Prelude.{◌≡◌, ℕ, ◌+◌, ◌*◌, ◌<◌, ◌≤◌, Bool, false, List, [], ◌∷◌, ◌++◌, length, Option, Some}
 use Rattle.std.specs.List.{sum_by}
 use Rattle.html_names.specs.declared.tag.Tag.{Tag}
 use Rattle.html_names.specs.declared.tag.Tag.TheVariants as tag
@@ -112,6 +112,15 @@ IsTextCause s limits tokens fates text start (refusal.HeldBudget place) = (start
 IsTextCause s limits tokens fates text start (refusal.ForeignContent name place) = ⊥
 IsTextCause s limits tokens fates text start refusal.BadContext = ⊥
 IsTextCause s limits tokens fates text start refusal.Stopped = ⊥
+
+-- A limit is told only where there is one: that on nodes only where it has room for one at most (a template is made with its contents).
+abbrev pub IsSpent : Option Limits → BuilderState → BuildError → Type 0
+IsSpent limits b refusal.OutOfMemory = Unit {0}
+IsSpent limits b (refusal.ForeignContent name place) = Unit {0}
+IsSpent limits b (refusal.NodeBudget place) = (l : Limits) × (limits ≡ Some l) × (l.nodes < length b.page.tree.tree.labels + 2)
+IsSpent limits b (refusal.HeldBudget place) = (l : Limits) × (limits ≡ Some l)
+IsSpent limits b refusal.BadContext = Unit {0}
+IsSpent limits b refusal.Stopped = Unit {0}
 
 -- HOW LARGE IT IS
 

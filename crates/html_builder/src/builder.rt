@@ -1,5 +1,6 @@
 // Tree construction, token by token.
 ghost use Rattle.std.specs.Prelude.{◌≡◌, ◌↔◌, ◌⊎◌, ◌<◌, ◌≤◌, ℕ, ◌∷◌, [], IfOk, IfErr, OnOk, OnErr, Err, List, None, Option, Some, length, take, true, false};
+ghost use Rattle.html_arena.specs.Budget.{AreWithin};
 ghost use Rattle.html_arena.specs.Forest.{Forest};
 ghost use Rattle.html_arena.specs.declared.arena.Limits.{Limits};
 ghost use Rattle.html_construction.specs.Built.{chars_of};
@@ -12,12 +13,12 @@ ghost use Rattle.html_page.specs.PageTokens.{page_kinds};
 ghost use Rattle.html_page.specs.Plain.{IsPlainPage};
 ghost use Rattle.html_page.specs.Shows.{Shows};
 ghost use Rattle.html_builder.specs.Contexts.{IsGood, setting_of};
-ghost use Rattle.html_builder.specs.Handed.{AddsFates, CostAtMost, EndsAtEof, Handed, HandsIn, HaveFates, IsBuildCause, IsTextCause, fates_of, is_stopped};
+ghost use Rattle.html_builder.specs.Handed.{AddsFates, CostAtMost, EndsAtEof, Handed, HandsIn, HaveFates, IsBuildCause, IsSpent, IsTextCause, fates_of, is_stopped};
 ghost use Rattle.html_builder.specs.Outcome.{IsBounded, IsOutcome};
 ghost use Rattle.html_builder.specs.Switches.{switch_after};
 
 use crate::context::Context;
-use crate::error::BuildError;
+use crate::error::{BuildError, borne_out};
 use crate::switches::text_mode_after;
 use html_arena::{Arena, Limits};
 use html_construction::{Construction, Mode};
@@ -155,6 +156,20 @@ impl Builder {
         self.construction.mode()
     }
 
+    /// The limits to which the tree keeps, where there are any.
+    pub fn limits(&self) -> Option<Limits>
+        ensures value { result ≡ self.now.page.tree.tree.limits }
+    {
+        self.construction.limits()
+    }
+
+    /// How many steps of tree construction were counted so far.
+    pub fn steps(&self) -> u128
+        ensures value { result ≡ self.now.page.tree.steps }
+    {
+        self.construction.steps()
+    }
+
     /// Takes the next token, and answers how the text after it is read, where it is a start tag that changes that.
     ///
     /// # Errors
@@ -168,6 +183,7 @@ impl Builder {
         ensures switch { IfOk result (λ m. m ≡ switch_after token.now.kind (last_of (fates_of self.new))) }
         ensures cause { IfErr result (λ e. (s : Setting) (l : Option Limits) (tokens : List TokenKind) → Handed s l tokens self.old
             → IsBuildCause s l tokens (fates_of self.old) token.now.kind token.now.span.start e) }
+        ensures spent { IfErr result (λ e. (s : Setting) (l : Option Limits) (tokens : List TokenKind) → Handed s l tokens self.old → IsSpent l self.new e) }
         ensures ok { OnOk result (is_stopped self.new ≡ false) }
         ensures err { OnErr result (is_stopped self.new ≡ true) }
         ensures stopped { (result ≡ Err BuildError.Stopped) ↔ (is_stopped self.old ≡ true) }
@@ -176,6 +192,7 @@ impl Builder {
             return Err(BuildError::Stopped);
         }
         let symbol = Symbol::of(&token.kind);
+        let limits = self.limits();
         self.stopped = true;
         match take(&mut self.construction, &token.kind, symbol) {
             Ok(None) => {
@@ -186,7 +203,10 @@ impl Builder {
                 name,
                 at: token.span.start,
             }),
-            Err(refusal) => Err(BuildError::at(refusal, token.span.start)),
+            Err(refusal) => {
+                let refusal = borne_out(refusal, limits, self.construction.node_count());
+                Err(BuildError::at(refusal, token.span.start))
+            }
         }
     }
 
@@ -201,6 +221,7 @@ impl Builder {
         ensures grows { OnOk result (AddsFates self.old self.new) }
         ensures cause { IfErr result (λ e. (s : Setting) (l : Option Limits) (tokens : List TokenKind) → Handed s l tokens self.old
             → IsTextCause s l tokens (fates_of self.old) text.now start e) }
+        ensures spent { IfErr result (λ e. (s : Setting) (l : Option Limits) (tokens : List TokenKind) → Handed s l tokens self.old → IsSpent l self.new e) }
         ensures ok { OnOk result (is_stopped self.new ≡ is_stopped self.old) }
         ensures err { OnErr result (is_stopped self.new ≡ true) }
         ensures stopped { (result ≡ Err BuildError.Stopped) ↔ ((is_stopped self.old ≡ true) × (0 < length text.now)) }
@@ -223,6 +244,7 @@ impl Builder {
         ensures count { IfOk result (λ n. (0 < n) × (n ≤ length text.now)) }
         ensures cause { IfErr result (λ e. (s : Setting) (l : Option Limits) (tokens : List TokenKind) → Handed s l tokens self.old
             → IsTextCause s l tokens (fates_of self.old) (take 1 text.now) at e) }
+        ensures spent { IfErr result (λ e. (s : Setting) (l : Option Limits) (tokens : List TokenKind) → Handed s l tokens self.old → IsSpent l self.new e) }
         ensures ready { OnOk result (is_stopped self.old ≡ false) }
         ensures ok { OnOk result (is_stopped self.new ≡ false) }
         ensures err { OnErr result (is_stopped self.new ≡ true) }
@@ -231,13 +253,17 @@ impl Builder {
         if self.stopped {
             return Err(BuildError::Stopped);
         }
+        let limits = self.limits();
         self.stopped = true;
         match take_front(&mut self.construction, text) {
             Ok(count) => {
                 self.stopped = false;
                 Ok(count)
             }
-            Err(refusal) => Err(BuildError::at(refusal, at)),
+            Err(refusal) => {
+                let refusal = borne_out(refusal, limits, self.construction.node_count());
+                Err(BuildError::at(refusal, at))
+            }
         }
     }
 
@@ -256,6 +282,7 @@ impl Builder {
         ensures steps { result.0.steps ≡ self.page.tree.steps }
         ensures outcome { (s : Setting) (l : Option Limits) (tokens : List TokenKind) → Handed s l tokens self → EndsAtEof tokens
             → IsOutcome s tokens result.1 result.2.items result.0 }
+        ensures within { (s : Setting) (l : Option Limits) (tokens : List TokenKind) → Handed s l tokens self → AreWithin l (length result.0.labels) result.0.held }
         ensures bounds { (s : Setting) (l : Option Limits) (tokens : List TokenKind) → Handed s l tokens self → (n : ℕ) → CostAtMost n tokens → IsBounded n result.0 }
         ensures plain { (l : Option Limits) (tokens : List TokenKind) → Handed Document l tokens self → (page : Forest Label) → IsPlainPage page
             → tokens ≡ page_kinds page → Shows result.0 (0 ∷ []) page }

@@ -1,5 +1,8 @@
 // Why a call was refused.
 
+ghost use Rattle.html_builder.specs.Errors.{IsBorneOut};
+
+use html_arena::Limits;
 use html_construction::Refusal;
 use html_modes::Foreign;
 use thiserror::Error;
@@ -37,6 +40,27 @@ impl BuildError {
             Refusal::NodeBudget => BuildError::NodeBudget { at },
             Refusal::HeldBudget => BuildError::HeldBudget { at },
         }
+    }
+}
+
+/// A refusal, as the limits and the number of nodes bear it out: a budget is told only where there is a limit, and that of nodes only where it
+/// has room for one at most (a template needs two, with its contents).
+pub(crate) fn borne_out(refusal: Refusal, limits: Option<Limits>, nodes: u64) -> Refusal
+    ensures borne_out { IsBorneOut limits nodes result }
+{
+    let Some(limits) = limits else {
+        return Refusal::OutOfMemory;
+    };
+    match refusal {
+        Refusal::OutOfMemory => Refusal::OutOfMemory,
+        Refusal::NodeBudget => {
+            if limits.nodes.saturating_sub(nodes) < 2 {
+                Refusal::NodeBudget
+            } else {
+                Refusal::OutOfMemory
+            }
+        }
+        Refusal::HeldBudget => Refusal::HeldBudget,
     }
 }
 

@@ -127,6 +127,7 @@ fn limits(nodes: u64, held: u64, code_points: u64) -> Limits {
         nodes,
         held,
         code_points,
+        steps: u64::MAX,
     }
 }
 

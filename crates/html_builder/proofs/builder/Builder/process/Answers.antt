@@ -1,7 +1,8 @@
-use Rattle.std.proofs.Common.{◌≡◌, ◌∙◌, false, refl, subst, sym}
+use Rattle.std.proofs.Common.{◌≡◌, ◌∙◌, false, refl, subst, sym, true}
 use Rattle.std.specs.Prelude.{IfSome}
 use Rattle.html_modes.specs.Steps.{root_of}
-use Rattle.html_builder.proofs.Handing.{cause-foreign, viewed-grown, viewed-token}
+use Rattle.html_builder.specs.Handed.{IsSpent}
+use Rattle.html_builder.proofs.Handing.{cause-foreign, spent-at, viewed-grown, viewed-token}
 use Rattle.html_builder.proofs.builder.Builder.process.Goals as goal
 
 pub returns-in-Ok-None-clause-takes : goal.returns-in-Ok-None-clause-takes
@@ -16,5 +17,11 @@ returns-in-Ok-None-clause-grows c =
 
 pub returns-in-Ok-Some-clause-cause : goal.returns-in-Ok-Some-clause-cause
 returns-in-Ok-Some-clause-cause c = λ s l ts h.
-    cause-foreign s l ts c.args.self.now c.args.token.now.kind c.args.token.now.span.start c.in-Ok-Some.name h
-    (sym c.of-symbol.ensures.value ∙ subst (λ f. IfSome f (λ name. c.of-symbol.result ≡ root_of name)) c.in-Ok-Some.field-0-is c.in-Ok-Some.ensures.foreign)
+    rw c.in-Ok-Some.field-0-is (cause-foreign s l ts c.args.self.now c.args.token.now.kind c.args.token.now.span.start c.in-Ok-Some.name h
+    (sym c.of-symbol.ensures.value ∙ subst (λ f. IfSome f (λ name. c.of-symbol.result ≡ root_of name)) c.in-Ok-Some.field-0-is c.in-Ok-Some.ensures.foreign))
+
+pub returns-in-Err-clause-spent : goal.returns-in-Err-clause-spent
+returns-in-Err-clause-spent c = λ s l ts h.
+    subst (λ e. IsSpent l (record { page = c.take.new.page; stopped = true }) e) (sym c.at.ensures.value)
+    (spent-at c.limits-limits.result l (record { page = c.take.new.page; stopped = true }) c.node_count.result c.args.token.now.span.start c.borne_out-refusal.result
+    (c.limits-limits.ensures.value ∙ h.built.limits) c.node_count.ensures.value c.borne_out-refusal.ensures.borne_out)
