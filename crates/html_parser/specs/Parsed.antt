@@ -1,10 +1,12 @@
 -- What parsing answers.
-use Rattle.std.specs.Prelude.{◌≡◌, ℕ, ◌≤◌, ◌+◌, ◌-◌, ◌*◌, ◌^◌, min, false, List, [], ◌∷◌, length}
+use Rattle.std.specs.Prelude.{◌≡◌, ℕ, ◌≤◌, ◌+◌, ◌-◌, ◌*◌, ◌^◌, min, false, List, [], ◌∷◌, length, Some}
 use Rattle.html_input.specs.Decode.{decode, code_points}
 use Rattle.html_tokens.specs.Stream.{tokens_of}
 use Rattle.html_tokens.specs.declared.token.Token.{Token}
 use Rattle.html_tokens.specs.declared.faults.Fault.{Fault}
 use Rattle.html_tokens.specs.declared.token.TextMode.TheVariants.{Data}
+use Rattle.html_arena.specs.declared.arena.Limits.{Limits}
+use Rattle.html_arena.specs.Budget.{AreWithin}
 use Rattle.html_arena.specs.Forest.{Forest}
 use Rattle.html_arena.specs.Tree.{Tree as Nodes}
 use Rattle.html_ledger.specs.declared.fate.Fate.{Fate}
@@ -75,6 +77,9 @@ pub record IsParsed (start : Start) (bytes : List ℕ) (tokens : List Token) (fa
   pub names : HasNames t
   -- how large it is
   pub bounded : IsBounded n t
+  -- it keeps to the limits, where there are any
+  pub kept : AreWithin start.limits (length t.labels) t.held
+  pub kept_steps : (l : Limits) → start.limits ≡ Some l → steps ≤ l.steps
   pub steps_are : AreSteps n t steps
   pub few_steps : steps ≤ most_steps n
   pub few_errors : length errors ≤ most_errors n

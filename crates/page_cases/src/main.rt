@@ -3,7 +3,7 @@
 //! byte, and by each other call that takes such an input, and where anything else comes of it, a line says so.
 //!
 //! The first line is a table of named character references, as JSON. A row is `NAME|WORDS|PAGE`. Words are `audit`, `html`, `context=NAME`,
-//! `in_form`, `quirks`, and limits: `nodes=N`, `held=N`, `input=N`. In a page and in the name of a context `␊`, `␍`, `␀` and `␠` stand for what they show.
+//! `in_form`, `quirks`, and limits: `nodes=N`, `held=N`, `input=N`, `steps=N`. In a page and in the name of a context `␊`, `␍`, `␀` and `␠` stand for what they show.
 #![tactic(auto)]
 
 mod audit;

@@ -36,7 +36,8 @@ returns-in_err-process_text-clause-cause c =
     ((rw c.in-Some.is at c.in_ok-place.ensures.given) run r.tokenized)
     (subst (λ t. IsTextCause start.setting start.limits (kinds run.given) (fates_of c.args.self.now.builder) t c.in-Some.place c.in_err-process_text.field-0.0)
     (c.as_slice.ensures.value ∙ c.in_ok-place.ensures.text ∙ ap (λ xs. xs ++ plain_next c.args.self.now.tokenizer) c.clear.ensures.items)
-    (c.in_err-process_text.ensures.cause start.setting start.limits (kinds run.given) r.handed)))
+    (c.in_err-process_text.ensures.cause start.setting start.limits (kinds run.given) r.handed))
+    c.process_text.new.self (c.in_err-process_text.ensures.spent start.setting start.limits (kinds run.given) r.handed))
 
 pub invariant_of-self-2 : goal.invariant_of-self-2
 invariant_of-self-2 c = record {
