@@ -1,7 +1,7 @@
 use Rattle.std.proofs.Common.{◌≡◌, ◌≤◌, ◌+◌, length}
 use Rattle.html_tokens.specs.Bounds.{IsBounded}
 use Rattle.html_tokens.specs.Stream.{Run, IsAt}
-use Rattle.html_tokens.proofs.machine.Machine.next.Given as goal
+use Rattle.html_tokens.proofs.machine.Machine.read_next.Given as goal
 
 abbrev pub invariant-loop-self : goal.invariant-loop-self
 invariant-loop-self l = record {
