@@ -2,13 +2,15 @@
 #![tactic(auto)]
 
 use anyhow::Result;
-use html_parser::{
-    EntityTable, Event, NodeData, OverWrite, Profile, Show, Walk, parse, serialise,
-};
+use html_parser::{EntityTable, Event, NodeData, OverWrite, Profile, Show, Walk, parse, serialise};
 
 fn main(rt: HostRuntime) -> Result<()> {
     let table = EntityTable::core(rt.alloc())?;
-    let page = parse(rt.alloc(), &table, b"<title>Two</title><p>One<p>Two & <b>three")?;
+    let page = parse(
+        rt.alloc(),
+        &table,
+        b"<title>Two</title><p>One<p>Two & <b>three",
+    )?;
     let mut walk = Walk::new(&page.arena, Show::All, page.root);
     'nodes: while let Some(event) = walk.next() {
         if let Event::Enter(node) = event {
