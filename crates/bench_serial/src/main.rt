@@ -5,11 +5,10 @@
 mod build;
 
 use build::{Shape, build, is_root};
-use html_page::{DeviceFault, EntityTable, Profile, Sink, parse, serialise};
+use html_arena::{Arena, NewNode};
+use html_page::{DeviceFault, Profile, Sink, serialise_tree};
 use std::env;
 use std::time::Instant;
-
-const PAGE: &[u8] = b"<!DOCTYPE html><html><head></head><body></body></html>";
 
 /// A thousandth of each shape, but for its depth.
 const SHAPES: [Shape; 4] = [
@@ -78,24 +77,20 @@ fn main(rt: HostRuntime) -> anyhow::Result<()> {
 /// Writes one shape.
 fn measure(rt: &HostRuntime, shape: Shape, given: Option<u32>) -> anyhow::Result<()> {
     let times = u64::from(given.unwrap_or(1));
-    let table = EntityTable::core(rt.alloc())?;
-    let mut page = parse(rt.alloc(), &table, PAGE)?;
-    let root = page.root;
-    if !is_root(&page.arena, root) {
-        return Ok(());
-    }
+    let mut arena = Arena::new(rt.alloc());
+    let root = arena.make(NewNode::Document)?;
     let mut large = shape;
     if shape.elements > 1 {
         large.elements = shape.elements.saturating_mul(times);
     } else {
         large.copies = shape.copies.saturating_mul(times);
     }
-    build(rt.alloc(), &mut page.arena, root, large)?;
-    let nodes = page.arena.len();
+    build(rt.alloc(), &mut arena, root, large)?;
+    let nodes = arena.len();
     let mut counter = Counter { bytes: 0 };
     let start = Instant::now(rt)?;
-    if is_root(&page.arena, root) {
-        serialise(&page, Profile::One, &mut counter)?;
+    if is_root(&arena, root) {
+        serialise_tree(&arena, root, Profile::One, &mut counter)?;
     }
     let took = start.elapsed(rt)?.as_micros();
     let name = shape.name;

@@ -1,12 +1,11 @@
 -- A new node put last in another, and more text, as a page's tree sees them.
-use Rattle.std.proofs.Common.{◌≡◌, ◌≢◌, ℕ, ◌+◌, ◌<◌, false, cond, List, [], ◌∷◌, ◌++◌, length, get_or, Option, Some, None, refl, sym, ap, ◌∙◌, subst, arith, inl, inr}
+use Rattle.std.proofs.Common.{◌≡◌, ℕ, ◌+◌, ◌<◌, false, cond, List, [], ◌∷◌, ◌++◌, length, get_or, Some, None, refl, sym, ap, ◌∙◌, subst, arith, inl, inr}
 use Rattle.std.proofs.lemmas.List.{get_or-set_same, get_or-set_other, get_or_append_left, length-set, length_push}
 use Rattle.std.proofs.Math.Seq.{get_or-append_seam}
 use Rattle.html_arena.specs.Data.{contents_in, host_in, with_run}
-use Rattle.html_arena.specs.Make.{has_contents, made, made_weight}
+use Rattle.html_arena.specs.Make.{has_contents, made_weight}
 use Rattle.html_arena.specs.Make.{label_for as node_for}
 use Rattle.html_arena.specs.Tree.{Tree, added, added_template, appended, children_of, label_of, texted_run}
-use Rattle.html_arena.specs.Walking.{IsRoot}
 use Rattle.html_arena.specs.declared.data.NewNode.{NewNode}
 use Rattle.html_arena.specs.declared.data.NodeData.{NodeData}
 use Rattle.html_arena.specs.declared.data.NodeData.TheVariants as node

@@ -36,7 +36,7 @@ use Rattle.html_construction.specs.States.{State}
 use Rattle.html_modes.specs.Steps.{allowance}
 use Rattle.html_builder.specs.Builders.{BuilderState}
 use Rattle.html_builder.specs.Handed.{CostAtMost, EndsAtEof, Handed, HaveFates, fates_of, given, own_total}
-use Rattle.html_builder.specs.Outcome.{IsBounded, IsOutcome, IsRooted, most_held, most_nodes, most_tree_steps}
+use Rattle.html_builder.specs.Outcome.{IsBounded, IsOutcome, IsRooted, most_entries, most_held, most_nodes, most_tree_steps}
 
 -- the first symbol of a list, and the rest
 abbrev first : List Symbol → Symbol
@@ -185,6 +185,10 @@ steps-most s l ts b n t h c e w f =
     let paid = h.paid in
     let counted = h.counted in
     counted-most ts b.page n f c.count c.attributes (omega (arith, paid)) (omega (arith, few, implied)) (omega (arith, counted))
+
+-- how often tokens entered the rules of a mode
+pub entries-most : (s : Setting) (l : Option Limits) (ts : List TokenKind) (b : BuilderState) (n : ℕ) → Handed s l ts b → CostAtMost n ts → b.entries ≤ most_entries n
+entries-most s l ts b n h c = let e = h.entered in let k = c.count in omega (arith, e, k)
 
 pub bounded : (s : Setting) (l : Option Limits) (ts : List TokenKind) (b : BuilderState) (n : ℕ) (t : Tree) → Handed s l ts b → CostAtMost n ts → bare t ≡ b.page.tree.tree → WellFormed t → t.held ≡ capped (sum_by label_weight t.labels)
     → t.steps ≡ b.page.tree.steps → IsBounded n t

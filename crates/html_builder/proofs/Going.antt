@@ -1,7 +1,6 @@
 -- How a plain page goes on.
 use Rattle.std.specs.Prelude.{codes, slice_get, ◌==◌, not}
-use Rattle.std.specs.List.{AllByRecursion}
-use Rattle.std.proofs.Common.{◌≡◌, ◌≢◌, ℕ, zero, suc, ◌+◌, ◌<◌, Bool, true, false, cond, eqb, List, [], ◌∷◌, ◌++◌, ◌⊎◌, inl, inr, drop, length, reverse, Option, Some, None, refl, sym, ap, ◌∙◌, subst, arith, append_assoc}
+use Rattle.std.proofs.Common.{◌≡◌, ◌≢◌, ℕ, ◌+◌, ◌<◌, Bool, true, false, cond, eqb, List, [], ◌∷◌, ◌++◌, ◌⊎◌, inl, inr, drop, length, reverse, Some, None, refl, sym, ap, ◌∙◌, subst, arith, append_assoc}
 use Rattle.std.proofs.lemmas.Bool.Decides.{nat_tests}
 use Rattle.html_names.specs.declared.tag.Tag.{Tag}
 use Rattle.html_names.specs.declared.tag.Tag.TheVariants as tag
@@ -18,7 +17,9 @@ use Rattle.html_arena.specs.declared.data.NodeData.TheVariants as node
 use Rattle.html_tokens.specs.declared.attributes.Attr.{Attr}
 use Rattle.html_tokens.specs.declared.token.TokenKind.{TokenKind}
 use Rattle.html_tokens.specs.declared.token.TokenKind.TheVariants.{Start, End, Char, Comment, Doctype, Eof}
+use Rattle.html_ledger.specs.Entries.{Entries}
 use Rattle.html_ledger.specs.Symbols.{symbol_of}
+use Rattle.html_ledger.specs.declared.fate.Fate.{Fate}
 use Rattle.html_ledger.specs.declared.symbol.Symbol.{Symbol}
 use Rattle.html_ledger.specs.declared.symbol.Symbol.TheVariants as symbol
 use Rattle.html_open.specs.Placing.{get}
@@ -28,27 +29,24 @@ use Rattle.html_tree.specs.Inserting.{with_new, with_open}
 use Rattle.html_tree.specs.Targets.{place_for}
 use Rattle.html_tree.specs.Texts.{place_here}
 use Rattle.html_tree.specs.declared.groups.Target.TheVariants.{Current}
-use Rattle.html_construction.specs.Built.{chars_of}
 use Rattle.html_construction.specs.Calls.{element_of}
 use Rattle.html_construction.specs.States.{State}
-use Rattle.html_construction.specs.Tokens.{tag_name}
 use Rattle.html_construction.specs.declared.mode.Mode.{Mode}
 use Rattle.html_construction.specs.declared.mode.Mode.TheVariants.{Initial, BeforeHtml, BeforeHead, InHead, AfterHead, InBody, AfterBody, AfterAfterBody}
-use Rattle.html_modes.specs.Plain.{EndsCurrent, GoesOn, IsNext, IsPlainState, IsTurn, closes, is_next, is_plain_tag, next_mode, next_nodes, next_stack, next_tags}
-use Rattle.html_page.specs.Begun.{IsContentOuter, IsPlainName, ends_after, front_then}
+use Rattle.html_modes.specs.Plain.{EndsCurrent, GoesOn, IsPlainState, closes, is_next, is_plain_tag, next_fate, next_mode, next_nodes, next_stack, next_tags}
+use Rattle.html_page.specs.Begun.{IsContentOuter, front_then}
 use Rattle.html_page.specs.Forest.{join, single}
 use Rattle.html_page.specs.Label.{Label, label_for}
 use Rattle.html_page.specs.Label.Label.{comment, doctype, document, element, text}
 use Rattle.html_page.specs.Open.{Before}
-use Rattle.html_page.specs.PageTokens.{ArePlain, IsPlainFront, chars_then, kinds_then, page_kinds}
-use Rattle.html_page.specs.Pieces.{epilog, prolog}
-use Rattle.html_page.specs.Plain.{ArePlainAttrs, IsContent, IsPlainChar}
+use Rattle.html_page.specs.PageTokens.{ArePlain, IsPlainFront, chars_then, epilog, kinds_then, page_kinds, prolog}
+use Rattle.html_page.specs.Plain.{ArePlainAttrs, IsContent, IsPlainChar, IsPlainName}
 use Rattle.html_page.proofs.Added.{body-not_template, head-not_template, html-not_template}
 use Rattle.html_page.proofs.Alls.{all-append}
 use Rattle.html_page.proofs.Fronts.{Follows, content-element, content-text, ends-join, front-more, names_of, plain-follows}
 use Rattle.html_page.proofs.Names.{each-name}
-use Rattle.html_builder.specs.Plain.{AreOpen, HasMade, IsBegun, IsHeld, IsStage, in_body, in_head, in_html, only_doctype, only_head, tags_in}
-use Rattle.html_builder.proofs.Opened.{and_text, last-top, open-top, place-is, text-closed, top, top_label}
+use Rattle.html_builder.specs.Plain.{HasMade, HavePlainFates, IsBegun, IsHeld, IsPlainFate, IsStage, in_body, in_head, in_html, only_doctype, only_head, tags_in}
+use Rattle.html_builder.proofs.Opened.{and_text, last-top, open-top, place-is, text-closed, top}
 use Rattle.html_builder.proofs.Standing.{front-text, lone-top, made-doctype, made-end, made-same, made-start, made-text}
 
 -- THE TAGS
@@ -193,6 +191,7 @@ record Turned (m : Mode) (y : Symbol) (x : TokenKind) (a b : State) : Type 0 whe
   tags_are : b.stack ≡ next_tags m y a.stack
   stack_is : b.tree.stack ≡ stack_in m a y
   nodes_are : b.tree.tree ≡ next_nodes a y x
+  fates_are : b.ledger.fates ≡ a.ledger.fates ++ next_fate a y ∷ []
   plain : IsPlainState b
 
 turned : (m : Mode) (y : Symbol) (k x : TokenKind) (a b : State) → GoesOn (symbol_of k) k a b → IsPlainState a → k ≡ x → symbol_of x ≡ y → a.mode ≡ m → is_next m a.stack y ≡ true → EndsCurrent m y x a → Turned m y x a b
@@ -204,8 +203,16 @@ turned m y k x a b g p e f n i c =
       tags_are = r.0.tags_are ∙ ap (λ (z : Mode). next_tags z y a.stack) n;
       stack_is = r.0.stack_is ∙ stack-in a y ∙ ap (λ (z : Mode). stack_in z a y) n;
       nodes_are = r.0.nodes_are;
+      fates_are = ap (λ (z : Entries). z.fates) r.0.ledger_is.1;
       plain = r.1;
     }
+
+-- one token more has its fate
+fates-more : (ts : List TokenKind) (fs : List Fate) (k : TokenKind) (f : Fate) → HavePlainFates ts fs → IsPlainFate k f → HavePlainFates (ts ++ k ∷ []) (fs ++ f ∷ [])
+fates-more [] [] k f h p = (p, tt)
+fates-more [] (g ∷ fs) k f h p = absurd h
+fates-more (t ∷ ts) [] k f h p = absurd h
+fates-more (t ∷ ts) (g ∷ fs) k f h p = (h.0, fates-more ts fs k f h.1 p)
 
 -- the page is so far
 begun-at : (tokens past : List TokenKind) (k x : TokenKind) (b : State) (m : Mode) (d : Forest Label) (s : List ℕ) (outer : List Before) → k ≡ x → b.mode ≡ m → HasMade (tokens ++ x ∷ []) b d s outer past → IsStage m d s outer past → IsBegun (tokens ++ k ∷ []) b
@@ -225,9 +232,16 @@ made-at tokens past qast a d f s r outer puter e g i j h =
     (subst (λ (z : List Before). HasMade tokens a d s z qast) i
     (subst (λ (z : List TokenKind). HasMade tokens a d s outer z) j h)))
 
-module _ (tokens : List TokenKind) (k : TokenKind) (a b : State) (plain : IsPlainState a) (more : IsPlainFront (tokens ++ k ∷ [])) (goes : GoesOn (symbol_of k) k a b) where
+module _ (tokens : List TokenKind) (k : TokenKind) (a b : State) (plain : IsPlainState a) (more : IsPlainFront (tokens ++ k ∷ [])) (goes : GoesOn (symbol_of k) k a b)
+    (met : HavePlainFates tokens a.ledger.fates) where
   abbrev Goes : Type 0
-  Goes = IsBegun (tokens ++ k ∷ []) b × IsPlainState b
+  Goes = IsBegun (tokens ++ k ∷ []) b × IsPlainState b × HavePlainFates (tokens ++ k ∷ []) b.ledger.fates
+
+  -- the fates with that of the token
+  fated : (m : Mode) (y : Symbol) (x : TokenKind) → k ≡ x → Turned m y x a b → IsPlainFate x (next_fate a y) → HavePlainFates (tokens ++ k ∷ []) b.ledger.fates
+  fated m y x e t p =
+      subst (HavePlainFates (tokens ++ k ∷ [])) (sym t.fates_are)
+      (fates-more tokens a.ledger.fates k (next_fate a y) met (subst (λ (z : TokenKind). IsPlainFate z (next_fate a y)) (sym e) p))
 
   -- the place for an element
   place-at : (past : List TokenKind) (d : Forest Label) (s : List ℕ) (outer : List Before) → HasMade tokens a d s outer past → place_here a.tree false ≡ Last (top (reverse a.tree.stack))
@@ -242,6 +256,7 @@ module _ (tokens : List TokenKind) (k : TokenKind) (a b : State) (plain : IsPlai
         begun-at tokens [] k x b BeforeHtml only_doctype [] [] e t.mode_is
             (made-doctype tokens a b empty (Some (codes "html")) None None _ h t.tags_are t.stack_is t.nodes_are) (refl, refl, refl, refl),
         t.plain,
+        fated Initial symbol.Doctype x e t tt,
       )
 
   in-before_html : a.mode ≡ BeforeHtml → HasMade tokens a only_doctype [] [] [] → Goes
@@ -254,6 +269,7 @@ module _ (tokens : List TokenKind) (k : TokenKind) (a b : State) (plain : IsPlai
             (ap Last (sym (lone-top a.tree.tree (length a.tree.tree.labels) [] (reverse a.tree.stack) only_doctype h.nodes_are)))
             (t.tags_are ∙ ap (λ (z : Tag). z ∷ a.stack) (sym html-tag)) t.stack_is t.nodes_are) (refl, refl, refl, refl),
         t.plain,
+        fated BeforeHtml (symbol.Start tag.Html) x e t tt,
       )
 
   in-before_head : a.mode ≡ BeforeHead → HasMade tokens a empty [] in_html [] → Goes
@@ -265,6 +281,7 @@ module _ (tokens : List TokenKind) (k : TokenKind) (a b : State) (plain : IsPlai
             (made-start tokens a b empty [] in_html (codes "head") [] _ (place_here a.tree false) h head-not_template (place-at [] empty [] in_html h)
             (t.tags_are ∙ ap (λ (z : Tag). z ∷ a.stack) (sym head-tag)) t.stack_is t.nodes_are) (refl, refl, refl, refl),
         t.plain,
+        fated BeforeHead (symbol.Start tag.Head) x e t tt,
       )
 
   in-in_head : a.mode ≡ InHead → HasMade tokens a empty [] in_head [] → Goes
@@ -275,6 +292,7 @@ module _ (tokens : List TokenKind) (k : TokenKind) (a b : State) (plain : IsPlai
         begun-at tokens [] k x b AfterHead only_head [] in_html e t.mode_is
             (made-end tokens a b empty [] (codes "head") [] empty in_html h (omega arith) t.tags_are t.stack_is t.nodes_are) (refl, refl, refl, refl),
         t.plain,
+        fated InHead (symbol.End tag.Head) x e t tt,
       )
 
   in-after_head : a.mode ≡ AfterHead → HasMade tokens a only_head [] in_html [] → Goes
@@ -287,6 +305,7 @@ module _ (tokens : List TokenKind) (k : TokenKind) (a b : State) (plain : IsPlai
             (t.tags_are ∙ ap (λ (z : Tag). z ∷ a.stack) (sym body-tag)) t.stack_is t.nodes_are)
             ([], refl, tt, record { content = tt; apart = refl; chars = tt }, refl),
         t.plain,
+        fated AfterHead (symbol.Start tag.Body) x e t tt,
       )
 
   follows-next : (past : List TokenKind) (d : Forest Label) (s : List ℕ) (inner : List Before) → HasMade tokens a d s (inner ++ in_body) past → Follows (names_of inner) (past ++ k ∷ more.0)
@@ -304,6 +323,7 @@ module _ (tokens : List TokenKind) (k : TokenKind) (a b : State) (plain : IsPlai
             (t.tags_are ∙ ap (λ (z : Tag). z ∷ a.stack) (sym w.tag_is)) t.stack_is (t.nodes_are ∙ w.nodes a x))
             ((n, attrs, and_text d s) ∷ inner, refl, (p, c, held-content d s q, o), record { content = tt; apart = refl; chars = tt }, refl),
         t.plain,
+        fated InBody (symbol.Start w.known_tag) x e t tt,
       )
 
   -- a code point
@@ -314,6 +334,7 @@ module _ (tokens : List TokenKind) (k : TokenKind) (a b : State) (plain : IsPlai
             (made-text tokens a b d s c [] (inner ++ in_body) h q.apart t.tags_are t.stack_is t.nodes_are)
             (inner, refl, o, record { content = q.content; apart = q.apart; chars = all-append IsPlainChar s (c ∷ []) q.chars (p, tt) }, refl),
         t.plain,
+        fated InBody (symbol.Char c) (Char c) e t tt,
       )
 
   -- the end tag of an element below the body
@@ -338,6 +359,7 @@ module _ (tokens : List TokenKind) (k : TokenKind) (a b : State) (plain : IsPlai
               refl,
             ),
         t.plain,
+        fated InBody (symbol.End w.known_tag) (End n) e t tt,
       )
 
   -- the end tag of the body
@@ -349,6 +371,7 @@ module _ (tokens : List TokenKind) (k : TokenKind) (a b : State) (plain : IsPlai
       (current-name tokens [] a d s (codes "body") [] only_head in_html h) in (
         begun-at tokens (x ∷ []) k x b AfterBody d s in_body e t.mode_is (made-same tokens [] x a b d s in_body h t.tags_are t.stack_is t.nodes_are) (refl, q, refl),
         t.plain,
+        fated InBody (symbol.End tag.Body) x e t tt,
       )
 
   body-next : (d : Forest Label) (s : List ℕ) (inner : List Before) (x : TokenKind) (rest : List TokenKind) → a.mode ≡ InBody → HasMade tokens a d s (inner ++ in_body) [] → IsContentOuter inner → IsHeld d s → k ≡ x
@@ -370,6 +393,7 @@ module _ (tokens : List TokenKind) (k : TokenKind) (a b : State) (plain : IsPlai
       let t = turned AfterBody (symbol.End tag.Html) k x a b goes plain e (ap symbol.End html-tag) m refl tt in (
         begun-at tokens (End (codes "body") ∷ x ∷ []) k x b AfterAfterBody d s in_body e t.mode_is (made-same tokens (End (codes "body") ∷ []) x a b d s in_body h t.tags_are t.stack_is t.nodes_are) (refl, q, inl refl),
         t.plain,
+        fated AfterBody (symbol.End tag.Html) x e t tt,
       )
 
   in-after_after_body : (d : Forest Label) (s : List ℕ) → a.mode ≡ AfterAfterBody → HasMade tokens a d s in_body (End (codes "body") ∷ End (codes "html") ∷ []) → IsHeld d s → Goes
@@ -379,6 +403,7 @@ module _ (tokens : List TokenKind) (k : TokenKind) (a b : State) (plain : IsPlai
       let t = turned AfterAfterBody symbol.Eof k Eof a b goes plain e refl m refl tt in (
         begun-at tokens epilog k Eof b AfterAfterBody d s in_body e t.mode_is (made-same tokens (End (codes "body") ∷ End (codes "html") ∷ []) Eof a b d s in_body h t.tags_are t.stack_is t.nodes_are) (refl, q, inr refl),
         t.plain,
+        fated AfterAfterBody symbol.Eof Eof e t tt,
       )
 
   at-end : (d : Forest Label) (s : List ℕ) → HasMade tokens a d s in_body epilog → Goes

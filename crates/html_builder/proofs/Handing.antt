@@ -27,6 +27,7 @@ use Rattle.html_construction.specs.Weights.{weight}
 use Rattle.html_construction.specs.Works.{reach_of, span_of}
 use Rattle.html_construction.specs.declared.refusal.Refusal.{Refusal}
 use Rattle.html_construction.specs.declared.refusal.Refusal.TheVariants as refusal
+use Rattle.html_modes.specs.Entering.{Enters}
 use Rattle.html_modes.specs.Ranks.{top_rank}
 use Rattle.html_modes.specs.Steps.{Pays, Toils, compared, root_of}
 use Rattle.html_modes.specs.declared.outcome.Foreign.{Foreign}
@@ -66,8 +67,8 @@ built-knowing h a w = record { fed = w.fed; known = ([], sym (append-nil a.ledge
 
 -- so many tokens, handed in at once
 handed-in : (us : List TokenKind) (more : ℕ) (v w : BuilderState) → ((h : Given) → IsBuilt h v.page → IsBuilt (with_tokens h us) w.page) → Pays v.page w.page
-    → Toils more v.page w.page → more ≤ attribute_total us * span_of w.page → ((s : Setting) (ts : List TokenKind) → IsPlainSoFar s ts v.page → IsPlainSoFar s (ts ++ us) w.page) → 0 < length us → w.stopped ≡ false → HandsIn us v w
-handed-in us more v w f p o m q k g = λ s l ts h.
+    → Enters (length us) v.entries w.entries v.page w.page → Toils more v.page w.page → more ≤ attribute_total us * span_of w.page → ((s : Setting) (ts : List TokenKind) → IsPlainSoFar s ts v.page → IsPlainSoFar s (ts ++ us) w.page) → 0 < length us → w.stopped ≡ false → HandsIn us v w
+handed-in us more v w f p r o m q k g = λ s l ts h.
     let n : length (ts ++ us) ≡ length ts + length us = length-append ts us in
     let b : IsBuilt (given s l (ts ++ us)) w.page = subst (λ x. IsBuilt x w.page) (with-given s l ts us) (f (given s l ts) h.built) in
     let c = handed-count (given s l (ts ++ us)) w.page b in record {
@@ -77,20 +78,21 @@ handed-in us more v w f p o m q k g = λ s l ts h.
       cloned = omega (arith, p.1.0, h.cloned);
       implied = omega (arith, p.1.1.0, h.implied_paid, n, k);
       implied_paid = omega (arith, p.1.1.1, h.implied_paid, n, k);
+      entered = omega (arith, r, h.entered, n);
       counted = counted-in ts us more (given s l (ts ++ us)) v.page w.page refl b (omega (arith, c)) k h.counted (omega (arith, h.implied_paid)) o m;
       plain = q s ts h.plain;
     }
 
-pub handed-token : (t : TokenKind) (v w : BuilderState) → Takes t v.page w.page → Pays v.page w.page → Toils (compared t w.page) v.page w.page → GoesOn (symbol_of t) t v.page w.page → w.stopped ≡ false → HandsIn (t ∷ []) v w
-handed-token t v w f p o q g = handed-in (t ∷ []) (compared t w.page) v w f p o (compared-one t (span_of w.page)) (plain-token t v.page w.page q) (omega arith) g
+pub handed-token : (t : TokenKind) (v w : BuilderState) → Takes t v.page w.page → Pays v.page w.page → Enters 1 v.entries w.entries v.page w.page → Toils (compared t w.page) v.page w.page → GoesOn (symbol_of t) t v.page w.page → w.stopped ≡ false → HandsIn (t ∷ []) v w
+handed-token t v w f p r o q g = handed-in (t ∷ []) (compared t w.page) v w f p r o (compared-one t (span_of w.page)) (plain-token t v.page w.page q) (omega arith) g
 
 length-chars : (cs : List ℕ) → length (chars_of cs) ≡ length cs
 length-chars [] = refl
 length-chars (c ∷ cs) = ap suc (length-chars cs)
 
-pub handed-run : (cs : List ℕ) (v w : BuilderState) → TakesRun cs v.page w.page → Pays v.page w.page → Toils 0 v.page w.page → (list_all is_not_null cs ≡ true → GoesOnText cs v.page w.page) → 0 < length cs → w.stopped ≡ false
+pub handed-run : (cs : List ℕ) (v w : BuilderState) → TakesRun cs v.page w.page → Pays v.page w.page → Enters (length cs) v.entries w.entries v.page w.page → Toils 0 v.page w.page → (list_all is_not_null cs ≡ true → GoesOnText cs v.page w.page) → 0 < length cs → w.stopped ≡ false
     → HandsIn (chars_of cs) v w
-handed-run cs v w f p o q k g = handed-in (chars_of cs) 0 v w f p o (omega arith) (plain-run cs v.page w.page k q) (let e = length-chars cs in omega (arith, e, k)) g
+handed-run cs v w f p r o q k g = handed-in (chars_of cs) 0 v w f p (subst (λ n. Enters n v.entries w.entries v.page w.page) (sym (length-chars cs)) r) o (omega arith) (plain-run cs v.page w.page k q) (let e = length-chars cs in omega (arith, e, k)) g
 
 -- fates are only added
 added : (us : List TokenKind) (v w : BuilderState) → ((h : Given) → IsBuilt h v.page → IsBuilt (with_tokens h us) w.page) → AddsFates v w
@@ -136,17 +138,17 @@ length-none (f ∷ fs) e = absurd (omega (arith, e))
 pub none-fated : (s : Setting) (l : Option Limits) (a : State) → IsBuilt (nothing_of s l) a → a.ledger.fates ≡ []
 none-fated s l a w = let c = handed-count (nothing_of s l) a w in length-none a.ledger.fates (omega (arith, c))
 
-begun : (s : Setting) (l : Option Limits) (b : BuilderState) → b.stopped ≡ false → IsBuilt (nothing_of s l) b.page → length b.page.tree.tree.labels + 2 * (weight b.page.stack + top_rank b.page.mode) ≤ 40
+begun : (s : Setting) (l : Option Limits) (b : BuilderState) → b.stopped ≡ false → b.entries ≡ 0 → IsBuilt (nothing_of s l) b.page → length b.page.tree.tree.labels + 2 * (weight b.page.stack + top_rank b.page.mode) ≤ 40
     → most_clones b.page.tree.tree.labels ≡ 0 → implied_count b.page.tree.tree.labels ≤ 1 → b.page.tree.steps ≤ 2 + reach_of b.page → weight b.page.stack + top_rank b.page.mode ≤ 14 → IsPlainSoFar s [] b.page → Handed s l [] b
-begun s l b g w p c i t r q = record { going = g; built = w; paid = omega (arith, p); cloned = omega (arith, c); implied = omega (arith, i); implied_paid = omega (arith, i, r); counted = counted-none [] b.page t r; plain = q }
+begun s l b g z w p c i t r q = record { going = g; built = w; paid = omega (arith, p); cloned = omega (arith, c); implied = omega (arith, i); implied_paid = omega (arith, i, r); entered = omega (arith, z, r); counted = counted-none [] b.page t r; plain = q }
 
-pub begun-document : (l : Option Limits) (b : BuilderState) → b.stopped ≡ false → IsBuilt (nothing_of setting.Document l) b.page → b.page.mode ≡ mode.Initial → b.page.stack ≡ [] → length b.page.tree.tree.labels ≡ 1
+pub begun-document : (l : Option Limits) (b : BuilderState) → b.stopped ≡ false → b.entries ≡ 0 → IsBuilt (nothing_of setting.Document l) b.page → b.page.mode ≡ mode.Initial → b.page.stack ≡ [] → length b.page.tree.tree.labels ≡ 1
     → most_clones b.page.tree.tree.labels ≡ 0 → implied_count b.page.tree.tree.labels ≤ 1 → b.page.tree.steps ≤ 2 + reach_of b.page → (z : Option Limits) × (j : ℕ) × (b.page.tree ≡ document_state z j)
     → b.page.ledger ≡ begun_ledger setting.Document → b.page.fostering ≡ false → b.page.context ≡ None → Handed setting.Document l [] b
-begun-document l b g w m k n c i t d e f o =
+begun-document l b g z w m k n c i t d e f o =
     let p : top_rank b.page.mode ≡ 14 = ap top_rank m in
     let q : weight b.page.stack ≡ 0 = ap weight k in
-    begun setting.Document l b g w (omega (arith, p, q, n)) c i t (omega (arith, p, q)) (λ z. begun-plain b.page m k d.0 d.1 d.2 e f o)
+    begun setting.Document l b g z w (omega (arith, p, q, n)) c i t (omega (arith, p, q)) (λ z. begun-plain b.page m k d.0 d.1 d.2 e f o)
 
 reset-low : (m : Mode) → is_reset m ≡ true → top_rank m ≤ 10
 reset-low mode.Initial e = absurd (false≢true e)
@@ -155,12 +157,12 @@ reset-low mode.Text e = absurd (false≢true e)
 reset-low mode.InTableText e = absurd (false≢true e)
 reset-low _ e = omega arith
 
-pub begun-fragment : (u : Tag) (form : Bool) (l : Option Limits) (b : BuilderState) → b.stopped ≡ false → IsBuilt (nothing_of (setting.Fragment u form) l) b.page → is_reset b.page.mode ≡ true → b.page.stack ≡ tag.Html ∷ []
+pub begun-fragment : (u : Tag) (form : Bool) (l : Option Limits) (b : BuilderState) → b.stopped ≡ false → b.entries ≡ 0 → IsBuilt (nothing_of (setting.Fragment u form) l) b.page → is_reset b.page.mode ≡ true → b.page.stack ≡ tag.Html ∷ []
     → length b.page.tree.tree.labels ≡ 1 → most_clones b.page.tree.tree.labels ≡ 0 → implied_count b.page.tree.tree.labels ≤ 1 → b.page.tree.steps ≤ 2 + reach_of b.page → Handed (setting.Fragment u form) l [] b
-begun-fragment u form l b g w m k n c i t =
+begun-fragment u form l b g z w m k n c i t =
     let p : top_rank b.page.mode ≤ 10 = reset-low b.page.mode m in
     let q : weight b.page.stack ≡ 4 = ap weight k in
-    begun (setting.Fragment u form) l b g w (omega (arith, p, q, n)) c i t (omega (arith, p, q)) tt
+    begun (setting.Fragment u form) l b g z w (omega (arith, p, q, n)) c i t (omega (arith, p, q)) tt
 
 -- WHAT IS SAID AND REFUSED
 
@@ -228,12 +230,12 @@ text-cause-part s l ts us fs gs text part start at (error.NodeBudget place) p q 
 text-cause-part s l ts us fs gs text part start at (error.HeldBudget place) p q c = let a = c.0 in let b = c.1 in (omega (arith, p, a), omega (arith, q, b))
 
 -- the same, where the state is seen as a view
-pub viewed-token : (t : TokenKind) (y : Symbol) (u v w : BuilderState) → u ≡ v → y ≡ symbol_of t → Takes t u.page w.page → Pays u.page w.page → Toils (compared t w.page) u.page w.page → GoesOn y t u.page w.page
+pub viewed-token : (t : TokenKind) (y : Symbol) (u v w : BuilderState) → u ≡ v → y ≡ symbol_of t → Takes t u.page w.page → Pays u.page w.page → Enters 1 u.entries w.entries u.page w.page → Toils (compared t w.page) u.page w.page → GoesOn y t u.page w.page
     → w.stopped ≡ false → HandsIn (t ∷ []) v w
-viewed-token t y u v w e i f p o q g = subst (λ x. HandsIn (t ∷ []) x w) e (handed-token t u w f p o (subst (λ z. GoesOn z t u.page w.page) i q) g)
+viewed-token t y u v w e i f p r o q g = subst (λ x. HandsIn (t ∷ []) x w) e (handed-token t u w f p r o (subst (λ z. GoesOn z t u.page w.page) i q) g)
 
-pub viewed-run : (cs : List ℕ) (u v w : BuilderState) → u ≡ v → TakesRun cs u.page w.page → Pays u.page w.page → Toils 0 u.page w.page → (list_all is_not_null cs ≡ true → GoesOnText cs u.page w.page) → 0 < length cs → w.stopped ≡ false → HandsIn (chars_of cs) v w
-viewed-run cs u v w e f p o q k g = subst (λ x. HandsIn (chars_of cs) x w) e (handed-run cs u w f p o q k g)
+pub viewed-run : (cs : List ℕ) (u v w : BuilderState) → u ≡ v → TakesRun cs u.page w.page → Pays u.page w.page → Enters (length cs) u.entries w.entries u.page w.page → Toils 0 u.page w.page → (list_all is_not_null cs ≡ true → GoesOnText cs u.page w.page) → 0 < length cs → w.stopped ≡ false → HandsIn (chars_of cs) v w
+viewed-run cs u v w e f p r o q k g = subst (λ x. HandsIn (chars_of cs) x w) e (handed-run cs u w f p r o q k g)
 
 pub viewed-added : (cs : List ℕ) (u v w : BuilderState) → u ≡ v → TakesRun cs u.page w.page → AddsFates v w
 viewed-added cs u v w e f = subst (λ x. AddsFates x w) e (added-run cs u w f)
@@ -249,6 +251,15 @@ pub take-some : (n : ℕ) (xs : List ℕ) → 0 < n → 0 < length xs → 0 < le
 take-some zero xs p q = absurd (omega (arith, p))
 take-some (suc n) [] p q = absurd (omega (arith, q))
 take-some (suc n) (x ∷ xs) p q = omega arith
+
+-- entries of as many tokens as are taken of a text
+pub taken-enters : (n : ℕ) (xs : List ℕ) (k m : ℕ) (a b : State) → n ≤ length xs → Enters n k m a b → Enters (length (take n xs)) k m a b
+taken-enters n xs k m a b h e = subst (λ i. Enters i k m a b) (sym (length-taken n xs h)) e
+  where
+    length-taken : (n : ℕ) (xs : List ℕ) → n ≤ length xs → length (take n xs) ≡ n
+    length-taken zero xs h = refl
+    length-taken (suc n) [] h = absurd (omega (arith, h))
+    length-taken (suc n) (x ∷ xs) h = ap suc (length-taken n xs (omega (arith, h)))
 
 pub take-one : (xs : List ℕ) → length (take 1 xs) ≤ 1
 take-one [] = omega arith

@@ -1,14 +1,12 @@
 -- Open elements, as nodes and texts are added, and as they are closed.
-use Rattle.std.proofs.Common.{◌≡◌, ◌≢◌, ℕ, ◌+◌, ◌<◌, Bool, true, false, cond, List, [], ◌∷◌, ◌++◌, length, reverse, get_or, append-nil, Option, Some, None, refl, sym, ap, ◌∙◌, subst, arith}
+use Rattle.std.proofs.Common.{◌≡◌, ℕ, ◌+◌, ◌<◌, Bool, false, cond, List, [], ◌∷◌, ◌++◌, length, reverse, get_or, append-nil, Option, Some, None, refl, sym, ap, ◌∙◌, subst, arith}
 use Rattle.std.proofs.lemmas.List.{reverse-append}
 use Rattle.html_arena.specs.Data.{contents_in, is_text}
 use Rattle.html_arena.specs.Forest.{Forest}
 use Rattle.html_arena.specs.Forest.Forest.{empty, tree}
-use Rattle.html_arena.specs.Make.{has_contents}
 use Rattle.html_arena.specs.Siblings.{first_of, last_of, or_else}
-use Rattle.html_arena.specs.Tree.{Tree, children_of, contents_at, label_of, texted_run}
+use Rattle.html_arena.specs.Tree.{Tree, label_of, texted_run}
 use Rattle.html_arena.specs.Walking.{IsRoot}
-use Rattle.html_arena.specs.declared.data.NewNode.{NewNode}
 use Rattle.html_arena.specs.declared.data.NewNode.TheVariants.{Text}
 use Rattle.html_arena.specs.declared.data.NodeData.{NodeData}
 use Rattle.html_arena.specs.declared.data.NodeData.TheVariants as node

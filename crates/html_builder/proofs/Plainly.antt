@@ -1,23 +1,25 @@
 -- A plain page from its beginning to its end.
-use Rattle.std.specs.Prelude.{codes, not, slice_get, ◌==◌}
+use Rattle.std.specs.Prelude.{codes, not, slice_get}
 use Rattle.std.specs.List.{AllByRecursion, list_all}
 use Rattle.std.proofs.lemmas.Bool.{false≢true}
 use Rattle.std.proofs.lemmas.Bool.Decides.{nat_tests}
-use Rattle.std.proofs.Common.{◌≡◌, ◌≢◌, ℕ, zero, suc, ◌+◌, ◌<◌, ◌≤◌, Bool, true, false, ◌&&◌, eqb, List, [], ◌∷◌, ◌++◌, ◌⊎◌, inl, inr, length, reverse, Option, Some, None, refl, sym, ap, ◌∙◌, subst, arith, append_assoc, append-nil}
+use Rattle.std.proofs.Common.{◌≡◌, ◌≢◌, ℕ, zero, suc, ◌+◌, ◌<◌, Bool, true, false, ◌&&◌, eqb, List, [], ◌∷◌, ◌++◌, ◌⊎◌, inl, inr, length, map, reverse, Option, Some, None, refl, sym, ap, ◌∙◌, subst, arith, append_assoc, append-nil}
 use Rattle.html_arena.specs.Below.{kids}
 use Rattle.html_arena.specs.Data.{label_in, origin_in}
 use Rattle.html_arena.specs.Forest.{Forest}
 use Rattle.html_arena.specs.Forest.Forest.{empty, tree}
-use Rattle.html_arena.specs.Tree.{Tree, children_of}
+use Rattle.html_arena.specs.Tree.{Tree}
 use Rattle.html_arena.specs.declared.arena.Limits.{Limits}
 use Rattle.html_arena.specs.declared.data.NodeData.TheVariants as node
 use Rattle.html_arena.specs.declared.walk.Show.TheVariants.{All}
 use Rattle.html_arena.specs.declared.data.Origin.TheVariants.{Nothing, Token}
 use Rattle.html_tokens.specs.declared.token.TokenKind.{TokenKind}
-use Rattle.html_tokens.specs.declared.token.TokenKind.TheVariants.{Start, End, Char, Comment, Doctype, Eof}
+use Rattle.html_tokens.specs.declared.token.TokenKind.TheVariants.{Start, End, Char, Doctype, Eof}
 use Rattle.html_ledger.specs.Entries.{Entries, begun}
 use Rattle.html_ledger.specs.Flags.{is_not_null}
 use Rattle.html_ledger.specs.Symbols.{symbol_of}
+use Rattle.html_ledger.specs.declared.fate.Fate.{Fate}
+use Rattle.html_ledger.specs.declared.fate.Fate.TheVariants as fate
 use Rattle.html_ledger.specs.declared.setting.Setting.{Setting}
 use Rattle.html_ledger.specs.declared.setting.Setting.TheVariants as setting
 use Rattle.html_open.specs.Marking.{bare}
@@ -29,21 +31,21 @@ use Rattle.html_construction.specs.declared.mode.Mode.{Mode}
 use Rattle.html_construction.specs.declared.mode.Mode.TheVariants.{Initial, BeforeHtml, BeforeHead, InHead, AfterHead, InBody, AfterBody, AfterAfterBody}
 use Rattle.html_modes.specs.Plain.{AreListed, GoesOn, GoesOnText, HasSeen, IsPlainState, IsTextTurn, StandsIn}
 use Rattle.html_tree.specs.OpenTags.{open_tags}
+use Rattle.html_tree.specs.Texts.{text_node}
 use Rattle.html_page.specs.Begun.{IsContentOuter, front_then}
 use Rattle.html_page.specs.Forest.{join, single}
 use Rattle.html_page.specs.Label.{Label}
-use Rattle.html_page.specs.Label.Label.{document, doctype, element}
-use Rattle.html_page.specs.Open.{Before, IsOpenAt}
-use Rattle.html_page.specs.PageTokens.{ArePlain, IsPlainFront, kinds_then, page_kinds}
-use Rattle.html_page.specs.Pieces.{epilog, prolog}
+use Rattle.html_page.specs.Label.Label.{document, element}
+use Rattle.html_page.specs.Open.{Before}
+use Rattle.html_page.specs.PageTokens.{ArePlain, IsPlainFront, epilog, kinds_then, page_kinds, prolog}
 use Rattle.html_page.specs.Plain.{IsPlainChar, IsPlainPage, page_of}
-use Rattle.html_page.specs.Shows.{Shows, label_at}
+use Rattle.html_page.specs.Shows.{Shows}
 use Rattle.html_page.proofs.Alls.{all-append}
 use Rattle.html_page.proofs.Fronts.{Follows, front-shorter, names_of}
 use Rattle.html_page.proofs.Once.{page-once}
 use Rattle.html_page.proofs.Opens.{OpenAt-closed, Shows-from_ShowsIn, below-children}
-use Rattle.html_builder.specs.Plain.{AreOpen, HasMade, IsBegun, IsEven, IsHeld, IsPlainSoFar, IsStage, in_body, in_head, in_html, only_doctype, only_head}
-use Rattle.html_builder.proofs.Going.{body-front, front-follows, goes-on, held-content, made-at, prolog-next, some-inj}
+use Rattle.html_builder.specs.Plain.{AreOpen, HasMade, HavePlainFates, IsBegun, IsEven, IsHeld, IsPlainSoFar, IsStage, in_body, in_head, in_html, only_doctype, only_head}
+use Rattle.html_builder.proofs.Going.{front-follows, goes-on, held-content, made-at, prolog-next}
 use Rattle.html_builder.proofs.Opened.{and_text, text-closed}
 use Rattle.html_builder.proofs.Standing.{front-text, made-text}
 
@@ -60,10 +62,18 @@ run-seen : (run : List ℕ) → AllByRecursion IsPlainChar run → list_all is_n
 run-seen [] h = refl
 run-seen (c ∷ run) h = ap (λ (b : Bool). not b && list_all is_not_null run) (unlike c 0 h.0.not_null) ∙ run-seen run h.1
 
+-- code points in a row have their fates
+run-fates : (ts : List TokenKind) (fs : List Fate) (run : List ℕ) (x : ℕ) → HavePlainFates ts fs → HavePlainFates (ts ++ chars_of run) (fs ++ map (λ c. fate.Text x) run)
+run-fates [] [] [] x h = tt
+run-fates [] [] (c ∷ run) x h = (tt, run-fates [] [] run x tt)
+run-fates [] (f ∷ fs) run x h = absurd h
+run-fates (t ∷ ts) [] run x h = absurd h
+run-fates (t ∷ ts) (f ∷ fs) run x h = (h.0, run-fates ts fs run x h.1)
+
 module _ (tokens : List TokenKind) (c : ℕ) (run : List ℕ) (a b : State) (plain : IsPlainState a) (more : IsPlainFront (tokens ++ chars_of (c ∷ run)))
-    (goes : list_all is_not_null (c ∷ run) ≡ true → GoesOnText (c ∷ run) a b) where
+    (goes : list_all is_not_null (c ∷ run) ≡ true → GoesOnText (c ∷ run) a b) (met : HavePlainFates tokens a.ledger.fates) where
   abbrev Goes : Type 0
-  Goes = IsBegun (tokens ++ chars_of (c ∷ run)) b × IsPlainState b
+  Goes = IsBegun (tokens ++ chars_of (c ∷ run)) b × IsPlainState b × HavePlainFates (tokens ++ chars_of (c ∷ run)) b.ledger.fates
 
   -- with the first of them
   first : ArePlain ((tokens ++ Char c ∷ []) ++ (chars_of run ++ more.0))
@@ -88,6 +98,7 @@ module _ (tokens : List TokenKind) (c : ℕ) (run : List ℕ) (a b : State) (pla
               (inner, refl, o, record { content = q.content; apart = q.apart; chars = all-append IsPlainChar s (c ∷ run) q.chars p }, refl);
         },
         both.1,
+        subst (HavePlainFates (tokens ++ chars_of (c ∷ run))) (sym t.fates_are) (run-fates tokens a.ledger.fates (c ∷ run) (text_node a.tree false) met),
       )
 
   not-doctype : (n p i : Option (List ℕ)) → Char c ≡ Doctype n p i false → ⊥
@@ -137,12 +148,12 @@ module _ (tokens : List TokenKind) (c : ℕ) (run : List ℕ) (a b : State) (pla
 
 -- a token, and a run, of whatever is parsed
 pub plain-token : (k : TokenKind) (a b : State) → GoesOn (symbol_of k) k a b → (s : Setting) (tokens : List TokenKind) → IsPlainSoFar s tokens a → IsPlainSoFar s (tokens ++ k ∷ []) b
-plain-token k a b g setting.Document tokens h = λ p. let w = h (front-shorter tokens (k ∷ []) p) in goes-on tokens k a b w.1 p g w.0
+plain-token k a b g setting.Document tokens h = λ p. let w = h (front-shorter tokens (k ∷ []) p) in goes-on tokens k a b w.1 p g w.2 w.0
 plain-token k a b g (setting.Fragment t form) tokens h = tt
 
 pub plain-run : (run : List ℕ) (a b : State) → 0 < length run → (list_all is_not_null run ≡ true → GoesOnText run a b) → (s : Setting) (tokens : List TokenKind) → IsPlainSoFar s tokens a → IsPlainSoFar s (tokens ++ chars_of run) b
 plain-run [] a b l g s tokens h = absurd (omega (arith, l))
-plain-run (c ∷ run) a b l g setting.Document tokens h = λ p. let w = h (front-shorter tokens (chars_of (c ∷ run)) p) in runs-on tokens c run a b w.1 p g w.0
+plain-run (c ∷ run) a b l g setting.Document tokens h = λ p. let w = h (front-shorter tokens (chars_of (c ∷ run)) p) in runs-on tokens c run a b w.1 p g w.2 w.0
 plain-run (c ∷ run) a b l g (setting.Fragment t form) tokens h = tt
 
 -- THE BEGINNING
@@ -179,7 +190,8 @@ begun-open l k = (
 )
 
 -- before the first token
-pub begun-plain : (b : State) → b.mode ≡ Initial → b.stack ≡ [] → (l : Option Limits) (k : ℕ) → b.tree ≡ document_state l k → b.ledger ≡ begun setting.Document → b.fostering ≡ false → b.context ≡ None → IsBegun [] b × IsPlainState b
+pub begun-plain : (b : State) → b.mode ≡ Initial → b.stack ≡ [] → (l : Option Limits) (k : ℕ) → b.tree ≡ document_state l k → b.ledger ≡ begun setting.Document → b.fostering ≡ false → b.context ≡ None
+    → IsBegun [] b × IsPlainState b × HavePlainFates [] b.ledger.fates
 begun-plain b m st l k t g f c = (
   record {
     d = empty;
@@ -205,6 +217,7 @@ begun-plain b m st l k t g f c = (
     listed = subst (λ (z : Nodes). AreListed z.list z.stack) (sym t) tt;
     stands = subst (λ (z : Mode). StandsIn z b.stack) (sym m) st;
   },
+  subst (HavePlainFates []) (sym (ap (λ (e : Entries). e.fates) g)) tt,
 )
 
 -- THE END
@@ -280,8 +293,12 @@ module _ (tokens : List TokenKind) (a : State) (page : Forest Label) (is_plain :
     end-stage AfterAfterBody g = end-after g.0 g.1 g.2
     end-stage _ g = absurd g
 
-  -- the tree of a page of which all tokens were taken
-  pub page-shown : (IsPlainFront tokens → IsBegun tokens a × IsPlainState a) → (t : Tree) → bare t ≡ a.tree.tree → Shows t (0 ∷ []) page
+  -- of a page of which all tokens were taken, the fates
+  pub page-fates : (IsPlainFront tokens → IsBegun tokens a × IsPlainState a × HavePlainFates tokens a.ledger.fates) → HavePlainFates tokens a.ledger.fates
+  page-fates f = (f ([], subst ArePlain (sym (append-nil tokens)) whole)).2
+
+  -- and the tree
+  pub page-shown : (IsPlainFront tokens → IsBegun tokens a × IsPlainState a × HavePlainFates tokens a.ledger.fates) → (t : Tree) → bare t ≡ a.tree.tree → Shows t (0 ∷ []) page
   page-shown f t e =
       let h = (f ([], subst ArePlain (sym (append-nil tokens)) whole)).0 in
       shows-bare t (0 ∷ []) page (subst (λ (u : Tree). Shows u (0 ∷ []) page) (sym e) (end-stage h.d h.s h.outer h.past h.made a.mode h.stage))

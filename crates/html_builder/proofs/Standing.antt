@@ -1,5 +1,5 @@
 -- What a token makes of the tree of a plain page.
-use Rattle.std.proofs.Common.{◌≡◌, ℕ, suc, ◌+◌, ◌-◌, ◌<◌, Bool, true, false, cond, List, [], ◌∷◌, ◌++◌, ◌⊎◌, inl, inr, drop, take, length, reverse, Option, Some, None, refl, sym, ap, ◌∙◌, subst, arith, length-append}
+use Rattle.std.proofs.Common.{◌≡◌, ℕ, suc, ◌+◌, ◌-◌, ◌<◌, Bool, true, false, cond, List, [], ◌∷◌, ◌++◌, ◌⊎◌, inl, inr, drop, take, length, reverse, Option, refl, sym, ap, ◌∙◌, subst, arith, length-append}
 use Rattle.std.proofs.Math.Seq.{take-append_seam}
 use Rattle.std.proofs.lemmas.List.{length-reverse, reverse-append}
 use Rattle.html_arena.specs.Forest.{Forest}
@@ -19,7 +19,7 @@ use Rattle.html_open.specs.declared.places.Place.{Place}
 use Rattle.html_open.specs.declared.places.Place.TheVariants.{Last}
 use Rattle.html_tree.specs.Closing.{kept_to, popped}
 use Rattle.html_tree.specs.Inserting.{with_new, with_open}
-use Rattle.html_tree.specs.Texts.{place_here, with_text}
+use Rattle.html_tree.specs.Texts.{with_text}
 use Rattle.html_construction.specs.Built.{chars_of}
 use Rattle.html_construction.specs.States.{State}
 use Rattle.html_page.specs.Begun.{ends_after, front_then}
@@ -27,11 +27,11 @@ use Rattle.html_page.specs.Forest.{join, single}
 use Rattle.html_page.specs.Label.{Label, label_for}
 use Rattle.html_page.specs.Label.Label.{doctype, element, text}
 use Rattle.html_page.specs.Open.{Before, IsAdded}
-use Rattle.html_page.specs.PageTokens.{chars_then, kinds_then}
+use Rattle.html_page.specs.PageTokens.{chars_then}
 use Rattle.html_page.proofs.Fronts.{front-join, front-more, kinds-join, kinds-more}
-use Rattle.html_builder.specs.Plain.{AreOpen, AreOpenWith, HasMade, IsEven, tags_in}
+use Rattle.html_builder.specs.Plain.{AreOpen, AreOpenWith, HasMade, IsEven}
 use Rattle.html_builder.proofs.Adding.{new-added, new-even}
-use Rattle.html_builder.proofs.Opened.{and_text, open-end, open-leaf, open-start, open-text, open-top, place-is, text-closed, top}
+use Rattle.html_builder.proofs.Opened.{and_text, open-end, open-leaf, open-start, open-text, open-top, text-closed, top}
 
 -- THE TOKENS
 

@@ -59,6 +59,7 @@ pub record Handed (s : Setting) (limits : Option Limits) (tokens : List TokenKin
   pub cloned : most_clones b.page.tree.tree.labels ≤ 10 * length b.page.ledger.fates
   pub implied : implied_count b.page.tree.tree.labels ≤ 1 + 16 * length tokens
   pub implied_paid : implied_count b.page.tree.tree.labels + (weight b.page.stack + top_rank b.page.mode) ≤ 15 + 16 * length tokens
+  pub entered : b.entries + (weight b.page.stack + top_rank b.page.mode) ≤ 16 + 16 * length tokens
   pub counted : b.page.tree.steps + (weight b.page.stack + top_rank b.page.mode) * turn_of b.page
       ≤ length b.page.ledger.fates * fee_of b.page + (16 + 16 * length tokens) * turn_of b.page + most_compared tokens
   pub plain : IsPlainSoFar s tokens b.page

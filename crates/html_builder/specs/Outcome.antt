@@ -40,6 +40,10 @@ most_held n = 34 * ((n + 2) * (n + 2))
 abbrev pub most_tree_steps : ℕ → ℕ
 most_tree_steps n = 512 * ((n + 32) * (n + 32) * (n + 32))
 
+-- the most entries of tokens into the rules of a mode
+abbrev pub most_entries : ℕ → ℕ
+most_entries n = 16 * (n + 2)
+
 -- Of tokens that a text of n code points can have, no more is made than this, in no more counted steps. What the nodes hold is so little that it was
 -- counted to its end.
 pub record IsBounded (n : ℕ) (t : Tree) : Type 0 where

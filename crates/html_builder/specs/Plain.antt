@@ -8,15 +8,16 @@ use Rattle.html_arena.specs.Forest.Forest.{empty}
 use Rattle.html_arena.specs.Tree.{Tree, children_of}
 use Rattle.html_arena.specs.Walking.{IsRoot}
 use Rattle.html_tokens.specs.declared.token.TokenKind.{TokenKind}
-use Rattle.html_tokens.specs.declared.token.TokenKind.TheVariants.{End}
+use Rattle.html_tokens.specs.declared.token.TokenKind.TheVariants.{Start, End, Char, Doctype, Eof}
 use Rattle.html_page.specs.Begun.{IsContentOuter, ends_after, front_then}
 use Rattle.html_page.specs.Forest.{single}
 use Rattle.html_page.specs.Label.{Label}
 use Rattle.html_page.specs.Label.Label.{doctype, document, element, text}
 use Rattle.html_page.specs.Open.{Before, IsLabelled, IsOpenAt}
-use Rattle.html_page.specs.PageTokens.{IsPlainFront, chars_then}
-use Rattle.html_page.specs.Pieces.{epilog}
+use Rattle.html_page.specs.PageTokens.{IsPlainFront, chars_then, epilog}
 use Rattle.html_page.specs.Plain.{IsContent, IsPlainChar}
+use Rattle.html_ledger.specs.declared.fate.Fate.{Fate}
+use Rattle.html_ledger.specs.declared.fate.Fate.TheVariants.{Made, Text, Ended}
 use Rattle.html_ledger.specs.declared.setting.Setting.{Setting}
 use Rattle.html_ledger.specs.declared.setting.Setting.TheVariants as setting
 use Rattle.html_construction.specs.States.{State}
@@ -49,6 +50,23 @@ pub record IsEven (t : Tree) : Type 0 where
 abbrev pub tags_in : List Before → List Tag
 tags_in [] = []
 tags_in ((n, attrs, before) ∷ outer) = tag_of n ∷ tags_in outer
+
+-- WHAT BECOMES OF ITS TOKENS
+
+-- the doctype and a start tag made a node, a code point is text, and an end tag and the end of the page ended
+abbrev pub IsPlainFate : TokenKind → Fate → Type 0
+IsPlainFate (Doctype name public system force_quirks) (Made x) = Unit {0}
+IsPlainFate (Start name attrs self_closing) (Made x) = Unit {0}
+IsPlainFate (Char c) (Text x) = Unit {0}
+IsPlainFate (End name) Ended = Unit {0}
+IsPlainFate Eof Ended = Unit {0}
+IsPlainFate _ _ = ⊥
+
+-- so each of these tokens
+abbrev pub HavePlainFates : List TokenKind → List Fate → Type 0
+HavePlainFates [] [] = Unit {0}
+HavePlainFates (t ∷ ts) (f ∷ fs) = IsPlainFate t f × HavePlainFates ts fs
+HavePlainFates _ _ = ⊥
 
 -- HOW FAR THE PAGE IS
 
@@ -104,7 +122,7 @@ pub record IsBegun (tokens : List TokenKind) (a : State) : Type 0 where
   pub made : HasMade tokens a d s outer past
   pub stage : IsStage a.mode d s outer past
 
--- Where the tokens of a document begin those of a plain page, the tree was made of them so, and its next token is met so.
+-- Where the tokens of a document begin those of a plain page, the tree was made of them so, they have these fates, and the next token is met so.
 abbrev pub IsPlainSoFar : Setting → List TokenKind → State → Type 0
-IsPlainSoFar setting.Document tokens a = IsPlainFront tokens → IsBegun tokens a × IsPlainState a
+IsPlainSoFar setting.Document tokens a = IsPlainFront tokens → IsBegun tokens a × IsPlainState a × HavePlainFates tokens a.ledger.fates
 IsPlainSoFar (setting.Fragment t in_form) tokens a = Unit {0}

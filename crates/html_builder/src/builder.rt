@@ -13,7 +13,8 @@ ghost use Rattle.html_page.specs.Plain.{IsPlainPage};
 ghost use Rattle.html_page.specs.Shows.{Shows};
 ghost use Rattle.html_builder.specs.Contexts.{IsGood, setting_of};
 ghost use Rattle.html_builder.specs.Handed.{AddsFates, CostAtMost, EndsAtEof, Handed, HandsIn, HaveFates, IsBuildCause, IsTextCause, fates_of, is_stopped};
-ghost use Rattle.html_builder.specs.Outcome.{IsBounded, IsOutcome};
+ghost use Rattle.html_builder.specs.Outcome.{IsBounded, IsOutcome, most_entries};
+ghost use Rattle.html_builder.specs.Plain.{HavePlainFates};
 ghost use Rattle.html_builder.specs.Switches.{switch_after};
 
 use crate::context::Context;
@@ -31,6 +32,7 @@ use std::marker::Model;
 #[derive(Drop)]
 pub struct Builder {
     construction: Construction,
+    entries: u64,
     stopped: bool,
 }
 
@@ -41,7 +43,7 @@ impl Model for Builder {
 
     ghost Value = { BuilderState };
 
-    ghost view = { λ b. record { page = b.construction; stopped = b.stopped } };
+    ghost view = { λ b. record { page = b.construction; entries = b.entries; stopped = b.stopped } };
 
     ghost invariant = { λ b. b.stopped ≡ false → Fits b.construction };
 }
@@ -62,6 +64,7 @@ impl Builder {
         let construction = Construction::document(alloc)?;
         Ok(Builder {
             construction,
+            entries: 0,
             stopped: false,
         })
     }
@@ -81,6 +84,7 @@ impl Builder {
         let construction = Construction::document_within(alloc, limits)?;
         Ok(Builder {
             construction,
+            entries: 0,
             stopped: false,
         })
     }
@@ -109,6 +113,7 @@ impl Builder {
         )?;
         Ok(Builder {
             construction,
+            entries: 0,
             stopped: false,
         })
     }
@@ -144,6 +149,7 @@ impl Builder {
         )?;
         Ok(Builder {
             construction,
+            entries: 0,
             stopped: false,
         })
     }
@@ -177,7 +183,12 @@ impl Builder {
         }
         let symbol = Symbol::of(&token.kind);
         self.stopped = true;
-        match take(&mut self.construction, &token.kind, symbol) {
+        match take(
+            &mut self.construction,
+            &token.kind,
+            symbol,
+            &mut self.entries,
+        ) {
             Ok(None) => {
                 self.stopped = false;
                 Ok(text_mode_after(symbol, self.construction.last_made()))
@@ -232,13 +243,20 @@ impl Builder {
             return Err(BuildError::Stopped);
         }
         self.stopped = true;
-        match take_front(&mut self.construction, text) {
+        match take_front(&mut self.construction, text, &mut self.entries) {
             Ok(count) => {
                 self.stopped = false;
                 Ok(count)
             }
             Err(refusal) => Err(BuildError::at(refusal, at)),
         }
+    }
+
+    /// How often tokens entered the rules of an insertion mode so far.
+    pub fn entries(&self) -> u64
+        ensures value { result ≡ self.now.entries }
+    {
+        self.entries
     }
 
     /// A law: the tokens that have no fate yet are code points, and the last ones.
@@ -257,8 +275,11 @@ impl Builder {
         ensures outcome { (s : Setting) (l : Option Limits) (tokens : List TokenKind) → Handed s l tokens self → EndsAtEof tokens
             → IsOutcome s tokens result.1 result.2.items result.0 }
         ensures bounds { (s : Setting) (l : Option Limits) (tokens : List TokenKind) → Handed s l tokens self → (n : ℕ) → CostAtMost n tokens → IsBounded n result.0 }
+        ensures entries { (s : Setting) (l : Option Limits) (tokens : List TokenKind) → Handed s l tokens self → (n : ℕ) → CostAtMost n tokens → self.entries ≤ most_entries n }
         ensures plain { (l : Option Limits) (tokens : List TokenKind) → Handed Document l tokens self → (page : Forest Label) → IsPlainPage page
             → tokens ≡ page_kinds page → Shows result.0 (0 ∷ []) page }
+        ensures plain_fates { (l : Option Limits) (tokens : List TokenKind) → Handed Document l tokens self → (page : Forest Label) → IsPlainPage page
+            → tokens ≡ page_kinds page → HavePlainFates tokens result.1 }
     {
         self.construction.into_parts()
     }

@@ -3,6 +3,7 @@ pub mod Tagged
 pub mod Settled
 pub mod Handing
 pub mod Counting
+pub mod Entering
 pub mod InBody
 pub mod Current
 pub mod Closing

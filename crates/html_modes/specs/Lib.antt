@@ -1,5 +1,6 @@
 pub mod Ranks
 pub mod Fitting
+pub mod Entering
 pub mod Steps
 pub mod Guards
 pub mod Plain

@@ -3,6 +3,7 @@ ghost use Rattle.std.specs.Prelude.{◌≡◌, ◌≤◌, [], IfOk, IfSome, None
 ghost use Rattle.html_ledger.specs.Symbols.{symbol_of};
 ghost use Rattle.html_ledger.specs.Flags.{is_free, may_select};
 ghost use Rattle.html_construction.specs.Built.{Keeps, Takes};
+ghost use Rattle.html_modes.specs.Entering.{Enters};
 ghost use Rattle.html_modes.specs.Fitting.{Fits};
 ghost use Rattle.html_modes.specs.Plain.{GoesOn, Turns};
 ghost use Rattle.html_modes.specs.Steps.{Counted, Falls, Pays, Settles, Spends, Steps, Toils, compared, root_of};
@@ -29,7 +30,7 @@ use html_ledger::Symbol;
 use html_tokens::TokenKind;
 
 /// Takes the next token through all its entries into the rules of the modes, and answers none; or answers which foreign content the token begins,
-/// where it is a start tag that no rule takes. `symbol` is the token as the rules tell tokens apart.
+/// where it is a start tag that no rule takes. `symbol` is the token as the rules tell tokens apart. `entries` counts the entries.
 ///
 /// # Errors
 ///
@@ -40,6 +41,7 @@ pub fn take(
     page: &mut Construction,
     token: &TokenKind,
     symbol: Symbol,
+    entries: &mut u64,
 ) -> Result<Option<Foreign>, Refusal>
     requires symbol { symbol_of token.now ≡ symbol }
     requires fits { Fits page.old }
@@ -47,12 +49,14 @@ pub fn take(
     ensures takes { IfOk result (λ f. f ≡ None → Takes token.now page.old page.new) }
     ensures foreign { IfOk result (λ f. IfSome f (λ name. symbol ≡ root_of name)) }
     ensures pays { IfOk result (λ f. f ≡ None → Pays page.old page.new) }
+    ensures enters { IfOk result (λ f. f ≡ None → Enters 1 entries.old entries.new page.old page.new) }
     ensures toils { IfOk result (λ f. f ≡ None → Toils (compared token.now page.new) page.old page.new) }
     ensures plain { IfOk result (λ f. f ≡ None → GoesOn symbol token.now page.old page.new) }
 {
     page.begin_call();
     'steps: loop {
         page.count_steps(1);
+        *entries = entries.saturating_add(1);
         match step(page, token, symbol)? {
             Outcome::Done => {
                 settle(page);

@@ -1,12 +1,15 @@
 // Text that is taken in runs (13.2.6.1).
-ghost use Rattle.std.specs.Prelude.{◌≡◌, ◌<◌, ◌≤◌, ◌==◌, ℕ, IfOk, IsTrue, OnOk, Some, [], ◌∷◌, false, length, slice_get, take, true};
+ghost use Rattle.std.specs.Prelude.{◌≡◌, ◌+◌, ◌<◌, ◌≤◌, ◌==◌, ℕ, IfOk, IsTrue, OnOk, Some, [], ◌∷◌, false, length, slice_get, take, true};
 ghost use Rattle.std.specs.List.{list_all};
 ghost use Rattle.html_ledger.specs.Flags.{is_not_null, may_text_run};
 ghost use Rattle.html_construction.specs.Built.{Takes, TakesRun};
+ghost use Rattle.html_modes.specs.Entering.{Enters};
 ghost use Rattle.html_modes.specs.Fitting.{Fits, is_loose};
 ghost use Rattle.html_modes.specs.Guards.{is_text, takes_runs};
 ghost use Rattle.html_modes.specs.Plain.{GoesOnText};
+ghost use Rattle.html_modes.specs.Ranks.{top_rank};
 ghost use Rattle.html_modes.specs.Steps.{Pays, Toils};
+ghost use Rattle.html_construction.specs.Weights.{weight};
 
 use crate::guards::{is_text, takes_run};
 use crate::modes::body_start::body_run;
@@ -16,42 +19,50 @@ use html_ledger::Symbol;
 use html_tokens::TokenKind;
 
 /// Takes a front of a text that isn't empty, a code point a token, and answers its length: a run where the mode takes one, else one code
-/// point. Of a run the longest front is taken that the limit on held code points takes.
+/// point. Of a run the longest front is taken that the limit on held code points takes. `entries` counts the entries of these tokens into the
+/// rules, one for each code point of a run.
 ///
 /// # Errors
 ///
 /// Those of `take` for the first code point.
-pub fn take_front(page: &mut Construction, text: &[char]) -> Result<usize, Refusal>
+pub fn take_front(
+    page: &mut Construction,
+    text: &[char],
+    entries: &mut u64,
+) -> Result<usize, Refusal>
     requires fits { Fits page.old }
     requires some { 0 < length text.now }
     ensures fits { OnOk result (Fits page.new) }
     ensures takes { IfOk result (λ n. TakesRun (take n text.now) page.old page.new) }
     ensures count { IfOk result (λ n. (0 < n) × (n ≤ length text.now)) }
     ensures pays { OnOk result (Pays page.old page.new) }
+    ensures enters { IfOk result (λ n. Enters n entries.old entries.new page.old page.new) }
     ensures toils { OnOk result (Toils 0 page.old page.new) }
     ensures plain { IfOk result (λ n. list_all is_not_null (take n text.now) ≡ true → GoesOnText (take n text.now) page.old page.new) }
 {
     if takes_run(page, text[0]) {
         let end = null_index(text);
         let count = take_run(page, &text[..end])?;
+        *entries = entries.saturating_add(count as u64);
         return Ok(count);
     }
-    take_char(page, text[0])?;
+    take_char(page, text[0], entries)?;
     Ok(1)
 }
 
 /// Takes one code point. (None is the start tag of foreign content.)
 #[tactic(auto, using(crate::proofs::Settled::run_rules))]
-fn take_char(page: &mut Construction, c: char) -> Result<(), Refusal>
+fn take_char(page: &mut Construction, c: char, entries: &mut u64) -> Result<(), Refusal>
     requires fits { Fits page.old }
     ensures fits { OnOk result (Fits page.new) }
     ensures takes { OnOk result (Takes (TokenKind.Char c) page.old page.new) }
     ensures pays { OnOk result (Pays page.old page.new) }
+    ensures enters { OnOk result (Enters 1 entries.old entries.new page.old page.new) }
     ensures toils { OnOk result (Toils 0 page.old page.new) }
     ensures plain { (c == 0) ≡ false → OnOk result (GoesOnText (c ∷ []) page.old page.new) }
 {
     let token = TokenKind::Char(c);
-    let _ = take(page, &token, Symbol::Char(c))?;
+    let _ = take(page, &token, Symbol::Char(c), entries)?;
     Ok(())
 }
 
@@ -66,6 +77,7 @@ fn take_run(page: &mut Construction, run: &[char]) -> Result<usize, Refusal>
     ensures takes { IfOk result (λ n. TakesRun (take n run.now) page.old page.new) }
     ensures count { IfOk result (λ n. (0 < n) × (n ≤ length run.now)) }
     ensures pays { OnOk result (Pays page.old page.new) }
+    ensures lighter { OnOk result (weight page.new.stack + top_rank page.new.mode ≤ weight page.old.stack + top_rank page.old.mode) }
     ensures toils { OnOk result (Toils 0 page.old page.new) }
     ensures plain { IfOk result (λ n. GoesOnText (take n run.now) page.old page.new) }
 {
@@ -88,6 +100,7 @@ fn take_text_run(page: &mut Construction, run: &[char]) -> Result<usize, Refusal
     ensures takes { IfOk result (λ n. TakesRun (take n run.now) page.old page.new) }
     ensures count { IfOk result (λ n. (0 < n) × (n ≤ length run.now)) }
     ensures pays { OnOk result (Pays page.old page.new) }
+    ensures lighter { OnOk result (weight page.new.stack + top_rank page.new.mode ≤ weight page.old.stack + top_rank page.old.mode) }
     ensures toils { OnOk result (Toils 0 page.old page.new) }
 {
     page.begin_call();
@@ -107,6 +120,7 @@ fn take_body_run(page: &mut Construction, run: &[char]) -> Result<usize, Refusal
     ensures takes { IfOk result (λ n. TakesRun (take n run.now) page.old page.new) }
     ensures count { IfOk result (λ n. (0 < n) × (n ≤ length run.now)) }
     ensures pays { OnOk result (Pays page.old page.new) }
+    ensures lighter { OnOk result (weight page.new.stack + top_rank page.new.mode ≤ weight page.old.stack + top_rank page.old.mode) }
     ensures toils { OnOk result (Toils 0 page.old page.new) }
     ensures plain { IfOk result (λ n. GoesOnText (take n run.now) page.old page.new) }
 {

@@ -11,11 +11,10 @@ use Rattle.html_tokens.specs.declared.token.TokenKind.TheVariants.{Start, End, C
 use Rattle.html_page.specs.Forest.{join, single}
 use Rattle.html_page.specs.Label.{Label}
 use Rattle.html_page.specs.Label.Label.{document, doctype, element, text, comment}
-use Rattle.html_page.specs.Plain.{page_of, IsPlainChar, ArePlainAttrs, IsContent}
-use Rattle.html_page.specs.PageTokens.{chars_then, kinds_then, page_kinds, ArePlain, IsPlainFront}
-use Rattle.html_page.specs.Pieces.{prolog, epilog}
+use Rattle.html_page.specs.Plain.{IsPlainChar, IsPlainName, ArePlainAttrs, IsContent}
+use Rattle.html_page.specs.PageTokens.{chars_then, kinds_then, page_kinds, prolog, epilog, ArePlain, IsPlainFront}
 use Rattle.html_page.specs.Open.{Before}
-use Rattle.html_page.specs.Begun.{IsContentOuter, IsPlainName, ends_after, front_then, is_text_label}
+use Rattle.html_page.specs.Begun.{ends_after, front_then, is_text_label}
 
 chars-more : (s : List ℕ) (x y : List TokenKind) → chars_then s (x ++ y) ≡ chars_then s x ++ y
 chars-more [] x y = refl
@@ -69,18 +68,6 @@ content-text (tree (comment m) c r) after s h e ne t = absurd h
 content-text (tree (element m a) c r) after s h e ne t = (h.0, h.1, h.2, content-text r false s h.3 e ne t)
 content-text (tree (text u) c r) true s h e ne t = absurd h
 content-text (tree (text u) c r) false s h e ne t = (h.0, h.1, h.2, content-text r true s h.3 e ne t)
-
--- the end tags of the open elements, and then others
-abbrev pub closers : List Before → List TokenKind → List TokenKind
-closers [] k = k
-closers ((n, a, before) ∷ outer) k = End n ∷ closers outer k
-
--- what is read so far begins a page's content
-pub completes : (d : Forest Label) (outer : List Before) → IsContent false d → IsContentOuter outer → (content : Forest Label) × IsContent false content × ((k : List TokenKind) → front_then d outer (closers outer k) ≡ kinds_then content k)
-completes d [] h o = (d, h, λ k. refl)
-completes d ((n, a, before) ∷ outer) h o =
-    let r = completes (join before (single (element n a) d)) outer (content-element before false n a d o.2 o.0 o.1 h) o.3 in
-    (r.0, r.1, λ k. sym (front-join before (single (element n a) d) outer (closers outer k)) ∙ r.2 k)
 
 -- How the tokens of a plain page go on inside open elements, whose names are these, the innermost first.
 abbrev pub Follows : List (List ℕ) → List TokenKind → Type 0
@@ -136,19 +123,6 @@ plain-follows d outer k h =
     let same : prolog ++ front_then d outer k ≡ prolog ++ kinds_then content epilog = h.2 ∙ ap page_kinds h.1.1 in
     let cut : front_then d outer k ≡ kinds_then content epilog = append_cancel_left prolog _ _ same in
     front-past d outer k (subst (Follows []) (sym cut) (content-follows [] false content epilog h.1.2 (refl, refl)))
-
-pub plain-written : (d : Forest Label) → IsContent false d → ArePlain (prolog ++ kinds_then d epilog)
-plain-written d h = (page_of d, (d, refl, h), refl)
-
--- the front read so far is one of a plain page's
-pub front-plain : (d : Forest Label) (outer : List Before) → IsContent false d → IsContentOuter outer → IsPlainFront (prolog ++ front_then d outer [])
-front-plain d outer h o =
-    let r = completes d outer h o in (
-      closers outer epilog,
-      subst ArePlain
-          (ap (λ (x : List TokenKind). prolog ++ x) (sym (r.2 epilog) ∙ front-more d outer [] (closers outer epilog)) ∙ sym (append_assoc prolog (front_then d outer []) (closers outer epilog)))
-          (plain-written r.0 r.1),
-    )
 
 pub front-shorter : (a b : List TokenKind) → IsPlainFront (a ++ b) → IsPlainFront a
 front-shorter a b h = (b ++ h.0, subst ArePlain (append_assoc a b h.0) h.1)

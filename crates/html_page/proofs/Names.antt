@@ -1,9 +1,7 @@
 -- The names of the elements of a plain page, one by one.
-use Rattle.std.proofs.Common.{◌≡◌, ℕ, List, codes, sym, subst}
-use Rattle.html_page.specs.Begun.{IsPlainName}
-use Rattle.html_page.specs.Plain.{name_of}
-use Rattle.html_page.specs.declared.plain.PlainName.{PlainName}
-use Rattle.html_page.specs.declared.plain.PlainName.TheVariants.{Div, Span, Section, Article, B, I, Em, Strong}
+use Rattle.std.proofs.Common.{ℕ, List, codes, sym, subst}
+use Rattle.html_page.specs.Plain.{IsPlainName, PlainName, name_of}
+use Rattle.html_page.specs.Plain.PlainName.{Div, Span, Section, Article, B, I, Em, Strong}
 
 module _ (P : List ℕ → Type 0) (div : P (codes "div")) (span : P (codes "span")) (section : P (codes "section")) (article : P (codes "article"))
     (b : P (codes "b")) (i : P (codes "i")) (em : P (codes "em")) (strong : P (codes "strong")) where

@@ -29,11 +29,10 @@ use Rattle.html_page.specs.Forest.{single}
 use Rattle.html_page.specs.Label.{Label}
 use Rattle.html_page.specs.Label.Label.{document, doctype, element, text, comment}
 use Rattle.html_page.specs.Html.{html_of, opening, start_tag, end_tag, attribute as attribute_text, escaped_in_text, is_void_name, is_raw_name}
-use Rattle.html_page.specs.Plain.{name_of, page_of, IsPlainChar, ArePlainAttrs, IsContent, IsPlainPage}
+use Rattle.html_page.specs.Plain.{PlainName, name_of, page_of, IsPlainChar, ArePlainAttrs, IsContent, IsPlainPage}
 use Rattle.html_page.specs.PageTokens.{kinds, chars_then, kinds_then, page_kinds, HasCore}
-use Rattle.html_page.specs.Parsed.{tokens_in}
-use Rattle.html_page.specs.declared.plain.PlainName.{PlainName}
-use Rattle.html_page.specs.declared.plain.PlainName.TheVariants.{Div, Span, Section, Article, B, I, Em, Strong}
+use Rattle.html_page.specs.TokenList.{tokens_in}
+use Rattle.html_page.specs.Plain.PlainName.{Div, Span, Section, Article, B, I, Em, Strong}
 use Rattle.html_page.specs.declared.profile.Profile.{Profile}
 
 -- where no two attributes have one name, the first of each name are all of them

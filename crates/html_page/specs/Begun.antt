@@ -1,18 +1,14 @@
 -- A page of which some tokens were read: the elements that they leave open, and what stands in them.
-use Rattle.std.specs.Prelude.{◌≡◌, ℕ, Bool, true, false, List, [], ◌∷◌}
+use Rattle.std.specs.Prelude.{Bool, true, false, List, [], ◌∷◌}
 use Rattle.html_arena.specs.Forest.{Forest}
 use Rattle.html_arena.specs.Forest.Forest.{empty, tree}
 use Rattle.html_tokens.specs.declared.token.TokenKind.{TokenKind}
 use Rattle.html_tokens.specs.declared.token.TokenKind.TheVariants.{Start}
 use Rattle.html_page.specs.Label.{Label}
 use Rattle.html_page.specs.Label.Label.{document, doctype, element, text, comment}
-use Rattle.html_page.specs.Plain.{name_of, ArePlainAttrs, IsContent}
+use Rattle.html_page.specs.Plain.{ArePlainAttrs, IsContent, IsPlainName}
 use Rattle.html_page.specs.PageTokens.{kinds_then}
 use Rattle.html_page.specs.Open.{Before}
-use Rattle.html_page.specs.declared.plain.PlainName.{PlainName}
-
-abbrev pub IsPlainName : List ℕ → Type 0
-IsPlainName n = (name : PlainName) × (n ≡ name_of name)
 
 -- of the open elements the start tags, and all that is done, and then others
 abbrev pub front_then : Forest Label → List Before → List TokenKind → List TokenKind

@@ -1,5 +1,5 @@
 -- The tokens of a plain page.
-use Rattle.std.specs.Prelude.{◌≡◌, ℕ, zero, suc, ◌≤◌, false, List, [], ◌∷◌, ◌++◌, length, map, take, slice_get, Some}
+use Rattle.std.specs.Prelude.{◌≡◌, ℕ, false, List, [], ◌∷◌, ◌++◌, map, slice_get, codes, None, Some}
 use Rattle.html_charref.specs.Entities.{core_rows}
 use Rattle.html_charref.specs.declared.table.Row.{Row}
 use Rattle.html_tokens.specs.declared.token.Token.{Token}
@@ -30,6 +30,14 @@ kinds_then (tree (element name attrs) below after) rest = Start name attrs false
 kinds_then (tree (text s) below after) rest = chars_then s (kinds_then after rest)
 kinds_then (tree (comment s) below after) rest = Comment s ∷ kinds_then after rest
 
+-- those before what the body holds, and those after it
+abbrev pub prolog : List TokenKind
+prolog =
+    Doctype (Some (codes "html")) None None false ∷ Start (codes "html") [] false ∷ Start (codes "head") [] false ∷ End (codes "head") ∷ Start (codes "body") [] false ∷ []
+
+abbrev pub epilog : List TokenKind
+epilog = End (codes "body") ∷ End (codes "html") ∷ Eof ∷ []
+
 -- the tokens of a page
 abbrev pub page_kinds : Forest Label → List TokenKind
 page_kinds page = kinds_then page (Eof ∷ [])
@@ -41,18 +49,6 @@ ArePlain ks = (page : Forest Label) × IsPlainPage page × (ks ≡ page_kinds pa
 -- tokens with which those of some plain page begin
 abbrev pub IsPlainFront : List TokenKind → Type 0
 IsPlainFront front = (rest : List TokenKind) × ArePlain (front ++ rest)
-
--- the first k tokens are the longest front with which those of some plain page begin
-pub record IsLongestFront (ks : List TokenKind) (k : ℕ) : Type 0 where
-  pub within : k ≤ length ks
-  pub begins : IsPlainFront (take k ks)
-  pub longest : (j : ℕ) → j ≤ length ks → IsPlainFront (take j ks) → j ≤ k
-
--- the place where the k-th token starts
-abbrev pub place_at : List Token → ℕ → ℕ
-place_at [] k = 0
-place_at (t ∷ ts) zero = t.span.start
-place_at (t ∷ ts) (suc k) = place_at ts k
 
 -- the table has the five rows that every page may use
 abbrev pub HasCore : List Row → Type 0

@@ -9,10 +9,18 @@ use Rattle.html_page.specs.Forest.{single}
 use Rattle.html_arena.specs.Forest.Forest.{empty, tree}
 use Rattle.html_page.specs.Label.{Label}
 use Rattle.html_page.specs.Label.Label.{document, doctype, element, text}
-use Rattle.html_page.specs.declared.plain.PlainName.{PlainName}
-use Rattle.html_page.specs.declared.plain.PlainName.TheVariants.{Div, Span, Section, Article, B, I, Em, Strong}
 
--- the name of an element that a plain page may hold below its body
+-- the names of the elements that a plain page may hold below its body
+pub data PlainName : Type 0 where
+  Div : PlainName
+  Span : PlainName
+  Section : PlainName
+  Article : PlainName
+  B : PlainName
+  I : PlainName
+  Em : PlainName
+  Strong : PlainName
+
 abbrev pub name_of : PlainName → List ℕ
 name_of Div = codes "div"
 name_of Span = codes "span"
@@ -23,13 +31,16 @@ name_of I = codes "i"
 name_of Em = codes "em"
 name_of Strong = codes "strong"
 
+abbrev pub IsPlainName : List ℕ → Type 0
+IsPlainName n = (name : PlainName) × (n ≡ name_of name)
+
 -- What a plain page holds below its body, where its texts hold code points that are `Char`, and its elements lists of
 -- attributes that are `Attributes`. Texts are not empty, and no two stand side by side: `after_text` says that a text
 -- stands just before.
 abbrev pub IsPlainForest : (ℕ → Type 0) → (List Attr → Type 0) → Bool → Forest Label → Type 0
 IsPlainForest Char Attributes after_text empty = Unit {0}
 IsPlainForest Char Attributes after_text (tree (element name attrs) below after) =
-    ((n : PlainName) × (name ≡ name_of n)) × Attributes attrs × IsPlainForest Char Attributes false below × IsPlainForest Char Attributes false after
+    IsPlainName name × Attributes attrs × IsPlainForest Char Attributes false below × IsPlainForest Char Attributes false after
 IsPlainForest Char Attributes false (tree (text s) below after) =
     (s ≢ []) × AllByRecursion Char s × (below ≡ empty) × IsPlainForest Char Attributes true after
 IsPlainForest Char Attributes after_text (tree label below after) = ⊥

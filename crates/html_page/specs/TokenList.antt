@@ -1,13 +1,15 @@
 -- The tokens of an input that is read in one text mode throughout.
-use Rattle.std.specs.Prelude.{◌<◌, ◌+◌, ◌*◌, ℕ, List, ◌∷◌, length, Option}
+use Rattle.std.specs.Prelude.{◌<◌, ◌+◌, ◌*◌, ℕ, List, [], ◌∷◌, length, Option, None}
 use Rattle.html_charref.specs.declared.table.Row.{Row}
 use Rattle.html_input.specs.Decode.{decode, code_points}
 use Rattle.html_input.specs.declared.decoder.TheConstants.{LIMIT}
 use Rattle.html_tokens.specs.Given.{run_from}
-use Rattle.html_tokens.specs.Stream.{Start}
+use Rattle.html_tokens.specs.Stream.{Start, tokens_of}
 use Rattle.html_tokens.specs.declared.token.TextMode.{TextMode}
-use Rattle.html_page.specs.declared.error.ParseError.{ParseError}
-use Rattle.html_page.specs.declared.error.ParseError.TheVariants.{OutOfMemory, InputTooLong}
+use Rattle.html_tokens.specs.declared.token.TextMode.TheVariants.{Data}
+use Rattle.html_tokens.specs.declared.token.Token.{Token}
+use Rattle.html_page.specs.declared.error.TokenListError.{TokenListError}
+use Rattle.html_page.specs.declared.error.TokenListError.TheVariants.{OutOfMemory, InputTooLong}
 
 -- An input behind a byte order mark of ours: that one is dropped, and so one of the input's own is text.
 abbrev pub behind_mark : List ℕ → List ℕ
@@ -21,6 +23,10 @@ marked_text bytes = decode (behind_mark bytes)
 abbrev pub start_of : List Row → TextMode → Option (List ℕ) → Start
 start_of rows mode name = (run_from rows mode name).start
 
+-- the tokens of a document's text, by a table of references
+abbrev pub tokens_in : List Row → List ℕ → List Token
+tokens_in rows text = tokens_of text [] (start_of rows Data None)
+
 -- the most errors and steps of a text of n code points
 abbrev pub most_errors : ℕ → ℕ
 most_errors n = 11 * (n + 2)
@@ -29,7 +35,7 @@ abbrev pub most_steps : ℕ → ℕ
 most_steps n = 8 * (n + 2) + (n + 2) * (n + 2)
 
 -- why there are no tokens
-abbrev pub IsListCause : List ℕ → ParseError → Type 0
+abbrev pub IsListCause : List ℕ → TokenListError → Type 0
 IsListCause bytes OutOfMemory = Unit {0}
 IsListCause bytes InputTooLong = LIMIT < length (code_points (behind_mark bytes))
 IsListCause bytes _ = ⊥

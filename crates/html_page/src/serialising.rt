@@ -1,6 +1,6 @@
 //! Trees as HTML.
 
-ghost use Rattle.std.specs.Prelude.{◌≡◌, ◌⊎◌, ◌<◌, ◌≤◌, true, length, OnOk, OnErr, IfErr};
+ghost use Rattle.std.specs.Prelude.{◌≡◌, ◌⊎◌, ◌<◌, ◌≤◌, true, length, OnOk, OnErr};
 ghost use Rattle.std.specs.Io.KnownBytes.{Appends};
 ghost use Rattle.std.specs.Str.{encode_utf8_all};
 ghost use Rattle.html_device.specs.Device.{AppendsFront};
@@ -17,10 +17,8 @@ ghost use Rattle.html_page.specs.Putting.{Puts, held};
 ghost use Rattle.html_page.specs.Serialised.{HasNames, event_text, forest_below, html_below, is_raw_below, most_written};
 ghost use Rattle.html_page.specs.Shows.{Shows};
 
-use crate::error::ParseError;
 use crate::escape::{Escape, put_between, put_escaped};
 use crate::output::Output;
-use crate::page::Page;
 use crate::profile::Profile;
 use html_arena::{Arena, ElementData, Event, NodeData, NodeId, Show, Walk};
 use html_charref::Str;
@@ -209,37 +207,6 @@ fn law_of(arena: &Arena, root: NodeId, profile: Profile)
     let _profile = profile;
     arena.forest();
     let _walk = Walk::new(arena, Show::All, root);
-}
-
-/// Writes the trees below the root of a page, as text in UTF-8. It takes no memory, and goes through the nodes by their
-/// links.
-///
-/// # Errors
-///
-/// `Write` where the writer failed, or took no bytes. A front of the text was written then.
-pub fn serialise<W: Sink>(page: &Page, profile: Profile, writer: &mut W) -> Result<(), ParseError>
-    requires root { IsRoot page.now.arena page.now.root }
-
-    // All of the text was written.
-    ensures ok { OnOk result (Appends (W.taken writer.old) (W.taken writer.new) (encode_utf8_all (html_below profile page.now.arena page.now.root))) }
-
-    // A front of it was written.
-    ensures err { OnErr result (AppendsFront (W.taken writer.old) (W.taken writer.new) (encode_utf8_all (html_below profile page.now.arena page.now.root))) }
-
-    // It is the writer that failed, or took no bytes.
-    ensures cause { IfErr result (λ e. e ≡ ParseError.Write) }
-    ensures fault { OnErr result ((W.failed writer.new ≡ true) ⊎ (W.stalled writer.new ≡ true)) }
-
-    // The text is that of the one forest that stands below the root, and no longer than this.
-    ensures shows { Shows page.now.arena (kids Show.All page.now.arena page.now.root) (forest_below page.now.arena page.now.root) }
-    ensures only { (f : Forest Label) → Shows page.now.arena (kids Show.All page.now.arena page.now.root) f → f ≡ forest_below page.now.arena page.now.root }
-    ensures size { HasNames page.now.arena → length (html_below profile page.now.arena page.now.root) ≤ most_written page.now.arena }
-{
-    law_of(&page.arena, page.root, profile);
-    match write_below(writer, profile, &page.arena, page.root) {
-        Ok(()) => Ok(()),
-        Err(_) => Err(ParseError::Write),
-    }
 }
 
 /// Writes the trees below a root, as text in UTF-8. It takes no memory, and goes through the nodes by their links.

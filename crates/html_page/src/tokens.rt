@@ -2,13 +2,12 @@
 
 ghost use Rattle.std.specs.Prelude.{◌≡◌, ◌≤◌, ◌∷◌, [], OnOk, IfOk, IfErr, length, option_map};
 ghost use Rattle.std.specs.Str.{chars};
-ghost use Rattle.html_input.specs.Decode.{decode, code_points};
+ghost use Rattle.html_input.specs.Decode.{code_points};
 ghost use Rattle.html_input.specs.declared.decoder.TheConstants.{LIMIT};
-ghost use Rattle.html_tokens.specs.Cost.{AreCosted};
 ghost use Rattle.html_tokens.specs.Stream.{tokens_of};
 ghost use Rattle.html_page.specs.TokenList.{behind_mark, marked_text, most_errors, most_steps, start_of, IsListCause};
 
-use crate::error::ParseError;
+use crate::error::TokenListError;
 use html_charref::EntityTable;
 use html_input::Decoder;
 use html_tokens::{Fault, TextMode, Token, Tokenizer};
@@ -41,7 +40,7 @@ pub fn tokenize(
     mode: TextMode,
     last_name: Option<&str>,
     bytes: &[u8],
-) -> Result<TokenList, ParseError>
+) -> Result<TokenList, TokenListError>
     ensures tokens { IfOk result (λ list. list.tokens.items
         ≡ tokens_of (marked_text bytes.now) [] (start_of table.now mode (option_map (λ name. chars name.now) last_name.entry))) }
     ensures errors { IfOk result (λ list. length list.errors.items ≤ most_errors (length (marked_text bytes.now))) }
@@ -55,7 +54,7 @@ pub fn tokenize(
 }
 
 /// The text of an input, a byte order mark at its front included.
-fn text_of(alloc: Global, bytes: &[u8]) -> Result<Vec<char>, ParseError>
+fn text_of(alloc: Global, bytes: &[u8]) -> Result<Vec<char>, TokenListError>
     ensures text { IfOk result (λ text. text.items ≡ marked_text bytes.now) }
     ensures within { OnOk result (length (code_points (behind_mark bytes.now)) ≤ LIMIT) }
     ensures cause { IfErr result (IsListCause bytes.now) }
@@ -69,19 +68,18 @@ fn text_of(alloc: Global, bytes: &[u8]) -> Result<Vec<char>, ParseError>
 }
 
 /// The tokens of a whole text.
-pub(crate) fn tokens_of_text(
+fn tokens_of_text(
     alloc: Global,
     table: &EntityTable,
     mode: TextMode,
     last_name: Option<&str>,
     text: &[char],
-) -> Result<TokenList, ParseError>
+) -> Result<TokenList, TokenListError>
     ensures tokens { IfOk result (λ list. list.tokens.items
         ≡ tokens_of text.now [] (start_of table.now mode (option_map (λ name. chars name.now) last_name.entry))) }
-    ensures cost { IfOk result (λ list. AreCosted (length text.now) list.tokens.items) }
     ensures errors { IfOk result (λ list. length list.errors.items ≤ most_errors (length text.now)) }
     ensures steps { IfOk result (λ list. list.steps ≤ most_steps (length text.now)) }
-    ensures cause { IfErr result (λ e. e ≡ ParseError.OutOfMemory) }
+    ensures cause { IfErr result (λ e. e ≡ TokenListError.OutOfMemory) }
 {
     let mut tokenizer = Tokenizer::new(alloc, table, mode, last_name)?;
     tokenizer.feed(text)?;

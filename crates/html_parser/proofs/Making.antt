@@ -30,11 +30,12 @@ use Rattle.html_builder.specs.Handed.{CostAtMost, EndsAtEof, Handed, fates_of}
 use Rattle.html_builder.specs.Switches.{switches_by}
 use Rattle.html_construction.specs.Built.{symbols}
 use Rattle.html_builder.specs.Outcome.{IsBounded, IsOutcome, most_tree_steps}
+use Rattle.html_builder.specs.Plain.{HavePlainFates}
 use Rattle.html_parser.proofs.Plain.{text-kinds}
 use Rattle.html_parser.specs.Faults.{construction_fault, fault_list, front_below, places_of, rest_from, told_fault}
 use Rattle.html_parser.specs.Kinds.{kinds, starts_of}
 use Rattle.html_parser.specs.Made.{IsWhole}
-use Rattle.html_parser.specs.Parsed.{IsParsed, IsTreeOf, most_steps, most_token_steps}
+use Rattle.html_parser.specs.Parsed.{Headline, IsTreeOf, most_token_steps}
 use Rattle.html_parser.specs.Staged.{IsEnded}
 use Rattle.html_parser.specs.Start.{Start, most_input, text_start}
 use Rattle.html_parser.specs.declared.faults.PageFault.{PageFault}
@@ -87,6 +88,7 @@ pub record Ended (d : Decoder) (t : Tokenizer) (b : BuilderState) (starts : List
   pub fates_are : fates ≡ fates_of b
   pub outcome : (s : Setting) (l : Option Limits) (tokens : List TokenKind) → Handed s l tokens b → EndsAtEof tokens → IsOutcome s tokens fates numbers arena
   pub plain : (l : Option Limits) (tokens : List TokenKind) → Handed Document l tokens b → (page : Forest Label) → IsPlainPage page → tokens ≡ page_kinds page → Shows arena (0 ∷ []) page
+  pub plain_fates : (l : Option Limits) (tokens : List TokenKind) → Handed Document l tokens b → (page : Forest Label) → IsPlainPage page → tokens ≡ page_kinds page → HavePlainFates tokens fates
   pub bounds : (s : Setting) (l : Option Limits) (tokens : List TokenKind) → Handed s l tokens b → (m : ℕ) → CostAtMost m tokens → IsBounded m arena
   pub told_few : length told ≤ 11 * (fed_len t + 2)
   pub fed : (run : Run) → Fed t run → fed_len t ≡ length run.text
@@ -102,14 +104,14 @@ square a b less =
     omega (arith, left, right, mul_comm (a + 2) (b + 2))
 
 -- the steps of both together
-most-all : (n : ℕ) → most_token_steps n + most_tree_steps n ≤ most_steps n
+most-all : (n : ℕ) → most_token_steps n + most_tree_steps n ≤ 1024 * ((n + 32) * (n + 32) * (n + 32))
 most-all n = let all = ring n in omega (arith, all)
   where
     ring : (n : ℕ) → 512 * ((n + 32) * (n + 32) * (n + 32))
         ≡ 8 * (n + 2) + (n + 2) * (n + 2) + (512 * ((n + 2) * (n + 2) * (n + 2)) + 46079 * ((n + 2) * (n + 2)) + 1382392 * (n + 2) + 13824000)
     ring n = grind arith
 
-few-steps : (n own tree steps : ℕ) → own ≤ most_token_steps n → tree ≤ most_tree_steps n → steps ≡ min (own + tree) (2 ^ 128 - 1) → steps ≤ most_steps n
+few-steps : (n own tree steps : ℕ) → own ≤ most_token_steps n → tree ≤ most_tree_steps n → steps ≡ min (own + tree) (2 ^ 128 - 1) → steps ≤ 1024 * ((n + 32) * (n + 32) * (n + 32))
 few-steps n own tree steps a b e =
     let least = min-le_left (own + tree) (2 ^ 128 - 1) in
     let all = most-all n in
@@ -125,7 +127,7 @@ ap-table a b e h = subst (λ (x : TextStart). IsTable x.rows) e h
 
 pub made : (start : Start) (bytes : List ℕ) (run : Run) (d : Decoder) (t : Tokenizer) (b : BuilderState) (starts : List ℕ) (told : List Fault) (numbers : List ℕ) (fates : List Fate)
     (arena : Nodes) (errors : List PageFault) (n own steps : ℕ) → Ended d t b starts told numbers fates arena errors n own steps
-    → IsWhole start bytes run d t b starts → IsParsed start bytes run.given fates arena 0 errors n steps
+    → IsWhole start bytes run d t b starts → Headline start bytes run.given fates arena 0 errors n steps
 made start bytes run d t b starts told numbers fates arena errors n own steps e w =
     let count : n ≡ length (code_points bytes) = e.count (most_input start) bytes run.text w.decoded in
     let text : run.text ≡ decode bytes = e.text (most_input start) bytes run.text w.decoded in
@@ -150,9 +152,10 @@ made start bytes run d t b starts told numbers fates arena errors n own steps e 
     record {
       tokens_are = tokens;
       plain = λ document core p page h written.
-          e.plain start.limits (kinds run.given) (subst (λ s. Handed s start.limits (kinds run.given) b) document.setting_is w.handed) page h
-          (text-kinds start.rows p page (decode bytes) run.given fates table core h written
-          (tokens ∙ ap (λ m. tokens_after start.rows 0 m None 0 (decode bytes) (switches_by (kinds run.given) fates)) document.mode_is));
+          let handed : Handed Document start.limits (kinds run.given) b = subst (λ s. Handed s start.limits (kinds run.given) b) document.setting_is w.handed in
+          let same : kinds run.given ≡ page_kinds page = text-kinds start.rows p page (decode bytes) run.given fates table core h written
+          (tokens ∙ ap (λ m. tokens_after start.rows 0 m None 0 (decode bytes) (switches_by (kinds run.given) fates)) document.mode_is) in
+          (e.plain start.limits (kinds run.given) handed page h same, e.plain_fates start.limits (kinds run.given) handed page h same);
       numbers = numbers;
       outcome = outcome;
       root_is = refl;
@@ -163,7 +166,9 @@ made start bytes run d t b starts told numbers fates arena errors n own steps e 
       n_is = count;
       names = named-tree (kinds run.given) fates arena (kinds-named 0 (length run.text) run.given costed.order) outcome.origins;
       within = subst (λ m. m ≤ most_input start) (sym count) (e.in_limit (most_input start) bytes run.text w.decoded);
-      bounded = bounds;
+      nodes = bounds.nodes;
+      held = bounds.held;
+      weighs = bounds.weighs;
       steps_are = record {
         own = own;
         few = own_few;
@@ -199,16 +204,16 @@ whole start p bytes e = record {
 
 -- with the tokens that were kept, and with the root
 pub page-of : (start : Start) (bytes : List ℕ) (given tokens : List Token) (fates : List Fate) (arena : Nodes) (root : ℕ) (errors : List PageFault) (n steps : ℕ)
-    → tokens ≡ given → root ≡ 0 → IsParsed start bytes given fates arena 0 errors n steps → IsParsed start bytes tokens fates arena root errors n steps
+    → tokens ≡ given → root ≡ 0 → Headline start bytes given fates arena 0 errors n steps → Headline start bytes tokens fates arena root errors n steps
 page-of start bytes given tokens fates arena root errors n steps same first is =
-    subst (λ ts. IsParsed start bytes ts fates arena root errors n steps) (sym same)
-    (subst (λ r. IsParsed start bytes given fates arena r errors n steps) (sym first) is)
+    subst (λ ts. Headline start bytes ts fates arena root errors n steps) (sym same)
+    (subst (λ r. Headline start bytes given fates arena r errors n steps) (sym first) is)
 
 starts-length : (tokens : List Token) → length (starts_of tokens) ≡ length tokens
 starts-length tokens = length-map tokens _
 
 pub tree-of : (start : Start) (bytes : List ℕ) (run : Run) (starts : List ℕ) (fates : List Fate) (tree : TreeType) → starts ≡ starts_of run.given → tree.token_count ≡ length starts
-    → IsParsed start bytes run.given fates tree.arena tree.root tree.errors.items tree.n tree.steps → IsTreeOf start bytes tree
+    → Headline start bytes run.given fates tree.arena tree.root tree.errors.items tree.n tree.steps → IsTreeOf start bytes tree
 tree-of start bytes run starts fates tree same count is = record {
   tokens = run.given;
   fates = fates;

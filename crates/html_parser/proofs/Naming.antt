@@ -1,5 +1,5 @@
 -- No attribute of a tree has an empty name, as no attribute of its tokens has.
-use Rattle.std.proofs.Common.{ℕ, zero, suc, ◌≡◌, ◌<◌, Bool, cond, List, [], ◌∷◌, ◌++◌, length, Option, Some, None, inl, inr, sym, ap, subst}
+use Rattle.std.proofs.Common.{ℕ, zero, suc, ◌≡◌, Bool, cond, List, [], ◌∷◌, ◌++◌, Option, Some, None, inl, inr, sym, ap, subst}
 use Rattle.std.proofs.lemmas.Bool.{cases_Bool}
 use Rattle.std.specs.Prelude.{filter, not, slice_get}
 use Rattle.std.specs.List.{AllByRecursion}

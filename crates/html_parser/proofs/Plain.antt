@@ -1,5 +1,5 @@
 -- The text of a plain page has that page's tokens, whatever is said of the text after its tokens: of none anything is.
-use Rattle.std.proofs.Common.{◌≡◌, ℕ, zero, suc, ◌+◌, ◌-◌, List, [], ◌∷◌, ◌++◌, length, drop, map, Option, Some, None, codes, Bool, true, false, refl, sym, ◌∙◌, ap, subst}
+use Rattle.std.proofs.Common.{◌≡◌, ℕ, zero, suc, ◌+◌, ◌-◌, List, [], ◌∷◌, ◌++◌, length, drop, Option, None, codes, Bool, true, false, refl, sym, ◌∙◌, ap, subst}
 use Rattle.std.specs.List.{AllByRecursion}
 use Rattle.std.proofs.lemmas.List.{length-map, map-append}
 use Rattle.html_names.specs.Names.{tag_of}
@@ -17,11 +17,9 @@ use Rattle.html_ledger.specs.declared.fate.Fate.TheVariants as fate
 use Rattle.html_builder.specs.Switches.{switch_by, switch_of, switches_by}
 use Rattle.html_page.specs.Label.{Label}
 use Rattle.html_page.specs.Label.Label.{document, doctype, element, text, comment}
-use Rattle.html_page.specs.PageTokens.{chars_then, kinds_then, page_kinds}
-use Rattle.html_page.specs.Plain.{IsContent, IsPlainPage}
-use Rattle.html_page.specs.Begun.{IsPlainName}
+use Rattle.html_page.specs.PageTokens.{HasCore, chars_then, kinds_then, page_kinds}
+use Rattle.html_page.specs.Plain.{IsContent, IsPlainName, IsPlainPage}
 use Rattle.html_page.specs.Html.{html_of}
-use Rattle.html_page.specs.PageTokens.{HasCore}
 use Rattle.html_page.specs.declared.profile.Profile.{Profile}
 use Rattle.html_page.proofs.Names.{each-name}
 use Rattle.html_page.proofs.PageReads.{page-tokens}

@@ -9,7 +9,7 @@ use Rattle.html_builder.specs.Builders.{BuilderState}
 use Rattle.html_builder.specs.Handed.{Handed, fates_of}
 use Rattle.html_builder.specs.Switches.{switches_by}
 use Rattle.html_parser.specs.Kinds.{kinds, starts_of}
-use Rattle.html_parser.specs.Parsed.{IsParsed}
+use Rattle.html_parser.specs.Parsed.{Headline}
 use Rattle.html_parser.specs.Start.{Start, most_input, text_start}
 use Rattle.html_parser.specs.declared.made.Made.{Made}
 
@@ -26,4 +26,4 @@ pub record IsWhole (start : Start) (bytes : List ℕ) (run : Run) (d : Decoder) 
 
 -- what was made of its tokens
 abbrev pub IsMade : Start → List ℕ → Run → Made → Type 0
-IsMade start bytes run m = IsParsed start bytes run.given m.fates m.arena 0 m.errors.items m.n m.steps
+IsMade start bytes run m = Headline start bytes run.given m.fates m.arena 0 m.errors.items m.n m.steps

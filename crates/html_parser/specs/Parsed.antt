@@ -1,5 +1,6 @@
 -- What parsing answers.
 use Rattle.std.specs.Prelude.{◌≡◌, ℕ, ◌≤◌, ◌+◌, ◌-◌, ◌*◌, ◌^◌, min, false, List, [], ◌∷◌, length}
+use Rattle.std.specs.List.{sum_by}
 use Rattle.html_input.specs.Decode.{decode, code_points}
 use Rattle.html_tokens.specs.Stream.{tokens_of}
 use Rattle.html_tokens.specs.declared.token.Token.{Token}
@@ -7,9 +8,11 @@ use Rattle.html_tokens.specs.declared.faults.Fault.{Fault}
 use Rattle.html_tokens.specs.declared.token.TextMode.TheVariants.{Data}
 use Rattle.html_arena.specs.Forest.{Forest}
 use Rattle.html_arena.specs.Tree.{Tree as Nodes}
+use Rattle.html_arena.specs.Weight.{weight}
 use Rattle.html_ledger.specs.declared.fate.Fate.{Fate}
 use Rattle.html_builder.specs.Switches.{switches_by}
-use Rattle.html_builder.specs.Outcome.{IsBounded, IsOutcome}
+use Rattle.html_builder.specs.Outcome.{IsOutcome, most_held}
+use Rattle.html_builder.specs.Plain.{HavePlainFates}
 use Rattle.html_ledger.specs.declared.setting.Setting.TheVariants.{Document}
 use Rattle.html_page.specs.declared.profile.Profile.{Profile}
 use Rattle.html_page.specs.Html.{html_of}
@@ -28,14 +31,6 @@ use Rattle.html_parser.specs.declared.page.Tree.{Tree}
 -- the most counted steps of the tokenizer for a page of n code points
 abbrev pub most_token_steps : ℕ → ℕ
 most_token_steps n = 8 * (n + 2) + (n + 2) * (n + 2)
-
--- the most counted steps of all of it
-abbrev pub most_steps : ℕ → ℕ
-most_steps n = 1024 * ((n + 32) * (n + 32) * (n + 32))
-
--- the most errors
-abbrev pub most_errors : ℕ → ℕ
-most_errors n = 12 * (n + 2)
 
 -- The tokens are those of the text, read by the switches of their fates, and no others.
 abbrev pub AreTokensOf : Start → List ℕ → List Token → List Fate → Type 0
@@ -57,35 +52,45 @@ pub record AreSteps (n : ℕ) (t : Nodes) (steps : ℕ) : Type 0 where
   pub few : own ≤ most_token_steps n
   pub are : steps ≡ min (own + t.steps) (2 ^ 128 - 1)
 
--- A tree of an input of these bytes, with the tokens and fates that it accounts for.
-pub record IsParsed (start : Start) (bytes : List ℕ) (tokens : List Token) (fates : List Fate) (t : Nodes) (root : ℕ) (errors : List PageFault) (n steps : ℕ) : Type 0 where
-  -- each token of the input, and no other
+-- THE HEADLINE
+
+-- What parsing answers for an input of n code points, however it was cut, where it does not refuse by a named cause: a well-formed tree, and a ledger that
+-- gives each token of that input its one fate; the page's own tree where the page is plain; with at most 2(n+32)² nodes, 34(n+2)² held code points and
+-- 1024(n+32)³ counted steps.
+pub record Headline (start : Start) (bytes : List ℕ) (tokens : List Token) (fates : List Fate) (t : Nodes) (root : ℕ) (errors : List PageFault) (n steps : ℕ) : Type 0 where
+  -- n is the number of code points, and within the limit on it
+  pub n_is : n ≡ length (code_points bytes)
+  pub within : n ≤ most_input start
+  -- the tokens are those of the text of these bytes, and no others
   pub tokens_are : AreTokensOf start (decode bytes) tokens fates
-  -- a well-formed tree, its one fate for each token, and each node with its origin
+  -- the tree is well formed, each token has its one fate, which it may have, and each node has what its token has
   pub numbers : List ℕ
   pub outcome : IsOutcome start.setting (kinds tokens) fates numbers t
   pub root_is : root ≡ 0
-  -- the page's own tree, where a document's text is that of a plain page, in either profile, and the table has the five core rows
-  pub plain : IsDocument start → HasCore start.rows → (p : Profile) (page : Forest Label) → IsPlainPage page → html_of p false page ≡ decode bytes → Shows t (root ∷ []) page
-  pub faults : AreFaults tokens numbers errors
-  -- how many code points there are
-  pub n_is : n ≡ length (code_points bytes)
-  pub within : n ≤ most_input start
-  -- no element has an attribute with an empty name
-  pub names : HasNames t
+  -- where a document's text is that of a plain page, in either profile, and the table has the five core rows: the page's own tree, and of its tokens each
+  -- but the end tags and the end of the page made a node or is text
+  pub plain : IsDocument start → HasCore start.rows → (p : Profile) (page : Forest Label) → IsPlainPage page → html_of p false page ≡ decode bytes
+      → Shows t (root ∷ []) page × HavePlainFates (kinds tokens) fates
   -- how large it is
-  pub bounded : IsBounded n t
+  pub nodes : length t.labels ≤ 2 * ((n + 32) * (n + 32))
+  pub held : t.held ≤ 34 * ((n + 2) * (n + 2))
+  pub few_steps : steps ≤ 1024 * ((n + 32) * (n + 32) * (n + 32))
+  -- the steps are those of the tokenizer and those of tree construction
   pub steps_are : AreSteps n t steps
-  pub few_steps : steps ≤ most_steps n
-  pub few_errors : length errors ≤ most_errors n
+  -- the errors are the tokenizer's, and at most one of tree construction for each token
+  pub faults : AreFaults tokens numbers errors
+  pub few_errors : length errors ≤ 12 * (n + 2)
+  -- of what the serializer writes: no element has an attribute with an empty name, and all that is held was counted
+  pub names : HasNames t
+  pub weighs : sum_by weight t.labels ≤ most_held n
 
 -- the page of an input
 abbrev pub IsPageOf : Start → List ℕ → Page → Type 0
-IsPageOf start bytes page = IsParsed start bytes page.tokens page.fates page.arena page.root page.errors.items page.n page.steps
+IsPageOf start bytes page = Headline start bytes page.tokens page.fates page.arena page.root page.errors.items page.n page.steps
 
 -- The tree of an input, for some tokens and fates of it.
 pub record IsTreeOf (start : Start) (bytes : List ℕ) (tree : Tree) : Type 0 where
   pub tokens : List Token
   pub fates : List Fate
-  pub is : IsParsed start bytes tokens fates tree.arena tree.root tree.errors.items tree.n tree.steps
+  pub is : Headline start bytes tokens fates tree.arena tree.root tree.errors.items tree.n tree.steps
   pub count : tree.token_count ≡ length tokens

@@ -18,7 +18,7 @@ mod tree_parser;
 
 pub use error::ParseError;
 pub use faults::{PageFault, PageFaultName};
-pub use html_arena::{Arena, Kind, Limits, NodeData, NodeId};
+pub use html_arena::{Arena, Event, Kind, Limits, NodeData, NodeId, Show, Walk};
 pub use html_builder::{Context, Foreign};
 pub use html_charref::{EntityError, EntityTable, Str};
 pub use html_device::{DeviceFault, FailAt, OverRead, OverWrite, Sink, Source};

@@ -3,9 +3,14 @@
 ghost use Rattle.std.specs.Prelude.{◌≡◌, ◌⊎◌, ◌≤◌, true, length, OnOk, OnErr, IfErr};
 ghost use Rattle.std.specs.Io.KnownBytes.{Appends};
 ghost use Rattle.std.specs.Str.{encode_utf8_all};
+ghost use Rattle.html_arena.specs.Below.{kids};
+ghost use Rattle.html_arena.specs.Forest.{Forest};
 ghost use Rattle.html_arena.specs.Walking.{IsRoot};
+ghost use Rattle.html_arena.specs.declared.walk.Show.TheVariants.{All};
 ghost use Rattle.html_device.specs.Device.{AppendsFront};
-ghost use Rattle.html_page.specs.Serialised.{HasNames, html_below, most_written};
+ghost use Rattle.html_page.specs.Label.{Label};
+ghost use Rattle.html_page.specs.Serialised.{HasNames, forest_below, html_below, most_written};
+ghost use Rattle.html_page.specs.Shows.{Shows};
 
 use crate::error::ParseError;
 use crate::faults::PageFault;
@@ -67,7 +72,9 @@ pub fn serialise<W: Sink>(page: &Page, profile: Profile, writer: &mut W) -> Resu
     ensures cause { IfErr result (λ e. e ≡ ParseError.Write) }
     ensures fault { OnErr result ((W.failed writer.new ≡ true) ⊎ (W.stalled writer.new ≡ true)) }
 
-    // The text is no longer than this.
+    // The text is that of the one forest that stands below the root, and no longer than this.
+    ensures shows { Shows page.now.arena (kids All page.now.arena page.now.root) (forest_below page.now.arena page.now.root) }
+    ensures only { (f : Forest Label) → Shows page.now.arena (kids All page.now.arena page.now.root) f → f ≡ forest_below page.now.arena page.now.root }
     ensures size { HasNames page.now.arena → length (html_below profile page.now.arena page.now.root) ≤ most_written page.now.arena }
 {
     match serialise_tree(&page.arena, page.root, profile, writer) {
@@ -93,7 +100,9 @@ impl Tree {
         ensures cause { IfErr result (λ e. e ≡ ParseError.Write) }
         ensures fault { OnErr result ((W.failed writer.new ≡ true) ⊎ (W.stalled writer.new ≡ true)) }
 
-        // The text is no longer than this.
+        // The text is that of the one forest that stands below the root, and no longer than this.
+        ensures shows { Shows self.now.arena (kids All self.now.arena self.now.root) (forest_below self.now.arena self.now.root) }
+        ensures only { (f : Forest Label) → Shows self.now.arena (kids All self.now.arena self.now.root) f → f ≡ forest_below self.now.arena self.now.root }
         ensures size { HasNames self.now.arena → length (html_below profile self.now.arena self.now.root) ≤ most_written self.now.arena }
     {
         match serialise_tree(&self.arena, self.root, profile, writer) {

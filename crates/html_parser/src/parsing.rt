@@ -1,6 +1,7 @@
 //! A page from its bytes.
 
 ghost use Rattle.std.specs.Prelude.{◌≡◌, ◌≢◌, ◌<◌, ◌≤◌, ◌⊎◌, [], None, Some, IfErr, IfOk, OnOk, length, min};
+ghost use Rattle.html_arena.specs.Walking.{IsRoot};
 ghost use Rattle.html_input.specs.Decode.{code_points};
 ghost use Rattle.html_input.specs.declared.decoder.TheConstants.{LIMIT};
 ghost use Rattle.html_builder.specs.Contexts.{IsGood};
@@ -26,6 +27,7 @@ use std::alloc::Global;
 /// Those of `Parser::feed`.
 pub fn parse(alloc: Global, table: &EntityTable, bytes: &[u8]) -> Result<Page, ParseError>
     ensures page { IfOk result (IsPageOf (document_start table.now None) bytes.now) }
+    ensures root { IfOk result (λ page. IsRoot page.arena page.root) }
     ensures cause { IfErr result (IsCause (document_start table.now None) bytes.now) }
     ensures within { IfErr result (λ e. e ≢ ParseError.InputTooLong → length (code_points bytes.now) ≤ LIMIT) }
 {
@@ -46,6 +48,7 @@ pub fn parse_within(
     bytes: &[u8],
 ) -> Result<Page, ParseError>
     ensures page { IfOk result (IsPageOf (document_start table.now (Some limits)) bytes.now) }
+    ensures root { IfOk result (λ page. IsRoot page.arena page.root) }
     ensures cause { IfErr result (λ e. IsCause (document_start table.now (Some limits)) bytes.now e
         ⊎ ((e ≡ ParseError.NodeBudget 0) × (limits.nodes < 1))) }
     ensures within { IfErr result (λ e. e ≢ ParseError.InputTooLong → length (code_points bytes.now) ≤ min limits.code_points LIMIT) }
@@ -67,6 +70,7 @@ pub fn parse_fragment(
     bytes: &[u8],
 ) -> Result<Page, ParseError>
     ensures page { IfOk result (IsPageOf (fragment_start table.now context.now None) bytes.now) }
+    ensures root { IfOk result (λ page. IsRoot page.arena page.root) }
     ensures good { OnOk result (IsGood context.now) }
     ensures cause { IfErr result (λ e. IsCause (fragment_start table.now context.now None) bytes.now e
         ⊎ ((e ≡ ParseError.BadContext) × (IsGood context.now → ⊥))) }
@@ -83,6 +87,7 @@ pub fn parse_fragment(
 /// Those of `parse`.
 pub fn parse_tree(alloc: Global, table: &EntityTable, bytes: &[u8]) -> Result<Tree, ParseError>
     ensures tree { IfOk result (IsTreeOf (document_start table.now None) bytes.now) }
+    ensures root { IfOk result (λ tree. IsRoot tree.arena tree.root) }
     ensures cause { IfErr result (IsCause (document_start table.now None) bytes.now) }
     ensures within { IfErr result (λ e. e ≢ ParseError.InputTooLong → length (code_points bytes.now) ≤ LIMIT) }
 {

@@ -2,6 +2,7 @@
 
 ghost use Rattle.std.specs.Prelude.{ℕ, [], List, None, IfErr, IfOk, OnOk};
 ghost use Rattle.std.specs.Io.KnownBytes.{Consumes, IsAtEnd};
+ghost use Rattle.html_arena.specs.Walking.{IsRoot};
 ghost use Rattle.html_parser.specs.Parsed.{IsPageOf, IsTreeOf};
 ghost use Rattle.html_parser.specs.Reading.{IsPieceCause, IsReaderCause};
 ghost use Rattle.html_parser.specs.Start.{Start, document_start};
@@ -26,6 +27,7 @@ pub fn parse_from<S: Source>(
 ) -> Result<Page, ParseError>
     ensures page { IfOk result (λ page. (bytes : List ℕ) × Consumes (S.remaining reader.old) (S.remaining reader.new) bytes
         × IsPageOf (document_start table.now None) bytes page) }
+    ensures root { IfOk result (λ page. IsRoot page.arena page.root) }
     ensures end { OnOk result (IsAtEnd (S.remaining reader.new)) }
     ensures cause { IfErr result (IsReaderCause (document_start table.now None) (S.remaining reader.old) (S.remaining reader.new) (S.failed reader.new)) }
 {
@@ -46,6 +48,7 @@ pub fn parse_tree_from<S: Source>(
 ) -> Result<Tree, ParseError>
     ensures tree { IfOk result (λ tree. (bytes : List ℕ) × Consumes (S.remaining reader.old) (S.remaining reader.new) bytes
         × IsTreeOf (document_start table.now None) bytes tree) }
+    ensures root { IfOk result (λ tree. IsRoot tree.arena tree.root) }
     ensures end { OnOk result (IsAtEnd (S.remaining reader.new)) }
     ensures cause { IfErr result (IsReaderCause (document_start table.now None) (S.remaining reader.old) (S.remaining reader.new) (S.failed reader.new)) }
 {

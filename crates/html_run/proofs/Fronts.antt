@@ -1,11 +1,15 @@
 -- What was written of a page, from what parsing and serialising say.
-use Rattle.std.proofs.Common.{◌≡◌, ◌⊎◌, inl, inr, ℕ, ◌≤◌, Bool, List, length, Option, refl, subst}
+use Rattle.std.proofs.Common.{◌≡◌, ◌⊎◌, inl, inr, ℕ, ◌≤◌, List, length, Option, subst}
 use Rattle.std.specs.Prelude.{Result, Ok, Err, OnOk, OnErr, IfErr}
 use Rattle.std.specs.Str.{encode_utf8_all}
 use Rattle.std.specs.Io.KnownBytes.{Appends, Consumes, IsAtEnd}
-use Rattle.html_arena.specs.Walking.{IsRoot}
+use Rattle.html_arena.specs.Below.{kids}
+use Rattle.html_arena.specs.Forest.{Forest}
+use Rattle.html_arena.specs.declared.walk.Show.TheVariants.{All}
 use Rattle.html_device.specs.Device.{AppendsFront}
-use Rattle.html_page.specs.Serialised.{HasNames, html_below, most_written}
+use Rattle.html_page.specs.Label.{Label}
+use Rattle.html_page.specs.Serialised.{HasNames, forest_below, html_below, most_written}
+use Rattle.html_page.specs.Shows.{Shows}
 use Rattle.html_page.specs.declared.profile.Profile.{Profile}
 use Rattle.html_parser.specs.Normalised.{IsNormalised}
 use Rattle.html_parser.specs.Parsed.{IsTreeOf}
@@ -13,7 +17,7 @@ use Rattle.html_parser.specs.Start.{Start}
 use Rattle.html_parser.specs.declared.error.ParseError.{ParseError}
 use Rattle.html_parser.specs.declared.error.ParseError.TheVariants.{OutOfMemory, InputTooLong, ForeignContent, BadContext, Read, Write, Stopped, NodeBudget, HeldBudget, StepBudget}
 use Rattle.html_parser.specs.declared.page.Tree.{Tree}
-use Rattle.html_parser.proofs.Rewritten.{text-few}
+use Rattle.html_parser.proofs.Rewritten.{plain-text, text-few}
 use Rattle.html_run.specs.Outcome.{status_of}
 
 -- what holds anyway, holds of an answer
@@ -29,13 +33,23 @@ NothingOrFront start profile reader new_reader writer new_writer e =
 -- the text of a tree in a profile, told of the profile that a job names
 module _ (start : Start) (given named : Profile) (same : given ≡ named) (tree : Tree) (bytes : List ℕ) (old new : Option (List ℕ)) (r : Result (Unit {0}) ParseError)
     (consumed : Consumes old new bytes) (at_end : IsAtEnd new) (is_tree : IsTreeOf start bytes tree)
-    (few : HasNames tree.arena → length (html_below given tree.arena tree.root) ≤ most_written tree.arena) (writer new_writer : Option (List ℕ)) where
+    (few : HasNames tree.arena → length (html_below given tree.arena tree.root) ≤ most_written tree.arena)
+    (only : (f : Forest Label) → Shows tree.arena (kids All tree.arena tree.root) f → f ≡ forest_below tree.arena tree.root) (writer new_writer : Option (List ℕ)) where
   abbrev text : List ℕ
   text = encode_utf8_all (html_below given tree.arena tree.root)
 
   normalised : (W : List ℕ → Type 0) → W text → IsNormalised start named W old new
   normalised W w = subst (λ (p : Profile). IsNormalised start p W old new) same
-      (record { bytes = bytes; consumed = consumed; at_end = at_end; tree = tree; is_tree = is_tree; written = w; few = text-few start bytes given tree is_tree few })
+      (record {
+        bytes = bytes;
+        consumed = consumed;
+        at_end = at_end;
+        tree = tree;
+        is_tree = is_tree;
+        written = w;
+        few = text-few start bytes given tree is_tree few;
+        plain = λ document core p page is_plain written. subst (λ (s : List ℕ). W (encode_utf8_all s)) (plain-text start bytes given tree is_tree only document core p page is_plain written) w;
+      })
 
   pub all-written : OnOk r (Appends writer new_writer text) → OnOk r (IsNormalised start named (Appends writer new_writer) old new)
   all-written h = go r h

@@ -5,7 +5,7 @@ use crate::entry::{Entry, are_same};
 use crate::expected::{expected, text};
 use crate::given::given;
 use crate::texts::{CaseFault, Texts};
-use html_page::{EntityTable, ParseError, tokenize};
+use html_page::{EntityTable, TokenListError, tokenize};
 use html_tokens::TextMode;
 use serde_json::Value;
 use std::alloc::Global;
@@ -43,7 +43,7 @@ pub(crate) fn run_case(
                 Ok(Outcome::Failed)
             }
         }
-        Err(ParseError::OutOfMemory) => Err(CaseFault::OutOfMemory),
+        Err(TokenListError::OutOfMemory) => Err(CaseFault::OutOfMemory),
         Err(_) => Ok(Outcome::Failed),
     }
 }

@@ -51,7 +51,7 @@ tag_copies p Q put one keeps none join (c ∷ xs) d q a rows more =
     ∙ tag_by_more (length xs) (draft_tag rows (put (put d (c ∷ [])) xs) more)
     ∙ ap (λ (e : TagDraft). tag_by (suc (length xs)) (draft_tag rows e more)) (join d c xs)
 
-name_stands : (c : ℕ) → is_copied copied.Name c ≡ true → (ends_attr c ≡ false) × (name_char c ≡ c)
+pub name_stands : (c : ℕ) → is_copied copied.Name c ≡ true → (ends_attr c ≡ false) × (name_char c ≡ c)
 name_stands c h =
     let a = neither (ends_attr c) _ h in
     let b = neither (c == 0) _ a.1 in
@@ -61,7 +61,7 @@ name_stands c h =
     let g = is_not (between 65 90 c) f.1 in
     (a.0, rw (g, b.0) refl)
 
-first_false : (a b : Bool) → (a || b) ≡ false → a ≡ false
+pub first_false : (a b : Bool) → (a || b) ≡ false → a ≡ false
 first_false true b h = absurd (false≢true (sym h))
 first_false false b h = refl
 

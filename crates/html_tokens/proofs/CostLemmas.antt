@@ -8,7 +8,7 @@ use Rattle.html_charref.specs.Table.{IsTable}
 use Rattle.html_charref.specs.declared.table.Row.{Row}
 use Rattle.html_tokens.specs.Cost.{attrs_len, is_eof, AreNamed, Fits, AreBetween, tokens_len, AreCosted}
 use Rattle.html_tokens.specs.Cut.{cut, is, passes, greater_mark, comment_mark, shown}
-use Rattle.html_tokens.specs.Marks.{begin_at, is_end_mark, is_stop, front, region_in, spells}
+use Rattle.html_tokens.specs.Marks.{begin_at, is_end_mark, is_stop, is_tag_name, front, region_in, spells}
 use Rattle.html_tokens.specs.Reference.{reference}
 use Rattle.html_tokens.specs.Fed.{to_come}
 use Rattle.html_tokens.specs.Stream.{Start, Run, IsAt, gave, answered, tokens_of}
@@ -168,7 +168,7 @@ EndFits n b = b ≡ begins.EndMark → 2 ≤ n
 
 end_mark_fits : (name : Option (List ℕ)) (text : List ℕ) → is_end_mark name text ≡ true → 2 ≤ length text
 end_mark_fits None text h = absurd (false≢true h)
-end_mark_fits (Some name) text h = let i = is_there 47 text 1 (right (is 60 (slice_get text 0)) (is 47 (slice_get text 1)) (left (is 60 (slice_get text 0) && is 47 (slice_get text 1)) (spells name 2 text) h)) in omega arith
+end_mark_fits (Some name) text h = let i = is_there 47 text 1 (right (is_tag_name name && is 60 (slice_get text 0)) (is 47 (slice_get text 1)) (left (is_tag_name name && is 60 (slice_get text 0) && is 47 (slice_get text 1)) (spells name 2 text) h)) in omega arith
 
 end_or_char : (name : Option (List ℕ)) (text : List ℕ) → EndFits (length text) (cond (is_end_mark name text) begins.EndMark begins.Char)
 end_or_char name text = cond_both (λ (b : Begin). EndFits (length text) b) (is_end_mark name text) begins.EndMark begins.Char (λ e f. end_mark_fits name text e) (λ e f. cc)

@@ -16,3 +16,5 @@ pub mod BoundLemmas
 pub mod RunLemmas
 pub mod CopyLemmas
 pub mod PlaceLemmas
+pub mod ShortLemmas
+pub mod QuotedLemmas

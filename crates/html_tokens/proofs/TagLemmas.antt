@@ -113,7 +113,7 @@ name_same : (is_end : Bool) (t : WholeTag) (name : Option (List ℕ)) → name_a
 name_same true t name = refl
 name_same false t name = refl
 
-tag_given_at : (old new : Machine) (d d' : TagDraft) (c : ℕ) (after : Option ℕ) (self_closing : Bool) (n : ℕ) (progress : Progress) → old.state ≡ Tag d → ReadsTag d c after (Closed self_closing n) d' →
+pub tag_given_at : (old new : Machine) (d d' : TagDraft) (c : ℕ) (after : Option ℕ) (self_closing : Bool) (n : ℕ) (progress : Progress) → old.state ≡ Tag d → ReadsTag d c after (Closed self_closing n) d' →
     Decided old.input (λ rest. slice_get rest 0) (Some c) → (c ≡ 47 → Decided old.input (λ rest. slice_get rest 1) after) → 1 + length (option_to_list after) ≤ length old.input.queue.items →
     EndsTagAt (record old { state = Tag d' }) d' self_closing n progress new → Steps old progress new
 tag_given_at old new d d' c after self_closing n progress s (e, st, en, short) first second k p =

@@ -6,6 +6,8 @@ pub mod Reference
 pub mod Value
 pub mod Tag
 pub mod Copied
+pub mod Short
+pub mod Quoted
 pub mod Places
 pub mod Marks
 pub mod Doctype

@@ -1,8 +1,9 @@
 -- What ends text: the end marks of RCDATA, RAWTEXT and script text, and the regions of script text.
-use Rattle.std.specs.Prelude.{ℕ, ◌+◌, List, [], ◌∷◌, length, Bool, true, false, ◌&&◌, ◌==◌, cond, Option, Some, None, slice_get}
+use Rattle.std.specs.Prelude.{ℕ, ◌+◌, List, [], ◌∷◌, length, Bool, true, false, not, ◌&&◌, ◌||◌, ◌==◌, cond, Option, Some, None, slice_get}
+use Rattle.std.specs.List.{list_all}
 use Rattle.std.specs.Char.{to_ascii_lowercase}
 use Rattle.html_tokens.specs.Cut.{is, passes}
-use Rattle.html_tokens.specs.Tag.{ends_name}
+use Rattle.html_tokens.specs.Tag.{ends_name, between}
 use Rattle.html_tokens.specs.declared.token.Region.{Region}
 use Rattle.html_tokens.specs.declared.token.Region.TheVariants.{Plain, Escaped, Double}
 use Rattle.html_tokens.specs.declared.token.TextMode.{TextMode}
@@ -20,10 +21,19 @@ abbrev pub spells : List ℕ → ℕ → List ℕ → Bool
 spells [] at text = passes ends_name (slice_get text at)
 spells (n ∷ ns) at text = is_lowered n (slice_get text at) && spells ns (at + 1) text
 
--- `</`, the name of the last start tag, and what ends a name (HTML 13.2.5.9 to 13.2.5.17, 13.2.5.24, 13.2.5.25)
+-- what stands in the name of a tag: capitals are lowered, and U+0000 becomes U+FFFD (HTML 13.2.5.8)
+abbrev pub is_name_char : ℕ → Bool
+is_name_char c = not (ends_name c || between 65 90 c || c == 0)
+
+-- A name that a start tag can have: it begins with an ASCII letter (HTML 13.2.5.6).
+abbrev pub is_tag_name : List ℕ → Bool
+is_tag_name [] = false
+is_tag_name (c ∷ cs) = between 97 122 c && list_all is_name_char cs
+
+-- `</`, the name of the last start tag, and what ends a name (HTML 13.2.5.9 to 13.2.5.17, 13.2.5.24, 13.2.5.25). No name that no start tag can have is marked so.
 abbrev pub is_end_mark : Option (List ℕ) → List ℕ → Bool
 is_end_mark None text = false
-is_end_mark (Some name) text = is 60 (slice_get text 0) && is 47 (slice_get text 1) && spells name 2 text
+is_end_mark (Some name) text = is_tag_name name && is 60 (slice_get text 0) && is 47 (slice_get text 1) && spells name 2 text
 
 abbrev pub name_len : Option (List ℕ) → ℕ
 name_len None = 0

@@ -3,9 +3,7 @@ ghost use Rattle.html_tokens.specs.Tag.{has_name};
 ghost use Rattle.std.specs.Prelude.{◌≤◌, ◌≡◌, ◌∷◌, [], ◌++◌, IfOk, OnErr, OnOk, length};
 
 use html_charref::Str;
-use smallvec::SmallVec;
 use std::alloc::{AllocError, Global};
-use std::default::MadeWith;
 use std::marker::Model;
 
 /// An attribute: its name, and its value, which is empty where none was written.
@@ -27,16 +25,6 @@ impl Clone for Attr {
     }
 }
 
-// The blank that an unused inline place holds.
-impl MadeWith<Global> for Attr {
-    fn made_with(alloc: Global) -> Attr {
-        Attr {
-            name: Str::new(alloc),
-            value: Str::new(alloc),
-        }
-    }
-}
-
 /// Whether an attribute of this name is there, and how many names were compared with it.
 pub(crate) fn search(attrs: &[Attr], name: &Str) -> (bool, usize)
     ensures found { result.0 ≡ has_name name.now attrs.now }
@@ -52,10 +40,10 @@ pub(crate) fn search(attrs: &[Attr], name: &Str) -> (bool, usize)
     (false, compared)
 }
 
-/// Attributes in order, seen as their list; up to four take no memory of their own.
+/// Attributes in order, seen as their list.
 #[derive(Debug, Drop)]
 pub struct Attrs {
-    pub list: SmallVec<Attr, 4>,
+    pub list: Vec<Attr>,
 }
 
 impl Model for Attrs {
@@ -73,7 +61,7 @@ impl Attrs {
         ensures { result ≡ [] }
     {
         Attrs {
-            list: SmallVec::new(alloc),
+            list: Vec::new(alloc),
         }
     }
 
@@ -90,9 +78,7 @@ impl Attrs {
     pub fn from_vec(attrs: Vec<Attr>) -> Attrs
         ensures { result ≡ attrs.items }
     {
-        Attrs {
-            list: SmallVec::from_vec(attrs),
-        }
+        Attrs { list: attrs }
     }
 
     /// How many there are.
@@ -113,6 +99,6 @@ impl Attrs {
     pub fn into_vec(self) -> Result<Vec<Attr>, AllocError>
         ensures { IfOk result (λ attrs. attrs.items ≡ self) }
     {
-        Ok(self.list.into_vec()?)
+        Ok(self.list)
     }
 }

@@ -1,5 +1,5 @@
 // Fronts of the rest that are copied as they stand.
-ghost use Rattle.std.specs.Prelude.{◌≡◌, ◌≤◌, ◌++◌, length, take, IfOk};
+ghost use Rattle.std.specs.Prelude.{◌≡◌, ◌≤◌, ◌++◌, length, take, IfOk, OnOk};
 ghost use Rattle.html_tokens.specs.Copied.{AllPass, is_copied};
 
 use crate::tag::{ends_attr, ends_unquoted};
@@ -23,7 +23,10 @@ impl Copied {
         ensures { result ≡ is_copied self c }
     {
         match self {
-            Copied::Name => !(ends_attr(c) || matches!(c, '\0' | '"' | '\'' | '<' | 'A'..='Z')),
+            Copied::Name => {
+                c.is_ascii_lowercase()
+                    || !(ends_attr(c) || matches!(c, '\0' | '"' | '\'' | '<' | 'A'..='Z'))
+            }
             Copied::DoubleQuoted => !matches!(c, '\0' | '"' | '&'),
             Copied::SingleQuoted => !matches!(c, '\0' | '\'' | '&'),
             Copied::Unquoted => {
@@ -34,20 +37,40 @@ impl Copied {
         }
     }
 
+    /// The length of the longest front of the rest that the text takes as it stands.
+    pub(crate) fn front(self, rest: &[char]) -> usize
+        ensures fit { result ≤ length rest.now }
+        ensures passes { AllPass (is_copied self) (take result rest.now) }
+    {
+        let mut len = 0;
+        for c in rest {
+            if !self.takes(*c) {
+                return len;
+            }
+            len += 1;
+        }
+        len
+    }
+
     /// Adds the longest front of the rest that the text takes as it stands, and answers its length.
     pub(crate) fn copy(self, rest: &[char], text: &mut Str) -> Result<usize, AllocError>
         ensures fit { IfOk result (λ n. n ≤ length rest.now) }
         ensures passes { IfOk result (λ n. AllPass (is_copied self) (take n rest.now)) }
         ensures text { IfOk result (λ n. text.new ≡ text.old ++ take n rest.now) }
     {
-        let mut copied = 0;
-        for c in rest {
-            if !self.takes(*c) {
-                return Ok(copied);
-            }
-            text.push(*c)?;
-            copied += 1;
-        }
-        Ok(copied)
+        let len = self.front(rest);
+        push_all(text, &rest[..len])?;
+        Ok(len)
     }
+}
+
+/// Adds code points at the end of a text.
+pub(crate) fn push_all(text: &mut Str, run: &[char]) -> Result<(), AllocError>
+    ensures ok { OnOk result (text.new ≡ text.old ++ run.now) }
+{
+    text.0.reserve(run.len())?;
+    for c in run {
+        text.push(*c)?;
+    }
+    Ok(())
 }

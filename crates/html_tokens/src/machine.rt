@@ -435,7 +435,7 @@ impl<'a> Machine<'a> {
     }
 
     /// Goes past so many code points.
-    fn pass(&mut self, count: usize)
+    pub(crate) fn pass(&mut self, count: usize)
         requires fit { count ≤ length self.old.input.queue.items }
         requires room { self.old.place + length self.old.input.queue.items < 2 ^ 64 }
         ensures { Passes self.old count self.old.state self.new }
@@ -935,6 +935,26 @@ impl<'a> Machine<'a> {
         }
     }
 
+    /// Takes an attribute that was fed whole, or else reads a code point in a tag that no token can come of. Whether there
+    /// was one.
+    fn go_on(&mut self, faults: &mut Faults) -> Result<bool, AllocError>
+        requires room { self.old.place + length self.old.input.queue.items < 2 ^ 64 }
+        ensures skips { OnOk result (Skips self.old self.new) }
+        ensures fewer { IfOk result (λ on. on ≡ true → length self.new.input.queue.items < length self.old.input.queue.items) }
+        ensures room { self.new.place + length self.new.input.queue.items ≤ self.old.place + length self.old.input.queue.items }
+        ensures left { length self.new.input.queue.items ≤ length self.old.input.queue.items }
+        ensures finished { self.new.input.finished ≡ self.old.input.finished }
+        ensures bounded { IsBounded self.old faults.old → OnOk result (IsBounded self.new faults.new) }
+        ensures within { IsBounded self.old faults.old → OnErr result (IsWithin self.new.place faults.new) }
+    {
+        let taken = self.attr_on(faults)?;
+        if taken {
+            return Ok(true);
+        }
+        let read = self.tag_on(faults)?;
+        Ok(read)
+    }
+
     /// Reads on as long as no token can come of it.
     fn read_on(&mut self, faults: &mut Faults) -> Result<(), AllocError>
         requires room { self.old.place + length self.old.input.queue.items < 2 ^ 64 }
@@ -946,7 +966,7 @@ impl<'a> Machine<'a> {
         ensures within { IsBounded self.old faults.old → OnErr result (IsWithin self.new.place faults.new) }
     {
         self.copy_front(faults)?;
-        'reading: while self.tag_on(faults)? {
+        'reading: while self.go_on(faults)? {
             self.copy_front(faults)?;
         }
         Ok(())
@@ -954,6 +974,26 @@ impl<'a> Machine<'a> {
 
     /// The next token; nothing where more input is wanted, or all was given.
     pub(crate) fn next(&mut self, faults: &mut Faults) -> Result<Option<Token>, AllocError>
+        requires room { self.old.place + length self.old.input.queue.items < 2 ^ 64 }
+        ensures given { IfOk result (λ answer. IfSome answer (λ token. (run : Run) → IsAt self.old run → (switch : Option TextMode) → IsAt (answered token switch self.new) (gave run token switch))) }
+        ensures prompt { IfOk result (λ answer. IfNone answer ((run : Run) → IsAt self.old run → IsAt self.new run × IsPrompt run)) }
+        ensures all { IfOk result (λ answer. IfNone answer ((run : Run) → IsAt self.old run → run.finished ≡ true → tokens_of run.text run.switches run.start ≡ run.given)) }
+        ensures room { self.new.place + length self.new.input.queue.items ≤ self.old.place + length self.old.input.queue.items }
+        ensures finished { self.new.input.finished ≡ self.old.input.finished }
+        ensures bounded { IsBounded self.old faults.old → OnOk result (IsBounded self.new faults.new) }
+        ensures within { IsBounded self.old faults.old → OnErr result (IsWithin self.new.place faults.new) }
+    {
+        match self.short_tag()? {
+            Some(token) => Ok(Some(token)),
+            None => {
+                let answer = self.read_next(faults)?;
+                Ok(answer)
+            }
+        }
+    }
+
+    /// The same, code point by code point.
+    fn read_next(&mut self, faults: &mut Faults) -> Result<Option<Token>, AllocError>
         requires room { self.old.place + length self.old.input.queue.items < 2 ^ 64 }
         ensures given { IfOk result (λ answer. IfSome answer (λ token. (run : Run) → IsAt self.old run → (switch : Option TextMode) → IsAt (answered token switch self.new) (gave run token switch))) }
         ensures prompt { IfOk result (λ answer. IfNone answer ((run : Run) → IsAt self.old run → IsAt self.new run × IsPrompt run)) }

@@ -2,8 +2,9 @@
 ghost use Rattle.std.specs.Prelude.{◌≡◌, ℕ, ◌≤◌, ◌+◌, ◌<◌, length, MatchOption, IsTrue, Some, slice_get, true, ◌∷◌, [], List};
 ghost use Rattle.html_tokens.specs.Cut.{is};
 ghost use Rattle.html_tokens.specs.Input.{Decided, IsShort};
-ghost use Rattle.html_tokens.specs.Marks.{is_end_mark, is_lowered, spells, declares, leaves, opens_script, closes_script, region_after, script_name};
+ghost use Rattle.html_tokens.specs.Marks.{is_end_mark, is_name_char, is_tag_name, is_lowered, spells, declares, leaves, opens_script, closes_script, region_after, script_name};
 ghost use Rattle.html_tokens.specs.Doctype.{spells_word};
+ghost use Rattle.std.specs.List.{list_all};
 
 use crate::input::{Input, Peek};
 use crate::tag::ends_name;
@@ -77,11 +78,40 @@ pub(crate) fn begins_word(input: &Input, word: &[char], from: usize) -> Option<b
     Some(true)
 }
 
+/// Whether this code point may stand in the name of a tag.
+fn is_name_char(c: char) -> bool
+    ensures { result ≡ is_name_char c }
+{
+    !(ends_name(c) || matches!(c, 'A'..='Z' | '\0'))
+}
+
+/// Whether each of these code points may.
+fn are_name_chars(text: &[char]) -> bool
+    ensures { result ≡ list_all is_name_char text.now }
+{
+    text.iter().all(|c| is_name_char(*c))
+}
+
+/// Whether a start tag can have this name.
+fn is_tag_name(name: &[char]) -> bool
+    ensures { result ≡ is_tag_name name.now }
+{
+    match name.split_first() {
+        None => false,
+        Some((first, rest)) => first.is_ascii_lowercase() && are_name_chars(rest),
+    }
+}
+
 /// Whether the end mark of this name stands at the front of the rest.
 pub(crate) fn is_end_mark(input: &Input, name: &[char]) -> Option<bool>
     ensures { MatchOption result (IsShort input.now (2 + length name.now)) (λ found. Decided input.now (is_end_mark (Some name.now)) found × (found ≡ true → 2 ≤ length input.now.queue.items)) }
 {
-    Some(is_at(input, 0, '<')? && is_at(input, 1, '/')? && spells(input, name, 2)?)
+    Some(
+        is_at(input, 0, '<')?
+            && is_at(input, 1, '/')?
+            && is_tag_name(name)
+            && spells(input, name, 2)?,
+    )
 }
 
 fn declares(input: &Input) -> Option<bool>

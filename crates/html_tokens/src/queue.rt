@@ -73,7 +73,9 @@ impl Queue {
     fn forget(&mut self)
         ensures { self.new.items ≡ self.old.items }
     {
-        self.chars.drain(..self.read);
+        let unread = self.len();
+        self.chars.copy_within(self.read.., 0);
+        self.chars.truncate(unread);
         self.read = 0;
     }
 }

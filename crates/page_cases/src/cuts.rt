@@ -15,11 +15,10 @@ pub(crate) fn is_same_cut(
     ask: Ask<'_>,
     input: &[u8],
 ) -> Result<bool> {
-    let whole = page_text(alloc, table, Reading::Whole, ask, input)?;
-    let bytes = page_text(alloc, table, Reading::Bytes, ask, input)?;
-    if bytes.as_str() != whole.as_str() {
+    if !is_same_by_bytes(alloc, table, ask, input)? {
         return Ok(false);
     }
+    let whole = page_text(alloc, table, Reading::Whole, ask, input)?;
     for at in 0..input.len() {
         let cut = page_text(alloc, table, Reading::Cut(at), ask, input)?;
         if cut.as_str() != whole.as_str() {
@@ -27,6 +26,48 @@ pub(crate) fn is_same_cut(
         }
     }
     Ok(true)
+}
+
+/// Of an input that has a page, or holds foreign content: the length of its first front for which neither is so, or of which something else
+/// comes byte by byte.
+pub(crate) fn odd_front(
+    alloc: Global,
+    table: &EntityTable,
+    ask: Ask<'_>,
+    input: &[u8],
+) -> Result<Option<usize>> {
+    if !is_page_or_foreign(alloc, table, ask, input) {
+        return Ok(None);
+    }
+    for end in 0..input.len() {
+        let front = &input[..end];
+        if !is_page_or_foreign(alloc, table, ask, front)
+            || !is_same_by_bytes(alloc, table, ask, front)?
+        {
+            return Ok(Some(end));
+        }
+    }
+    Ok(None)
+}
+
+/// Whether the same comes of an input whole and byte by byte.
+fn is_same_by_bytes(
+    alloc: Global,
+    table: &EntityTable,
+    ask: Ask<'_>,
+    input: &[u8],
+) -> Result<bool> {
+    let whole = page_text(alloc, table, Reading::Whole, ask, input)?;
+    let bytes = page_text(alloc, table, Reading::Bytes, ask, input)?;
+    Ok(bytes.as_str() == whole.as_str())
+}
+
+/// Whether an input has a page, or is refused for foreign content.
+fn is_page_or_foreign(alloc: Global, table: &EntityTable, ask: Ask<'_>, bytes: &[u8]) -> bool {
+    match page_of(alloc, table, Reading::Whole, ask, bytes) {
+        Ok(_) | Err(ParseError::ForeignContent { .. }) => true,
+        Err(_) => false,
+    }
 }
 
 /// The tree and the ledger of an input's page, or why there is none.

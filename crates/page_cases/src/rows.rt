@@ -3,7 +3,7 @@
 use crate::audit::audit_text;
 use crate::brackets::brackets_text;
 use crate::calls::{html_text, other_call, tokens_in_hand};
-use crate::cuts::is_same_cut;
+use crate::cuts::{is_same_cut, odd_front};
 use crate::page::{Ask, Reading, page_of};
 use anyhow::{Result, bail};
 use html_charref::EntityTable;
@@ -48,6 +48,9 @@ fn print_row(
     }
     if !is_same_cut(rt.alloc(), table, ask, input.as_bytes())? {
         println!(rt; "  something else in pieces")?;
+    }
+    if let Some(length) = odd_front(rt.alloc(), table, ask, input.as_bytes())? {
+        println!(rt; "  something else of the first {length} bytes")?;
     }
     if let Some(call) = other_call(rt.alloc(), table, ask, input.as_bytes())? {
         println!(rt; "  something else {call}")?;

@@ -3,7 +3,7 @@
 //! Standard input has a table of named references in its first line, as JSON, and then rows: what is asked, the text
 //! mode in which the text begins, the name of the start tag before it or `-`, and the text, with a space between them.
 //! In a text `¶` is no code point: the text is fed up to there, and `¶` in the answer stands between what was given
-//! before it and what after. `␀` is U+0000 and `␉` U+0009.
+//! before it and what after. `␀` is U+0000, `␉` U+0009 and `␣` a space; `∅` is the empty name.
 //!
 //! Each text is also fed code point by code point, and what it gives then has to be the same.
 #![tactic(auto)]

@@ -26,10 +26,22 @@ fn text_of(alloc: Global, written: &str) -> Result<String, AllocError> {
         text.push(match c {
             '␀' => '\0',
             '␉' => '\t',
+            '␣' => ' ',
             other => other,
         })?;
     }
     Ok(text)
+}
+
+/// The name of the start tag before a text, where there is one.
+fn name_of(alloc: Global, written: &str) -> Result<Option<String>, AllocError> {
+    if written == "-" {
+        return Ok(None);
+    }
+    if written == "∅" {
+        return Ok(Some(String::new(alloc)));
+    }
+    Ok(Some(text_of(alloc, written)?))
 }
 
 /// The first word of a line, and what follows it.
@@ -45,9 +57,11 @@ pub(crate) fn answer(alloc: Global, table: &EntityTable, line: &str) -> Result<S
     let (asked, line) = word(line)?;
     let (mode, line) = word(line)?;
     let (name, written) = word(line)?;
+    let mode = mode_of(mode)?;
+    let name = name_of(alloc, name)?;
     let begin = Begin {
-        mode: mode_of(mode)?,
-        name: if name == "-" { None } else { Some(name) },
+        mode,
+        name: name.as_ref().map(|name| name.as_str()),
     };
     let text = text_of(alloc, written)?;
     let text = text.as_str();

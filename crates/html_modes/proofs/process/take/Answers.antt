@@ -1,6 +1,8 @@
-use Rattle.std.proofs.Common.{length, subst}
+use Rattle.std.proofs.Common.{arith, length, subst}
 use Rattle.html_construction.specs.States.{State}
+use Rattle.html_modes.specs.Entering.{Enters}
 use Rattle.html_modes.specs.Steps.{Steps, Toils, compared}
+use Rattle.html_modes.proofs.Entering.{enters-done, enters-next}
 use Rattle.html_modes.proofs.Settled.{Entered, entered-next, toils-done}
 use Rattle.html_modes.proofs.Plain.{IsAlike, alike-begun, alike-counted, alike-then, goes-not, goes-on, next-alike}
 use Rattle.html_modes.proofs.process.take.Goals as goal
@@ -21,6 +23,8 @@ steps-preserved c =
       toll = e.1.1.1.1.0;
       counts = e.1.1.1.1.1.0;
       fates = e.1.1.1.1.1.1.0;
+      entered = enters-next c.in_ok-step.field-0 c.args.symbol c.begin_call.new.self c.steps.page c.count_steps.new.self c.step.new.page c.args.entries.now c.steps.entries c.saturating_add.result c.in-Reprocess.is
+          c.count_steps.ensures.rest c.in_ok-step.ensures.falls (let k = c.saturating_add.ensures in omega (arith, k)) i.entered;
       falls = e.1.1.1.1.1.1.1;
       plain = λ h. absurd (
           goes-not c.in_ok-step.field-0 c.args.symbol c.args.token.now c.begin_call.new.self c.count_steps.new.self c.step.new.page c.in-Reprocess.is
@@ -36,6 +40,12 @@ returns-in-Done-clause-toils c = λ n.
     subst (λ (x : State). Toils (compared c.args.token.now c.settle.new.page) x c.settle.new.page) c.begin_call.ensures.rest
     (toils-done c.in_ok-step.field-0 c.args.symbol c.args.token.now c.begin_call.new.self c.steps.page c.count_steps.new.self c.step.new.page c.settle.new.page c.in-Done.is c.count_steps.ensures.rest c.count_steps.ensures.works
     c.in_ok-step.ensures.counts c.in_ok-step.ensures.falls c.settle.ensures.rest c.settle.ensures.top before)
+
+pub returns-in-Done-clause-enters : goal.returns-in-Done-clause-enters
+returns-in-Done-clause-enters c = λ n.
+    subst (λ (x : State). Enters 1 c.args.entries.now c.saturating_add.result x c.settle.new.page) c.begin_call.ensures.rest
+    (enters-done c.in_ok-step.field-0 c.args.symbol c.begin_call.new.self c.steps.page c.count_steps.new.self c.step.new.page c.settle.new.page c.args.entries.now c.steps.entries c.saturating_add.result c.in-Done.is
+    c.count_steps.ensures.rest c.in_ok-step.ensures.falls c.settle.ensures.rest c.settle.ensures.top (let k = c.saturating_add.ensures in omega (arith, k)) c.steps.invariant.entered)
 
 pub returns-in-Done-clause-plain : goal.returns-in-Done-clause-plain
 returns-in-Done-clause-plain c = λ n h.

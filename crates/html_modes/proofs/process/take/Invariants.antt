@@ -25,6 +25,7 @@ invariant-steps l = record {
       ≤ l.initial.page.tree.steps + length l.page.ledger.fates * fee_of l.page + (weight l.initial.page.stack + rank l.initial.page.mode l.symbol) * turn_of l.page;
   fates : length l.initial.page.ledger.fates ≤ length l.page.ledger.fates;
   plain : IsNext l.symbol l.token l.initial.page → IsAlike l.initial.page l.page;
+  entered : l.entries + (weight l.page.stack + rank l.page.mode l.symbol) ≤ l.initial.entries + (weight l.initial.page.stack + rank l.initial.page.mode l.symbol);
   falls : weight l.page.stack + rank l.page.mode l.symbol ≤ weight l.initial.page.stack + rank l.initial.page.mode l.symbol;
 }
 

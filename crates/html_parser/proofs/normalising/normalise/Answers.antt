@@ -12,11 +12,11 @@ serialise-requires g c =
 pub returns-in-Ok-clause-ok : goal.returns-in-Ok-clause-ok
 returns-in-Ok-clause-ok g c =
     let (bytes, consumed, tree) = c.in-Ok.ensures.tree in
-    normalised_ok (document_start c.args.table.now None) c.args.profile c.in-Ok.tree bytes _ _ c.serialise.result consumed c.in-Ok.ensures.end tree c.serialise.ensures.size
+    normalised_ok (document_start c.args.table.now None) c.args.profile c.in-Ok.tree bytes _ _ c.serialise.result consumed c.in-Ok.ensures.end tree c.serialise.ensures.size c.serialise.ensures.only
     (Appends (g.W.Sink.taken c.args.writer.now) (g.W.Sink.taken c.serialise.new.writer)) c.serialise.ensures.ok
 
 pub returns-in-Ok-clause-cause : goal.returns-in-Ok-clause-cause
 returns-in-Ok-clause-cause g c =
     let (bytes, consumed, tree) = c.in-Ok.ensures.tree in
-    normalised_cause (document_start c.args.table.now None) c.args.profile c.in-Ok.tree bytes _ _ c.serialise.result consumed c.in-Ok.ensures.end tree c.serialise.ensures.size
+    normalised_cause (document_start c.args.table.now None) c.args.profile c.in-Ok.tree bytes _ _ c.serialise.result consumed c.in-Ok.ensures.end tree c.serialise.ensures.size c.serialise.ensures.only
     _ _ _ _ _ c.serialise.ensures.err c.serialise.ensures.fault c.serialise.ensures.cause

@@ -2,6 +2,7 @@ use Rattle.std.proofs.Common.{None}
 use Rattle.std.proofs.lemmas.Result.{IfErr-weaker, IfOk-weaker, err_from_is_err_and}
 use Rattle.html_parser.specs.Start.{document_start}
 use Rattle.html_parser.proofs.Refusals.{end-cause, reader-cause}
+use Rattle.html_parser.proofs.Rewritten.{page-root}
 use Rattle.html_parser.proofs.reading.parse_from.Goals as goal
 
 pub feed_from-requires : goal.feed_from-requires
@@ -20,6 +21,13 @@ returns-clause-page g c =
     let f = c.in_ok-feed_from.ensures.fed in
     let k = f.2 (document_start c.args.table.now None) (record { fed = c.in_ok-parser.ensures.begun; keeps = c.in_ok-parser.ensures.keeps }) in
     IfOk-weaker c.finish.result _ _ (λ page is. (f.0, f.1, is (document_start c.args.table.now None) f.0 k.fed k.keeps)) c.finish.ensures.page
+
+pub returns-clause-root : goal.returns-clause-root
+returns-clause-root g c =
+    let f = c.in_ok-feed_from.ensures.fed in
+    let k = f.2 (document_start c.args.table.now None) (record { fed = c.in_ok-parser.ensures.begun; keeps = c.in_ok-parser.ensures.keeps }) in
+    IfOk-weaker c.finish.result _ _
+    (λ page is. page-root (document_start c.args.table.now None) f.0 page (is (document_start c.args.table.now None) f.0 k.fed k.keeps)) c.finish.ensures.page
 
 pub returns-clause-cause : goal.returns-clause-cause
 returns-clause-cause g c =

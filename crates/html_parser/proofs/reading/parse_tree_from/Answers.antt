@@ -2,6 +2,7 @@ use Rattle.std.proofs.Common.{[], None}
 use Rattle.std.proofs.lemmas.Result.{IfErr-weaker, IfOk-weaker, err_from_is_err_and}
 use Rattle.html_parser.specs.Start.{document_start}
 use Rattle.html_parser.proofs.Refusals.{end-cause, reader-cause}
+use Rattle.html_parser.proofs.Rewritten.{root-of}
 use Rattle.html_parser.proofs.reading.parse_tree_from.Goals as goal
 
 pub feed_from-requires : goal.feed_from-requires
@@ -21,6 +22,13 @@ returns-clause-tree g c =
     let f = c.in_ok-feed_from.ensures.fed in
     let k = f.2 (document_start c.args.table.now None) (c.without_ledger-parser.ensures.fed (document_start c.args.table.now None) [] c.in_ok-parser.ensures.begun) in
     IfOk-weaker c.finish.result _ _ (λ tree is. (f.0, f.1, is (document_start c.args.table.now None) f.0 k)) c.finish.ensures.tree
+
+pub returns-clause-root : goal.returns-clause-root
+returns-clause-root g c =
+    let f = c.in_ok-feed_from.ensures.fed in
+    let k = f.2 (document_start c.args.table.now None) (c.without_ledger-parser.ensures.fed (document_start c.args.table.now None) [] c.in_ok-parser.ensures.begun) in
+    IfOk-weaker c.finish.result _ _
+    (λ tree is. root-of (document_start c.args.table.now None) f.0 tree (is (document_start c.args.table.now None) f.0 k)) c.finish.ensures.tree
 
 pub returns-clause-cause : goal.returns-clause-cause
 returns-clause-cause g c =

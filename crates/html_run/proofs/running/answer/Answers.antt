@@ -29,10 +29,10 @@ pub returns-in-Normalise-clause-normalised : goal.returns-in-Normalise-clause-no
 returns-in-Normalise-clause-normalised g c =
     let (bytes, consumed, is) = c.in_ok-tree.ensures.tree in
     λ is_normalise. all-written (start_for c.args.job.now c.args.table.now) c.profile.result (profile_of c.args.job.now.profile) c.profile.ensures c.in_ok-tree.tree bytes _ _ c.serialise.result
-    consumed c.in_ok-tree.ensures.end is c.serialise.ensures.size _ _ c.serialise.ensures.ok
+    consumed c.in_ok-tree.ensures.end is c.serialise.ensures.size c.serialise.ensures.only _ _ c.serialise.ensures.ok
 
 pub returns-in-Normalise-clause-failed : goal.returns-in-Normalise-clause-failed
 returns-in-Normalise-clause-failed g c =
     let (bytes, consumed, is) = c.in_ok-tree.ensures.tree in
     λ is_normalise. front-written (start_for c.args.job.now c.args.table.now) c.profile.result (profile_of c.args.job.now.profile) c.profile.ensures c.in_ok-tree.tree bytes _ _ c.serialise.result
-    consumed c.in_ok-tree.ensures.end is c.serialise.ensures.size _ _ c.serialise.ensures.err c.serialise.ensures.cause
+    consumed c.in_ok-tree.ensures.end is c.serialise.ensures.size c.serialise.ensures.only _ _ c.serialise.ensures.err c.serialise.ensures.cause

@@ -1,22 +1,31 @@
 use Rattle.std.proofs.Common.{subst, sym}
 use Rattle.html_ledger.specs.declared.setting.Setting.TheVariants.{Document}
 use Rattle.html_builder.specs.Handed.{Handed}
-use Rattle.html_builder.proofs.Endings.{bounded, outcome}
-use Rattle.html_builder.proofs.Plainly.{page-shown}
+use Rattle.html_builder.specs.Plain.{HavePlainFates}
+use Rattle.html_builder.proofs.Endings.{bounded, entries-most, outcome}
+use Rattle.html_builder.proofs.Plainly.{page-fates, page-shown}
 use Rattle.html_builder.proofs.builder.Builder.finish.Goals as goal
 
 pub returns-clause-outcome : goal.returns-clause-outcome
 returns-clause-outcome c = λ s l ts h e.
-    outcome s l ts (record { page = c.self.inside.construction; stopped = c.self.inside.stopped }) c.into_parts.result.0 c.into_parts.result.1 c.into_parts.result.2.items
+    outcome s l ts (record { page = c.self.inside.construction; entries = c.self.inside.entries; stopped = c.self.inside.stopped }) c.into_parts.result.0 c.into_parts.result.1 c.into_parts.result.2.items
     (subst (λ b. Handed s l ts b) (sym c.self.view_is) h) e
     c.into_parts.ensures.nodes c.into_parts.ensures.well_formed c.into_parts.ensures.body c.into_parts.ensures.fates c.into_parts.ensures.fated c.into_parts.ensures.told
 
 pub returns-clause-bounds : goal.returns-clause-bounds
 returns-clause-bounds c = λ s l ts h n k.
-    bounded s l ts (record { page = c.self.inside.construction; stopped = c.self.inside.stopped }) n c.into_parts.result.0
+    bounded s l ts (record { page = c.self.inside.construction; entries = c.self.inside.entries; stopped = c.self.inside.stopped }) n c.into_parts.result.0
     (subst (λ b. Handed s l ts b) (sym c.self.view_is) h) k c.into_parts.ensures.nodes c.into_parts.ensures.well_formed c.into_parts.ensures.held c.into_parts.ensures.steps
+
+pub returns-clause-entries : goal.returns-clause-entries
+returns-clause-entries c = λ s l ts h n k. entries-most s l ts c.args.self n h k
 
 pub returns-clause-plain : goal.returns-clause-plain
 returns-clause-plain c = λ l ts h page p e.
-    let k : Handed Document l ts (record { page = c.self.inside.construction; stopped = c.self.inside.stopped }) = subst (λ b. Handed Document l ts b) (sym c.self.view_is) h in
+    let k : Handed Document l ts (record { page = c.self.inside.construction; entries = c.self.inside.entries; stopped = c.self.inside.stopped }) = subst (λ b. Handed Document l ts b) (sym c.self.view_is) h in
     page-shown ts c.self.inside.construction page p e k.plain c.into_parts.result.0 c.into_parts.ensures.nodes
+
+pub returns-clause-plain_fates : goal.returns-clause-plain_fates
+returns-clause-plain_fates c = λ l ts h page p e.
+    let k : Handed Document l ts (record { page = c.self.inside.construction; entries = c.self.inside.entries; stopped = c.self.inside.stopped }) = subst (λ b. Handed Document l ts b) (sym c.self.view_is) h in
+    subst (HavePlainFates ts) (sym c.into_parts.ensures.fates) (page-fates ts c.self.inside.construction page p e k.plain)

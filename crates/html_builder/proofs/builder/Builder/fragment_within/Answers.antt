@@ -8,7 +8,7 @@ use Rattle.html_builder.proofs.builder.Builder.fragment_within.Goals as goal
 
 pub returns-clause-begun : goal.returns-clause-begun
 returns-clause-begun c =
-    begun-fragment (tag_of c.args.context.now.name) c.args.context.now.in_form (Some c.args.limits) (record { page = c.in_ok-construction.construction; stopped = false }) refl
+    begun-fragment (tag_of c.args.context.now.name) c.args.context.now.in_form (Some c.args.limits) (record { page = c.in_ok-construction.construction; entries = 0; stopped = false }) refl refl
     (subst (λ t. IsBuilt (nothing_of (Fragment t c.args.context.now.in_form) (Some c.args.limits)) c.in_ok-construction.construction) c.tag.ensures.value c.in_ok-construction.ensures.built)
     c.in_ok-construction.ensures.reset c.in_ok-construction.ensures.stack c.in_ok-construction.ensures.nodes c.in_ok-construction.ensures.uncloned
     c.in_ok-construction.ensures.implied c.in_ok-construction.ensures.counted

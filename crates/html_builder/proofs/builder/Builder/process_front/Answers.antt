@@ -1,17 +1,17 @@
 use Rattle.std.proofs.Common.{refl, take, false}
-use Rattle.html_builder.proofs.Handing.{going-not, take-some, viewed-added, viewed-run}
+use Rattle.html_builder.proofs.Handing.{going-not, take-some, taken-enters, viewed-added, viewed-run}
 use Rattle.html_builder.proofs.builder.Builder.process_front.Goals as goal
 
 pub returns-then-self-clause-cause : goal.returns-then-self-clause-cause
 returns-then-self-clause-cause c = λ s l ts h.
-    going-not s l ts (record { page = c.self.inside.construction; stopped = c.self.inside.stopped }) c.args.self.now c.self.view_is c.if-self.true h
+    going-not s l ts (record { page = c.self.inside.construction; entries = c.self.inside.entries; stopped = c.self.inside.stopped }) c.args.self.now c.self.view_is c.if-self.true h
 
 pub returns-in-Ok-clause-takes : goal.returns-in-Ok-clause-takes
 returns-in-Ok-clause-takes c =
-    viewed-run (take c.in-Ok.count c.args.text.now) (record { page = c.self.inside.construction; stopped = c.self.inside.stopped }) c.args.self.now _ c.self.view_is
-    c.in-Ok.ensures.takes c.in-Ok.ensures.pays c.in-Ok.ensures.toils c.in-Ok.ensures.plain (take-some c.in-Ok.count c.args.text.now c.in-Ok.ensures.count.0 c.requires.some) refl
+    viewed-run (take c.in-Ok.count c.args.text.now) (record { page = c.self.inside.construction; entries = c.self.inside.entries; stopped = c.self.inside.stopped }) c.args.self.now _ c.self.view_is
+    c.in-Ok.ensures.takes c.in-Ok.ensures.pays (taken-enters c.in-Ok.count c.args.text.now c.self.inside.entries c.take_front.new.entries c.self.inside.construction c.take_front.new.page c.in-Ok.ensures.count.1 c.in-Ok.ensures.enters) c.in-Ok.ensures.toils c.in-Ok.ensures.plain (take-some c.in-Ok.count c.args.text.now c.in-Ok.ensures.count.0 c.requires.some) refl
 
 pub returns-in-Ok-clause-grows : goal.returns-in-Ok-clause-grows
 returns-in-Ok-clause-grows c =
-    viewed-added (take c.in-Ok.count c.args.text.now) (record { page = c.self.inside.construction; stopped = c.self.inside.stopped }) c.args.self.now (record { page = c.take_front.new.page; stopped = false }) c.self.view_is
+    viewed-added (take c.in-Ok.count c.args.text.now) (record { page = c.self.inside.construction; entries = c.self.inside.entries; stopped = c.self.inside.stopped }) c.args.self.now (record { page = c.take_front.new.page; entries = c.take_front.new.entries; stopped = false }) c.self.view_is
     c.in-Ok.ensures.takes

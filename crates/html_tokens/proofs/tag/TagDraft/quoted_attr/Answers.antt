@@ -1,0 +1,10 @@
+use Rattle.std.proofs.Common.{refl}
+use Rattle.std.proofs.lemmas.List.{take_rest}
+use Rattle.html_tokens.proofs.QuotedLemmas.{copies_after, copies_spaces}
+use Rattle.html_tokens.proofs.tag.TagDraft.quoted_attr.Goals as goal
+
+pub returns-clause-copies : goal.returns-clause-copies
+returns-clause-copies c =
+    let space = c.space_len-spaces.ensures in
+    let n = c.space_len-spaces.result in
+    copies_after c.args.self.now _ c.args.rest.now n _ _ (copies_spaces c.args.self.now c.args.rest.now n c.requires.part space.few space.space) (rw (take_rest c.args.rest.now n) at (c.in_ok-taken.ensures.copies c.if-not-taken.false)) refl

@@ -1,0 +1,133 @@
+// Tags without attributes whose whole text was fed, which are read at once.
+ghost use Rattle.std.specs.Prelude.{◌≡◌, ℕ, ◌≤◌, ◌+◌, ◌<◌, ◌^◌, List, ◌++◌, drop, take, length, slice_get, Some, true, false, IfOk, OnErr, OnOk, IfSome, IfNone};
+ghost use Rattle.html_tokens.specs.Bounds.{IsBounded, IsWithin};
+ghost use Rattle.html_tokens.specs.Copied.{AllPass, is_copied};
+ghost use Rattle.html_tokens.specs.Fed.{EndsTagAt, Steps};
+ghost use Rattle.html_tokens.specs.Input.{Decided, MayFollow};
+ghost use Rattle.html_tokens.specs.Marks.{begin_at};
+ghost use Rattle.html_tokens.specs.Short.{at_close, short_draft};
+ghost use Rattle.html_tokens.specs.Tokens.{begun_piece, tag_piece};
+ghost use Rattle.html_tokens.specs.declared.faults.Faults.{Faults};
+
+use crate::attributes::Attrs;
+use crate::copied::{Copied, push_all};
+use crate::input::Peek;
+use crate::machine::{Machine, Progress, State, token};
+use crate::opener::opener;
+use crate::token::{Begin, Name, Opener, Region, TextMode, Token, TokenKind};
+use html_charref::Str;
+use std::alloc::{AllocError, Global};
+
+/// The name of the last start tag is this.
+fn keep_name(last: &mut Option<Name>, alloc: Global, name: &[char]) -> Result<(), AllocError>
+    ensures { OnOk result (last.new ≡ Some name.now) }
+{
+    let mut chars = match last.take() {
+        Some(Name(chars)) => chars,
+        None => Vec::new(alloc),
+    };
+    chars.clear();
+    chars.extend_from_slice(name)?;
+    *last = Some(Name(chars));
+    Ok(())
+}
+
+impl<'a> Machine<'a> {
+    /// Whether the `<` of markup stands at the front of the rest.
+    fn is_at_markup(&self) -> bool
+        ensures state { result ≡ true → self.now.state ≡ State.Text Region.Plain }
+        ensures begun { result ≡ true → Decided self.now.input (begin_at self.now.mode Region.Plain self.now.last_name) Begin.Markup }
+        ensures some { result ≡ true → 0 < length self.now.input.queue.items }
+    {
+        match (&self.state, self.mode, self.input.peek(0)) {
+            (State::Text(Region::Plain), TextMode::Data, Peek::Is(Some('<'))) => true,
+            _ => false,
+        }
+    }
+
+    /// The length of the name that stands after so many code points of the rest, where `>` follows it.
+    fn short_name(&self, opened: usize) -> Option<usize>
+        requires fit { opened ≤ length self.now.input.queue.items }
+        ensures name { IfSome result (λ n. AllPass (is_copied Copied.Name) (take n (drop opened self.now.input.queue.items))) }
+        ensures close { IfSome result (λ n. slice_get (drop opened self.now.input.queue.items) n ≡ Some 62) }
+        ensures fit { IfSome result (λ n. opened + n < length self.now.input.queue.items) }
+    {
+        let rest = &self.input.queue.unread()[opened..];
+        let len = Copied::Name.front(rest);
+        match rest.get(len) {
+            Some('>') => Some(len),
+            _ => None,
+        }
+    }
+
+    /// Takes an end tag without attributes, whose name has this length.
+    fn take_end(&mut self, opened: usize, len: usize) -> Result<Token, AllocError>
+        requires fit { opened + len < length self.old.input.queue.items }
+        requires state { self.old.state ≡ State.Text Region.Plain }
+        requires room { self.old.place + length self.old.input.queue.items < 2 ^ 64 }
+        ensures ends { IfOk result (λ given. EndsTagAt (at_close self.old (opened + len) (short_draft self.old true opened len)) (short_draft self.old true opened len) false 1 (Progress.Given given) self.new) }
+        ensures err { OnErr result (self.new ≡ self.old) }
+    {
+        let start = self.place;
+        let mut name = Str::new(self.alloc);
+        push_all(&mut name, &self.input.queue.unread()[opened..opened + len])?;
+        self.pass(opened + len + 1);
+        self.mode = TextMode::Data;
+        Ok(token(TokenKind::End { name }, start, self.place))
+    }
+
+    /// Takes a start tag without attributes, whose name has this length.
+    fn take_start(&mut self, opened: usize, len: usize) -> Result<Token, AllocError>
+        requires fit { opened + len < length self.old.input.queue.items }
+        requires state { self.old.state ≡ State.Text Region.Plain }
+        requires room { self.old.place + length self.old.input.queue.items < 2 ^ 64 }
+        ensures ends { IfOk result (λ given. EndsTagAt (at_close self.old (opened + len) (short_draft self.old false opened len)) (short_draft self.old false opened len) false 1 (Progress.Given given) self.new) }
+        ensures place { OnErr result (self.new.place ≡ self.old.place) }
+        ensures input { OnErr result (self.new.input ≡ self.old.input) }
+    {
+        let start = self.place;
+        let mut name = Str::new(self.alloc);
+        let text = &self.input.queue.unread()[opened..opened + len];
+        push_all(&mut name, text)?;
+        keep_name(&mut self.last_name, self.alloc, text)?;
+        self.pass(opened + len + 1);
+        let kind = TokenKind::Start {
+            name,
+            attrs: Attrs::new(self.alloc),
+            self_closing: false,
+        };
+        Ok(token(kind, start, self.place))
+    }
+
+    /// The tag at the front of the rest, where it has no attributes and was fed whole.
+    pub(crate) fn short_tag(&mut self) -> Result<Option<Token>, AllocError>
+        requires room { self.old.place + length self.old.input.queue.items < 2 ^ 64 }
+        ensures steps { IfOk result (λ answer. IfSome answer (λ given. Steps self.old (Progress.Given given) self.new)) }
+        ensures none { IfOk result (λ answer. IfNone answer (self.new ≡ self.old)) }
+        ensures room { self.new.place + length self.new.input.queue.items ≤ self.old.place + length self.old.input.queue.items }
+        ensures finished { self.new.input.finished ≡ self.old.input.finished }
+        ensures bounded { (faults : Faults) → IsBounded self.old faults → OnOk result (IsBounded self.new faults) }
+        ensures within { (faults : Faults) → IsBounded self.old faults → OnErr result (IsWithin self.new.place faults) }
+    {
+        if !self.is_at_markup() {
+            return Ok(None);
+        }
+        match opener(&self.input) {
+            Some(Opener::StartTag) => match self.short_name(1) {
+                None => Ok(None),
+                Some(len) => {
+                    let given = self.take_start(1, len)?;
+                    Ok(Some(given))
+                }
+            },
+            Some(Opener::EndTag) => match self.short_name(2) {
+                None => Ok(None),
+                Some(len) => {
+                    let given = self.take_end(2, len)?;
+                    Ok(Some(given))
+                }
+            },
+            _ => Ok(None),
+        }
+    }
+}
