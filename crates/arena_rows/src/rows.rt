@@ -38,6 +38,7 @@ fn confine(arena: &mut Arena, alloc: Global, word: Word<'_>) -> Result<(), Refus
         nodes: number(word.first)? as u64,
         held: number(word.second)? as u64,
         code_points: 0,
+        steps: 0,
     };
     *arena = Arena::within(alloc, limits);
     Ok(())

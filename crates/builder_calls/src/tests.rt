@@ -41,6 +41,7 @@ fn within(nodes: u64, held: u64) -> Limits {
         nodes,
         held,
         code_points: 100,
+        steps: 0,
     }
 }
 

@@ -38,6 +38,7 @@ fn stops_after_a_refused_piece(rt: HostRuntime) -> Result<(), Fail> {
         nodes: u64::MAX,
         held: u64::MAX,
         code_points: 3,
+        steps: u64::MAX,
     };
     let mut parser = Parser::document_within(alloc, &table, limits)?;
     assert_eq!(rt; parser.feed(b"abcd"), Err(ParseError::InputTooLong));

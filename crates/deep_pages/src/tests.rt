@@ -50,6 +50,7 @@ fn job_of(alloc: Global, command: Command) -> Job<'static> {
         max_nodes: None,
         max_held: None,
         max_input: None,
+        max_steps: None,
         profile: Profile::One,
         input: None,
         files: Vec::new(alloc),

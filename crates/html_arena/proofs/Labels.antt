@@ -8,12 +8,14 @@ use Rattle.html_names.specs.Sets.{is_formatting, is_template}
 use Rattle.html_tokens.specs.declared.attributes.Attr.{Attr}
 use Rattle.html_arena.specs.declared.links.Links.{Links}
 use Rattle.html_arena.specs.declared.marks.Marks.{Marks}
+use Rattle.html_arena.specs.declared.arena.Limits.{Limits}
 use Rattle.html_arena.specs.declared.data.NodeData.{NodeData}
 use Rattle.html_arena.specs.declared.data.NodeData.TheVariants.{Document, Contents, Element, Text, Comment, Doctype}
 use Rattle.html_arena.specs.Data.{label_in, tag_in, name_in, contents_in, host_in, is_linkable, IsElement, IsText, IsLone, cloned, with_char, with_run, with_attrs}
 use Rattle.html_arena.specs.Links.{blank, parent_at}
 use Rattle.html_arena.specs.Templates.{Templates}
 use Rattle.html_arena.specs.Whole.{IsLabelled, IsArena}
+use Rattle.html_arena.proofs.Limited.{within_none}
 use Rattle.html_arena.proofs.Siblings.{cases_eqb, eqb-self}
 use Rattle.html_arena.proofs.Made.{get_or-default_push, grown_parent}
 
@@ -196,12 +198,12 @@ pub lone_doctype : (n p s : Option (List ℕ)) (i : ℕ) → IsLone (Doctype n p
 lone_doctype n p s i = record { no_contents = refl; no_host = refl; no_template = refl; tagged = tag_of-nil }
 
 -- an arena without nodes
-pub empty_arena : (ls : List Links) (ds : List NodeData) (ms : List Marks) → ls ≡ [] → ds ≡ [] → ms ≡ [] → IsArena ls ds ms 0
-empty_arena ls ds ms a b c =
-    subst (λ (v : List Links). IsArena v ds ms 0) (sym a) (subst (λ (v : List NodeData). IsArena [] v ms 0) (sym b) (subst (λ (v : List Marks). IsArena [] [] v 0) (sym c) none))
+pub empty_arena : (ls : List Links) (ds : List NodeData) (ms : List Marks) (o : Option Limits) → ls ≡ [] → ds ≡ [] → ms ≡ [] → IsArena ls ds ms 0 o
+empty_arena ls ds ms o a b c =
+    subst (λ (v : List Links). IsArena v ds ms 0 o) (sym a) (subst (λ (v : List NodeData). IsArena [] v ms 0 o) (sym b) (subst (λ (v : List Marks). IsArena [] [] v 0 o) (sym c) (none o)))
   where
-    none : IsArena [] [] [] 0
-    none = record {
+    none : (o : Option Limits) → IsArena [] [] [] 0 o
+    none o = record {
       whole = record {
         same_length = refl;
         held_is = refl;
@@ -224,4 +226,5 @@ empty_arena ls ds ms a b c =
         contents_alone = λ x h e. refl;
         tagged = λ x. tag_of-nil;
       };
+      within = within_none o;
     }

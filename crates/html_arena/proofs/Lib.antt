@@ -6,6 +6,7 @@ pub mod Forest
 pub mod Kids
 pub mod Labels
 pub mod Laws
+pub mod Limited
 pub mod Made
 pub mod Merging
 pub mod Move

@@ -12,6 +12,7 @@ use Rattle.html_arena.specs.declared.arena.Limits.{Limits}
 use Rattle.html_arena.specs.declared.data.Origin.{Origin}
 use Rattle.html_arena.specs.declared.data.NodeData.{NodeData}
 use Rattle.html_arena.specs.declared.data.NodeData.TheVariants.{Document, Contents, Element}
+use Rattle.html_arena.specs.Budget.{AreWithin}
 use Rattle.html_arena.specs.Data.{contents_in, host_in, label_in, name_in, tag_in}
 use Rattle.html_arena.specs.Links.{blank, parent_at}
 use Rattle.html_arena.specs.Make.{template_element}
@@ -118,7 +119,7 @@ stays : (h k : ℕ) → h ≡ min k (2 ^ 128 - 1) → h ≡ min (h + 0) (2 ^ 128
 stays h k e = omega arith
 
 -- both in one edit
-module _ (ls : List Links) (ds : List NodeData) (ms : List Marks) (h s : ℕ) (l : Option Limits) (a : IsArena ls ds ms h) (d : NodeData) (o : IsHost (length ds) d) where
+module _ (ls : List Links) (ds : List NodeData) (ms : List Marks) (h s : ℕ) (l : Option Limits) (a : IsArena ls ds ms h l) (d : NodeData) (o : IsHost (length ds) d) (room : AreWithin l (length ds + 2) (more h (capped (weight d)))) where
   one : IsWhole (ls ++ blank ∷ []) (ds ++ d ∷ []) (more h (capped (weight d)))
   one = made_whole ls ds h d (more h (capped (weight d))) refl a.whole
 
@@ -133,22 +134,29 @@ module _ (ls : List Links) (ds : List NodeData) (ms : List Marks) (h s : ℕ) (l
       made_children (ls ++ blank ∷ []) (ds ++ d ∷ []) (more h (capped (weight d))) one
       ∙ ap (λ v. v ++ [] ∷ []) (made_children ls ds h a.whole) ∙ append_assoc (children_in ls) ([] ∷ []) ([] ∷ [])
 
-  template_base : IsArena ((ls ++ blank ∷ []) ++ blank ∷ []) ((ds ++ d ∷ []) ++ Contents (length ds) ∷ []) ((ms ++ no_marks ∷ []) ++ no_marks ∷ []) (more h (capped (weight d)))
+  two_more : length ((ds ++ d ∷ []) ++ Contents (length ds) ∷ []) ≡ length ds + 2
+  two_more = let a = length_push (ds ++ d ∷ []) (Contents (length ds)) in let b = length_push ds d in omega arith
+
+  template_base : IsArena ((ls ++ blank ∷ []) ++ blank ∷ []) ((ds ++ d ∷ []) ++ Contents (length ds) ∷ []) ((ms ++ no_marks ∷ []) ++ no_marks ∷ []) (more h (capped (weight d))) l
       × (tree_of ((ls ++ blank ∷ []) ++ blank ∷ []) ((ds ++ d ∷ []) ++ Contents (length ds) ∷ []) ((ms ++ no_marks ∷ []) ++ no_marks ∷ []) (more h (capped (weight d))) (more s 1) l
       ≡ added_template (tree_of ls ds ms h s l) d (capped (weight d)))
   template_base = (
-    record { whole = both; labelled = pair_labelled ls ds ms a.whole.same_length a.labelled d o },
+    record {
+      whole = both;
+      labelled = pair_labelled ls ds ms a.whole.same_length a.labelled d o;
+      within = subst (λ n. AreWithin l n (more h (capped (weight d)))) (sym two_more) room;
+    },
     rw (two_parents, two_children, append_assoc ds (d ∷ []) (Contents (length ds) ∷ []), append_assoc ms (no_marks ∷ []) (no_marks ∷ [])) refl,
   )
 
   pub template_is : (t : Tree) → tree_of ls ds ms h s l ≡ t → (new : List Links) (nodes : List NodeData) (marks : List Marks) (h' s' : ℕ)
       → new ≡ (ls ++ blank ∷ []) ++ blank ∷ [] → nodes ≡ (ds ++ d ∷ []) ++ Contents (length ds) ∷ [] → marks ≡ (ms ++ no_marks ∷ []) ++ no_marks ∷ []
       → h' ≡ more h (capped (weight d)) → s' ≡ more s 1
-      → IsArena new nodes marks h' × (tree_of new nodes marks h' s' l ≡ added_template t d (capped (weight d)))
+      → IsArena new nodes marks h' l × (tree_of new nodes marks h' s' l ≡ added_template t d (capped (weight d)))
   template_is t e new nodes marks h' s' el en em eh es = (
-    subst (λ (v : List Links). IsArena v nodes marks h') (sym el)
-        (subst (λ (v : List NodeData). IsArena ((ls ++ blank ∷ []) ++ blank ∷ []) v marks h') (sym en)
-        (subst (λ (v : List Marks). IsArena ((ls ++ blank ∷ []) ++ blank ∷ []) ((ds ++ d ∷ []) ++ Contents (length ds) ∷ []) v h') (sym em)
-        (subst (λ (v : ℕ). IsArena ((ls ++ blank ∷ []) ++ blank ∷ []) ((ds ++ d ∷ []) ++ Contents (length ds) ∷ []) ((ms ++ no_marks ∷ []) ++ no_marks ∷ []) v) (sym eh) template_base.0))),
+    subst (λ (v : List Links). IsArena v nodes marks h' l) (sym el)
+        (subst (λ (v : List NodeData). IsArena ((ls ++ blank ∷ []) ++ blank ∷ []) v marks h' l) (sym en)
+        (subst (λ (v : List Marks). IsArena ((ls ++ blank ∷ []) ++ blank ∷ []) ((ds ++ d ∷ []) ++ Contents (length ds) ∷ []) v h' l) (sym em)
+        (subst (λ (v : ℕ). IsArena ((ls ++ blank ∷ []) ++ blank ∷ []) ((ds ++ d ∷ []) ++ Contents (length ds) ∷ []) ((ms ++ no_marks ∷ []) ++ no_marks ∷ []) v l) (sym eh) template_base.0))),
     rw (el, en, em, eh, es) (template_base.1 ∙ ap (λ (t : Tree). added_template t d (capped (weight d))) e),
   )

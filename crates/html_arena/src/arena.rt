@@ -4,7 +4,7 @@ ghost use Rattle.std.specs.List.{sum_by};
 ghost use Rattle.std.specs.Str.{chars};
 ghost use Rattle.html_names.specs.Names.{tag_of};
 ghost use Rattle.html_names.specs.Sets.{is_formatting, is_template};
-ghost use Rattle.html_arena.specs.Budget.{budget, RefusedBy};
+ghost use Rattle.html_arena.specs.Budget.{IsWithin, RefusedBy, budget};
 ghost use Rattle.html_arena.specs.Data.{IsElement, IsLone, IsText, attrs_in, cloned, contents_in, host_in, is_clone_in, is_linkable, kind_in, name_in, origin_in, tag_in, text_in, with_attrs, with_char, with_run};
 ghost use Rattle.html_arena.specs.Laws.{IsGrown, IsLinked, IsMoved, IsRelabelled, IsUnlinked};
 ghost use Rattle.html_arena.specs.Make.{CanMake, label_for, made, made_weight, makes_child, nodes_made, plain_element, template_element};
@@ -52,12 +52,13 @@ impl From<AllocError> for ArenaError {
     }
 }
 
-/// How many nodes and how many held code points an arena may have, and how many code points an input.
+/// How many nodes and how many held code points an arena may have, and how many code points an input and how many counted steps a run.
 #[derive(Clone, Copy, Debug, PartialEq, Eq)]
 pub struct Limits {
     pub nodes: u64,
     pub held: u64,
     pub code_points: u64,
+    pub steps: u64,
 }
 
 /// What the work on an arena has cost so far; it stays at the greatest number once there.
@@ -86,7 +87,7 @@ impl Model for Arena {
 
     ghost view = { λ a. tree_of a.links.items a.nodes.items a.marks.items a.held a.steps a.limits };
 
-    ghost invariant = { λ a. IsArena a.links.items a.nodes.items a.marks.items a.held };
+    ghost invariant = { λ a. IsArena a.links.items a.nodes.items a.marks.items a.held a.limits };
 }
 
 impl Arena {
@@ -145,6 +146,13 @@ impl Arena {
         self.held
     }
 
+    /// The limits, where the arena has any.
+    pub fn limits(&self) -> Option<Limits>
+        ensures { result ≡ self.now.limits }
+    {
+        self.limits
+    }
+
     /// What the work on the arena has cost so far.
     pub fn meter(&self) -> Meter
         ensures { result.steps ≡ self.now.steps }
@@ -165,6 +173,13 @@ impl Arena {
         ensures held { self.now.held ≡ capped (sum_by weight self.now.labels) }
     {
         let _ = &self.links;
+    }
+
+    /// A law of every arena: it has no more nodes than its limits allow, and these hold no more code points.
+    pub fn limited(&self)
+        ensures within { IsWithin self.now }
+    {
+        let _ = &self.limits;
     }
 }
 
@@ -580,10 +595,11 @@ impl Arena {
         self.place(node, held)
     }
 
-    /// Adds a node that stands alone and holds so many code points.
+    /// Adds a node that stands alone and holds so many code points, for which the limits have room.
     fn place(&mut self, node: NodeData, held: u128) -> Result<NodeId, ArenaError>
         requires lone { IsLone node }
         requires held { held ≡ capped (weight node) }
+        requires room { budget self.old 1 (capped (weight node)) ≡ Ok tt }
         ensures id { IfOk result (λ id. id ≡ length self.old.labels) }
         ensures made { OnOk result (self.new ≡ added self.old node (capped (weight node))) }
         ensures refused { OnErr result (self.new ≡ self.old) }
@@ -669,10 +685,11 @@ impl Arena {
         Ok(taken)
     }
 
-    /// Adds a run to a text, whatever the limits.
+    /// Adds a run to a text, for which the limits have room.
     fn push_whole(&mut self, node: NodeId, run: &[char]) -> Result<(), ArenaError>
         requires node_in { node < length self.old.labels }
         requires is_text { IsText (label_of self.old node) }
+        requires room { budget self.old 0 (length run.now) ≡ Ok tt }
         ensures added { OnOk result (self.new ≡ texted_run self.old node run.now) }
         ensures refused { OnErr result (self.new ≡ self.old) }
         ensures cause { IfErr result (λ e. e ≡ ArenaError.OutOfMemory) }

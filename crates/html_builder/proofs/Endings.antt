@@ -15,6 +15,7 @@ use Rattle.html_builder.proofs.Counting.{counted-most, tokenless-few}
 use Rattle.html_builder.proofs.Holding.{holding}
 use Rattle.std.specs.List.{sum_by}
 use Rattle.std.proofs.Math.Nat.{mul-le-mul_left, mul-le-mul_right}
+use Rattle.html_arena.specs.Budget.{AreWithin, IsWithin}
 use Rattle.html_arena.specs.Tree.{Tree, WellFormed, host_at, label_of, named, parent_of}
 use Rattle.html_open.specs.Marking.{bare}
 use Rattle.html_tree.specs.States.{IsNamed, State as Nodes}
@@ -276,6 +277,10 @@ outcome s l ts b t fs es h e q w d p f g =
       fated = f (given s l ts) k h.built;
       told = g (given s l ts) k h.built;
     }
+
+-- the limits to which it was built are kept
+pub within : (s : Setting) (l : Option Limits) (ts : List TokenKind) (b : BuilderState) (t : Tree) → Handed s l ts b → bare t ≡ b.page.tree.tree → IsWithin t → AreWithin l (length t.labels) t.held
+within s l ts b t h e w = subst (λ o. AreWithin o (length t.labels) t.held) (ap (λ (u : Tree). u.limits) e ∙ h.built.limits) w
 
 pub ruleset finish_rules = (outcome, bounded)
 

@@ -1,5 +1,6 @@
 // Tree construction, token by token.
 ghost use Rattle.std.specs.Prelude.{◌≡◌, ◌↔◌, ◌⊎◌, ◌<◌, ◌≤◌, ℕ, ◌∷◌, [], IfOk, IfErr, OnOk, OnErr, Err, List, None, Option, Some, length, take, true, false};
+ghost use Rattle.html_arena.specs.Budget.{AreWithin};
 ghost use Rattle.html_arena.specs.Forest.{Forest};
 ghost use Rattle.html_arena.specs.declared.arena.Limits.{Limits};
 ghost use Rattle.html_construction.specs.Built.{chars_of};
@@ -161,6 +162,20 @@ impl Builder {
         self.construction.mode()
     }
 
+    /// The limits to which the tree keeps, where there are any.
+    pub fn limits(&self) -> Option<Limits>
+        ensures value { result ≡ self.now.page.tree.tree.limits }
+    {
+        self.construction.limits()
+    }
+
+    /// How many steps of tree construction were counted so far.
+    pub fn steps(&self) -> u128
+        ensures value { result ≡ self.now.page.tree.steps }
+    {
+        self.construction.steps()
+    }
+
     /// Takes the next token, and answers how the text after it is read, where it is a start tag that changes that.
     ///
     /// # Errors
@@ -274,6 +289,7 @@ impl Builder {
         ensures steps { result.0.steps ≡ self.page.tree.steps }
         ensures outcome { (s : Setting) (l : Option Limits) (tokens : List TokenKind) → Handed s l tokens self → EndsAtEof tokens
             → IsOutcome s tokens result.1 result.2.items result.0 }
+        ensures within { (s : Setting) (l : Option Limits) (tokens : List TokenKind) → Handed s l tokens self → AreWithin l (length result.0.labels) result.0.held }
         ensures bounds { (s : Setting) (l : Option Limits) (tokens : List TokenKind) → Handed s l tokens self → (n : ℕ) → CostAtMost n tokens → IsBounded n result.0 }
         ensures entries { (s : Setting) (l : Option Limits) (tokens : List TokenKind) → Handed s l tokens self → (n : ℕ) → CostAtMost n tokens → self.entries ≤ most_entries n }
         ensures plain { (l : Option Limits) (tokens : List TokenKind) → Handed Document l tokens self → (page : Forest Label) → IsPlainPage page

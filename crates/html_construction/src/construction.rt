@@ -7,6 +7,7 @@ ghost use Rattle.html_tree.specs.OpenTags.{open_tags};
 ghost use Rattle.html_tree.specs.States.{IsNamed, IsSound, document_state, fragment_state};
 ghost use Rattle.html_ledger.specs.Entries.{begun};
 ghost use Rattle.std.specs.List.{sum_by};
+ghost use Rattle.html_arena.specs.Budget.{IsWithin};
 ghost use Rattle.html_arena.specs.Tree.{WellFormed};
 ghost use Rattle.html_arena.specs.Weight.{capped, weight};
 ghost use Rattle.html_open.specs.Marking.{bare};
@@ -187,12 +188,34 @@ impl Construction {
         self.tree.laws();
     }
 
+    /// How many nodes there are.
+    pub fn node_count(&self) -> u64
+        ensures value { result ≡ length self.now.tree.tree.labels }
+    {
+        self.tree.node_count()
+    }
+
+    /// The limits to which the tree keeps, where there are any.
+    pub fn limits(&self) -> Option<Limits>
+        ensures value { result ≡ self.now.tree.tree.limits }
+    {
+        self.tree.limits()
+    }
+
+    /// How many steps were counted so far.
+    pub fn steps(&self) -> u128
+        ensures value { result ≡ self.now.tree.steps }
+    {
+        self.tree.steps()
+    }
+
     /// The nodes, the fate of each token, and the rising numbers of the tokens with an error.
     pub fn into_parts(self) -> (Arena, Fates, Vec<u64>)
         ensures nodes { bare result.0 ≡ self.tree.tree }
         ensures well_formed { WellFormed result.0 }
         ensures steps { result.0.steps ≡ self.tree.steps }
         ensures held { result.0.held ≡ capped (sum_by weight result.0.labels) }
+        ensures within { IsWithin result.0 }
         ensures body { IsNamed self.tree.tree tag.Body self.tree.detached }
         ensures fates { result.1 ≡ self.ledger.fates }
         ensures errors { result.2.items ≡ self.ledger.errors }
@@ -204,6 +227,7 @@ impl Construction {
         let (fates, errors) = ledger.into_parts();
         let arena = tree.into_arena();
         arena.forest();
+        arena.limited();
         (arena, fates, errors)
     }
 

@@ -44,6 +44,7 @@ pub record Reads (job : Job) (rows : List Row) : Type 0 where
   pub max_nodes : IsNumber job.max_nodes (first_of (codes "max-nodes") rows)
   pub max_held : IsNumber job.max_held (first_of (codes "max-held") rows)
   pub max_input : IsNumber job.max_input (first_of (codes "max-input") rows)
+  pub max_steps : IsNumber job.max_steps (first_of (codes "max-steps") rows)
   pub profile : profile_text job.profile ≡ unwrap_or (first_of (codes "profile") rows) (codes "1")
   pub files : map (λ s. s.now) job.files.items ≡ unwrap_or (all_of (codes "FILE") rows) []
 
@@ -71,7 +72,8 @@ IsBadNumber (Some t) = IsNumeralText t → ⊥
 abbrev pub HasBadValue : List Row → Type 0
 HasBadValue rows = IsBadProfile (first_of (codes "profile") rows)
     ⊎ (IsBadNumber (first_of (codes "max-nodes") rows)
-    ⊎ (IsBadNumber (first_of (codes "max-held") rows) ⊎ IsBadNumber (first_of (codes "max-input") rows)))
+    ⊎ (IsBadNumber (first_of (codes "max-held") rows)
+    ⊎ (IsBadNumber (first_of (codes "max-input") rows) ⊎ IsBadNumber (first_of (codes "max-steps") rows))))
 
 -- clap refuses the words, or takes them with such a value
 abbrev pub IsRefused : List Text → Type 0

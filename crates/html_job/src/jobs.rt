@@ -45,6 +45,8 @@ pub struct Job<'a> {
     pub max_held: Option<u64>,
     /// The most code points that the input may have.
     pub max_input: Option<u64>,
+    /// The most steps that may be counted.
+    pub max_steps: Option<u64>,
     /// How `Normalise` escapes; `One` where the words do not say, and for the other commands.
     pub profile: Profile,
     /// The file of the page. `-`, or none, is standard input.

@@ -103,6 +103,19 @@ fn max_input<'a>(alloc: Global) -> Arg<'a>
     )
 }
 
+/// The most counted steps.
+fn max_steps<'a>(alloc: Global) -> Arg<'a>
+    ensures rule { rule_of result ≡ option_rule (codes "max-steps") }
+    ensures local { result.global ≡ false }
+{
+    text_option(
+        alloc,
+        "max-steps",
+        "K",
+        "Refuse a page of more than K counted steps",
+    )
+}
+
 /// A command on one page.
 fn page_command<'a>(alloc: Global, name: &'a str, about: &'a str) -> Result<Command<'a>, AllocError>
     ensures app { IfOk result (λ c. app_of c ≡ page_app name.entry.now) }
@@ -115,6 +128,7 @@ fn page_command<'a>(alloc: Global, name: &'a str, about: &'a str) -> Result<Comm
         .arg(max_nodes(alloc))?
         .arg(max_held(alloc))?
         .arg(max_input(alloc))?
+        .arg(max_steps(alloc))?
         .arg(input(alloc))
 }
 

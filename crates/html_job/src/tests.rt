@@ -81,25 +81,33 @@ fn fragments_and_limits(rt: HostRuntime) -> Result<(), Fail> {
         assert_eq!(rt; job.max_nodes, Some(0));
         assert_eq!(rt; job.max_held, None);
         assert_eq!(rt; job.max_input, None);
+        assert_eq!(rt; job.max_steps, None);
     }
-    let words: [&str; 6] = [
+    let words: [&str; 8] = [
         "html_cmd",
         "counts",
         "--max-held",
         "18446744073709551615",
         "--max-input",
         "7",
+        "--max-steps",
+        "100",
     ];
     let job = job(rt.alloc(), words.as_slice())?;
     assert_eq!(rt; job.fragment, None);
     assert_eq!(rt; job.max_held, Some(u64::MAX));
     assert_eq!(rt; job.max_input, Some(7));
+    assert_eq!(rt; job.max_steps, Some(100));
     Ok(())
 }
 
 #[test]
 fn wrong_limits(rt: HostRuntime) {
-    let rows: [(&[&str], &str); 5] = [
+    let rows: [(&[&str], &str); 6] = [
+        (
+            &["html_cmd", "tree", "--max-steps", "1.5"],
+            "'--max-steps <K>'",
+        ),
         (
             &["html_cmd", "tree", "--max-nodes", "18446744073709551616"],
             "'--max-nodes <K>'",

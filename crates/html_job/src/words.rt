@@ -63,6 +63,7 @@ fn job_of<'a>(
     let max_nodes = number(alloc, matches, "max-nodes")?;
     let max_held = number(alloc, matches, "max-held")?;
     let max_input = number(alloc, matches, "max-input")?;
+    let max_steps = number(alloc, matches, "max-steps")?;
     let files = files(alloc, matches)?;
     Ok(Job {
         command,
@@ -71,6 +72,7 @@ fn job_of<'a>(
         max_nodes,
         max_held,
         max_input,
+        max_steps,
         profile,
         input: text(matches, "INPUT"),
         files,

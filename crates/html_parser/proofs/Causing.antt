@@ -1,20 +1,25 @@
 -- Why tree construction refused, as said of the text.
-use Rattle.std.proofs.Common.{ℕ, suc, ◌+◌, ◌-◌, ◌<◌, ◌≤◌, ◌≡◌, ◌∙◌, arith, Bool, List, [], ◌∷◌, ◌++◌, length, take, replicate, None, refl, sym, ap, ap₂, subst, append_assoc}
+use Rattle.std.proofs.Common.{ℕ, suc, ◌+◌, ◌-◌, ◌<◌, ◌≤◌, ◌≡◌, ◌∙◌, arith, inl, inr, ◌⊎◌, true, Bool, Option, List, [], ◌∷◌, ◌++◌, length, take, replicate, None, refl, sym, ap, ap₂, subst, append_assoc}
 use Rattle.html_tokens.specs.Given.{Fed}
 use Rattle.html_tokens.specs.Input.{MayFollow}
 use Rattle.html_tokens.specs.Runs.{gave_all, plain_tokens}
 use Rattle.html_tokens.specs.Stream.{Run, gave, tokens_of}
 use Rattle.html_tokens.specs.declared.token.Token.{Token}
 use Rattle.html_tokens.specs.declared.tokenizer.Tokenizer.{Tokenizer}
-use Rattle.html_builder.specs.Handed.{HaveFates, IsBuildCause, IsTextCause, fates_of}
+use Rattle.html_arena.specs.declared.arena.Limits.{Limits}
+use Rattle.html_ledger.specs.declared.setting.Setting.{Setting}
+use Rattle.html_tokens.specs.declared.token.TokenKind.{TokenKind}
+use Rattle.html_builder.specs.Handed.{Handed, HaveFates, IsBuildCause, IsTextCause, fates_of}
 use Rattle.html_builder.specs.Switches.{switches_by}
 use Rattle.html_builder.specs.declared.error.BuildError.{BuildError}
 use Rattle.html_builder.specs.declared.error.BuildError.TheVariants as build
 use Rattle.html_construction.specs.Built.{chars_of}
 use Rattle.html_parser.specs.Causes.{IsTokenAt, IsTokenCause, build_cause}
 use Rattle.html_parser.specs.Kinds.{kinds}
-use Rattle.html_parser.specs.Staged.{IsRun}
+use Rattle.html_parser.specs.Staged.{AreTooManySteps, IsRun}
 use Rattle.html_parser.specs.Start.{Start}
+use Rattle.html_parser.specs.declared.error.ParseError.{ParseError}
+use Rattle.html_parser.specs.declared.error.ParseError.TheVariants.{StepBudget}
 use Rattle.html_parser.specs.declared.stages.Stages.{Stages}
 use Rattle.html_parser.proofs.Ends.{kinds-append}
 use Rattle.html_parser.proofs.Openings.{one_listed}
@@ -58,6 +63,35 @@ token_refused start finished p bytes run t token (build.NodeBudget at) r h f e =
 token_refused start finished p bytes run t token (build.HeldBudget at) r h f e = one-at start finished p bytes run t token at r h f (sym e)
 token_refused start finished p bytes run t token build.BadContext r h f c = absurd c
 token_refused start finished p bytes run t token build.Stopped r h f c = absurd c
+
+-- a token that was refused, or before which more steps were counted than the limit
+pub build_refused : (start : Start) (finished : Bool) (p : Stages) (bytes : List ℕ) (run : Run) (t : Tokenizer) (token : Token) (spent : Bool) (e : ParseError) (k n : ℕ)
+    → IsRun start finished p bytes run → HaveFates start.setting (kinds run.given) (fates_of p.builder) → Fed t (gave run token None)
+    → (spent ≡ true → AreTooManySteps p.builder.page.tree.tree.limits k n)
+    → ((e ≡ StepBudget token.span.start) × (spent ≡ true)) ⊎ ((x : BuildError) × (e ≡ build_cause x) × ((s : Setting) (l : Option Limits) (tokens : List TokenKind) → Handed s l tokens p.builder
+    → IsBuildCause s l tokens (fates_of p.builder) token.kind token.span.start x))
+    → IsTokenCause start finished run.text e
+build_refused start finished p bytes run t token spent e k n r h f limited (inl (is, over)) =
+    let l = limited over in
+    subst (IsTokenCause start finished run.text) (sym is)
+    (inl (one-at start finished p bytes run t token token.span.start r h f refl), (l.0, sym r.handed.built.limits ∙ l.1))
+build_refused start finished p bytes run t token spent e k n r h f limited (inr (x, is, cause)) =
+    subst (IsTokenCause start finished run.text) (sym is)
+    (token_refused start finished p bytes run t token x r h f (cause start.setting start.limits (kinds run.given) r.handed))
+
+-- tree construction counts no steps against a limit
+never-spent : (x : BuildError) (at : ℕ) → build_cause x ≡ StepBudget at → ⊥
+never-spent build.OutOfMemory at e = absurd (let k = e in cc)
+never-spent (build.ForeignContent name place) at e = absurd (let k = e in cc)
+never-spent build.BadContext at e = absurd (let k = e in cc)
+never-spent build.Stopped at e = absurd (let k = e in cc)
+never-spent (build.NodeBudget place) at e = absurd (let k = e in cc)
+never-spent (build.HeldBudget place) at e = absurd (let k = e in cc)
+
+pub build_spent : {C : BuildError → Type 0} (spent : Bool) (e : ParseError) (at place k n : ℕ) (o : Option Limits) → (spent ≡ true → AreTooManySteps o k n)
+    → ((e ≡ StepBudget place) × (spent ≡ true)) ⊎ ((x : BuildError) × (e ≡ build_cause x) × C x) → e ≡ StepBudget at → AreTooManySteps o k n
+build_spent spent e at place k n o limited (inl (is, over)) told = limited over
+build_spent spent e at place k n o limited (inr (x, is, c)) told = absurd (never-spent x at (sym is ∙ told))
 
 -- some of plain text after other tokens
 regroup : (given first later more : List Token) (x : Token) → (given ++ (first ++ x ∷ later)) ++ more ≡ (given ++ first) ++ x ∷ (later ++ more)

@@ -1,19 +1,20 @@
 -- The stages after a piece of the input.
-use Rattle.std.proofs.Common.{ℕ, ◌≡◌, ◌∙◌, ◌<◌, Bool, true, false, List, [], ◌++◌, length, Result, Ok, Err, refl, sym, ap, subst, append_assoc, arith}
+use Rattle.std.proofs.Common.{ℕ, ◌≡◌, ◌∙◌, ◌<◌, Bool, true, false, List, [], ◌++◌, length, Result, Ok, Err, inr, refl, sym, ap, subst, append_assoc, arith}
 use Rattle.std.specs.Prelude.{◌↔◌, ◌||◌}
 use Rattle.std.proofs.lemmas.List.{append-nil}
+use Rattle.html_input.proofs.Feeding.{Fed-all}
 use Rattle.html_input.specs.Added.{added}
 use Rattle.html_input.specs.Decode.{code_points, decode}
 use Rattle.html_input.specs.Fed.{Fed as Decodes}
 use Rattle.html_input.specs.declared.error.InputError.{InputError}
 use Rattle.html_input.specs.declared.error.InputError.TheVariants as input
-use Rattle.html_tokens.specs.Given.{Fed, is_finished, is_stopped}
+use Rattle.html_tokens.specs.Given.{Fed, is_finished, is_stopped, steps_taken}
 use Rattle.html_tokens.specs.Stream.{Run, ended, fed, tokens_of}
 use Rattle.html_tokens.specs.declared.tokenizer.TokenError.{TokenError}
 use Rattle.html_tokens.specs.declared.tokenizer.TokenError.TheVariants as tokens
 use Rattle.html_tokens.specs.declared.tokenizer.Tokenizer.{Tokenizer}
 use Rattle.html_parser.specs.Causes.{IsCause, IsFeedCause, IsFront, IsTokenCause, input_cause, token_cause}
-use Rattle.html_parser.specs.Staged.{HasRead, HasTaken, IsEnded, IsHandedOn, IsRun}
+use Rattle.html_parser.specs.Staged.{AreFewSteps, AreTooManySteps, HasRead, HasTaken, IsEnded, IsHandedOn, IsRun}
 use Rattle.html_parser.specs.Start.{Start, most_input}
 use Rattle.html_parser.specs.Tokenizing.{IsTokenizing}
 use Rattle.html_parser.specs.declared.error.ParseError.{ParseError}
@@ -86,7 +87,7 @@ feed_cause start bytes text Write f c = absurd c
 feed_cause start bytes text Stopped f c = absurd c
 feed_cause start bytes text (NodeBudget at) f c = (text, f, c)
 feed_cause start bytes text (HeldBudget at) f c = (text, f, c)
-feed_cause start bytes text (StepBudget at) f c = absurd c
+feed_cause start bytes text (StepBudget at) f c = (text, f, c)
 
 -- by the decoder
 pub decoder_refused : (start : Start) (bytes piece : List ℕ) (run : Run) (p : Stages) (e : InputError) → IsRun start false p bytes run
@@ -129,7 +130,7 @@ cause_longer start bytes more Write (text, f, c) = absurd c
 cause_longer start bytes more Stopped (text, f, c) = absurd c
 cause_longer start bytes more (NodeBudget at) (text, f, c) = (text, front_longer bytes more text f, c)
 cause_longer start bytes more (HeldBudget at) (text, f, c) = (text, front_longer bytes more text f, c)
-cause_longer start bytes more (StepBudget at) (text, f, c) = absurd c
+cause_longer start bytes more (StepBudget at) (text, f, c) = (text, front_longer bytes more text f, c)
 
 -- Of a piece a front was taken.
 pub record TakesSome (old now : Stages) (piece rest : List ℕ) : Type 0 where
@@ -194,11 +195,13 @@ end_run start bytes text run old new s r = record {
   building = rw s.builder r.building;
 }
 
-pub is_ended : (start : Start) (p : Stages) (bytes text : List ℕ) → IsHandedOn start true p bytes text → IsEnded start p bytes
-is_ended start p bytes text h = record {
+pub is_ended : (start : Start) (p : Stages) (bytes text : List ℕ) → AreFewSteps p.builder.page.tree.tree.limits (steps_taken p.tokenizer) p.builder.page.tree.steps → IsHandedOn start true p bytes text
+    → IsEnded start p bytes
+is_ended start p bytes text few h = record {
   run = h.further.run;
   is_run = h.further.is_run;
   all = subst (λ t. tokens_of t h.further.run.switches h.further.run.start ≡ h.further.run.given) (sym h.further.text_is) (h.all refl);
+  few = λ l is. few l (h.further.is_run.handed.built.limits ∙ is);
 }
 
 pub end_cause : (start : Start) (bytes text : List ℕ) (e : ParseError) → text ≡ decode bytes → IsTokenCause start true text e → IsCause start bytes e
@@ -211,7 +214,18 @@ end_cause start bytes text Write is c = absurd c
 end_cause start bytes text Stopped is c = absurd c
 end_cause start bytes text (NodeBudget at) is c = subst (λ t. IsTokenCause start true t (NodeBudget at)) is c
 end_cause start bytes text (HeldBudget at) is c = subst (λ t. IsTokenCause start true t (HeldBudget at)) is c
-end_cause start bytes text (StepBudget at) is c = absurd c
+end_cause start bytes text (StepBudget at) is c = subst (λ t. IsTokenCause start true t (StepBudget at)) is c
+
+-- more steps were counted at the end than the limit
+pub steps_refused : (start : Start) (p : Stages) (bytes text : List ℕ) (e : ParseError) (k n : ℕ) → IsHandedOn start true p bytes text
+    → ((limit : ℕ) (finished : Bool) (bytes text : List ℕ) → Decodes limit finished p.decoder bytes text → (e ≡ StepBudget (length text)) × AreTooManySteps p.builder.page.tree.tree.limits k n)
+    → IsCause start bytes e
+steps_refused start p bytes text e k n h cause =
+    let d = h.further.is_run.decoded in
+    let c = cause (most_input start) true bytes h.further.run.text d in
+    subst (IsCause start bytes) (sym c.0)
+    (end_cause start bytes h.further.run.text (StepBudget (length h.further.run.text)) (Fed-all d).0
+    (inr (refl, refl), (c.1.0, sym h.further.is_run.handed.built.limits ∙ c.1.1)))
 
 pub decoder_end_refused : (start : Start) (bytes : List ℕ) (e : InputError) → (e ≡ input.InputTooLong → most_input start < length (code_points bytes)) → (e ≡ input.Stopped → ⊥)
     → IsCause start bytes (input_cause e)

@@ -3,6 +3,7 @@ use Rattle.std.proofs.Common.{ℕ, suc, ◌+◌, ◌-◌, ◌*◌, ◌^◌, ◌�
 use Rattle.std.proofs.lemmas.List.{length-map}
 use Rattle.std.proofs.Math.Nat.{min-le_left, mul_comm, mul-le-mul_left}
 use Rattle.std.specs.Prelude.{nat_lt, cond, Bool}
+use Rattle.html_arena.specs.Budget.{AreWithin}
 use Rattle.html_arena.specs.Forest.{Forest}
 use Rattle.html_arena.specs.Tree.{Tree as Nodes}
 use Rattle.html_charref.specs.Table.{IsTable}
@@ -18,7 +19,7 @@ use Rattle.html_page.specs.Label.{Label}
 use Rattle.html_page.specs.PageTokens.{page_kinds}
 use Rattle.html_page.specs.Plain.{IsPlainPage}
 use Rattle.html_page.specs.Shows.{Shows}
-use Rattle.html_tokens.specs.Given.{Fed, fed_len}
+use Rattle.html_tokens.specs.Given.{Fed, fed_len, steps_taken}
 use Rattle.html_tokens.specs.Stream.{Run, Start as TextStart, tokens_of}
 use Rattle.html_tokens.specs.Tokens.{tokens_after}
 use Rattle.html_tokens.specs.declared.faults.Fault.{Fault}
@@ -89,6 +90,9 @@ pub record Ended (d : Decoder) (t : Tokenizer) (b : BuilderState) (starts : List
   pub outcome : (s : Setting) (l : Option Limits) (tokens : List TokenKind) → Handed s l tokens b → EndsAtEof tokens → IsOutcome s tokens fates numbers arena
   pub plain : (l : Option Limits) (tokens : List TokenKind) → Handed Document l tokens b → (page : Forest Label) → IsPlainPage page → tokens ≡ page_kinds page → Shows arena (0 ∷ []) page
   pub plain_fates : (l : Option Limits) (tokens : List TokenKind) → Handed Document l tokens b → (page : Forest Label) → IsPlainPage page → tokens ≡ page_kinds page → HavePlainFates tokens fates
+  pub within : (s : Setting) (l : Option Limits) (tokens : List TokenKind) → Handed s l tokens b → AreWithin l (length arena.labels) arena.held
+  pub own_is : own ≡ steps_taken t
+  pub arena_steps : arena.steps ≡ b.page.tree.steps
   pub bounds : (s : Setting) (l : Option Limits) (tokens : List TokenKind) → Handed s l tokens b → (m : ℕ) → CostAtMost m tokens → IsBounded m arena
   pub told_few : length told ≤ 11 * (fed_len t + 2)
   pub fed : (run : Run) → Fed t run → fed_len t ≡ length run.text
@@ -169,6 +173,8 @@ made start bytes run d t b starts told numbers fates arena errors n own steps e 
       nodes = bounds.nodes;
       held = bounds.held;
       weighs = bounds.weighs;
+      kept = e.within start.setting start.limits (kinds run.given) w.handed;
+      kept_steps = λ l is. subst (λ k. k ≤ l.steps) (sym (e.steps_are ∙ ap (λ k. min (k + arena.steps) (2 ^ 128 - 1)) e.own_is ∙ ap (λ k. min (steps_taken t + k) (2 ^ 128 - 1)) e.arena_steps)) (w.few l is);
       steps_are = record {
         own = own;
         few = own_few;
@@ -200,6 +206,7 @@ whole start p bytes e = record {
   switched = e.is_run.switched;
   starts_are = e.is_run.starts;
   all = e.all;
+  few = e.few;
 }
 
 -- with the tokens that were kept, and with the root

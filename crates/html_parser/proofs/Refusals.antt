@@ -8,7 +8,7 @@ use Rattle.html_tokens.specs.Stream.{tokens_of}
 use Rattle.html_tokens.specs.declared.token.Token.{Token}
 use Rattle.html_builder.specs.Switches.{switches_by}
 use Rattle.html_modes.specs.declared.outcome.Foreign.{Foreign}
-use Rattle.html_parser.specs.Causes.{IsCause, IsFeedCause, IsForeignAt, IsFront, IsTokenAt, IsTokenCause}
+use Rattle.html_parser.specs.Causes.{IsCause, IsFeedCause, IsForeignAt, IsFront, IsTokenAt, IsTokenCause, IsTokenOrEnd}
 use Rattle.html_parser.specs.Kinds.{kinds}
 use Rattle.html_parser.specs.Reading.{IsPieceCause, IsReaderCause}
 use Rattle.html_parser.specs.Start.{Start, most_input, text_start}
@@ -80,6 +80,10 @@ foreign-whole : (start : Start) (text rest : List ℕ) (name : Foreign) (at : �
 unfolding token-whole
 foreign-whole start text rest name at f = record { token = token-whole start text rest at f.token; foreign = f.foreign }
 
+token-or-end-whole : (start : Start) (text rest : List ℕ) (at : ℕ) → IsTokenOrEnd start false text at → IsTokenOrEnd start true (text ++ rest) at
+token-or-end-whole start text rest at (inl t) = inl (token-whole start text rest at t)
+token-or-end-whole start text rest at (inr e) = absurd (true≢false (sym e.0))
+
 pub cause-whole : (start : Start) (text rest : List ℕ) (e : ParseError) → IsTokenCause start false text e → IsTokenCause start true (text ++ rest) e
 cause-whole start text rest OutOfMemory h = tt
 cause-whole start text rest (ForeignContent n at) h = foreign-whole start text rest n at h
@@ -90,7 +94,7 @@ cause-whole start text rest BadContext h = h
 cause-whole start text rest Read h = h
 cause-whole start text rest Write h = h
 cause-whole start text rest Stopped h = h
-cause-whole start text rest (StepBudget at) h = h
+cause-whole start text rest (StepBudget at) h = (token-or-end-whole start text rest at h.0, h.1)
 
 -- the text that was put out is a front of all
 of-front : (start : Start) (bytes : List ℕ) (e : ParseError) → (text : List ℕ) × IsFront bytes text × IsTokenCause start false text e → IsTokenCause start true (decode bytes) e
@@ -110,7 +114,7 @@ last-cause start bytes BadContext h = absurd h.2
 last-cause start bytes Read h = absurd h.2
 last-cause start bytes Write h = absurd h.2
 last-cause start bytes Stopped h = absurd h.2
-last-cause start bytes (StepBudget at) h = absurd h.2
+last-cause start bytes (StepBudget at) h = of-front start bytes (StepBudget at) h
 
 -- what two clauses on an answer say together
 pub both_ok : {T E A B C : Type 0} (r : Result T E) → (A → B → C) → OnOk r A → OnOk r B → OnOk r C

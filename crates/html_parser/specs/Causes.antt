@@ -1,5 +1,5 @@
 -- Why an input was refused.
-use Rattle.std.specs.Prelude.{◌≡◌, ℕ, ◌<◌, Bool, true, false, List, ◌∷◌, ◌++◌, length, Option, None}
+use Rattle.std.specs.Prelude.{◌≡◌, ◌⊎◌, ℕ, ◌<◌, Bool, true, false, List, ◌∷◌, ◌++◌, length, Option, None, Some}
 use Rattle.html_input.specs.Decode.{decode, code_points}
 use Rattle.html_input.specs.declared.error.InputError.{InputError}
 use Rattle.html_input.specs.declared.error.InputError.TheVariants as input
@@ -9,6 +9,7 @@ use Rattle.html_tokens.specs.declared.token.TextMode.{TextMode}
 use Rattle.html_tokens.specs.declared.token.Token.{Token}
 use Rattle.html_tokens.specs.declared.tokenizer.TokenError.{TokenError}
 use Rattle.html_tokens.specs.declared.tokenizer.TokenError.TheVariants as tokens
+use Rattle.html_arena.specs.declared.arena.Limits.{Limits}
 use Rattle.html_ledger.specs.declared.fate.Fate.{Fate}
 use Rattle.html_builder.specs.Handed.{HaveFates, Starts, foreign_tag}
 use Rattle.html_builder.specs.Switches.{switches_by}
@@ -18,7 +19,7 @@ use Rattle.html_modes.specs.declared.outcome.Foreign.{Foreign}
 use Rattle.html_parser.specs.Kinds.{kinds}
 use Rattle.html_parser.specs.Start.{Start, most_input, text_start}
 use Rattle.html_parser.specs.declared.error.ParseError.{ParseError}
-use Rattle.html_parser.specs.declared.error.ParseError.TheVariants.{OutOfMemory, InputTooLong, ForeignContent, BadContext, Stopped, NodeBudget, HeldBudget}
+use Rattle.html_parser.specs.declared.error.ParseError.TheVariants.{OutOfMemory, InputTooLong, ForeignContent, BadContext, Stopped, NodeBudget, HeldBudget, StepBudget}
 
 -- REFUSALS OF THE LAYERS BELOW, AS THE PARSER TELLS THEM
 
@@ -61,13 +62,22 @@ pub record IsForeignAt (start : Start) (finished : Bool) (text : List ℕ) (name
 abbrev pub IsFront : List ℕ → List ℕ → Type 0
 IsFront bytes text = (more : List ℕ) → (rest : List ℕ) × (decode (bytes ++ more) ≡ text ++ rest)
 
--- Why a token of a text, which is whole or goes on, was refused: for want of memory, for foreign content, or for a
--- limit.
+-- There are limits.
+abbrev pub HasLimits : Start → Type 0
+HasLimits start = (l : Limits) × (start.limits ≡ Some l)
+
+-- A place where a token begins, or the end of a text that is whole.
+abbrev pub IsTokenOrEnd : Start → Bool → List ℕ → ℕ → Type 0
+IsTokenOrEnd start finished text at = IsTokenAt start finished text at ⊎ ((finished ≡ true) × (at ≡ length text))
+
+-- Why a token of a text, which is whole or goes on, was refused: for want of memory, for foreign content, or for a limit, on steps only
+-- where there are limits.
 abbrev pub IsTokenCause : Start → Bool → List ℕ → ParseError → Type 0
 IsTokenCause start finished text OutOfMemory = Unit {0}
 IsTokenCause start finished text (ForeignContent name at) = IsForeignAt start finished text name at
 IsTokenCause start finished text (NodeBudget at) = IsTokenAt start finished text at
 IsTokenCause start finished text (HeldBudget at) = IsTokenAt start finished text at
+IsTokenCause start finished text (StepBudget at) = IsTokenOrEnd start finished text at × HasLimits start
 IsTokenCause start finished text _ = ⊥
 
 -- Why a piece was refused, by the bytes so far, that piece's included.

@@ -2,7 +2,7 @@
 use Rattle.std.specs.Prelude.{◌≡◌, ℕ, true, List}
 use Rattle.html_input.specs.Fed.{Fed as Decodes}
 use Rattle.html_input.specs.declared.decoder.Decoder.{Decoder}
-use Rattle.html_tokens.specs.Given.{Fed as Tokenizes}
+use Rattle.html_tokens.specs.Given.{Fed as Tokenizes, steps_taken}
 use Rattle.html_tokens.specs.Stream.{Run, tokens_of}
 use Rattle.html_tokens.specs.declared.tokenizer.Tokenizer.{Tokenizer}
 use Rattle.html_builder.specs.Builders.{BuilderState}
@@ -10,6 +10,7 @@ use Rattle.html_builder.specs.Handed.{Handed, fates_of}
 use Rattle.html_builder.specs.Switches.{switches_by}
 use Rattle.html_parser.specs.Kinds.{kinds, starts_of}
 use Rattle.html_parser.specs.Parsed.{Headline}
+use Rattle.html_parser.specs.Staged.{AreFewSteps}
 use Rattle.html_parser.specs.Start.{Start, most_input, text_start}
 use Rattle.html_parser.specs.declared.made.Made.{Made}
 
@@ -23,6 +24,7 @@ pub record IsWhole (start : Start) (bytes : List ℕ) (run : Run) (d : Decoder) 
   pub switched : run.switches ≡ switches_by (kinds run.given) (fates_of b)
   pub starts_are : starts ≡ starts_of run.given
   pub all : tokens_of run.text run.switches run.start ≡ run.given
+  pub few : AreFewSteps start.limits (steps_taken t) b.page.tree.steps
 
 -- what was made of its tokens
 abbrev pub IsMade : Start → List ℕ → Run → Made → Type 0

@@ -1,11 +1,13 @@
 -- What parsing answers.
-use Rattle.std.specs.Prelude.{◌≡◌, ℕ, ◌≤◌, ◌+◌, ◌-◌, ◌*◌, ◌^◌, min, false, List, [], ◌∷◌, length}
+use Rattle.std.specs.Prelude.{◌≡◌, ℕ, ◌≤◌, ◌+◌, ◌-◌, ◌*◌, ◌^◌, min, false, List, [], ◌∷◌, length, Some}
 use Rattle.std.specs.List.{sum_by}
 use Rattle.html_input.specs.Decode.{decode, code_points}
 use Rattle.html_tokens.specs.Stream.{tokens_of}
 use Rattle.html_tokens.specs.declared.token.Token.{Token}
 use Rattle.html_tokens.specs.declared.faults.Fault.{Fault}
 use Rattle.html_tokens.specs.declared.token.TextMode.TheVariants.{Data}
+use Rattle.html_arena.specs.declared.arena.Limits.{Limits}
+use Rattle.html_arena.specs.Budget.{AreWithin}
 use Rattle.html_arena.specs.Forest.{Forest}
 use Rattle.html_arena.specs.Tree.{Tree as Nodes}
 use Rattle.html_arena.specs.Weight.{weight}
@@ -75,6 +77,9 @@ pub record Headline (start : Start) (bytes : List ℕ) (tokens : List Token) (fa
   pub nodes : length t.labels ≤ 2 * ((n + 32) * (n + 32))
   pub held : t.held ≤ 34 * ((n + 2) * (n + 2))
   pub few_steps : steps ≤ 1024 * ((n + 32) * (n + 32) * (n + 32))
+  -- it keeps to the limits, where there are any
+  pub kept : AreWithin start.limits (length t.labels) t.held
+  pub kept_steps : (l : Limits) → start.limits ≡ Some l → steps ≤ l.steps
   -- the steps are those of the tokenizer and those of tree construction
   pub steps_are : AreSteps n t steps
   -- the errors are the tokenizer's, and at most one of tree construction for each token

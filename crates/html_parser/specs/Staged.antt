@@ -1,8 +1,9 @@
 -- The stages of a parser, and the bytes that they were fed, however they were cut.
-use Rattle.std.specs.Prelude.{◌≡◌, ℕ, Bool, true, false, List, []}
+use Rattle.std.specs.Prelude.{◌≡◌, ◌+◌, ◌-◌, ◌^◌, ◌<◌, ◌≤◌, ℕ, Bool, true, false, min, List, [], Option, Some}
+use Rattle.html_arena.specs.declared.arena.Limits.{Limits}
 use Rattle.html_charref.specs.declared.table.Row.{Row}
 use Rattle.html_input.specs.Fed.{Fed as Decodes}
-use Rattle.html_tokens.specs.Given.{Fed as Tokenizes, is_stopped as tokenizer_stopped}
+use Rattle.html_tokens.specs.Given.{Fed as Tokenizes, is_stopped as tokenizer_stopped, steps_taken}
 use Rattle.html_tokens.specs.Stream.{IsPrompt, Run, tokens_of}
 use Rattle.html_tokens.specs.declared.token.TextMode.{TextMode}
 use Rattle.html_input.specs.declared.decoder.Decoder.{Decoder}
@@ -40,11 +41,20 @@ pub record IsHandedOn (start : Start) (finished : Bool) (p : Stages) (bytes text
   pub prompt : IsPrompt further.run
   pub all : finished ≡ true → tokens_of text further.run.switches further.run.start ≡ further.run.given
 
+-- No more steps are counted than the limit, where there is one, as far as 128 bits count.
+abbrev pub AreFewSteps : Option Limits → ℕ → ℕ → Type 0
+AreFewSteps limits own others = (l : Limits) → limits ≡ Some l → min (own + others) (2 ^ 128 - 1) ≤ l.steps
+
+-- More steps are counted than the limit.
+abbrev pub AreTooManySteps : Option Limits → ℕ → ℕ → Type 0
+AreTooManySteps limits own others = (l : Limits) × (limits ≡ Some l) × (l.steps < min (own + others) (2 ^ 128 - 1))
+
 -- The input was ended, and the tokenizer has given all.
 pub record IsEnded (start : Start) (p : Stages) (bytes : List ℕ) : Type 0 where
   pub run : Run
   pub is_run : IsRun start true p bytes run
   pub all : tokens_of run.text run.switches run.start ≡ run.given
+  pub few : AreFewSteps start.limits (steps_taken p.tokenizer) p.builder.page.tree.steps
 
 -- It keeps the tokens.
 abbrev pub KeepsTokens : Stages → Type 0

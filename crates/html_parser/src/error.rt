@@ -36,7 +36,7 @@ pub enum ParseError {
     /// One code point more than the limit on held code points allows, for the token at `at`.
     #[error("held budget at {at}")]
     HeldBudget { at: u64 },
-    /// One step more than a limit allows, for the token at `at`. Not answered yet: there is no such limit.
+    /// More steps than the limit allows were counted before the token at `at`, or before the end of the text there.
     #[error("step budget at {at}")]
     StepBudget { at: u64 },
 }

@@ -1,10 +1,18 @@
 //! The stages of parsing, one behind the other: the decoder, the tokenizer, tree construction.
 
-ghost use Rattle.std.specs.Prelude.{◌≡◌, ◌++◌, ◌≤◌, ◌<◌, ◌+◌, ℕ, Bool, List, [], None, true, false, IfErr, IfOk, OnOk, length};
-ghost use Rattle.html_tokens.specs.Given.{Awaits, Fed, fed_len, is_stopped as tokenizer_stopped};
+ghost use Rattle.std.specs.Prelude.{◌≡◌, ◌++◌, ◌∷◌, ◌≤◌, ◌<◌, ◌+◌, ◌-◌, ◌^◌, ◌⊎◌, ℕ, Bool, List, [], None, Option, Some, true, false, IfErr, IfOk, OnOk, length, min};
+ghost use Rattle.html_arena.specs.declared.arena.Limits.{Limits as LimitsType};
+ghost use Rattle.html_builder.specs.Handed.{AddsFates, Handed, HandsIn, IsBuildCause, fates_of, is_stopped as builder_stopped};
+ghost use Rattle.html_builder.specs.declared.error.BuildError.{BuildError as BuildErrorKind};
+ghost use Rattle.html_ledger.specs.declared.setting.Setting.{Setting};
+ghost use Rattle.html_tokens.specs.declared.token.TokenKind.{TokenKind};
+ghost use Rattle.html_builder.specs.Switches.{switch_after};
+ghost use Rattle.html_input.specs.Fed.{Fed as Decodes};
+ghost use Rattle.html_ledger.specs.Runs.{last_of};
+ghost use Rattle.html_tokens.specs.Given.{Awaits, Fed, fed_len, is_stopped as tokenizer_stopped, steps_taken};
 ghost use Rattle.html_tokens.specs.Stream.{Run, gave};
 ghost use Rattle.html_tokens.specs.declared.token.Token.{Token as TokenType};
-ghost use Rattle.html_parser.specs.Causes.{IsCause, IsFeedCause, IsTokenCause};
+ghost use Rattle.html_parser.specs.Causes.{IsCause, IsFeedCause, IsTokenCause, build_cause};
 ghost use Rattle.html_parser.specs.Parsed.{IsPageOf, IsTreeOf};
 ghost use Rattle.html_parser.specs.Start.{Start};
 ghost use Rattle.html_parser.specs.Saying.{MaySay};
@@ -14,7 +22,7 @@ use crate::error::ParseError;
 use crate::kept::Kept;
 use crate::made::{Made, make};
 use crate::page::{Page, Tree};
-use html_arena::NodeId;
+use html_arena::{Limits, NodeId};
 use html_builder::Builder;
 use html_charref::EntityTable;
 use html_input::Decoder;
@@ -36,12 +44,14 @@ pub(crate) struct Stages<'a> {
     /// The plain text that the tokenizer last gave, which tree construction has.
     run: Vec<char>,
     kept: Kept,
+    /// Whether more steps than the limit were counted when the last token had been taken.
+    is_past: bool,
     alloc: Global,
     ghost tokenizing: { IsTokenizing tokenizer kept.starts },
 }
 
 impl<'a> Stages<'a> {
-    ghost use Rattle.html_parser.specs.Staged.{HasRead, HasTaken, IsBeginning, IsEnded, IsFurther, IsHandedOn, IsRun, KeepsTokens};
+    ghost use Rattle.html_parser.specs.Staged.{AreFewSteps, AreTooManySteps, HasRead, HasTaken, IsBeginning, IsEnded, IsFurther, IsHandedOn, IsRun, KeepsTokens};
 
     /// Stages that were fed nothing. The text begins to be read in this mode.
     pub(crate) fn new(
@@ -56,6 +66,7 @@ impl<'a> Stages<'a> {
         ensures empty { IfOk result (λ p. p.kept.tokens ≡ []) }
         ensures cause { IfErr result (λ e. e ≡ ParseError.OutOfMemory) }
     {
+        let is_past = passes(builder.limits(), builder.steps());
         Ok(Stages {
             decoder,
             tokenizer: Tokenizer::new(alloc, table, mode, None)?,
@@ -63,6 +74,7 @@ impl<'a> Stages<'a> {
             text: Vec::new(alloc),
             run: Vec::new(alloc),
             kept: Kept::new(alloc),
+            is_past,
             alloc,
         })
     }
@@ -121,6 +133,51 @@ impl<'a> Stages<'a> {
         self.tokenizer.feed(self.text.as_slice())?;
         self.tokenizer.finish()?;
         self.hand_on()?;
+        self.check_steps()?;
+        Ok(())
+    }
+
+    /// How many steps were counted so far, of the tokenizer and of tree construction, up to the greatest number.
+    fn steps(&self) -> u128
+        ensures value { result ≡ min (steps_taken self.now.tokenizer + self.now.builder.page.tree.steps) (2 ^ 128 - 1) }
+    {
+        self.tokenizer.steps().saturating_add(self.builder.steps())
+    }
+
+    /// Whether more steps were counted than the limit, if there is one.
+    fn is_spent(&self) -> bool
+        ensures spent { result ≡ true → AreTooManySteps self.now.builder.page.tree.tree.limits (steps_taken self.now.tokenizer) self.now.builder.page.tree.steps }
+        ensures few { result ≡ false → AreFewSteps self.now.builder.page.tree.tree.limits (steps_taken self.now.tokenizer) self.now.builder.page.tree.steps }
+    {
+        passes(self.builder.limits(), self.steps())
+    }
+
+    /// Whether the next token is to be refused: more steps than the limit were counted when the last one had been taken.
+    fn is_over(&self) -> bool
+        ensures spent { result ≡ true → AreTooManySteps self.now.builder.page.tree.tree.limits (steps_taken self.now.tokenizer) self.now.builder.page.tree.steps }
+        ensures past { result ≡ false → (self.now.is_past ≡ false) ⊎ AreFewSteps self.now.builder.page.tree.tree.limits (steps_taken self.now.tokenizer) self.now.builder.page.tree.steps }
+    {
+        if self.is_past { self.is_spent() } else { false }
+    }
+
+    /// Whether there is a limit on steps that the tokens are to be counted for, one by one.
+    fn counts_steps(&self) -> bool {
+        match self.builder.limits() {
+            None => false,
+            Some(limits) => limits.steps < u64::MAX,
+        }
+    }
+
+    /// Refuses an input that was ended where more steps were counted than the limit.
+    fn check_steps(&self) -> Result<(), ParseError>
+        ensures few { OnOk result (AreFewSteps self.now.builder.page.tree.tree.limits (steps_taken self.now.tokenizer) self.now.builder.page.tree.steps) }
+        ensures cause { IfErr result (λ e. (limit : ℕ) (finished : Bool) (bytes text : List ℕ) → Decodes limit finished self.now.decoder bytes text
+            → (e ≡ ParseError.StepBudget (length text)) × AreTooManySteps self.now.builder.page.tree.tree.limits (steps_taken self.now.tokenizer) self.now.builder.page.tree.steps) }
+    {
+        if self.is_spent() {
+            let at = self.decoder.next_place();
+            return Err(ParseError::StepBudget { at });
+        }
         Ok(())
     }
 
@@ -149,6 +206,10 @@ impl<'a> Stages<'a> {
         ensures running { OnOk result (tokenizer_stopped self.new.tokenizer ≡ false) }
         ensures count { OnOk result (fed_len self.new.tokenizer ≤ fed_len self.old.tokenizer) }
     {
+        if self.counts_steps() {
+            let any = self.hand_token()?;
+            return Ok(any);
+        }
         let is_text = self.hand_run()?;
         if is_text {
             return Ok(true);
@@ -189,19 +250,27 @@ impl<'a> Stages<'a> {
         ensures further { OnOk result ((start : Start) (finished : Bool) (bytes : List ℕ) (run : Run) → IsRun start finished self.old bytes run → IsFurther start finished self.new bytes run.text) }
         ensures more { IfOk result (λ some. some ≡ true → length self.old.kept.starts < length self.new.kept.starts) }
         ensures none { IfOk result (λ some. some ≡ false → (start : Start) (finished : Bool) (bytes : List ℕ) (run : Run) → IsRun start finished self.old bytes run → IsHandedOn start finished self.new bytes run.text) }
+        ensures in_time { IfOk result (λ some. some ≡ true
+            → (self.old.is_past ≡ false) ⊎ AreFewSteps self.old.builder.page.tree.tree.limits (steps_taken self.old.tokenizer) self.old.builder.page.tree.steps) }
+        ensures noted { IfOk result (λ some. some ≡ true
+            → self.new.is_past ≡ false → AreFewSteps self.new.builder.page.tree.tree.limits (steps_taken self.new.tokenizer) self.new.builder.page.tree.steps) }
+        ensures spent { IfErr result (λ e. (at : ℕ) → e ≡ ParseError.StepBudget at → AreTooManySteps self.old.builder.page.tree.tree.limits (steps_taken self.old.tokenizer) self.old.builder.page.tree.steps) }
         ensures cause { IfErr result (λ e. (start : Start) (finished : Bool) (bytes : List ℕ) (run : Run) → IsRun start finished self.old bytes run → IsTokenCause start finished run.text e) }
         ensures keeps { self.new.kept.keeps_tokens ≡ self.old.kept.keeps_tokens }
         ensures running { OnOk result (tokenizer_stopped self.new.tokenizer ≡ false) }
         ensures count { OnOk result (fed_len self.new.tokenizer ≤ fed_len self.old.tokenizer) }
     {
         self.builder.counted();
+        let is_over = self.is_over();
         let Some(token) = self.tokenizer.next()? else {
             return Ok(false);
         };
-        let mode = self.builder.process(&token)?;
+        let mode = build(&mut self.builder, &token, is_over)?;
         self.builder.counted();
         tell(&mut self.tokenizer, mode);
         self.kept.push(token)?;
+        let is_past = self.is_spent();
+        self.is_past = is_past;
         Ok(true)
     }
 
@@ -269,6 +338,41 @@ impl<'a> Stages<'a> {
             steps,
         })
     }
+}
+
+/// Whether so many steps are more than the limit, if there is one.
+fn passes(limits: Option<Limits>, steps: u128) -> bool
+    ensures over { result ≡ true → (l : LimitsType) × (limits ≡ Some l) × (l.steps < steps) }
+    ensures few { result ≡ false → (l : LimitsType) → limits ≡ Some l → steps ≤ l.steps }
+{
+    match limits {
+        None => false,
+        Some(limits) => steps > limits.steps as u128,
+    }
+}
+
+/// Hands a token to tree construction, unless more steps were counted before it than the limit.
+fn build(
+    builder: &mut Builder,
+    token: &Token,
+    is_over: bool,
+) -> Result<Option<TextMode>, ParseError>
+    ensures takes { OnOk result (HandsIn (token.now.kind ∷ []) builder.old builder.new) }
+    ensures grows { OnOk result (AddsFates builder.old builder.new) }
+    ensures switch { IfOk result (λ m. m ≡ switch_after token.now.kind (last_of (fates_of builder.new))) }
+    ensures ok { OnOk result (builder_stopped builder.new ≡ false) }
+    ensures in_time { OnOk result (is_over ≡ false) }
+    ensures cause { IfErr result (λ e. ((e ≡ ParseError.StepBudget token.now.span.start) × (is_over ≡ true))
+        ⊎ ((b : BuildErrorKind) × (e ≡ build_cause b) × ((s : Setting) (l : Option LimitsType) (tokens : List TokenKind) → Handed s l tokens builder.old
+        → IsBuildCause s l tokens (fates_of builder.old) token.now.kind token.now.span.start b))) }
+{
+    if is_over {
+        return Err(ParseError::StepBudget {
+            at: token.span.start,
+        });
+    }
+    let mode = builder.process(token)?;
+    Ok(mode)
 }
 
 /// Tells the tokenizer how the text after the token just given is read, where that token changes it.

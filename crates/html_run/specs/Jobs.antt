@@ -15,7 +15,12 @@ limit_or_most limit = unwrap_or limit (2 ^ 64 - 1)
 
 abbrev pub limits_for : Job → Limits
 limits_for job =
-    record { nodes = limit_or_most job.max_nodes; held = limit_or_most job.max_held; code_points = limit_or_most job.max_input }
+    record {
+      nodes = limit_or_most job.max_nodes;
+      held = limit_or_most job.max_held;
+      code_points = limit_or_most job.max_input;
+      steps = limit_or_most job.max_steps;
+    }
 
 -- a document, or a fragment in the context of a name, in no form and in no quirks mode
 abbrev pub start_in : Option (List ℕ) → List Row → Limits → Start

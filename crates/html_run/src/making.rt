@@ -59,5 +59,6 @@ fn limits_of(job: &Job<'_>) -> Limits
         nodes: job.max_nodes.unwrap_or(u64::MAX),
         held: job.max_held.unwrap_or(u64::MAX),
         code_points: job.max_input.unwrap_or(u64::MAX),
+        steps: job.max_steps.unwrap_or(u64::MAX),
     }
 }

@@ -17,6 +17,7 @@ fn job_of(alloc: Global, command: Command) -> Job<'static> {
         max_nodes: None,
         max_held: None,
         max_input: None,
+        max_steps: None,
         profile: Profile::One,
         input: None,
         files: Vec::new(alloc),
@@ -356,6 +357,46 @@ fn keeps_to_limits(rt: HostRuntime) -> Result<(), Fail> {
         assert_eq!(rt; written.as_str(), want.as_str());
         assert_eq!(rt; status, DONE);
     }
+    Ok(())
+}
+
+#[test]
+fn refuses_steps_past_the_limit(rt: HostRuntime) -> Result<(), Fail> {
+    let rows = [
+        ("<!DOCTYPE html><p>One", 0, "refused: step budget at 0\n"),
+        ("<!DOCTYPE html><p>One", 20, "refused: step budget at 18\n"),
+    ];
+    for command in COMMANDS {
+        for (input, limit, line) in rows {
+            let mut job = job_of(rt.alloc(), command);
+            job.max_steps = Some(limit);
+            let (status, written, faults) = texts(rt.alloc(), &job, input)?;
+            assert_eq!(rt; faults.as_str(), line, "{command:?} of {input}");
+            assert_eq!(rt; written.as_str(), "");
+            assert_eq!(rt; status, REFUSED);
+        }
+    }
+    Ok(())
+}
+
+#[test]
+fn keeps_to_the_steps_that_it_counts(rt: HostRuntime) -> Result<(), Fail> {
+    let mut job = job_of(rt.alloc(), Command::Counts);
+    job.max_steps = Some(1_000);
+    let (_, counts, _) = texts(rt.alloc(), &job, "<p>One")?;
+    let mut last = "";
+    for word in counts.as_str().split(' ') {
+        last = word;
+    }
+    let steps = last.trim_end().parse::<u64>()?;
+    job.max_steps = Some(steps);
+    let (status, written, _) = texts(rt.alloc(), &job, "<p>One")?;
+    assert_eq!(rt; written.as_str(), counts.as_str());
+    assert_eq!(rt; status, DONE);
+    job.max_steps = Some(steps.saturating_sub(1));
+    let (status, _, faults) = texts(rt.alloc(), &job, "<p>One")?;
+    assert_eq!(rt; faults.as_str(), "refused: step budget at 6\n");
+    assert_eq!(rt; status, REFUSED);
     Ok(())
 }
 

@@ -4,7 +4,7 @@
 //! page, which has a page too, or foreign content.
 //!
 //! The first line is a table of named character references, as JSON. A row is `NAME|WORDS|PAGE`. Words are `audit`, `html`, `context=NAME`,
-//! `in_form`, `quirks`, and limits: `nodes=N`, `held=N`, `input=N`. In a page and in the name of a context `␊`, `␍`, `␀` and `␠` stand for what they show.
+//! `in_form`, `quirks`, and limits: `nodes=N`, `held=N`, `input=N`, `steps=N`. In a page and in the name of a context `␊`, `␍`, `␀` and `␠` stand for what they show.
 #![tactic(auto)]
 
 mod audit;

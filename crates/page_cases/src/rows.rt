@@ -97,13 +97,22 @@ fn ask_of<'a>(words: &str, context: Option<&'a str>) -> Result<Ask<'a>> {
                 number.parse::<u64>()?,
                 u64::MAX,
                 u64::MAX,
+                u64::MAX,
             )),
             Some(("held", number)) => ask.limits = Some(limits(
                 u64::MAX,
                 number.parse::<u64>()?,
                 u64::MAX,
+                u64::MAX,
             )),
             Some(("input", number)) => ask.limits = Some(limits(
+                u64::MAX,
+                u64::MAX,
+                number.parse::<u64>()?,
+                u64::MAX,
+            )),
+            Some(("steps", number)) => ask.limits = Some(limits(
+                u64::MAX,
                 u64::MAX,
                 u64::MAX,
                 number.parse::<u64>()?,
@@ -125,11 +134,12 @@ fn has_word(words: &str, wanted: &str) -> bool {
     words.split(' ').any(|word| word == wanted)
 }
 
-fn limits(nodes: u64, held: u64, code_points: u64) -> Limits {
+fn limits(nodes: u64, held: u64, code_points: u64, steps: u64) -> Limits {
     Limits {
         nodes,
         held,
         code_points,
+        steps,
     }
 }
 

@@ -58,6 +58,7 @@ fn within(page: &mut Page, alloc: Global, word: Word<'_>) -> Result<(), Refusal>
         nodes: number(word.first)? as u64,
         held: number(word.second)? as u64,
         code_points: 0,
+        steps: 0,
     };
     *page = Page::within(alloc, limits)?;
     Ok(())

@@ -4,7 +4,7 @@ ghost use Rattle.html_arena.specs.Tree.{WellFormed};
 ghost use Rattle.html_open.specs.Marking.{bare};
 
 use super::OpenTree;
-use html_arena::{Arena, NodeId};
+use html_arena::{Arena, Limits, NodeId};
 
 impl OpenTree {
     /// The number of nodes, which is that of the next node, too.
@@ -12,6 +12,20 @@ impl OpenTree {
         ensures count { result ≡ length self.now.tree.labels }
     {
         self.arena.len()
+    }
+
+    /// The limits to which the tree keeps, where there are any.
+    pub fn limits(&self) -> Option<Limits>
+        ensures value { result ≡ self.now.tree.limits }
+    {
+        self.arena.limits()
+    }
+
+    /// How many steps were counted so far.
+    pub fn steps(&self) -> u128
+        ensures value { result ≡ self.now.steps }
+    {
+        self.arena.meter().steps
     }
 
     /// The body that a frameset took the place of, if one did.

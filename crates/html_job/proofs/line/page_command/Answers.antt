@@ -15,7 +15,8 @@ returns-clause-app c =
     let max_nodes = arg_added _ _ _ _ _ fragment c.in_ok-arg-3.ensures c.max_nodes.ensures.local c.max_nodes.ensures.rule in
     let max_held = arg_added _ _ _ _ _ max_nodes c.in_ok-arg-4.ensures c.max_held.ensures.local c.max_held.ensures.rule in
     let max_input = arg_added _ _ _ _ _ max_held c.in_ok-arg-5.ensures c.max_input.ensures.local c.max_input.ensures.rule in
-    IfOk-weaker c.arg-6.result _ _ (λ r h. (arg_added _ r _ _ _ max_input h c.input.ensures.local c.input.ensures.rule).app) c.arg-6.ensures
+    let max_steps = arg_added _ _ _ _ _ max_input c.in_ok-arg-6.ensures c.max_steps.ensures.local c.max_steps.ensures.rule in
+    IfOk-weaker c.arg-7.result _ _ (λ r h. (arg_added _ r _ _ _ max_steps h c.input.ensures.local c.input.ensures.rule).app) c.arg-7.ensures
 
 pub returns-clause-local : goal.returns-clause-local
 returns-clause-local c =
@@ -28,4 +29,5 @@ returns-clause-local c =
     let max_nodes = arg_added _ _ _ _ _ fragment c.in_ok-arg-3.ensures c.max_nodes.ensures.local c.max_nodes.ensures.rule in
     let max_held = arg_added _ _ _ _ _ max_nodes c.in_ok-arg-4.ensures c.max_held.ensures.local c.max_held.ensures.rule in
     let max_input = arg_added _ _ _ _ _ max_held c.in_ok-arg-5.ensures c.max_input.ensures.local c.max_input.ensures.rule in
-    IfOk-weaker c.arg-6.result _ _ (λ r h. (arg_added _ r _ _ _ max_input h c.input.ensures.local c.input.ensures.rule).local) c.arg-6.ensures
+    let max_steps = arg_added _ _ _ _ _ max_input c.in_ok-arg-6.ensures c.max_steps.ensures.local c.max_steps.ensures.rule in
+    IfOk-weaker c.arg-7.result _ _ (λ r h. (arg_added _ r _ _ _ max_steps h c.input.ensures.local c.input.ensures.rule).local) c.arg-7.ensures

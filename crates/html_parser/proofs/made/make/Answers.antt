@@ -1,4 +1,4 @@
-use Rattle.std.proofs.Common.{subst, sym}
+use Rattle.std.proofs.Common.{refl, subst, sym}
 use Rattle.html_tokens.specs.Given.{steps_taken}
 use Rattle.html_builder.specs.Outcome.{IsOutcome}
 use Rattle.html_parser.proofs.Making.{Ended, made}
@@ -18,6 +18,9 @@ returns c =
           (c.finish-arena.ensures.outcome s l tokens h ends);
       plain = c.finish-arena.ensures.plain;
       plain_fates = c.finish-arena.ensures.plain_fates;
+      within = c.finish-arena.ensures.within;
+      own_is = refl;
+      arena_steps = c.finish-arena.ensures.steps;
       bounds = c.finish-arena.ensures.bounds;
       told_few = c.errors.ensures.bound;
       fed = c.errors.ensures.count;

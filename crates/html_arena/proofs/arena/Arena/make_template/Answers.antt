@@ -1,9 +1,10 @@
-use Rattle.std.proofs.Common.{◌≡◌, ◌+◌, ◌∙◌, List, [], ◌∷◌, ◌++◌, ap, length, refl, rules}
+use Rattle.std.proofs.Common.{◌≡◌, ◌+◌, ◌∙◌, List, [], ◌∷◌, ◌++◌, ap, length, refl, rules, sym}
 use Rattle.html_arena.specs.declared.data.NodeData.{NodeData}
 use Rattle.html_arena.specs.declared.data.NodeData.TheVariants.{Contents}
 use Rattle.html_arena.specs.Make.{template_element}
 use Rattle.html_arena.specs.Tree.{Tree, added_template, more}
 use Rattle.html_arena.specs.Weight.{attrs_weight, capped}
+use Rattle.html_arena.proofs.Limited.{within_at}
 use Rattle.html_arena.proofs.Template.{element_is, template_host, template_is}
 use Rattle.html_arena.proofs.arena.Arena.make_template.Goals as goal
 
@@ -14,11 +15,12 @@ invariant_of-self-2 c =
     let host = template_host (length c.self.inside.nodes.items) c.args.name c.args.tag c.args.attrs c.args.origin c.requires.tag_is c.requires.template in
     let held : c.element_held-held.result ≡ capped (length c.args.name + attrs_weight c.args.attrs) =
     c.element_held-held.ensures ∙ ap (λ l. capped (length c.args.name + attrs_weight l)) c.as_slice.ensures in
+    let room = within_at _ _ _ _ _ c.self.inside.limits _ c.self.view_is 2 _ (sym c.room_for.ensures ∙ c.in_ok-room_for.was) _ _ refl (ap (more c.self.inside.held) (sym held)) in
     let labels : c.push_node-2.new.nodes.items
     ≡ (c.self.inside.nodes.items ++ template_element (length c.self.inside.nodes.items) c.args.name c.args.tag c.args.attrs c.args.origin ∷ []) ++ Contents (length c.self.inside.nodes.items) ∷ [] =
     rw (c.push_node-2.ensures.nodes, c.push_node.ensures.nodes, c.reserve.ensures.nodes, n)
     (ap (λ (d : NodeData). (c.self.inside.nodes.items ++ d ∷ []) ++ Contents (length c.self.inside.nodes.items) ∷ []) (element_is _ _ _ _ _ _ _ c.in_ok-attrs.ensures m)) in
-    let b = template_is _ _ _ _ _ c.self.inside.limits c.self.invariant _ host _ c.self.view_is _ _ _ _ _
+    let b = template_is _ _ _ _ _ c.self.inside.limits c.self.invariant _ host room _ c.self.view_is _ _ _ _ _
     (rw (c.push_node-2.ensures.links, c.push_node.ensures.links, c.reserve.ensures.links) refl)
     labels
     (rw (c.push_node-2.ensures.marks, c.push_node.ensures.marks, c.reserve.ensures.marks) refl)
@@ -33,11 +35,12 @@ returns-clause-made c =
     let host = template_host (length c.self.inside.nodes.items) c.args.name c.args.tag c.args.attrs c.args.origin c.requires.tag_is c.requires.template in
     let held : c.element_held-held.result ≡ capped (length c.args.name + attrs_weight c.args.attrs) =
     c.element_held-held.ensures ∙ ap (λ l. capped (length c.args.name + attrs_weight l)) c.as_slice.ensures in
+    let room = within_at _ _ _ _ _ c.self.inside.limits _ c.self.view_is 2 _ (sym c.room_for.ensures ∙ c.in_ok-room_for.was) _ _ refl (ap (more c.self.inside.held) (sym held)) in
     let labels : c.push_node-2.new.nodes.items
     ≡ (c.self.inside.nodes.items ++ template_element (length c.self.inside.nodes.items) c.args.name c.args.tag c.args.attrs c.args.origin ∷ []) ++ Contents (length c.self.inside.nodes.items) ∷ [] =
     rw (c.push_node-2.ensures.nodes, c.push_node.ensures.nodes, c.reserve.ensures.nodes, n)
     (ap (λ (d : NodeData). (c.self.inside.nodes.items ++ d ∷ []) ++ Contents (length c.self.inside.nodes.items) ∷ []) (element_is _ _ _ _ _ _ _ c.in_ok-attrs.ensures m)) in
-    let b = template_is _ _ _ _ _ c.self.inside.limits c.self.invariant _ host _ c.self.view_is _ _ _ _ _
+    let b = template_is _ _ _ _ _ c.self.inside.limits c.self.invariant _ host room _ c.self.view_is _ _ _ _ _
     (rw (c.push_node-2.ensures.links, c.push_node.ensures.links, c.reserve.ensures.links) refl)
     labels
     (rw (c.push_node-2.ensures.marks, c.push_node.ensures.marks, c.reserve.ensures.marks) refl)

@@ -1,9 +1,11 @@
-use Rattle.std.proofs.Common.{◌≡◌, List, [], ◌∷◌, ◌++◌, ◌∙◌, ap}
+use Rattle.std.proofs.Common.{◌≡◌, List, [], ◌∷◌, ◌++◌, ◌∙◌, ap, length}
+use Rattle.std.proofs.lemmas.List.{length_push}
 use Rattle.html_arena.specs.Links.{blank}
 use Rattle.html_arena.specs.Marks.{no_marks}
 use Rattle.html_arena.specs.Tree.{more}
 use Rattle.html_arena.proofs.Made.{added_is}
 use Rattle.html_arena.proofs.Labels.{grown}
+use Rattle.html_arena.proofs.Limited.{within_at}
 use Rattle.html_arena.proofs.arena.Arena.place.Goals as goal
 
 pub invariant_of-self-2 : goal.invariant_of-self-2
@@ -19,6 +21,9 @@ invariant_of-self-2 c =
           (c.push_node.ensures.links ∙ ap (λ v. v ++ blank ∷ []) c.reserve.ensures.links)
           (c.push_node.ensures.nodes ∙ ap (λ v. v ++ c.args.node ∷ []) c.reserve.ensures.nodes)
           (c.push_node.ensures.marks ∙ ap (λ v. v ++ no_marks ∷ []) c.reserve.ensures.marks);
+      within = within_at _ _ _ _ _ c.self.inside.limits _ c.self.view_is 1 _ c.requires.room _ _
+          (ap length (c.push_node.ensures.nodes ∙ ap (λ v. v ++ c.args.node ∷ []) c.reserve.ensures.nodes) ∙ length_push c.self.inside.nodes.items c.args.node)
+          (c.saturating_add-self-inside.ensures ∙ ap (more c.self.inside.held) c.requires.held);
     }
 
 pub returns-clause-made : goal.returns-clause-made

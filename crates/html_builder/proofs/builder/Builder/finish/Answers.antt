@@ -2,7 +2,7 @@ use Rattle.std.proofs.Common.{subst, sym}
 use Rattle.html_ledger.specs.declared.setting.Setting.TheVariants.{Document}
 use Rattle.html_builder.specs.Handed.{Handed}
 use Rattle.html_builder.specs.Plain.{HavePlainFates}
-use Rattle.html_builder.proofs.Endings.{bounded, entries-most, outcome}
+use Rattle.html_builder.proofs.Endings.{bounded, entries-most, outcome, within}
 use Rattle.html_builder.proofs.Plainly.{page-fates, page-shown}
 use Rattle.html_builder.proofs.builder.Builder.finish.Goals as goal
 
@@ -29,3 +29,8 @@ pub returns-clause-plain_fates : goal.returns-clause-plain_fates
 returns-clause-plain_fates c = λ l ts h page p e.
     let k : Handed Document l ts (record { page = c.self.inside.construction; entries = c.self.inside.entries; stopped = c.self.inside.stopped }) = subst (λ b. Handed Document l ts b) (sym c.self.view_is) h in
     subst (HavePlainFates ts) (sym c.into_parts.ensures.fates) (page-fates ts c.self.inside.construction page p e k.plain)
+
+pub returns-clause-within : goal.returns-clause-within
+returns-clause-within c = λ s l ts h.
+    within s l ts (record { page = c.self.inside.construction; entries = c.self.inside.entries; stopped = c.self.inside.stopped }) c.into_parts.result.0
+    (subst (λ b. Handed s l ts b) (sym c.self.view_is) h) c.into_parts.ensures.nodes c.into_parts.ensures.within

@@ -4,7 +4,7 @@ use Rattle.html_input.specs.Fed.{Fed as Decodes}
 use Rattle.html_tokens.specs.Stream.{ended, fed}
 use Rattle.html_input.proofs.Feeding.{Fed-all}
 use Rattle.html_parser.specs.Start.{most_input}
-use Rattle.html_parser.proofs.Feeds.{added_none, decoder_end_refused, end_cause, end_run, is_ended, never_stopped, tokenizer_end_refused, was_going}
+use Rattle.html_parser.proofs.Feeds.{added_none, decoder_end_refused, end_cause, end_run, is_ended, never_stopped, steps_refused, tokenizer_end_refused, was_going}
 use Rattle.html_parser.proofs.stages.Stages.end.Goals as goal
 
 pub returns-in_err-finish-clause-cause : goal.returns-in_err-finish-clause-cause
@@ -42,8 +42,24 @@ returns-in_err-hand_on-clause-cause c =
     end_cause start bytes (run.text ++ c.as_slice.result.now) _ (Fed-all is.decoded).0
     (c.in_err-hand_on.ensures.cause start true bytes (ended (fed run c.as_slice.result.now)) is))
 
+pub returns-in_err-check_steps-clause-cause : goal.returns-in_err-check_steps-clause-cause
+returns-in_err-check_steps-clause-cause c =
+    let p = err_from_is_err_and c.from_residual-in_err-check_steps.result c.from_residual-in_err-check_steps.ensures.1 in
+    rw (p.1, p.2) (λ start bytes run r. steps_refused start c.hand_on.new.self bytes (run.text ++ c.as_slice.result.now) c.in_err-check_steps.field-0.0 _ _
+    (c.in_ok-hand_on.ensures.handed start true bytes (ended (fed run c.as_slice.result.now))
+    (end_run start bytes c.as_slice.result.now run c.args.self.now _ (record {
+      decodes = λ limit bytes before d. subst (λ t. Decodes limit true c.finish.new.self bytes (before ++ t))
+          (added_none _ c.finish.new.out.items c.as_slice.result.now c.clear.ensures.items c.as_slice.ensures.value c.finish.ensures.kept)
+          (c.in_ok-finish.ensures.fed limit bytes before d);
+      given = λ run f. c.in_ok-finish-2.ensures.ended (fed run c.as_slice.result.now) (c.in_ok-feed.ensures.fed run f);
+      builder = refl;
+      kept = refl;
+      running = c.finish-2.ensures.same ∙ c.in_ok-feed.ensures.ok;
+    }) r))
+    c.in_err-check_steps.ensures.cause)
+
 pub returns-clause-ended : goal.returns-clause-ended
-returns-clause-ended c = λ start bytes run r. is_ended start _ bytes (run.text ++ c.as_slice.result.now)
+returns-clause-ended c = λ start bytes run r. is_ended start _ bytes (run.text ++ c.as_slice.result.now) c.in_ok-check_steps.ensures.few
     (c.in_ok-hand_on.ensures.handed start true bytes (ended (fed run c.as_slice.result.now))
     (end_run start bytes c.as_slice.result.now run c.args.self.now _ (record {
       decodes = λ limit bytes before d. subst (λ t. Decodes limit true c.finish.new.self bytes (before ++ t))

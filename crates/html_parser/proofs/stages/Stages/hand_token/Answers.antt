@@ -6,7 +6,7 @@ use Rattle.html_tokens.specs.Given.{Fed}
 use Rattle.html_tokens.specs.Stream.{gave}
 use Rattle.html_parser.specs.Kinds.{kinds}
 use Rattle.html_parser.specs.Saying.{MaySay}
-use Rattle.html_parser.proofs.Causing.{token_refused}
+use Rattle.html_parser.proofs.Causing.{build_refused, build_spent}
 use Rattle.html_parser.proofs.Further.{one_further}
 use Rattle.html_parser.proofs.MaySaying.{may_say}
 use Rattle.html_parser.proofs.Tokenizing.{not_stopped, one_either, same_run}
@@ -54,17 +54,25 @@ invariant_of-self-in-Break-branch-3 c = record {
 pub returns-in_err-mode-clause-cause : goal.returns-in_err-mode-clause-cause
 returns-in_err-mode-clause-cause c =
     let p = err_from_is_err_and c.from_residual-in_err-mode.result c.from_residual-in_err-mode.ensures.1 in
-    rw (p.1, p.2) (λ start finished bytes run r. token_refused start finished c.args.self.now bytes run c.next.new.self c.in-Some.token
-    c.in_err-mode.field-0.0 r (c.counted.ensures.counted start.setting start.limits (kinds run.given) r.handed)
+    rw (p.1, p.2) (λ start finished bytes run r. build_refused start finished c.args.self.now bytes run c.next.new.self c.in-Some.token
+    c.is_over-is_over.result c.in_err-mode.field-0.0 _ _ r (c.counted.ensures.counted start.setting start.limits (kinds run.given) r.handed)
     ((rw c.in-Some.is at c.in_ok-token.ensures.unsaid) run r.tokenized)
-    (c.in_err-mode.ensures.cause start.setting start.limits (kinds run.given) r.handed))
+    c.is_over-is_over.ensures.spent c.in_err-mode.ensures.cause)
+
+pub returns-in_err-mode-clause-spent : goal.returns-in_err-mode-clause-spent
+returns-in_err-mode-clause-spent c =
+    let p = err_from_is_err_and c.from_residual-in_err-mode.result c.from_residual-in_err-mode.ensures.1 in
+    rw (p.1, p.2) (λ at told. build_spent c.is_over-is_over.result c.in_err-mode.field-0.0 at c.in-Some.token.span.start _ _ _ c.is_over-is_over.ensures.spent c.in_err-mode.ensures.cause told)
+
+pub returns-clause-in_time : goal.returns-clause-in_time
+returns-clause-in_time c = λ some. c.is_over-is_over.ensures.past c.in_ok-mode.ensures.in_time
 
 pub returns-clause-further : goal.returns-clause-further
 returns-clause-further c =
     let token = c.in-Some.token in
     let given = rw c.in-Some.is at c.in_ok-token.ensures.given in
     let unsaid = rw c.in-Some.is at c.in_ok-token.ensures.unsaid in
-    let says = may_say token.kind (last_of (fates_of c.process.new.self)) in
+    let says = may_say token.kind (last_of (fates_of c.build.new.builder)) in
     λ start finished bytes run r. one_further start finished bytes run c.args.self.now _ token
     (record {
       decoder = refl;
