@@ -384,11 +384,10 @@ fn keeps_to_the_steps_that_it_counts(rt: HostRuntime) -> Result<(), Fail> {
     let mut job = job_of(rt.alloc(), Command::Counts);
     job.max_steps = Some(1_000);
     let (_, counts, _) = texts(rt.alloc(), &job, "<p>One")?;
-    let mut last = "";
-    for word in counts.as_str().split(' ') {
-        last = word;
-    }
-    let steps = last.trim_end().parse::<u64>()?;
+    let steps = match counts.as_str().split_once("steps ") {
+        Some((_, rest)) => rest.trim_end().parse::<u64>()?,
+        None => 0,
+    };
     job.max_steps = Some(steps);
     let (status, written, _) = texts(rt.alloc(), &job, "<p>One")?;
     assert_eq!(rt; written.as_str(), counts.as_str());
