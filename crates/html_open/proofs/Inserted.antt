@@ -14,7 +14,7 @@ use Rattle.html_open.specs.declared.places.Place.{Place}
 use Rattle.html_open.specs.declared.places.Place.TheVariants.{Last, Before}
 use Rattle.html_open.specs.Marking.{charged}
 use Rattle.html_open.specs.Opened.{origin_at}
-use Rattle.html_open.specs.Placing.{IsPlace, parent_at, put}
+use Rattle.html_open.specs.Placing.{AreTemplatesEmpty, IsPlace, parent_at, put}
 use Rattle.html_open.specs.Reopenings.{IsInserted}
 use Rattle.html_open.specs.Rooting.{KeepsParents}
 use Rattle.html_open.proofs.Keeps.{has-tail}
@@ -89,6 +89,7 @@ module _ (t m new : Tree) (at : Place) (c x : ℕ) where
         not_above = λ y l. rw (up y l) (without-self y c (ancestors m y) (subst (λ v. has v (y ∷ ancestors m y) ≡ false) (sym i) (g.not_above y (length t.labels) l (omega arith))) i);
         same_children = λ y l n. children y (λ q. n (sym (parent-same t m at g.same_parent) ∙ q)) ∙ g.same_children y;
         same_parents = λ y l. parents y (λ q. (let r : y ≡ length t.labels = q ∙ i in omega arith)) ∙ g.same_parent y;
+        parent_is = ap (parent_of new) (sym i) ∙ own ∙ parent-same t m at g.same_parent;
         linked = λ q. parent-there t at there (sym (parent-same t m at g.same_parent) ∙ sym own ∙ ap (parent_of new) i ∙ q);
       }
     where
@@ -103,6 +104,7 @@ inserted-charged t new k at x r = record {
   not_above = r.not_above;
   same_children = λ y l n. r.same_children y l (λ q. n (sym (parent-charged t k at) ∙ q));
   same_parents = r.same_parents;
+  parent_is = r.parent_is ∙ parent-charged t k at;
   linked = r.linked;
 }
 
@@ -151,8 +153,8 @@ module _ (t new : Tree) (at : Place) (x : ℕ) (r : IsInserted t new at x) where
   element-new h = subst IsElement (sym label-new) (cloned-element (label_of t x) h)
 
 -- the parents of all others stay, and the clone has one
-pub parents-inserted : (t new v : Tree) (at : Place) (x : ℕ) → IsInserted t new at x → v.labels ≡ new.labels → v.parents ≡ new.parents → KeepsParents t v
-parents-inserted t new v at x r e f =
+pub parents-inserted : (t new v : Tree) (at : Place) (x : ℕ) → IsInserted t new at x → v.labels ≡ new.labels → v.parents ≡ new.parents → (AreTemplatesEmpty t → AreTemplatesEmpty v) → KeepsParents t v
+parents-inserted t new v at x r e f g =
     let l = longer t new at x r in
     let m = ap length e in
     record {
@@ -160,4 +162,5 @@ parents-inserted t new v at x r e f =
       linked = λ y a b q.
           let i : y ≡ length t.labels = omega (arith, l, m, a, b) in
           r.linked (sym (ap (parent_of new) i) ∙ sym (ap (λ ps. get_or ps y None) f) ∙ q);
+      templates = g;
     }

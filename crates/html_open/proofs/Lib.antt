@@ -44,3 +44,4 @@ pub mod Enduring
 pub mod Narrowing
 pub mod Outcomes
 pub mod Bounding
+pub mod Templates

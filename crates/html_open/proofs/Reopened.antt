@@ -220,6 +220,7 @@ parents-then t u v l h k = record {
     | inl e ↦ (let i = lt-of x (length u.labels) e in h.linked x a i (sym (k.same x i) ∙ q))
     | inr e ↦ k.linked x (ge-of x (length u.labels) e) b q
   ];
+  templates = λ n. k.templates (h.templates n);
 }
 
 -- so far, the entries before an index are done
@@ -280,7 +281,7 @@ reopening-begin f s l t i k h c e g =
       same_labels = λ y j. refl;
       same_off = λ y j q. q;
       keeps_closed = λ y el off none. refl;
-      parents = record { same = λ y j. refl; linked = λ y a b q. absurd (omega arith) };
+      parents = record { same = λ y j. refl; linked = λ y a b q. absurd (omega arith); templates = λ n. n };
       causes = λ a p. same-passed (charged t k) t s f (closed o) a refl p;
     }
   where

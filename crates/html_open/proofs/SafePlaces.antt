@@ -38,7 +38,7 @@ template-ends t x h = ap (ends_scope scope.Default) (same-tag (tag_at t x) tag.T
 no-table : (t : Tree) (x : ℕ) → is_formatting (tag_at t x) ≡ true → table t x ≡ true → ⊥
 no-table t x f h = (let e = ap is_formatting (same-tag (tag_at t x) tag.Table h) in let k : false ≡ true = sym e ∙ f in cc)
 
-no-template : (t : Tree) (x : ℕ) → is_formatting (tag_at t x) ≡ true → template t x ≡ true → ⊥
+pub no-template : (t : Tree) (x : ℕ) → is_formatting (tag_at t x) ≡ true → template t x ≡ true → ⊥
 no-template t x f h = (let e = ap is_formatting (same-tag (tag_at t x) tag.Template h) in let k : false ≡ true = sym e ∙ f in cc)
 
 -- searches

@@ -1,5 +1,5 @@
 -- The appropriate place for inserting a node (13.2.6.1).
-use Rattle.std.specs.Prelude.{◌≡◌, ◌≢◌, ℕ, ◌+◌, ◌<◌, Bool, true, cond, ◌&&◌, List, [], ◌∷◌, length, Option, Some, None}
+use Rattle.std.specs.Prelude.{◌≡◌, ◌≢◌, ℕ, ◌+◌, ◌<◌, Bool, true, false, cond, ◌&&◌, List, [], ◌∷◌, length, Option, Some, None}
 use Rattle.std.specs.List.{list_any}
 use Rattle.html_names.specs.Sets.{is_fostering}
 use Rattle.html_names.specs.declared.tag.Tag.TheVariants as tag
@@ -18,6 +18,10 @@ template t x = named t tag.Template x
 abbrev pub get : Option ℕ → ℕ → ℕ
 get None d = d
 get (Some x) d = x
+
+-- No template has children of its own: what is put into one stands in its contents (4.12.3).
+abbrev pub AreTemplatesEmpty : Tree → Type 0
+AreTemplatesEmpty t = (x p : ℕ) → parent_of t x ≡ Some p → template t p ≡ false
 
 -- a template stands for its contents
 abbrev pub inside : Tree → ℕ → ℕ

@@ -37,6 +37,7 @@ pub record IsInserted (old new : Tree) (at : Place) (x : ℕ) : Type 0 where
   pub not_above : (y : ℕ) → y < length old.labels → has (length old.labels) (ancestors new y) ≡ false
   pub same_children : (y : ℕ) → y < length old.labels → parent_at old at ≢ Some y → children_of new y ≡ children_of old y
   pub same_parents : (y : ℕ) → y < length old.labels → parent_of new y ≡ parent_of old y
+  pub parent_is : parent_of new (length old.labels) ≡ parent_at old at
   pub linked : parent_of new (length old.labels) ≢ None
 
 -- the clone of x would pass the budget where one is told, and would not where memory was refused

@@ -88,7 +88,7 @@ beyond h b d [] (suc y) i l e = no-token h b y i e
 beyond h b d (x ∷ xs) zero i l e = absurd (omega arith)
 beyond h b d (x ∷ xs) (suc y) i l e = beyond h b d xs y i (omega arith) e
 
-beyond-contents : (h : ℕ) (b : Bool) (d : NodeData) (xs : List NodeData) (y : ℕ) → length xs < y → y < length (xs ++ d ∷ rest_of h b) → host_in (get_or (xs ++ d ∷ rest_of h b) y node.Document) ≡ Some h
+pub beyond-contents : (h : ℕ) (b : Bool) (d : NodeData) (xs : List NodeData) (y : ℕ) → length xs < y → y < length (xs ++ d ∷ rest_of h b) → host_in (get_or (xs ++ d ∷ rest_of h b) y node.Document) ≡ Some h
 beyond-contents h b d [] zero l m = absurd (omega arith)
 beyond-contents h true d [] (suc zero) l m = refl
 beyond-contents h true d [] (suc (suc y)) l m = absurd (omega arith)

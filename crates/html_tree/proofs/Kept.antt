@@ -149,7 +149,7 @@ module _ (s s' : List ℕ) (l l' : List Entry) (t u : Tree) (n m : ℕ) (h f d :
     root = root;
     tokens = tokens;
     head = named-later t u tag.Head h le e p.head;
-    form = λ x i. (let b = p.form x i in omega arith);
+    form = named-later t u tag.Form f le e p.form;
     detached = named-later t u tag.Body d le e p.detached;
   })
 

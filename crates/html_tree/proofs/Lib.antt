@@ -15,3 +15,4 @@ pub mod Limited
 pub mod Roots
 pub mod Seating
 pub mod Scoped
+pub mod Standing

@@ -34,7 +34,7 @@ use Rattle.html_tree.proofs.SearchEnds.{any-mid}
 use Rattle.html_tree.proofs.OpenTags.{same-tags, clone-tag}
 
 -- what stands on what
-plain-sits : (g h : Tag) → is_part g ≡ false → sits_on g h ≡ true
+pub plain-sits : (g h : Tag) → is_part g ≡ false → sits_on g h ≡ true
 plain-sits g h = by (is_cell g) (is_same g tag.Tr) (is_table_part g) (is_row_context h) (is_section_context h) (is_table_context h)
   where
     by : (a b c x y z : Bool) → a || (b || c) ≡ false → cond a x (cond b y (cond c z true)) ≡ true
@@ -47,7 +47,7 @@ or-false : (a b : Bool) → a || b ≡ false → (a ≡ false) × (b ≡ false)
 or-false true b h = absurd (false≢true (sym h))
 or-false false b h = (refl, h)
 
-not-part : (g h : Tag) → sits_on g h ≡ true → carries_part h ≡ false → is_part g ≡ false
+pub not-part : (g h : Tag) → sits_on g h ≡ true → carries_part h ≡ false → is_part g ≡ false
 not-part g h e n = by (is_cell g) (is_same g tag.Tr) (is_table_part g) (is_row_context h) (is_section_context h) (is_table_context h) e n
   where
     go : (a b c : Bool) → cond a false (cond b false (cond c false true)) ≡ true → a || (b || c) ≡ false
@@ -59,7 +59,7 @@ not-part g h e n = by (is_cell g) (is_same g tag.Tr) (is_table_part g) (is_row_c
     by : (a b c x y z : Bool) → cond a x (cond b y (cond c z true)) ≡ true → x || (y || z) ≡ false → a || (b || c) ≡ false
     by a b c x y z k m = (let p = or-false x (y || z) m in let q = or-false y z p.1 in go a b c (rw (p.0, q.0, q.1) at k))
 
-formatting-plain : (g : Tag) → is_formatting g ≡ true → is_part g ≡ false
+pub formatting-plain : (g : Tag) → is_formatting g ≡ true → is_part g ≡ false
 formatting-plain tag.A h = refl
 formatting-plain tag.B h = refl
 formatting-plain tag.Big h = refl
@@ -103,11 +103,11 @@ formatting-carries : (g : Tag) → is_formatting g ≡ true → carries_part g �
 formatting-carries g h = plain-carries g (formatting-ordinary g h)
 
 -- the elements from the first on
-abbrev OnTop : Tree → ℕ → List ℕ → Type 0
+abbrev pub OnTop : Tree → ℕ → List ℕ → Type 0
 OnTop t x [] = Unit {0}
 OnTop t x (y ∷ ys) = sits_on (tag_at t y) (tag_at t x) ≡ true
 
-abbrev Up : Tree → List ℕ → Type 0
+abbrev pub Up : Tree → List ℕ → Type 0
 Up t [] = Unit {0}
 Up t (x ∷ xs) = OnTop t x xs × Up t xs
 
@@ -127,14 +127,14 @@ cons-tags t x s = reverse_onto (map (tag_at t) s) (tag_at t x) []
 two-tags : (t : Tree) (x y : ℕ) (s : List ℕ) → tags_down t (x ∷ y ∷ s) ≡ tags_down t s ++ tag_at t y ∷ tag_at t x ∷ []
 two-tags t x y s = cons-tags t x (y ∷ s) ∙ ap (λ v. v ++ tag_at t x ∷ []) (cons-tags t y s) ∙ append_assoc (tags_down t s) (tag_at t y ∷ []) (tag_at t x ∷ [])
 
-up-of : (t : Tree) (s : List ℕ) → AreSeated (tags_down t s) → Up t s
+pub up-of : (t : Tree) (s : List ℕ) → AreSeated (tags_down t s) → Up t s
 up-of t [] h = tt
 up-of t (x ∷ []) h = (tt, tt)
 up-of t (x ∷ y ∷ s) h =
     (let c = seated-cut (tags_down t s) (tag_at t y) (tag_at t x ∷ []) (subst AreSeated (two-tags t x y s) h) in
     (c.1.0, up-of t (y ∷ s) (subst AreSeated (sym (cons-tags t y s)) c.0)))
 
-of-up : (t : Tree) (s : List ℕ) → Up t s → AreSeated (tags_down t s)
+pub of-up : (t : Tree) (s : List ℕ) → Up t s → AreSeated (tags_down t s)
 of-up t [] h = tt
 of-up t (x ∷ []) h = (tt, tt)
 of-up t (x ∷ y ∷ s) h =
@@ -260,7 +260,7 @@ above-here : (p : ℕ → Bool) (xs : List ℕ) (k : ℕ) (ys : List ℕ) → p 
 above-here p [] k ys h n = rw (n, h) refl
 above-here p (x ∷ xs) k ys h n = rw (any-mid p xs k ys h) (above-here p xs k ys h n)
 
-up-before : (t : Tree) (xs ys : List ℕ) → Up t (xs ++ ys) → Up t xs
+pub up-before : (t : Tree) (xs ys : List ℕ) → Up t (xs ++ ys) → Up t xs
 up-before t [] ys h = tt
 up-before t (x ∷ []) ys h = (tt, tt)
 up-before t (x ∷ z ∷ xs) ys h = (h.0, up-before t (z ∷ xs) ys h.1)
@@ -280,7 +280,7 @@ in-scope t f X Y d h = sym (ap (list_any (ends t scope.Default)) here) ∙ not-t
     and-right false b k = absurd (false≢true k)
 
 module _ (s : Tag) (foster : Bool) (o p : Open) (i : IsOpen o) (r : Round s foster o p) where
-  made : MadeClones o p.tree
+  pub made : MadeClones o p.tree
   made = round-made s foster o p r i
 
   old-tag : (x : ℕ) → has x o.stack ≡ true → tag_at p.tree x ≡ tag_at o.tree x
@@ -313,39 +313,47 @@ module _ (s : Tag) (foster : Bool) (o p : Open) (i : IsOpen o) (r : Round s fost
     | inr q ↦ plain-carries (tag_at o.tree x) (any-none (special o.tree) r.inner r.none_between x (sym (ap (λ c. cond c true (has x r.inner)) q.0) ∙ b))
   ]
 
-  g-in : has r.g o.stack ≡ true
+  pub g-in : has r.g o.stack ≡ true
   g-in = in-old r.g (in-right r.g r.lower (r.a ∷ r.f ∷ (r.inner ++ (r.g ∷ r.upper))) (in-later r.g r.a (r.f ∷ (r.inner ++ (r.g ∷ r.upper))) (in-later r.g r.f (r.inner ++ (r.g ∷ r.upper)) (in-right r.g r.inner (r.g ∷ r.upper) (in-first r.g r.upper)))))
 
-  g-no-end : ends_default_scope (tag_at o.tree r.g) ≡ false
+  pub g-no-end : ends_default_scope (tag_at o.tree r.g) ≡ false
   g-no-end =
       let e : o.stack ≡ (r.lower ++ r.a ∷ []) ++ r.f ∷ (r.inner ++ (r.g ∷ r.upper)) = r.stack_was ∙ sym (append_assoc r.lower (r.a ∷ []) (r.f ∷ (r.inner ++ (r.g ∷ r.upper)))) in
       any-none (ends o.tree scope.Default) (r.inner ++ (r.g ∷ r.upper))
       (in-scope o.tree r.f (r.lower ++ r.a ∷ []) (r.inner ++ (r.g ∷ r.upper)) (subst Distinct e i.stack_once) (subst (λ v. element_in_scope o.tree r.f v ≡ true) e r.in_scope))
       r.g (in-right r.g r.inner (r.g ∷ r.upper) (in-first r.g r.upper))
 
+  up : AreSeated (tags_down o.tree o.stack) → Up p.tree (r.lower ++ (r.a ∷ r.f ∷ (r.inner ++ (r.g ∷ r.upper))))
+  up h = up-same o.tree p.tree (r.lower ++ (r.a ∷ r.f ∷ (r.inner ++ (r.g ∷ r.upper)))) (λ x b. old-tag x (in-old x b)) (up-of o.tree (r.lower ++ (r.a ∷ r.f ∷ (r.inner ++ (r.g ∷ r.upper)))) (subst (λ v. AreSeated (tags_down o.tree v)) r.stack_was h))
+
+  from-f : AreSeated (tags_down o.tree o.stack) → Up p.tree (r.f ∷ (r.inner ++ (r.g ∷ r.upper)))
+  from-f h = (up-tail p.tree r.lower (r.a ∷ r.f ∷ (r.inner ++ (r.g ∷ r.upper))) (up h)).1
+
+  -- g is no part, and carries none
+  pub g-plain : AreSeated (tags_down o.tree o.stack) → is_part (tag_at p.tree r.g) ≡ false
+  g-plain h = up-under p.tree r.f r.inner r.g r.upper (from-f h) carries-none
+
+  pub g-carries : AreSeated (tags_down o.tree o.stack) → carries_part (tag_at p.tree r.g) ≡ false
+  g-carries h = elim (cases_bool (carries_part (tag_at p.tree r.g))) [
+    | inl c ↦ absurd (false≢true (sym g-no-end ∙ (ap ends_default_scope (sym (old-tag r.g g-in)) ∙ carrier-ends (tag_at p.tree r.g) c (g-plain h))))
+    | inr c ↦ c
+  ]
+
   round-seated : AreSeated (tags_down o.tree o.stack) → AreSeated (tags_down p.tree p.stack)
   round-seated h =
-      let up : Up p.tree (r.lower ++ (r.a ∷ r.f ∷ (r.inner ++ (r.g ∷ r.upper)))) =
-      up-same o.tree p.tree (r.lower ++ (r.a ∷ r.f ∷ (r.inner ++ (r.g ∷ r.upper)))) (λ x b. old-tag x (in-old x b)) (up-of o.tree (r.lower ++ (r.a ∷ r.f ∷ (r.inner ++ (r.g ∷ r.upper)))) (subst (λ v. AreSeated (tags_down o.tree v)) r.stack_was h)) in
-      let from-f : Up p.tree (r.f ∷ (r.inner ++ (r.g ∷ r.upper))) = (up-tail p.tree r.lower (r.a ∷ r.f ∷ (r.inner ++ (r.g ∷ r.upper))) up).1 in
-      let from-g : Up p.tree (r.g ∷ r.upper) = up-tail p.tree r.inner (r.g ∷ r.upper) from-f.1 in
-      let g-plain = up-under p.tree r.f r.inner r.g r.upper from-f carries-none in
-      let g-carries : carries_part (tag_at p.tree r.g) ≡ false = elim (cases_bool (carries_part (tag_at p.tree r.g))) [
-        | inl c ↦ absurd (false≢true (sym g-no-end ∙ (ap ends_default_scope (sym (old-tag r.g g-in)) ∙ carrier-ends (tag_at p.tree r.g) c g-plain)))
-        | inr c ↦ c
-      ] in
-      let from-k = up-instead p.tree r.g r.k r.upper from-g g-carries in
-      let from-a = up-plain p.tree r.a (clones_down (length o.tree.labels) (length r.cs)) r.g (r.k ∷ r.upper) down-plain g-plain (plain-sits (tag_at p.tree r.k) (tag_at p.tree r.g) k-plain, from-k) in
+      let from-g : Up p.tree (r.g ∷ r.upper) = up-tail p.tree r.inner (r.g ∷ r.upper) (from-f h).1 in
+      let from-k = up-instead p.tree r.g r.k r.upper from-g (g-carries h) in
+      let from-a = up-plain p.tree r.a (clones_down (length o.tree.labels) (length r.cs)) r.g (r.k ∷ r.upper) down-plain (g-plain h) (plain-sits (tag_at p.tree r.k) (tag_at p.tree r.g) k-plain, from-k) in
       subst (λ v. AreSeated (tags_down p.tree v)) (sym r.stack_is)
       (of-up p.tree (r.lower ++ (r.a ∷ (clones_down (length o.tree.labels) (length r.cs) ++ (r.g ∷ r.k ∷ r.upper))))
-      (up-join p.tree r.lower r.a (clones_down (length o.tree.labels) (length r.cs) ++ (r.g ∷ r.k ∷ r.upper)) (up-front p.tree r.lower r.a (r.f ∷ (r.inner ++ (r.g ∷ r.upper))) up) from-a))
+      (up-join p.tree r.lower r.a (clones_down (length o.tree.labels) (length r.cs) ++ (r.g ∷ r.k ∷ r.upper)) (up-front p.tree r.lower r.a (r.f ∷ (r.inner ++ (r.g ∷ r.upper))) (up h)) from-a))
 
 -- rounds, and how they end
-rounds-open : (s : Tag) (foster : Bool) (n : ℕ) (o p : Open) → IsOpen o → Rounds s foster n o p → IsOpen p
+pub rounds-open : (s : Tag) (foster : Bool) (n : ℕ) (o p : Open) → IsOpen o → Rounds s foster n o p → IsOpen p
 rounds-open s foster n o p i (no_round q) = i
 rounds-open s foster n o p i (one_more m a b c rs r) = r.is_open
 
-rounds-seated : (s : Tag) (foster : Bool) (n : ℕ) (o p : Open) → IsOpen o → Rounds s foster n o p → AreSeated (tags_down o.tree o.stack) → AreSeated (tags_down p.tree p.stack)
+pub rounds-seated : (s : Tag) (foster : Bool) (n : ℕ) (o p : Open) → IsOpen o → Rounds s foster n o p → AreSeated (tags_down o.tree o.stack) → AreSeated (tags_down p.tree p.stack)
 rounds-seated s foster n o p i (no_round q) h = h
 rounds-seated s foster n o p i (one_more m a b c rs r) h = round-seated s foster b c (rounds-open s foster m a b i rs) r (rounds-seated s foster m a b i rs h)
 

@@ -41,7 +41,7 @@ abbrev pub IsNamed : Tree → Tag → Option ℕ → Type 0
 IsNamed t g o = (x : ℕ) → o ≡ Some x → (x < length t.labels) × (named t g x ≡ true)
 
 -- What fits together; the first open element is an html, and it is node 0 where that is an element; all nodes were made for the first n
--- tokens; the pointers are nodes of their names.
+-- tokens; the pointers are elements of their names.
 pub record IsUnderWay (s : List ℕ) (l : List Entry) (t : Tree) (n : ℕ) (h f d : Option ℕ) : Type 0 where
   pub is_open : IsOpen (open_at s l t)
   pub some_node : 0 < length t.labels
@@ -49,7 +49,7 @@ pub record IsUnderWay (s : List ℕ) (l : List Entry) (t : Tree) (n : ℕ) (h f 
   pub root : IsElement (label_of t 0) → first_of s ≡ Some 0
   pub tokens : (x i : ℕ) → origin_at t x ≡ Token i → i < n
   pub head : IsNamed t tag.Head h
-  pub form : IsNode t f
+  pub form : IsNamed t tag.Form f
   pub detached : IsNamed t tag.Body d
 
 -- a document in which nothing is open, after so many steps
@@ -100,5 +100,5 @@ pub record IsSound (a : State) : Type 0 where
   pub shared_origins : AreOneByOrigin a.tree (nodes_of a.list) a.stack
   pub tokens : (x i : ℕ) → origin_at a.tree x ≡ Token i → i < a.tokens
   pub head : IsNamed a.tree tag.Head a.head
-  pub form : IsNode a.tree a.form
+  pub form : IsNamed a.tree tag.Form a.form
   pub detached : IsNamed a.tree tag.Body a.detached

@@ -5,6 +5,7 @@
 mod groups;
 mod paragraphs;
 mod search;
+mod seats;
 mod target;
 mod tree;
 

@@ -4,7 +4,7 @@ ghost use Rattle.html_names.specs.Sets.{is_formatting};
 ghost use Rattle.html_arena.specs.Budget.{RefusedBy, budget};
 ghost use Rattle.html_arena.specs.Data.{IsElement, IsText, tag_in};
 ghost use Rattle.html_arena.specs.Make.{CanMake, label_for, made_weight, makes_child, nodes_made};
-ghost use Rattle.html_arena.specs.Tree.{Tree, label_of, parent_of};
+ghost use Rattle.html_arena.specs.Tree.{Tree, WellFormed, label_of, parent_of};
 ghost use Rattle.html_open.specs.declared.entry.Entry.{Entry};
 ghost use Rattle.html_open.specs.Marking.{charged};
 ghost use Rattle.html_open.specs.Opened.{AreNodes, CanList, CanPush, IsOpen, IsUnseen, open_at};
@@ -77,6 +77,7 @@ pub(crate) fn put_new(
     requires child { makes_child new ≡ true }
     ensures id { IfOk result (λ id. id ≡ length arena.old.labels) }
     ensures new { OnOk result (IsNew arena.old arena.new (place_at arena.old stack.now head target) new (length stack.now + 3)) }
+    ensures well_formed { WellFormed arena.old × WellFormed arena.new }
     ensures within { OnOk result (budget arena.old (nodes_made new) (made_weight arena.old new) ≡ Ok tt) }
     ensures same { OnErr result (arena.new ≡ record arena.old { steps = arena.new.steps }) }
     ensures cause { IfErr result (λ e. RefusedBy (budget arena.old (nodes_made new) (made_weight arena.old new)) e) }
@@ -86,7 +87,9 @@ pub(crate) fn put_new(
 {
     arena.forest();
     let place = place_at(stack, arena, head, target);
-    insert(arena, place, new)
+    let node = insert(arena, place, new);
+    arena.forest();
+    node
 }
 
 /// The text just before a place.

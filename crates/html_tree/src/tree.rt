@@ -10,6 +10,7 @@ ghost use Rattle.html_arena.specs.Make.{made};
 ghost use Rattle.html_arena.specs.Tree.{empty_tree, more, named};
 ghost use Rattle.html_open.specs.Marking.{bare};
 ghost use Rattle.html_tree.specs.Inserting.{IsBudget, IsLack, root_budget};
+ghost use Rattle.html_tree.specs.Seats.{HasSeats};
 ghost use Rattle.html_tree.specs.States.{IsUnderWay};
 ghost use Rattle.html_tree.specs.OpenTags.{open_tags};
 ghost use Rattle.html_tree.specs.Since.{Grown, Keeps};
@@ -50,17 +51,19 @@ pub struct OpenTree {
 impl Model for OpenTree {
     ghost use Rattle.html_tree.specs.States.{State, IsUnderWay, state_of};
     ghost use Rattle.html_tree.specs.Paragraphs.{p_ends_of};
+    ghost use Rattle.html_tree.specs.Seats.{HasSeats};
     ghost use Rattle.std.specs.Prelude.{◌≡◌};
 
     ghost Value = { State };
 
     ghost view = { λ p. state_of p.stack p.list p.arena p.tokens p.head p.form p.detached };
 
-    ghost invariant = { λ p. IsUnderWay p.stack p.list p.arena p.tokens p.head p.form p.detached × (p.p_ends.items ≡ p_ends_of p.arena p.stack) };
+    ghost invariant = { λ p. IsUnderWay p.stack p.list p.arena p.tokens p.head p.form p.detached × (p.p_ends.items ≡ p_ends_of p.arena p.stack) × HasSeats p.arena p.stack };
 }
 
 impl OpenTree {
-    ghost use Rattle.html_tree.specs.States.{IsNode, IsSound, document_state, fragment_state};
+    ghost use Rattle.html_tree.specs.Seats.{HasSeats};
+    ghost use Rattle.html_tree.specs.States.{IsNamed, IsSound, document_state, fragment_state};
 
     /// A document in which nothing is open.
     ///
@@ -162,6 +165,7 @@ impl OpenTree {
     /// What is always true of a tree under construction: a law.
     pub fn laws(&self)
         ensures sound { IsSound self.now }
+        ensures seats { HasSeats self.now.tree self.now.stack }
         ensures depth { length (open_tags self.now) ≡ length self.now.stack }
         ensures deepest { 0 < length self.now.stack → slice_get (reverse (open_tags self.now)) 0 ≡ Some tag.Html }
         ensures counted { self.now.steps < 2 ^ 128 }
@@ -216,7 +220,7 @@ impl OpenTree {
 
     /// Points to a form, or to none.
     pub fn set_form(&mut self, node: Option<NodeId>)
-        requires { IsNode self.old.tree node }
+        requires { IsNamed self.old.tree tag.Form node }
         ensures exact { self.new ≡ record self.old { form = node } }
         ensures keeps { Keeps self.old self.new }
         ensures grown { Grown 0 0 0 0 self.old self.new }
@@ -237,6 +241,7 @@ fn push_root(stack: &mut OpenStack, arena: &mut Arena, alloc: Global) -> Result<
     requires empty { (l : Option Limits) × (arena.old ≡ empty_tree l) }
     ensures under_way { OnOk result (IsUnderWay stack.new [] arena.new 0 None None None) }
     ensures stack { OnOk result (stack.new ≡ 0 ∷ []) }
+    ensures seats { OnOk result (HasSeats arena.new stack.new) }
     ensures tree { OnOk result (bare arena.new ≡ bare (made arena.old (Element (name_of tag.Html) [] Implied))) }
     ensures steps { OnOk result (arena.new.steps ≤ arena.old.steps + 2) }
     ensures cause { IfErr result (λ e. IsBudget (root_budget arena.old) e) }

@@ -11,7 +11,7 @@ ghost use Rattle.html_tree.specs.Groups.{in_group, is_context};
 ghost use Rattle.html_tree.specs.OpenTags.{HasClosed, HasContext, HasFewer, IsLighter, back_to, is_tag_in_scope, open_tags};
 ghost use Rattle.html_tree.specs.Paragraphs.{seeks_p};
 ghost use Rattle.html_tree.specs.Searching.{found};
-ghost use Rattle.html_tree.specs.Seats.{AreSeated, carries_part};
+ghost use Rattle.html_tree.specs.Seats.{carries_part};
 ghost use Rattle.html_tree.specs.Since.{Grown, Keeps};
 
 use super::OpenTree;
@@ -31,7 +31,6 @@ impl OpenTree {
         ensures grown { Grown 0 0 0 0 self.old self.new }
         ensures few { HasFewer self.old self.new }
         ensures lighter { IsLighter self.old self.new }
-        ensures seated { AreSeated (open_tags self.old) → AreSeated (open_tags self.new) }
     {
         let count = self.stack.len();
         let kept = kept_to(count, len);
@@ -49,7 +48,6 @@ impl OpenTree {
         ensures tags { 1 < length self.old.stack → open_tags self.new ≡ drop 1 (open_tags self.old) }
         ensures few { HasFewer self.old self.new }
         ensures lighter { IsLighter self.old self.new }
-        ensures seated { AreSeated (open_tags self.old) → AreSeated (open_tags self.new) }
     {
         let count = self.stack.len();
         self.pop_to(count.saturating_sub(1));
@@ -69,7 +67,6 @@ impl OpenTree {
         ensures lighter { IsLighter self.old self.new }
         ensures same { result ≡ false → open_tags self.new ≡ open_tags self.old }
         ensures closed { result ≡ true → in_group group tag.Html ≡ false → open_tags self.new ≡ after_first (in_group group) (open_tags self.old) }
-        ensures seated { AreSeated (open_tags self.old) → AreSeated (open_tags self.new) }
         ensures found { result ≡ true → in_group group tag.Html ≡ false → HasClosed group self.old self.new }
     {
         self.laws();
@@ -91,7 +88,6 @@ impl OpenTree {
         ensures few { HasFewer self.old self.new }
         ensures lighter { IsLighter self.old self.new }
         ensures cleared { open_tags self.new ≡ back_to (is_context context) (open_tags self.old) }
-        ensures seated { AreSeated (open_tags self.old) → AreSeated (open_tags self.new) }
         ensures context { HasContext context self.new }
     {
         self.laws();
@@ -126,7 +122,6 @@ impl OpenTree {
         ensures few { HasFewer self.old self.new }
         ensures lighter { IsLighter self.old self.new }
         ensures left { open_tags self.new ≡ back_to (tag_stays except) (open_tags self.old) }
-        ensures seated { AreSeated (open_tags self.old) → AreSeated (open_tags self.new) }
     {
         let nodes = self.stack.as_slice();
         let at = last_index(nodes, &self.arena, Sought::Staying(except));
@@ -136,15 +131,15 @@ impl OpenTree {
         self.pop_to(end);
     }
 
-    /// Closes an element, wherever it stands, unless it is the first. At most two steps for each open element, and one.
+    /// Closes an element on which no part of a table stands, wherever it is, unless it is the first. At most two steps for each open element, and one.
     pub fn remove_open(&mut self, node: NodeId)
-        requires { node < length self.old.tree.labels }
+        requires node_in { node < length self.old.tree.labels }
+        requires plain { carries_part (tag_at self.old.tree node) ≡ false }
         ensures exact { self.new ≡ record self.old { stack = remaining node self.old.stack; steps = self.new.steps } }
         ensures steps { self.new.steps ≤ self.old.steps + 2 * length self.old.stack + 1 }
         ensures keeps { Keeps self.old self.new }
         ensures grown { Grown 0 0 0 0 self.old self.new }
         ensures lighter { IsLighter self.old self.new }
-        ensures seated { carries_part (tag_at self.old.tree node) ≡ false → AreSeated (open_tags self.old) → AreSeated (open_tags self.new) }
     {
         if !is_first(self.stack.as_slice(), node) {
             forget_end(&mut self.p_ends, &self.arena, node);

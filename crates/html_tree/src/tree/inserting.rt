@@ -1,5 +1,5 @@
 // Nodes that are made of tokens, or implied by them.
-ghost use Rattle.std.specs.Prelude.{◌≡◌, ℕ, ◌+◌, ◌<◌, ◌≤◌, [], ◌∷◌, IfErr, IfOk, None, Ok, OnErr, OnOk, Option, Some, length, true};
+ghost use Rattle.std.specs.Prelude.{◌≡◌, ℕ, ◌+◌, ◌<◌, ◌≤◌, [], ◌∷◌, IfErr, IfOk, None, Ok, OnErr, OnOk, Option, Some, false, length, true};
 ghost use Rattle.html_names.specs.declared.tag.Tag.TheVariants as tag;
 ghost use Rattle.html_names.specs.Names.{name_of, tag_of};
 ghost use Rattle.html_names.specs.Sets.{is_formatting};
@@ -13,6 +13,7 @@ ghost use Rattle.html_open.specs.Entries.{push_steps, pushed};
 ghost use Rattle.html_open.specs.Opened.{CanList, open_at};
 ghost use Rattle.html_tree.specs.Inserting.{CanBeFirst, IsFor, IsRefused, IsTold, with_new, with_open};
 ghost use Rattle.html_tree.specs.OpenTags.{HasReopened, open_tags};
+ghost use Rattle.html_tree.specs.Seats.{CanSeat, is_part};
 ghost use Rattle.html_tree.specs.Since.{Grown, Keeps};
 ghost use Rattle.html_tree.specs.Targets.{CanTarget, place_for};
 
@@ -40,6 +41,7 @@ impl OpenTree {
         target: Target,
     ) -> Result<NodeId, OpenError>
         requires target { CanTarget self.old.stack target }
+        requires seat { CanSeat self.old (tag_of name) target }
         requires opened { 0 < length self.old.stack }
         requires token { self.old.tokens ≤ token }
         ensures id { IfOk result (λ id. id ≡ length self.old.tree.labels) }
@@ -75,6 +77,7 @@ impl OpenTree {
         target: Target,
     ) -> Result<NodeId, OpenError>
         requires target { CanTarget self.old.stack target }
+        requires part { is_part (tag_of name) ≡ false }
         requires token { self.old.tokens ≤ token }
         ensures id { IfOk result (λ id. id ≡ length self.old.tree.labels) }
         ensures exact { OnOk result (self.new ≡ record self.old {
@@ -101,6 +104,7 @@ impl OpenTree {
     /// `NodeBudget` and `HeldBudget` where the node would pass that limit; else `OutOfMemory`.
     pub fn insert_implied(&mut self, tag: Tag, foster: bool) -> Result<NodeId, OpenError>
         requires opened { 0 < length self.old.stack }
+        requires seat { CanSeat self.old tag (Target.Current foster) }
         ensures id { IfOk result (λ id. id ≡ length self.old.tree.labels) }
         ensures exact { OnOk result (self.new ≡ record self.old {
           stack = with_open self.old;
@@ -129,6 +133,7 @@ impl OpenTree {
     /// `NodeBudget` and `HeldBudget` where the node would pass that limit; else `OutOfMemory`.
     pub fn insert_implied_void(&mut self, tag: Tag, foster: bool) -> Result<NodeId, OpenError>
         requires opened { 0 < length self.old.stack }
+        requires part { is_part tag ≡ false }
         ensures id { IfOk result (λ id. id ≡ length self.old.tree.labels) }
         ensures exact { OnOk result (self.new ≡ record self.old {
           tree = with_new self.old.tree (place_for self.old (Target.Current foster)) (Element (name_of tag) [] Implied);
@@ -335,6 +340,7 @@ impl OpenTree {
     ) -> Result<NodeId, OpenError>
         requires target { CanTarget self.old.stack target }
         requires first { CanBeFirst self.old.stack tag }
+        requires seat { CanSeat self.old tag target }
         requires own { IsFor origin self.old.tokens next }
         requires next { self.old.tokens ≤ next }
         ensures id { IfOk result (λ id. id ≡ length self.old.tree.labels) }
@@ -369,6 +375,7 @@ impl OpenTree {
         target: Target,
     ) -> Result<NodeId, OpenError>
         requires target { CanTarget self.old.stack target }
+        requires part { is_part tag ≡ false }
         requires own { IsFor origin self.old.tokens next }
         requires next { self.old.tokens ≤ next }
         ensures id { IfOk result (λ id. id ≡ length self.old.tree.labels) }
@@ -404,6 +411,7 @@ impl OpenTree {
     ) -> Result<NodeId, OpenError>
         requires target { CanTarget self.old.stack target }
         requires first { CanBeFirst self.old.stack (tag_of name) }
+        requires seat { CanSeat self.old (tag_of name) target }
         requires own { IsFor origin self.old.tokens next }
         requires next { self.old.tokens ≤ next }
         ensures id { IfOk result (λ id. id ≡ length self.old.tree.labels) }
@@ -447,6 +455,7 @@ impl OpenTree {
         target: Target,
     ) -> Result<NodeId, OpenError>
         requires target { CanTarget self.old.stack target }
+        requires part { is_part (tag_of name) ≡ false }
         requires own { IsFor origin self.old.tokens next }
         requires next { self.old.tokens ≤ next }
         ensures id { IfOk result (λ id. id ≡ length self.old.tree.labels) }

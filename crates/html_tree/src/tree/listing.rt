@@ -6,7 +6,6 @@ ghost use Rattle.html_open.specs.Opened.{CanList, open_at};
 ghost use Rattle.html_open.specs.Lists.{below};
 ghost use Rattle.html_tree.specs.Listing.{HasCloned, IsAdoptRefused, IsAdopted, IsReopenRefused, IsReopened, listed_weight};
 ghost use Rattle.html_tree.specs.OpenTags.{HasReopened, IsLighterBesides, open_tags};
-ghost use Rattle.html_tree.specs.Seats.{AreSeated};
 ghost use Rattle.html_tree.specs.Since.{Grown, Keeps};
 
 use super::OpenTree;
@@ -102,7 +101,6 @@ impl OpenTree {
         ensures keeps { OnOk result (Keeps self.old self.new) }
         ensures grown { OnOk result (Grown (length self.old.list) (length self.old.list) 0 (listed_weight self.old) self.old self.new) }
         ensures opened { HasReopened self.old self.new }
-        ensures seated { AreSeated (open_tags self.old) → AreSeated (open_tags self.new) }
         ensures cause { IfErr result (λ e. IsReopenRefused foster self.old e) }
     {
         self.arena.forest();
@@ -126,7 +124,6 @@ impl OpenTree {
         ensures keeps { OnOk result (Keeps self.old self.new) }
         ensures grown { OnOk result (Grown 32 0 0 (32 * listed_weight self.old) self.old self.new) }
         ensures lighter { IsLighterBesides self.old self.new }
-        ensures seated { AreSeated (open_tags self.old) → AreSeated (open_tags self.new) }
         ensures cause { IfErr result (λ e. IsAdoptRefused name foster self.old self.new e) }
     {
         self.arena.forest();

@@ -8,12 +8,14 @@ ghost use Rattle.html_open.specs.AdoptFinding.{element_in_scope};
 ghost use Rattle.html_tree.specs.Paragraphs.{seeks_p};
 ghost use Rattle.html_tree.specs.Searching.{current_tag, found, found_name};
 ghost use Rattle.html_tree.specs.OpenTags.{is_tag_in_scope, open_tags};
+ghost use Rattle.html_tree.specs.Seats.{has_seat};
 ghost use Rattle.html_tree.specs.Since.{Grown, Keeps};
 
 use super::OpenTree;
 use crate::groups::{Group, Stop};
 use crate::paragraphs::{is_last_p, seeks_p};
 use crate::search::{Sought, last_index, last_node, member_at, name_index, named_at, steps_down};
+use crate::seats::may_carry;
 use html_arena::NodeId;
 use html_names::Tag;
 
@@ -32,6 +34,22 @@ impl OpenTree {
         match last_node(self.stack.as_slice()) {
             Some(node) => Some(self.arena.tag(node)),
             None => None,
+        }
+    }
+
+    /// Whether the current node may hold a part of a table of this tag, or, being a template, its contents may. One step.
+    pub fn has_seat(&mut self, part: Tag) -> bool
+        ensures answer { result ≡ has_seat self.old part }
+        ensures rest { self.new ≡ record self.old { steps = self.new.steps } }
+        ensures steps { self.new.steps ≤ self.old.steps + 1 }
+        ensures keeps { Keeps self.old self.new }
+        ensures grown { Grown 0 0 0 0 self.old self.new }
+        ensures tags { open_tags self.new ≡ open_tags self.old }
+    {
+        self.charge(1);
+        match last_node(self.stack.as_slice()) {
+            Some(node) => may_carry(part, node, self.arena.tag(node)),
+            None => false,
         }
     }
 

@@ -6,17 +6,17 @@ use Rattle.html_tree.proofs.target.put_new.Goals as goal
 
 pub returns-clause-new : goal.returns-clause-new
 returns-clause-new c =
-    on-ok-both c.insert.result c.insert.ensures.laws c.insert.ensures.tree
-    (λ h f. subst (λ a. IsNew c.args.arena.now c.insert.new.arena a c.args.new (length c.args.stack.now + 3)) c.place_at-place.ensures.place
-    (is-new c.args.arena.now c.place_at-place.new.arena c.insert.new.arena (target_steps c.args.arena.now c.args.stack.now c.args.target) (length c.args.stack.now + 3) c.place_at-place.result c.args.new c.forest.ensures.well_formed
+    on-ok-both c.insert-node.result c.insert-node.ensures.laws c.insert-node.ensures.tree
+    (λ h f. subst (λ a. IsNew c.args.arena.now c.insert-node.new.arena a c.args.new (length c.args.stack.now + 3)) c.place_at-place.ensures.place
+    (is-new c.args.arena.now c.place_at-place.new.arena c.insert-node.new.arena (target_steps c.args.arena.now c.args.stack.now c.args.target) (length c.args.stack.now + 3) c.place_at-place.result c.args.new c.forest.ensures.well_formed
     c.place_at-place.ensures.there c.place_at-place.ensures.steps (target-most c.args.arena.now c.args.stack.now c.args.target) h f))
 
 pub returns-clause-can_push : goal.returns-clause-can_push
 returns-clause-can_push c =
-    on-ok c.insert.result c.insert.ensures.can_push (λ p. push-charged c.args.stack.now c.args.arena.now c.place_at-place.new.arena c.insert.new.arena _ c.args.new c.place_at-place.ensures.steps c.place_at-place.ensures.keeps
+    on-ok c.insert-node.result c.insert-node.ensures.can_push (λ p. push-charged c.args.stack.now c.args.arena.now c.place_at-place.new.arena c.insert-node.new.arena _ c.args.new c.place_at-place.ensures.steps c.place_at-place.ensures.keeps
     (λ l. p c.args.stack.now l))
 
 pub returns-clause-can_list : goal.returns-clause-can_list
 returns-clause-can_list c =
-    on-ok c.insert.result c.insert.ensures.can_list (λ p. list-charged c.args.stack.now c.args.arena.now c.place_at-place.new.arena c.insert.new.arena _ c.args.new c.place_at-place.ensures.steps c.place_at-place.ensures.keeps
+    on-ok c.insert-node.result c.insert-node.ensures.can_list (λ p. list-charged c.args.stack.now c.args.arena.now c.place_at-place.new.arena c.insert-node.new.arena _ c.args.new c.place_at-place.ensures.steps c.place_at-place.ensures.keeps
     (λ l. p c.args.stack.now l))

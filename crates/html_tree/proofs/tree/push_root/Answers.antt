@@ -14,6 +14,10 @@ use Rattle.html_open.specs.Opened.{CanPush, IsOpen, open_at}
 use Rattle.html_tree.specs.Inserting.{IsBudget, root_budget}
 use Rattle.html_tree.proofs.Roots.{refused-budget, root-can_push, root-under_way}
 use Rattle.html_tree.proofs.Spelled.{chars-name}
+use Rattle.html_names.specs.Sets.{is_template}
+use Rattle.html_tree.specs.OpenTags.{tags_down}
+use Rattle.html_tree.specs.Seats.{AreSeated}
+use Rattle.html_tree.proofs.Standing.{first-seats}
 use Rattle.html_tree.proofs.tree.push_root.Goals as goal
 
 pub returns-in_err-root-clause-cause : goal.returns-in_err-root-clause-cause
@@ -43,3 +47,13 @@ returns-clause-tree c =
     ap bare c.in_ok-push.ensures.tree ∙ ap bare c.in_ok-root.ensures.made
     ∙ ap (λ (a : List Attr). bare (made c.args.arena.now (Element c.in_ok-name.name a Implied))) c.new.ensures
     ∙ ap (λ (n : List ℕ). bare (made c.args.arena.now (Element n [] Implied))) (chars-name tag.Html c.name.result.now c.in_ok-name.name c.name.utf8 c.name.ensures.value c.name.ensures.back c.in_ok-name.ensures)
+
+pub returns-clause-seats : goal.returns-clause-seats
+returns-clause-seats c =
+    let l = c.requires.empty.0 in
+    let u = c.make.new.self in
+    let g : tag_of c.in_ok-name.name ≡ tag.Html = ap tag_of ((chars-name tag.Html c.name.result.now c.in_ok-name.name c.name.utf8 c.name.ensures.value c.name.ensures.back c.in_ok-name.ensures) ∙ sym c.name.ensures.value) ∙ c.name.ensures.back in
+    let e : u ≡ made (empty_tree l) (Element c.in_ok-name.name [] Implied) =
+    c.in_ok-root.ensures.made ∙ ap (λ (t : Tree). made t (Element c.in_ok-name.name c.new.result Implied)) c.requires.empty.1 ∙ ap (λ (a : List Attr). made (empty_tree l) (Element c.in_ok-name.name a Implied)) c.new.ensures in
+    first-seats l (Element c.in_ok-name.name [] Implied) u c.push.new.arena (ap is_template g) e (ap (λ (v : Tree). v.parents) c.in_ok-push.ensures.tree) c.push.new.self
+    (subst (λ (s : List ℕ). AreSeated (tags_down c.push.new.arena s)) (sym (c.in_ok-push.ensures.stack ∙ ap (λ (s : List ℕ). s ++ c.in_ok-root.root ∷ []) c.requires.none)) (tt, tt))

@@ -12,6 +12,7 @@ use Rattle.html_open.proofs.Inserted.{longer, parents-inserted}
 use Rattle.html_open.proofs.Keeps.{moved_stack, open-charged}
 use Rattle.html_open.proofs.Lists.{node-at}
 use Rattle.html_open.proofs.Standing.{element-in, not-parent, place-by}
+use Rattle.html_open.proofs.Templates.{place-free, templates-inserted, templates-same}
 use Rattle.html_open.proofs.list.FormattingList.reopen_entry.Goals as goal
 
 pub insert_clone-requires-clause-node_in : goal.insert_clone-requires-clause-node_in
@@ -86,6 +87,9 @@ returns-clause-parents c =
     (apart c.args.node c.in_ok-clone.clone (length t.labels) (c.requires.is_open.list_in c.args.node (node-at c.args.self.now c.args.index c.args.node Marker c.requires.entry c.requires.index_in)) c.in_ok-clone.ensures.id) c.in_ok-clone.ensures.id c.in_ok-push.ensures.tree c.set_mark.ensures c.set_mark-2.ensures c.charge.ensures in
     let p = place_of t c.args.stack.now None c.args.foster in
     parents-inserted t c.insert_clone.new.arena c.charge.new.self p c.args.node c.in_ok-clone.ensures.laws (ap (λ (v : Tree). v.labels) e) (ap (λ (v : Tree). v.parents) e)
+    (λ none. templates-same c.insert_clone.new.arena c.charge.new.self (ap (λ (v : Tree). v.labels) e) (ap (λ (v : Tree). v.parents) e)
+    (templates-inserted t c.insert_clone.new.arena p c.args.node c.in_ok-clone.ensures.laws c.forest-2.ensures.well_formed (c.requires.is_open.formatting c.args.node (node-at c.args.self.now c.args.index c.args.node Marker c.requires.entry c.requires.index_in))
+    (place-free t c.forest.ensures.well_formed none c.args.stack.now c.requires.can_place c.args.foster) none))
 
 pub returns-clause-tree : goal.returns-clause-tree
 returns-clause-tree c =
@@ -131,6 +135,9 @@ returns-in_err-push-clause-parents c =
     let t = c.args.arena.now in
     let e = c.in_err-push.ensures.same_tree in
     parents-inserted t c.insert_clone.new.arena c.push.new.arena (place_of t c.args.stack.now None c.args.foster) c.args.node c.in_ok-clone.ensures.laws (ap (λ (v : Tree). v.labels) e) (ap (λ (v : Tree). v.parents) e)
+    (λ none. templates-same c.insert_clone.new.arena c.push.new.arena (ap (λ (v : Tree). v.labels) e) (ap (λ (v : Tree). v.parents) e)
+    (templates-inserted t c.insert_clone.new.arena (place_of t c.args.stack.now None c.args.foster) c.args.node c.in_ok-clone.ensures.laws c.forest-2.ensures.well_formed (c.requires.is_open.formatting c.args.node (node-at c.args.self.now c.args.index c.args.node Marker c.requires.entry c.requires.index_in))
+    (place-free t c.forest.ensures.well_formed none c.args.stack.now c.requires.can_place c.args.foster) none))
 
 pub returns-in_err-clone-clause-steps : goal.returns-in_err-clone-clause-steps
 returns-in_err-clone-clause-steps c = on-err _ (placed-steps c.args.arena.now c.insert_clone.new.arena c.args.stack.now c.args.foster c.in_err-clone.ensures.same)

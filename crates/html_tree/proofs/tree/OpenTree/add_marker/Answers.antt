@@ -4,12 +4,14 @@ use Rattle.html_tree.proofs.Relisting.{relisted-keeps, relisted-under_way}
 use Rattle.html_tree.proofs.OpenTags.{kept-tags}
 use Rattle.html_arena.specs.Tree.{Tree, more}
 use Rattle.html_tree.proofs.SearchEnds.{ends-labels}
+use Rattle.html_tree.proofs.Standing.{seats-as}
 use Rattle.html_tree.proofs.tree.OpenTree.add_marker.Goals as goal
 
 pub invariant_of-self-2 : goal.invariant_of-self-2
 invariant_of-self-2 c = (
   relisted-under_way c.args.self.now c.self.inside.stack c.self.inside.list c.marker.new.self c.self.inside.arena c.marker.new.arena c.self.inside.tokens c.self.inside.head c.self.inside.form c.self.inside.detached c.self.view_is (ap bare c.in_ok-marker.ensures.tree) (c.in_ok-marker.ensures.keeps c.self.inside.stack c.self.invariant.0.is_open) c.self.invariant.0,
   ends-labels c.self.inside.stack c.self.inside.p_ends.items c.self.inside.arena c.marker.new.arena c.self.invariant.1 (ap (λ (v : Tree). v.labels) c.in_ok-marker.ensures.tree),
+  seats-as c.self.inside.arena c.marker.new.arena c.self.inside.stack (ap (λ (v : Tree). v.labels) c.in_ok-marker.ensures.tree) (ap (λ (v : Tree). v.parents) c.in_ok-marker.ensures.tree) c.self.invariant.2,
 )
 
 pub returns-clause-keeps : goal.returns-clause-keeps

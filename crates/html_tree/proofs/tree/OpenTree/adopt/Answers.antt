@@ -14,6 +14,7 @@ use Rattle.html_tree.proofs.SearchEnds.{ends-survived}
 use Rattle.html_tree.proofs.Seating.{adopted-seated}
 use Rattle.html_tree.specs.Seats.{AreSeated}
 use Rattle.html_open.specs.Opened.{open_at}
+use Rattle.html_tree.proofs.Standing.{adopted-seats}
 use Rattle.html_tree.proofs.tree.OpenTree.adopt.Goals as goal
 
 pub adopt-end-requires-clause-can_place : goal.adopt-end-requires-clause-can_place
@@ -26,6 +27,9 @@ pub invariant_of-self : goal.invariant_of-self
 invariant_of-self c = (
   adopted-under_way c.self.inside.stack c.self.inside.list c.self.inside.arena c.self.inside.tokens c.self.inside.head c.self.inside.form c.self.inside.detached c.self.invariant.0 c.args.name c.requires.formatting c.adopt-end.new.stack c.adopt-end.new.list c.adopt-end.new.arena c.adopt-end.ensures.first (subst (λ (a : State). 0 < length a.stack) (sym c.self.view_is) c.requires.opened) c.adopt-end.ensures.kept c.adopt-end.ensures.made,
   ends-survived c.self.inside.stack c.adopt-end.new.stack c.self.inside.list c.adopt-end.new.list c.self.inside.arena c.adopt-end.new.arena c.adopt-end.ensures.made (c.adopt-end.ensures.survives (formatting-plain c.args.name c.requires.formatting)) c.self.invariant.0.is_open.stack_in c.self.inside.p_ends.items (subst (λ (a : State). 0 < length a.stack) (sym c.self.view_is) c.requires.opened) (first-equal c.self.inside.stack c.self.inside.list c.self.inside.arena c.self.inside.tokens c.self.inside.head c.self.inside.form c.self.inside.detached c.self.invariant.0 c.args.name c.requires.formatting c.adopt-end.new.stack c.adopt-end.new.list c.adopt-end.new.arena c.adopt-end.ensures.first (subst (λ (a : State). 0 < length a.stack) (sym c.self.view_is) c.requires.opened)) c.self.invariant.1,
+  adopted-seats c.args.name c.args.foster c.adopt-end.result (open_at c.self.inside.stack c.self.inside.list c.self.inside.arena) (open_at c.adopt-end.new.stack c.adopt-end.new.list c.adopt-end.new.arena)
+      (record { is_open = c.self.invariant.0.is_open; well_formed = c.forest.ensures.well_formed; first = λ x e. (c.self.invariant.0.first x e).1; seats = c.self.invariant.2 }) c.adopt-end.ensures.adopted c.adopt-end.ensures.cause
+      (adopted-seated c.args.name c.args.foster c.adopt-end.result (open_at c.self.inside.stack c.self.inside.list c.self.inside.arena) (open_at c.adopt-end.new.stack c.adopt-end.new.list c.adopt-end.new.arena) c.self.invariant.0.is_open c.adopt-end.ensures.adopted c.adopt-end.ensures.cause c.self.invariant.2.open_elements),
 )
 
 pub returns-clause-exact : goal.returns-clause-exact
@@ -60,11 +64,6 @@ pub returns-clause-lighter : goal.returns-clause-lighter
 returns-clause-lighter c =
     subst (λ (a : State). IsLighterBesides a (state_of c.adopt-end.new.stack c.adopt-end.new.list c.adopt-end.new.arena c.self.inside.tokens c.self.inside.head c.self.inside.form c.self.inside.detached)) c.self.view_is
     (adopted-lighter c.self.inside.stack c.adopt-end.new.stack c.self.inside.list c.adopt-end.new.list c.self.inside.arena c.adopt-end.new.arena c.self.inside.tokens c.self.inside.head c.self.inside.form c.self.inside.detached c.adopt-end.ensures.made c.self.invariant.0.is_open c.adopt-end.ensures.kept.stack_in c.adopt-end.ensures.kept.stack_once (c.adopt-end.ensures.survives (formatting-plain c.args.name c.requires.formatting)))
-
-pub returns-clause-seated : goal.returns-clause-seated
-returns-clause-seated c = λ h.
-    adopted-seated c.args.name c.args.foster c.adopt-end.result (open_at c.self.inside.stack c.self.inside.list c.self.inside.arena) (open_at c.adopt-end.new.stack c.adopt-end.new.list c.adopt-end.new.arena) c.self.invariant.0.is_open c.adopt-end.ensures.adopted c.adopt-end.ensures.cause
-    (subst (λ (a : State). AreSeated (open_tags a)) (sym c.self.view_is) h)
 
 pub returns-clause-clones : goal.returns-clause-clones
 returns-clause-clones c =

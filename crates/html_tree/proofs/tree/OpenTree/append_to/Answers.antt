@@ -8,6 +8,7 @@ use Rattle.html_tree.proofs.Kept.{keeps-since, same-element, same-origin_in, sam
 use Rattle.html_tree.proofs.Merged.{relabelled-since, relabelled-under_way, run-essence}
 use Rattle.html_tree.proofs.OpenTags.{kept-tags}
 use Rattle.html_tree.proofs.SearchEnds.{ends-relabelled}
+use Rattle.html_tree.proofs.Standing.{seats-relabelled}
 use Rattle.html_tree.proofs.tree.OpenTree.append_to.Goals as goal
 
 pub invariant_of-self-2 : goal.invariant_of-self-2
@@ -17,6 +18,7 @@ invariant_of-self-2 c = (
       (same-element (label_of c.self.inside.arena c.args.node) (with_run (label_of c.self.inside.arena c.args.node) (take c.in_ok-count.count c.args.run.now)) (run-essence (label_of c.self.inside.arena c.args.node) (take c.in_ok-count.count c.args.run.now))) (same-tag_in (label_of c.self.inside.arena c.args.node) (with_run (label_of c.self.inside.arena c.args.node) (take c.in_ok-count.count c.args.run.now)) (run-essence (label_of c.self.inside.arena c.args.node) (take c.in_ok-count.count c.args.run.now))) (same-origin_in (label_of c.self.inside.arena c.args.node) (with_run (label_of c.self.inside.arena c.args.node) (take c.in_ok-count.count c.args.run.now)) (run-essence (label_of c.self.inside.arena c.args.node) (take c.in_ok-count.count c.args.run.now))) c.self.invariant.0.is_open)
       c.self.invariant.0,
   ends-relabelled c.self.inside.stack c.self.inside.p_ends.items c.self.inside.arena c.append_run.new.self c.args.node (with_run (label_of c.self.inside.arena c.args.node) (take c.in_ok-count.count c.args.run.now)) c.self.invariant.1 c.in_ok-count.ensures.relabelled (run-essence (label_of c.self.inside.arena c.args.node) (take c.in_ok-count.count c.args.run.now)),
+  seats-relabelled c.self.inside.arena c.append_run.new.self c.self.inside.stack c.args.node (with_run (label_of c.self.inside.arena c.args.node) (take c.in_ok-count.count c.args.run.now)) c.in_ok-count.ensures.relabelled (run-essence (label_of c.self.inside.arena c.args.node) (take c.in_ok-count.count c.args.run.now)) c.self.invariant.2,
 )
 
 pub returns-clause-keeps : goal.returns-clause-keeps

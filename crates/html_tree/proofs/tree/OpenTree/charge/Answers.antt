@@ -4,6 +4,7 @@ use Rattle.html_open.proofs.Keeps.{charged_keeps}
 use Rattle.html_tree.specs.States.{State}
 use Rattle.html_tree.proofs.Kept.{charged-steps, charged-under_way, read-grown, read-keeps, read-rest}
 use Rattle.html_tree.proofs.SearchEnds.{ends-labels}
+use Rattle.html_tree.proofs.Standing.{seats-as}
 use Rattle.html_tree.proofs.tree.OpenTree.charge.Goals as goal
 
 pub invariant_of-self : goal.invariant_of-self
@@ -11,6 +12,7 @@ invariant_of-self c = (
   charged-under_way c.self.inside.stack c.self.inside.list c.self.inside.arena c.charge.new.self c.self.inside.tokens _ c.self.inside.head c.self.inside.form c.self.inside.detached c.charge.ensures
       (charged_keeps c.self.inside.stack c.self.inside.list c.self.inside.arena c.charge.new.self _ c.charge.ensures c.self.invariant.0.is_open) c.self.invariant.0,
   ends-labels c.self.inside.stack c.self.inside.p_ends.items c.self.inside.arena c.charge.new.self c.self.invariant.1 (ap (λ (v : Tree). v.labels) c.charge.ensures),
+  seats-as c.self.inside.arena c.charge.new.self c.self.inside.stack (ap (λ (v : Tree). v.labels) c.charge.ensures) (ap (λ (v : Tree). v.parents) c.charge.ensures) c.self.invariant.2,
 )
 
 pub returns-clause-rest : goal.returns-clause-rest

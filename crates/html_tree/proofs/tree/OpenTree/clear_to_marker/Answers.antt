@@ -10,12 +10,14 @@ use Rattle.html_open.specs.Lists.{below, looked}
 use Rattle.html_open.proofs.Closing.{bare-all}
 use Rattle.html_tree.proofs.OpenTags.{kept-tags}
 use Rattle.html_tree.proofs.SearchEnds.{ends-labels}
+use Rattle.html_tree.proofs.Standing.{seats-as}
 use Rattle.html_tree.proofs.tree.OpenTree.clear_to_marker.Goals as goal
 
 pub invariant_of-self : goal.invariant_of-self
 invariant_of-self c = (
   relisted-under_way c.args.self.now c.self.inside.stack c.self.inside.list c.clear_to_marker.new.self c.self.inside.arena c.clear_to_marker.new.arena c.self.inside.tokens c.self.inside.head c.self.inside.form c.self.inside.detached c.self.view_is (ap bare c.clear_to_marker.ensures.tree ∙ bare-all c.self.inside.arena InList (cleared c.self.inside.list)) (c.clear_to_marker.ensures.keeps c.self.inside.stack c.self.invariant.0.is_open) c.self.invariant.0,
   ends-labels c.self.inside.stack c.self.inside.p_ends.items c.self.inside.arena c.clear_to_marker.new.arena c.self.invariant.1 (ap (λ (v : Tree). v.labels) (ap bare c.clear_to_marker.ensures.tree ∙ bare-all c.self.inside.arena InList (cleared c.self.inside.list))),
+  seats-as c.self.inside.arena c.clear_to_marker.new.arena c.self.inside.stack (ap (λ (v : Tree). v.labels) (ap bare c.clear_to_marker.ensures.tree ∙ bare-all c.self.inside.arena InList (cleared c.self.inside.list))) (ap (λ (v : Tree). v.parents) (ap bare c.clear_to_marker.ensures.tree ∙ bare-all c.self.inside.arena InList (cleared c.self.inside.list))) c.self.invariant.2,
 )
 
 pub returns-clause-exact : goal.returns-clause-exact

@@ -6,10 +6,15 @@ use Rattle.html_arena.specs.Make.{label_for, made_weight, nodes_made}
 use Rattle.html_arena.specs.Tree.{tag_at}
 use Rattle.html_arena.specs.Weight.{weight}
 use Rattle.html_tree.specs.Inserting.{IsTold, with_new}
+use Rattle.html_tree.specs.Seats.{is_part}
 use Rattle.html_tree.specs.Since.{Grown}
 use Rattle.html_tree.specs.Targets.{place_for}
 use Rattle.html_tree.proofs.Spelled.{chars-name, if-err, lack-budget}
 use Rattle.html_tree.proofs.tree.OpenTree.closed_named.Goals as goal
+
+pub closed_new-requires-clause-part : goal.closed_new-requires-clause-part
+closed_new-requires-clause-part c =
+    ap (λ g. is_part g) (ap tag_of (chars-name c.args.tag c.name.result.now c.in_ok-name.name c.name.utf8 c.name.ensures.value c.name.ensures.back c.in_ok-name.ensures ∙ sym c.name.ensures.value) ∙ c.name.ensures.back) ∙ c.requires.part
 
 name-is : (c : goal.After-closed_new) → c.in_ok-name.name ≡ name_of c.args.tag
 name-is c = chars-name c.args.tag c.name.result.now c.in_ok-name.name c.name.utf8 c.name.ensures.value c.name.ensures.back c.in_ok-name.ensures

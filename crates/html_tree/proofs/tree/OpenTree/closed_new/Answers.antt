@@ -12,6 +12,8 @@ use Rattle.html_tree.proofs.Inserted.{element-tag, new-under_way, own-most, plac
 use Rattle.html_tree.proofs.Kept.{same-under_way}
 use Rattle.html_tree.proofs.OpenTags.{kept-tags}
 use Rattle.html_tree.proofs.SearchEnds.{ends-labels, ends-made}
+use Rattle.html_tree.proofs.Standing.{plain-seat, seats-as, seats-new}
+use Rattle.html_tree.specs.Seats.{is_part}
 use Rattle.html_tree.proofs.tree.OpenTree.closed_new.Goals as goal
 
 pub put_new-requires-clause-head_in : goal.put_new-requires-clause-head_in
@@ -22,6 +24,7 @@ invariant_of-self c = (
   same-under_way c.self.inside.stack c.self.inside.stack c.self.inside.list c.self.inside.list c.self.inside.arena c.put_new.new.arena c.self.inside.tokens c.self.inside.head c.self.inside.form c.self.inside.detached
       (ap (λ (v : Tree). v.labels) c.in_err-node.ensures.same) refl (c.put_new.ensures.keeps c.self.inside.list c.self.invariant.0.is_open) c.self.invariant.0,
   ends-labels c.self.inside.stack c.self.inside.p_ends.items c.self.inside.arena c.put_new.new.arena c.self.invariant.1 (ap (λ (v : Tree). v.labels) c.in_err-node.ensures.same),
+  seats-as c.self.inside.arena c.put_new.new.arena c.self.inside.stack (ap (λ (v : Tree). v.labels) c.in_err-node.ensures.same) (ap (λ (v : Tree). v.parents) c.in_err-node.ensures.same) c.self.invariant.2,
 )
 
 pub invariant_of-self-2 : goal.invariant_of-self-2
@@ -29,6 +32,8 @@ invariant_of-self-2 c = (
   new-under_way c.self.inside.stack c.self.inside.list c.self.inside.arena c.put_new.new.arena (place_at c.self.inside.arena c.self.inside.stack c.self.inside.head c.args.target) (Element c.args.name c.args.attrs c.args.origin) (length c.self.inside.stack + 3) c.self.inside.tokens c.args.next c.self.inside.head c.self.inside.form c.self.inside.detached c.self.inside.stack refl c.in_ok-node.ensures.new (c.put_new.ensures.keeps c.self.inside.list c.self.invariant.0.is_open)
       (own-most c.self.inside.arena c.args.name c.args.attrs c.args.origin c.self.inside.tokens c.args.next (subst (λ (a : State). IsFor c.args.origin a.tokens c.args.next) (sym c.self.view_is) c.requires.own)) (subst (λ (a : State). a.tokens ≤ c.args.next) (sym c.self.view_is) c.requires.next) c.self.invariant.0,
   ends-made c.self.inside.stack c.self.inside.p_ends.items c.self.inside.arena c.put_new.new.arena _ _ _ c.self.invariant.1 c.self.invariant.0.is_open.stack_in c.in_ok-node.ensures.new,
+  seats-new c.self.inside.stack c.self.inside.list c.self.inside.arena c.put_new.new.arena c.args.target (Element c.args.name c.args.attrs c.args.origin) (length c.self.inside.stack + 3) c.self.inside.tokens c.self.inside.head c.self.inside.form c.self.inside.detached c.in_ok-node.ensures.new c.put_new.ensures.well_formed.1 c.self.invariant.0
+      (subst (λ (a : State). CanTarget a.stack c.args.target) (sym c.self.view_is) c.requires.target) (plain-seat (state_of c.self.inside.stack c.self.inside.list c.self.inside.arena c.self.inside.tokens c.self.inside.head c.self.inside.form c.self.inside.detached) (tag_in (label_for c.self.inside.arena (Element c.args.name c.args.attrs c.args.origin))) c.args.target (ap is_part (element-tag c.self.inside.arena c.args.name c.args.attrs c.args.origin) ∙ c.requires.part)) c.self.invariant.2,
 )
 
 pub returns-clause-exact : goal.returns-clause-exact

@@ -7,6 +7,7 @@ use Rattle.html_tree.proofs.Kept.{charged-under_way}
 use Rattle.html_tree.proofs.Merged.{detached-since, detached-under_way, keeps-charged, detached-steps}
 use Rattle.html_tree.proofs.OpenTags.{kept-tags}
 use Rattle.html_tree.proofs.SearchEnds.{ends-labels}
+use Rattle.html_tree.proofs.Standing.{seats-as, seats-unlinked}
 use Rattle.html_tree.proofs.tree.OpenTree.detach_body.Goals as goal
 
 pub invariant_of-self : goal.invariant_of-self
@@ -18,6 +19,7 @@ invariant_of-self c = (
       ((charged-under_way c.self.inside.stack c.self.inside.list c.self.inside.arena c.at-body.new.arena c.self.inside.tokens _ c.self.inside.head c.self.inside.form c.self.inside.detached c.at-body.ensures.steps (c.at-body.ensures.keeps c.self.inside.list c.self.invariant.0.is_open) c.self.invariant.0).is_open.stack_in c.at-body.result c.at-body.ensures.member)
       (charged-under_way c.self.inside.stack c.self.inside.list c.self.inside.arena c.at-body.new.arena c.self.inside.tokens _ c.self.inside.head c.self.inside.form c.self.inside.detached c.at-body.ensures.steps (c.at-body.ensures.keeps c.self.inside.list c.self.invariant.0.is_open) c.self.invariant.0),
   ends-labels c.self.inside.stack c.self.inside.p_ends.items c.self.inside.arena c.detach.new.self c.self.invariant.1 (c.detach.ensures.unlinked.same_labels ∙ ap (λ (v : Tree). v.labels) c.at-body.ensures.steps),
+  seats-unlinked c.at-body.new.arena c.detach.new.self c.self.inside.stack c.at-body.result c.detach.ensures.unlinked (seats-as c.self.inside.arena c.at-body.new.arena c.self.inside.stack (ap (λ (v : Tree). v.labels) c.at-body.ensures.steps) (ap (λ (v : Tree). v.parents) c.at-body.ensures.steps) c.self.invariant.2),
 )
 
 pub returns-clause-keeps : goal.returns-clause-keeps

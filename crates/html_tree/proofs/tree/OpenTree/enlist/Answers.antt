@@ -10,6 +10,7 @@ use Rattle.html_tree.proofs.Listed.{bare-unmarked, full-listed, push_steps-same,
 use Rattle.html_tree.proofs.Relisting.{relisted-exact, relisted-grown, relisted-keeps, relisted-under_way}
 use Rattle.html_tree.proofs.OpenTags.{kept-tags}
 use Rattle.html_tree.proofs.SearchEnds.{ends-labels}
+use Rattle.html_tree.proofs.Standing.{seats-as}
 use Rattle.html_tree.proofs.tree.OpenTree.enlist.Goals as goal
 
 same-tree : (c : goal.In_ok-push) → bare c.push.new.arena ≡ bare c.self.inside.arena
@@ -20,6 +21,7 @@ invariant_of-self-2 c = (
   relisted-under_way c.args.self.now c.self.inside.stack c.self.inside.list c.push.new.self c.self.inside.arena c.push.new.arena c.self.inside.tokens c.self.inside.head c.self.inside.form c.self.inside.detached c.self.view_is (same-tree c)
       (c.in_ok-push.ensures.keeps c.self.inside.stack c.self.invariant.0.is_open (full-listed c.self.inside.stack c.self.inside.list c.self.inside.arena c.args.node (subst (λ (a : State). CanList (open_at a.stack a.list a.tree) c.args.node) (sym c.self.view_is) c.requires))) c.self.invariant.0,
   ends-labels c.self.inside.stack c.self.inside.p_ends.items c.self.inside.arena c.push.new.arena c.self.invariant.1 (ap (λ (v : Tree). v.labels) (same-tree c)),
+  seats-as c.self.inside.arena c.push.new.arena c.self.inside.stack (ap (λ (v : Tree). v.labels) (same-tree c)) (ap (λ (v : Tree). v.parents) (same-tree c)) c.self.invariant.2,
 )
 
 pub returns-clause-exact : goal.returns-clause-exact

@@ -6,3 +6,6 @@ returns-clause-steps c = c.over_root.ensures.steps (Some c.args.limits) c.within
 
 pub returns-clause-cause : goal.returns-clause-cause
 returns-clause-cause c = c.over_root.ensures.cause (Some c.args.limits) c.within.ensures
+
+pub returns-clause-state : goal.returns-clause-state
+returns-clause-state c = c.over_root.ensures.state (Some c.args.limits) c.within.ensures

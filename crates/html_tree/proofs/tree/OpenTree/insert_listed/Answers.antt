@@ -9,7 +9,12 @@ use Rattle.html_tree.specs.Targets.{place_for}
 use Rattle.html_tree.proofs.Listed.{enlisted-exact, enlisted-steps}
 use Rattle.html_tree.proofs.OpenTags.{always-err, reopened-one}
 use Rattle.html_names.specs.Names.{tag_of}
+use Rattle.html_tree.proofs.Seating.{formatting-plain}
+use Rattle.html_tree.proofs.Standing.{plain-seat}
 use Rattle.html_tree.proofs.tree.OpenTree.insert_listed.Goals as goal
+
+pub open_new-requires-clause-seat : goal.open_new-requires-clause-seat
+open_new-requires-clause-seat c = plain-seat c.args.self.now (tag_of c.args.name) (target.Current c.args.foster) (formatting-plain (tag_of c.args.name) c.requires.formatting)
 
 pub returns-in_err-enlist-clause-cause : goal.returns-in_err-enlist-clause-cause
 returns-in_err-enlist-clause-cause c =

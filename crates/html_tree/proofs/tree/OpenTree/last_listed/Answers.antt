@@ -5,12 +5,14 @@ use Rattle.html_tree.proofs.Kept.{charged-steps, charged-under_way, looked-most,
 use Rattle.html_tree.proofs.OpenTags.{kept-tags}
 use Rattle.html_tree.proofs.SearchEnds.{ends-labels}
 use Rattle.html_arena.specs.Tree.{Tree}
+use Rattle.html_tree.proofs.Standing.{seats-as}
 use Rattle.html_tree.proofs.tree.OpenTree.last_listed.Goals as goal
 
 pub invariant_of-self : goal.invariant_of-self
 invariant_of-self c = (
   charged-under_way c.self.inside.stack c.self.inside.list c.self.inside.arena c.last_named.new.arena c.self.inside.tokens _ c.self.inside.head c.self.inside.form c.self.inside.detached c.last_named.ensures.steps (c.last_named.ensures.keeps c.self.inside.stack c.self.invariant.0.is_open) c.self.invariant.0,
   ends-labels c.self.inside.stack c.self.inside.p_ends.items c.self.inside.arena c.last_named.new.arena c.self.invariant.1 (ap (λ (v : Tree). v.labels) c.last_named.ensures.steps),
+  seats-as c.self.inside.arena c.last_named.new.arena c.self.inside.stack (ap (λ (v : Tree). v.labels) c.last_named.ensures.steps) (ap (λ (v : Tree). v.parents) c.last_named.ensures.steps) c.self.invariant.2,
 )
 
 pub returns-clause-rest : goal.returns-clause-rest

@@ -11,6 +11,7 @@ use Rattle.html_tree.proofs.Kept.{charged-under_way, same-under_way, more-most, 
 use Rattle.html_tree.proofs.Merged.{element-free, keeps-charged, merged-essence, relabelled-since, relabelled-under_way}
 use Rattle.html_tree.proofs.OpenTags.{kept-tags}
 use Rattle.html_tree.proofs.SearchEnds.{ends-labels, ends-relabelled}
+use Rattle.html_tree.proofs.Standing.{seats-as, seats-relabelled}
 use Rattle.html_tree.proofs.tree.OpenTree.merge.Goals as goal
 
 pub invariant_of-self : goal.invariant_of-self
@@ -19,6 +20,7 @@ invariant_of-self c = (
       (ap (λ (v : Tree). v.labels) (c.in_err-merge_attrs.ensures.refused ∙ c.at-node.ensures.steps)) refl
       (subst (λ t. IsOpen (open_at c.self.inside.stack c.self.inside.list t)) (sym c.in_err-merge_attrs.ensures.refused) (c.at-node.ensures.keeps c.self.inside.list c.self.invariant.0.is_open)) c.self.invariant.0,
   ends-labels c.self.inside.stack c.self.inside.p_ends.items c.self.inside.arena c.merge_attrs.new.self c.self.invariant.1 (ap (λ (v : Tree). v.labels) (c.in_err-merge_attrs.ensures.refused ∙ c.at-node.ensures.steps)),
+  seats-as c.self.inside.arena c.merge_attrs.new.self c.self.inside.stack (ap (λ (v : Tree). v.labels) (c.in_err-merge_attrs.ensures.refused ∙ c.at-node.ensures.steps)) (ap (λ (v : Tree). v.parents) (c.in_err-merge_attrs.ensures.refused ∙ c.at-node.ensures.steps)) c.self.invariant.2,
 )
 
 pub invariant_of-self-2 : goal.invariant_of-self-2
@@ -28,6 +30,8 @@ invariant_of-self-2 c = (
       (same-element (label_of c.at-node.new.arena c.at-node.result) (with_attrs (label_of c.at-node.new.arena c.at-node.result) (merged (attrs_in (label_of c.at-node.new.arena c.at-node.result)) c.args.attrs)) (merged-essence (label_of c.at-node.new.arena c.at-node.result) (merged (attrs_in (label_of c.at-node.new.arena c.at-node.result)) c.args.attrs))) (same-tag_in (label_of c.at-node.new.arena c.at-node.result) (with_attrs (label_of c.at-node.new.arena c.at-node.result) (merged (attrs_in (label_of c.at-node.new.arena c.at-node.result)) c.args.attrs)) (merged-essence (label_of c.at-node.new.arena c.at-node.result) (merged (attrs_in (label_of c.at-node.new.arena c.at-node.result)) c.args.attrs))) (same-origin_in (label_of c.at-node.new.arena c.at-node.result) (with_attrs (label_of c.at-node.new.arena c.at-node.result) (merged (attrs_in (label_of c.at-node.new.arena c.at-node.result)) c.args.attrs)) (merged-essence (label_of c.at-node.new.arena c.at-node.result) (merged (attrs_in (label_of c.at-node.new.arena c.at-node.result)) c.args.attrs))) (c.at-node.ensures.keeps c.self.inside.list c.self.invariant.0.is_open))
       (charged-under_way c.self.inside.stack c.self.inside.list c.self.inside.arena c.at-node.new.arena c.self.inside.tokens _ c.self.inside.head c.self.inside.form c.self.inside.detached c.at-node.ensures.steps (c.at-node.ensures.keeps c.self.inside.list c.self.invariant.0.is_open) c.self.invariant.0),
   ends-relabelled c.self.inside.stack c.self.inside.p_ends.items c.at-node.new.arena c.merge_attrs.new.self c.at-node.result (with_attrs (label_of c.at-node.new.arena c.at-node.result) (merged (attrs_in (label_of c.at-node.new.arena c.at-node.result)) c.args.attrs)) (ends-labels c.self.inside.stack c.self.inside.p_ends.items c.self.inside.arena c.at-node.new.arena c.self.invariant.1 (ap (λ (v : Tree). v.labels) c.at-node.ensures.steps)) c.in_ok-merge_attrs.ensures.relabelled (merged-essence (label_of c.at-node.new.arena c.at-node.result) (merged (attrs_in (label_of c.at-node.new.arena c.at-node.result)) c.args.attrs)),
+  seats-relabelled c.at-node.new.arena c.merge_attrs.new.self c.self.inside.stack c.at-node.result (with_attrs (label_of c.at-node.new.arena c.at-node.result) (merged (attrs_in (label_of c.at-node.new.arena c.at-node.result)) c.args.attrs)) c.in_ok-merge_attrs.ensures.relabelled (merged-essence (label_of c.at-node.new.arena c.at-node.result) (merged (attrs_in (label_of c.at-node.new.arena c.at-node.result)) c.args.attrs))
+      (seats-as c.self.inside.arena c.at-node.new.arena c.self.inside.stack (ap (λ (v : Tree). v.labels) c.at-node.ensures.steps) (ap (λ (v : Tree). v.parents) c.at-node.ensures.steps) c.self.invariant.2),
 )
 
 pub returns-clause-keeps : goal.returns-clause-keeps

@@ -6,6 +6,7 @@ use Rattle.html_arena.specs.Make.{label_for, made_weight, nodes_made}
 use Rattle.html_arena.specs.Tree.{tag_at}
 use Rattle.html_arena.specs.Weight.{weight}
 use Rattle.html_tree.specs.Inserting.{CanBeFirst, IsTold, with_new, with_open}
+use Rattle.html_tree.specs.Seats.{CanSeat}
 use Rattle.html_tree.specs.Since.{Grown}
 use Rattle.html_tree.specs.Targets.{place_for}
 use Rattle.html_tree.proofs.Spelled.{chars-name, if-err, lack-budget}
@@ -16,6 +17,11 @@ pub open_new-requires-clause-first : goal.open_new-requires-clause-first
 open_new-requires-clause-first c =
     subst (λ g. CanBeFirst c.args.self.now.stack g)
     (sym (ap tag_of (chars-name c.args.tag c.name.result.now c.in_ok-name.name c.name.utf8 c.name.ensures.value c.name.ensures.back c.in_ok-name.ensures ∙ sym c.name.ensures.value) ∙ c.name.ensures.back)) c.requires.first
+
+pub open_new-requires-clause-seat : goal.open_new-requires-clause-seat
+open_new-requires-clause-seat c =
+    subst (λ g. CanSeat c.args.self.now g c.args.target)
+    (sym (ap tag_of (chars-name c.args.tag c.name.result.now c.in_ok-name.name c.name.utf8 c.name.ensures.value c.name.ensures.back c.in_ok-name.ensures ∙ sym c.name.ensures.value) ∙ c.name.ensures.back)) c.requires.seat
 
 name-is : (c : goal.After-open_new) → c.in_ok-name.name ≡ name_of c.args.tag
 name-is c = chars-name c.args.tag c.name.result.now c.in_ok-name.name c.name.utf8 c.name.ensures.value c.name.ensures.back c.in_ok-name.ensures

@@ -20,6 +20,8 @@ use Rattle.html_tree.proofs.OpenTags.{opened-tags, always-err, made-tags}
 use Rattle.html_tree.specs.OpenTags.{open_tags}
 use Rattle.html_tree.proofs.SearchEnds.{ends-labels, ends-made}
 use Rattle.html_tree.specs.Paragraphs.{p_ends_of}
+use Rattle.html_tree.proofs.Standing.{seats-as, seats-new, seats-opened}
+use Rattle.html_tree.specs.Seats.{CanSeat, HasSeats}
 use Rattle.html_tree.proofs.tree.OpenTree.open_new.Goals as goal
 
 pub put_new-requires-clause-head_in : goal.put_new-requires-clause-head_in
@@ -30,6 +32,7 @@ invariant_of-self c = (
   same-under_way c.self.inside.stack c.self.inside.stack c.self.inside.list c.self.inside.list c.self.inside.arena c.put_new.new.arena c.self.inside.tokens c.self.inside.head c.self.inside.form c.self.inside.detached
       (ap (λ (v : Tree). v.labels) c.in_err-node.ensures.same) refl (c.put_new.ensures.keeps c.self.inside.list c.self.invariant.0.is_open) c.self.invariant.0,
   ends-labels c.self.inside.stack c.self.inside.p_ends.items c.self.inside.arena c.put_new.new.arena c.self.invariant.1 (ap (λ (v : Tree). v.labels) c.in_err-node.ensures.same),
+  seats-as c.self.inside.arena c.put_new.new.arena c.self.inside.stack (ap (λ (v : Tree). v.labels) c.in_err-node.ensures.same) (ap (λ (v : Tree). v.parents) c.in_err-node.ensures.same) c.self.invariant.2,
 )
 
 pub invariant_of-self-in_err-open_node : goal.invariant_of-self-in_err-open_node
@@ -40,6 +43,11 @@ invariant_of-self-in_err-open_node c = (
       (subst (λ s. IsOpen (open_at s c.self.inside.list c.open_node.new.arena)) (sym c.in_err-open_node.ensures.same_stack) (subst (λ t. IsOpen (open_at c.self.inside.stack c.self.inside.list t)) (sym c.in_err-open_node.ensures.same_tree) (c.put_new.ensures.keeps c.self.inside.list c.self.invariant.0.is_open)))
       c.self.invariant.0,
   c.in_err-open_node.ensures.same_ends ∙ ends-made c.self.inside.stack c.self.inside.p_ends.items c.self.inside.arena c.put_new.new.arena _ _ _ c.self.invariant.1 c.self.invariant.0.is_open.stack_in c.in_ok-node.ensures.new ∙ ap (λ (v : Tree). p_ends_of v c.self.inside.stack) (sym c.in_err-open_node.ensures.same_tree) ∙ ap (p_ends_of c.open_node.new.arena) (sym c.in_err-open_node.ensures.same_stack),
+  subst (HasSeats c.open_node.new.arena) (sym c.in_err-open_node.ensures.same_stack)
+      (seats-as c.put_new.new.arena c.open_node.new.arena c.self.inside.stack (ap (λ (v : Tree). v.labels) c.in_err-open_node.ensures.same_tree) (ap (λ (v : Tree). v.parents) c.in_err-open_node.ensures.same_tree)
+      (seats-new c.self.inside.stack c.self.inside.list c.self.inside.arena c.put_new.new.arena c.args.target (Element c.args.name c.args.attrs c.args.origin) (length c.self.inside.stack + 3) c.self.inside.tokens c.self.inside.head c.self.inside.form c.self.inside.detached c.in_ok-node.ensures.new c.put_new.ensures.well_formed.1 c.self.invariant.0
+      (subst (λ (a : State). CanTarget a.stack c.args.target) (sym c.self.view_is) c.requires.target)
+      (subst (λ g. CanSeat (state_of c.self.inside.stack c.self.inside.list c.self.inside.arena c.self.inside.tokens c.self.inside.head c.self.inside.form c.self.inside.detached) g c.args.target) (sym (element-tag c.self.inside.arena c.args.name c.args.attrs c.args.origin)) (subst (λ (a : State). CanSeat a (tag_of c.args.name) c.args.target) (sym c.self.view_is) c.requires.seat)) c.self.invariant.2)),
 )
 
 pub invariant_of-self-2 : goal.invariant_of-self-2
@@ -55,6 +63,10 @@ invariant_of-self-2 c = (
       (subst (λ (a : State). CanBeFirst a.stack (tag_of c.args.name)) (sym c.self.view_is) c.requires.first)
       (c.in_ok-open_node.ensures.keeps c.self.inside.list (c.put_new.ensures.keeps c.self.inside.list c.self.invariant.0.is_open) p) c.self.invariant.0,
   c.in_ok-open_node.ensures.ends (ends-made c.self.inside.stack c.self.inside.p_ends.items c.self.inside.arena c.put_new.new.arena _ _ _ c.self.invariant.1 c.self.invariant.0.is_open.stack_in c.in_ok-node.ensures.new),
+  seats-opened c.self.inside.stack c.self.inside.list c.self.inside.arena c.put_new.new.arena c.args.target (Element c.args.name c.args.attrs c.args.origin) (length c.self.inside.stack + 3) c.self.inside.tokens c.self.inside.head c.self.inside.form c.self.inside.detached c.in_ok-node.ensures.new c.put_new.ensures.well_formed.1 c.self.invariant.0
+      (subst (λ (a : State). CanTarget a.stack c.args.target) (sym c.self.view_is) c.requires.target)
+      (subst (λ g. CanSeat (state_of c.self.inside.stack c.self.inside.list c.self.inside.arena c.self.inside.tokens c.self.inside.head c.self.inside.form c.self.inside.detached) g c.args.target) (sym (element-tag c.self.inside.arena c.args.name c.args.attrs c.args.origin)) (subst (λ (a : State). CanSeat a (tag_of c.args.name) c.args.target) (sym c.self.view_is) c.requires.seat))
+      c.open_node.new.stack c.open_node.new.arena (c.in_ok-open_node.ensures.stack ∙ ap (λ x. c.self.inside.stack ++ x ∷ []) c.in_ok-node.ensures.id) (ap (λ (v : Tree). v.labels) c.in_ok-open_node.ensures.tree) (ap (λ (v : Tree). v.parents) c.in_ok-open_node.ensures.tree) c.self.invariant.2,
 )
 
 pub returns-clause-exact : goal.returns-clause-exact

@@ -12,6 +12,8 @@ use Rattle.html_tree.proofs.OpenTags.{few-tags, few-weigh-less}
 use Rattle.html_tree.specs.Paragraphs.{p_ends_of}
 use Rattle.html_tree.proofs.SearchEnds.{ends-labels}
 use Rattle.html_tree.proofs.Seating.{few-seated}
+use Rattle.html_tree.proofs.Standing.{all_unmarked-parents, seats-taken}
+use Rattle.html_tree.specs.Seats.{HasSeats}
 use Rattle.html_tree.proofs.tree.OpenTree.pop_to.Goals as goal
 
 pub invariant_of-self : goal.invariant_of-self
@@ -27,6 +29,13 @@ invariant_of-self c = (
       (c.cut_ends.ensures.items (ends-labels c.self.inside.stack c.self.inside.p_ends.items c.self.inside.arena c.charge.new.self c.self.invariant.1 (ap (λ (v : Tree). v.labels) c.charge.ensures) ∙ ap (p_ends_of c.charge.new.self) (sym c.as_slice.ensures))
       ∙ ap (p_ends_of c.charge.new.self) (ap (take c.kept_to-kept.result) c.as_slice.ensures ∙ sym c.pop_to.ensures.stack))
       (ap (λ (v : Tree). v.labels) c.pop_to.ensures.tree ∙ all_unmarked-labels c.charge.new.self OnStack (drop c.kept_to-kept.result c.self.inside.stack)),
+  let stack : c.pop_to.new.self ≡ first_few c.args.len c.self.inside.stack =
+      c.pop_to.ensures.stack ∙ ap (λ k. take k c.self.inside.stack) (c.kept_to-kept.ensures.value ∙ ap (λ n. kept_to n c.args.len) c.len-count.ensures) in
+      subst (HasSeats c.pop_to.new.arena) (sym stack)
+      (seats-taken c.self.inside.arena c.pop_to.new.arena c.self.inside.stack (kept_to (length c.self.inside.stack) c.args.len)
+      (ap (λ (v : Tree). v.labels) c.pop_to.ensures.tree ∙ all_unmarked-labels c.charge.new.self OnStack (drop c.kept_to-kept.result c.self.inside.stack) ∙ ap (λ (v : Tree). v.labels) c.charge.ensures)
+      (ap (λ (v : Tree). v.parents) c.pop_to.ensures.tree ∙ all_unmarked-parents c.charge.new.self OnStack (drop c.kept_to-kept.result c.self.inside.stack) ∙ ap (λ (v : Tree). v.parents) c.charge.ensures)
+      c.self.invariant.2),
 )
 
 pub returns-clause-exact : goal.returns-clause-exact
@@ -60,6 +69,3 @@ returns-clause-few c = few-tags c.args.self.now _ c.args.len (returns-clause-exa
 
 pub returns-clause-lighter : goal.returns-clause-lighter
 returns-clause-lighter c = few-weigh-less c.args.self.now _ c.args.len (returns-clause-exact c)
-
-pub returns-clause-seated : goal.returns-clause-seated
-returns-clause-seated c = few-seated c.args.self.now (state_of c.pop_to.new.self c.self.inside.list c.pop_to.new.arena c.self.inside.tokens c.self.inside.head c.self.inside.form c.self.inside.detached) (returns-clause-few c)

@@ -11,9 +11,11 @@ use Rattle.html_tree.proofs.Inserted.{on-ok, under-way-place}
 use Rattle.html_tree.proofs.Spelled.{if-err}
 use Rattle.html_tree.proofs.Kept.{keeps-since}
 use Rattle.html_tree.proofs.OpenTags.{reopened-tags}
-use Rattle.html_tree.specs.OpenTags.{HasReopened}
+use Rattle.html_tree.specs.OpenTags.{HasReopened, open_tags}
 use Rattle.html_tree.proofs.SearchEnds.{ends-survived}
 use Rattle.html_tree.proofs.Seating.{reopened-seated}
+use Rattle.html_tree.proofs.Standing.{cloned-parts}
+use Rattle.html_tree.specs.Seats.{AreSeated}
 use Rattle.html_tree.proofs.tree.OpenTree.reopen.Goals as goal
 
 pub reopen-reopened-requires-clause-can_place : goal.reopen-reopened-requires-clause-can_place
@@ -23,6 +25,14 @@ pub invariant_of-self : goal.invariant_of-self
 invariant_of-self c = (
   clones-under_way c.self.inside.stack c.reopen-reopened.new.stack c.self.inside.list c.reopen-reopened.new.self c.self.inside.arena c.reopen-reopened.new.arena c.self.inside.tokens c.self.inside.head c.self.inside.form c.self.inside.detached c.reopen-reopened.ensures.made c.reopen-reopened.ensures.keeps c.reopen-reopened.ensures.first c.self.invariant.0,
   ends-survived c.self.inside.stack c.reopen-reopened.new.stack c.self.inside.list c.reopen-reopened.new.self c.self.inside.arena c.reopen-reopened.new.arena c.reopen-reopened.ensures.made c.reopen-reopened.ensures.survives c.self.invariant.0.is_open.stack_in c.self.inside.p_ends.items (subst (λ (a : State). 0 < length a.stack) (sym c.self.view_is) c.requires) c.reopen-reopened.ensures.first c.self.invariant.1,
+  record {
+    open_elements = reopened-seated c.args.self.now (state_of c.reopen-reopened.new.stack c.reopen-reopened.new.self c.reopen-reopened.new.arena c.self.inside.tokens c.self.inside.head c.self.inside.form c.self.inside.detached)
+        (subst (λ (a : State). HasReopened a (state_of c.reopen-reopened.new.stack c.reopen-reopened.new.self c.reopen-reopened.new.arena c.self.inside.tokens c.self.inside.head c.self.inside.form c.self.inside.detached)) c.self.view_is
+        (reopened-tags c.self.inside.stack c.reopen-reopened.new.stack c.self.inside.list c.reopen-reopened.new.self c.self.inside.arena c.reopen-reopened.new.arena c.self.inside.tokens c.self.inside.head c.self.inside.form c.self.inside.detached c.reopen-reopened.ensures.made c.self.invariant.0.is_open c.reopen-reopened.ensures.keeps.stack_in (length c.reopen-reopened.ensures.so_far.done) c.reopen-reopened.ensures.so_far.stack_is))
+        (subst (λ (a : State). AreSeated (open_tags a)) c.self.view_is c.self.invariant.2.open_elements);
+    parts = cloned-parts c.self.inside.stack c.reopen-reopened.new.stack c.self.inside.list c.reopen-reopened.new.self c.self.inside.arena c.reopen-reopened.new.arena c.forest.ensures.well_formed c.forest-2.ensures.well_formed c.self.invariant.0.is_open c.reopen-reopened.ensures.keeps c.reopen-reopened.ensures.made c.reopen-reopened.ensures.parents c.self.invariant.2.parts;
+    templates = c.reopen-reopened.ensures.parents.templates c.self.invariant.2.templates;
+  },
 )
 
 pub returns-clause-exact : goal.returns-clause-exact
@@ -60,9 +70,6 @@ pub returns-clause-opened : goal.returns-clause-opened
 returns-clause-opened c =
     subst (λ (a : State). HasReopened a (state_of c.reopen-reopened.new.stack c.reopen-reopened.new.self c.reopen-reopened.new.arena c.self.inside.tokens c.self.inside.head c.self.inside.form c.self.inside.detached)) c.self.view_is
     (reopened-tags c.self.inside.stack c.reopen-reopened.new.stack c.self.inside.list c.reopen-reopened.new.self c.self.inside.arena c.reopen-reopened.new.arena c.self.inside.tokens c.self.inside.head c.self.inside.form c.self.inside.detached c.reopen-reopened.ensures.made c.self.invariant.0.is_open c.reopen-reopened.ensures.keeps.stack_in (length c.reopen-reopened.ensures.so_far.done) c.reopen-reopened.ensures.so_far.stack_is)
-
-pub returns-clause-seated : goal.returns-clause-seated
-returns-clause-seated c = reopened-seated c.args.self.now (state_of c.reopen-reopened.new.stack c.reopen-reopened.new.self c.reopen-reopened.new.arena c.self.inside.tokens c.self.inside.head c.self.inside.form c.self.inside.detached) (returns-clause-opened c)
 
 pub returns-clause-clones : goal.returns-clause-clones
 returns-clause-clones c =

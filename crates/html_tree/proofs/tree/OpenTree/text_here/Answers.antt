@@ -9,12 +9,14 @@ use Rattle.html_tree.proofs.Kept.{charged-steps, charged-under_way, read-grown, 
 use Rattle.html_tree.proofs.Texted.{free-here, if-some, text-same}
 use Rattle.html_tree.proofs.OpenTags.{kept-tags}
 use Rattle.html_tree.proofs.SearchEnds.{ends-labels}
+use Rattle.html_tree.proofs.Standing.{seats-as}
 use Rattle.html_tree.proofs.tree.OpenTree.text_here.Goals as goal
 
 pub invariant_of-self : goal.invariant_of-self
 invariant_of-self c = (
   charged-under_way c.self.inside.stack c.self.inside.list c.self.inside.arena c.place-place.new.arena c.self.inside.tokens _ c.self.inside.head c.self.inside.form c.self.inside.detached c.place-place.ensures.steps (c.place-place.ensures.keeps c.self.inside.list c.self.invariant.0.is_open) c.self.invariant.0,
   ends-labels c.self.inside.stack c.self.inside.p_ends.items c.self.inside.arena c.place-place.new.arena c.self.invariant.1 (ap (λ (v : Tree). v.labels) c.place-place.ensures.steps),
+  seats-as c.self.inside.arena c.place-place.new.arena c.self.inside.stack (ap (λ (v : Tree). v.labels) c.place-place.ensures.steps) (ap (λ (v : Tree). v.parents) c.place-place.ensures.steps) c.self.invariant.2,
 )
 
 pub returns-clause-text : goal.returns-clause-text

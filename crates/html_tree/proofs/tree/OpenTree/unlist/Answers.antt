@@ -7,12 +7,14 @@ use Rattle.html_tree.proofs.Relisting.{relisted-exact, relisted-grown, relisted-
 use Rattle.html_open.specs.Entries.{is_node, removal_steps, without_node}
 use Rattle.html_tree.proofs.OpenTags.{kept-tags}
 use Rattle.html_tree.proofs.SearchEnds.{ends-labels}
+use Rattle.html_tree.proofs.Standing.{seats-as}
 use Rattle.html_tree.proofs.tree.OpenTree.unlist.Goals as goal
 
 pub invariant_of-self : goal.invariant_of-self
 invariant_of-self c = (
   relisted-under_way c.args.self.now c.self.inside.stack c.self.inside.list c.remove.new.self c.self.inside.arena c.remove.new.arena c.self.inside.tokens c.self.inside.head c.self.inside.form c.self.inside.detached c.self.view_is (ap bare c.remove.ensures.tree) (c.remove.ensures.keeps c.self.inside.stack c.self.invariant.0.is_open) c.self.invariant.0,
   ends-labels c.self.inside.stack c.self.inside.p_ends.items c.self.inside.arena c.remove.new.arena c.self.invariant.1 (ap (λ (v : Tree). v.labels) c.remove.ensures.tree),
+  seats-as c.self.inside.arena c.remove.new.arena c.self.inside.stack (ap (λ (v : Tree). v.labels) c.remove.ensures.tree) (ap (λ (v : Tree). v.parents) c.remove.ensures.tree) c.self.invariant.2,
 )
 
 pub returns-clause-exact : goal.returns-clause-exact
