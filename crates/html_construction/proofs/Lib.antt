@@ -12,3 +12,4 @@ pub mod Refusing
 pub mod Results
 pub mod Weighing
 pub mod Working
+pub mod Seats

@@ -18,6 +18,10 @@ tag_name _ = []
 abbrev pub element_name : Tag → TokenKind → List ℕ
 element_name t token = if is_same t tag.Image then name_of tag.Img else tag_name token
 
+-- the tag of that element
+abbrev pub element_tag : Tag → Tag
+element_tag t = if is_same t tag.Image then tag.Img else t
+
 -- the attributes of a start tag; another token has none
 abbrev pub attrs_of : TokenKind → List Attr
 attrs_of (kind.Start name attrs self_closing) = attrs

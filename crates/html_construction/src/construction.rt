@@ -4,6 +4,7 @@ ghost use Rattle.html_arena.specs.declared.arena.Limits.{Limits};
 ghost use Rattle.html_ledger.specs.declared.setting.Setting.TheVariants.{Document, Fragment};
 ghost use Rattle.html_names.specs.declared.tag.Tag.TheVariants as tag;
 ghost use Rattle.html_tree.specs.OpenTags.{open_tags};
+ghost use Rattle.html_tree.specs.Seats.{HasSeats};
 ghost use Rattle.html_tree.specs.States.{IsNamed, IsSound, document_state, fragment_state};
 ghost use Rattle.html_ledger.specs.Entries.{begun};
 ghost use Rattle.std.specs.List.{sum_by};
@@ -183,6 +184,7 @@ impl Construction {
     /// What is always true of the tree, and of the tags of its open elements: a law.
     pub fn laws(&self)
         ensures sound { IsSound self.now.tree }
+        ensures seats { HasSeats self.now.tree.tree self.now.tree.stack }
         ensures tags { self.now.stack ≡ open_tags self.now.tree }
     {
         self.tree.laws();
@@ -217,6 +219,7 @@ impl Construction {
         ensures held { result.0.held ≡ capped (sum_by weight result.0.labels) }
         ensures within { IsWithin result.0 }
         ensures body { IsNamed self.tree.tree tag.Body self.tree.detached }
+        ensures seats { HasSeats self.tree.tree self.tree.stack }
         ensures fates { result.1 ≡ self.ledger.fates }
         ensures errors { result.2.items ≡ self.ledger.errors }
         ensures fated { (h : Handed) → self.ledger.kept ≡ [] → IsBuilt h self → Fated h.setting (symbols h.tokens) result.1 }

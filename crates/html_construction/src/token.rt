@@ -4,7 +4,7 @@ ghost use Rattle.html_names.specs.declared.tag.Tag.{Tag as TagType};
 ghost use Rattle.html_names.specs.Names.{tag_of};
 ghost use Rattle.html_ledger.specs.Symbols.{symbol_of};
 ghost use Rattle.html_ledger.specs.declared.symbol.Symbol.TheVariants.{Start};
-ghost use Rattle.html_construction.specs.Tokens.{attrs_of, data_of, element_name, name_id, public_id, system_id, tag_name};
+ghost use Rattle.html_construction.specs.Tokens.{attrs_of, data_of, element_name, element_tag, name_id, public_id, system_id, tag_name};
 
 use html_charref::Str;
 use html_names::Tag;
@@ -33,6 +33,7 @@ pub(crate) fn copy_element_name(
     tag: Tag,
 ) -> Result<Str, AllocError>
     ensures name { IfOk result (λ name. name ≡ element_name tag token.now) }
+    ensures tag { IfOk result (λ name. symbol_of token.now ≡ Start tag → tag_of name ≡ element_tag tag) }
 {
     if tag.is(Tag::Image) {
         Str::of(alloc, Tag::Img.name())

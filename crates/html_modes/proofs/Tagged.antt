@@ -5,7 +5,8 @@ use Rattle.std.proofs.lemmas.Grind.{common_steps}
 use Rattle.html_names.specs.declared.tag.Tag.{Tag}
 use Rattle.html_names.specs.declared.tag.Tag.TheVariants as tag
 use Rattle.html_names.specs.Sets.{is_block, is_heading, is_headish, is_section, is_cell, is_formatting}
-use Rattle.html_names.specs.Groups.{is_preformatted, takes_marker, is_head_text, is_table_piece, ends_section, ends_row, is_placed, is_table_part, ends_select, ends_select_in_table}
+use Rattle.html_tree.specs.Seats.{is_part}
+use Rattle.html_names.specs.Groups.{is_preformatted, takes_marker, is_head_text, is_table_piece, ends_section, ends_row, is_placed, is_table_part, ends_select, ends_select_in_table, is_void_phrase, is_void_part, is_table_head, is_noscript_part}
 use Rattle.html_names.specs.Tags.{is_same}
 use Rattle.html_ledger.specs.declared.symbol.Symbol.TheVariants.{Start}
 use Rattle.html_ledger.specs.declared.history.History.{History}
@@ -257,3 +258,148 @@ may_misplace-placed h t e = or_left (is_placed t) _ e
 
 pub is_visible-space : (c : ℕ) → is_space c ≡ true → (c == 0) ≡ false
 is_visible-space c e = grind (arith, common_steps)
+
+-- NO PARTS OF TABLES, AND PARTS
+
+pub apart-is_block : (t : Tag) → is_block t ≡ true → is_part t ≡ false
+apart-is_block tag.Caption e = absurd (false≢true e)
+apart-is_block tag.Colgroup e = absurd (false≢true e)
+apart-is_block tag.Tbody e = absurd (false≢true e)
+apart-is_block tag.Td e = absurd (false≢true e)
+apart-is_block tag.Tfoot e = absurd (false≢true e)
+apart-is_block tag.Th e = absurd (false≢true e)
+apart-is_block tag.Thead e = absurd (false≢true e)
+apart-is_block tag.Tr e = absurd (false≢true e)
+apart-is_block _ e = refl
+
+pub apart-is_heading : (t : Tag) → is_heading t ≡ true → is_part t ≡ false
+apart-is_heading tag.Caption e = absurd (false≢true e)
+apart-is_heading tag.Colgroup e = absurd (false≢true e)
+apart-is_heading tag.Tbody e = absurd (false≢true e)
+apart-is_heading tag.Td e = absurd (false≢true e)
+apart-is_heading tag.Tfoot e = absurd (false≢true e)
+apart-is_heading tag.Th e = absurd (false≢true e)
+apart-is_heading tag.Thead e = absurd (false≢true e)
+apart-is_heading tag.Tr e = absurd (false≢true e)
+apart-is_heading _ e = refl
+
+pub apart-is_preformatted : (t : Tag) → is_preformatted t ≡ true → is_part t ≡ false
+apart-is_preformatted tag.Caption e = absurd (false≢true e)
+apart-is_preformatted tag.Colgroup e = absurd (false≢true e)
+apart-is_preformatted tag.Tbody e = absurd (false≢true e)
+apart-is_preformatted tag.Td e = absurd (false≢true e)
+apart-is_preformatted tag.Tfoot e = absurd (false≢true e)
+apart-is_preformatted tag.Th e = absurd (false≢true e)
+apart-is_preformatted tag.Thead e = absurd (false≢true e)
+apart-is_preformatted tag.Tr e = absurd (false≢true e)
+apart-is_preformatted _ e = refl
+
+pub apart-takes_marker : (t : Tag) → takes_marker t ≡ true → is_part t ≡ false
+apart-takes_marker tag.Caption e = absurd (false≢true e)
+apart-takes_marker tag.Colgroup e = absurd (false≢true e)
+apart-takes_marker tag.Tbody e = absurd (false≢true e)
+apart-takes_marker tag.Td e = absurd (false≢true e)
+apart-takes_marker tag.Tfoot e = absurd (false≢true e)
+apart-takes_marker tag.Th e = absurd (false≢true e)
+apart-takes_marker tag.Thead e = absurd (false≢true e)
+apart-takes_marker tag.Tr e = absurd (false≢true e)
+apart-takes_marker _ e = refl
+
+pub apart-is_head_text : (t : Tag) → is_head_text t ≡ true → is_part t ≡ false
+apart-is_head_text tag.Caption e = absurd (false≢true e)
+apart-is_head_text tag.Colgroup e = absurd (false≢true e)
+apart-is_head_text tag.Tbody e = absurd (false≢true e)
+apart-is_head_text tag.Td e = absurd (false≢true e)
+apart-is_head_text tag.Tfoot e = absurd (false≢true e)
+apart-is_head_text tag.Th e = absurd (false≢true e)
+apart-is_head_text tag.Thead e = absurd (false≢true e)
+apart-is_head_text tag.Tr e = absurd (false≢true e)
+apart-is_head_text _ e = refl
+
+pub apart-is_headish : (t : Tag) → is_headish t ≡ true → is_part t ≡ false
+apart-is_headish tag.Caption e = absurd (false≢true e)
+apart-is_headish tag.Colgroup e = absurd (false≢true e)
+apart-is_headish tag.Tbody e = absurd (false≢true e)
+apart-is_headish tag.Td e = absurd (false≢true e)
+apart-is_headish tag.Tfoot e = absurd (false≢true e)
+apart-is_headish tag.Th e = absurd (false≢true e)
+apart-is_headish tag.Thead e = absurd (false≢true e)
+apart-is_headish tag.Tr e = absurd (false≢true e)
+apart-is_headish _ e = refl
+
+pub apart-is_void_phrase : (t : Tag) → is_void_phrase t ≡ true → is_part t ≡ false
+apart-is_void_phrase tag.Caption e = absurd (false≢true e)
+apart-is_void_phrase tag.Colgroup e = absurd (false≢true e)
+apart-is_void_phrase tag.Tbody e = absurd (false≢true e)
+apart-is_void_phrase tag.Td e = absurd (false≢true e)
+apart-is_void_phrase tag.Tfoot e = absurd (false≢true e)
+apart-is_void_phrase tag.Th e = absurd (false≢true e)
+apart-is_void_phrase tag.Thead e = absurd (false≢true e)
+apart-is_void_phrase tag.Tr e = absurd (false≢true e)
+apart-is_void_phrase _ e = refl
+
+pub apart-is_void_part : (t : Tag) → is_void_part t ≡ true → is_part t ≡ false
+apart-is_void_part tag.Caption e = absurd (false≢true e)
+apart-is_void_part tag.Colgroup e = absurd (false≢true e)
+apart-is_void_part tag.Tbody e = absurd (false≢true e)
+apart-is_void_part tag.Td e = absurd (false≢true e)
+apart-is_void_part tag.Tfoot e = absurd (false≢true e)
+apart-is_void_part tag.Th e = absurd (false≢true e)
+apart-is_void_part tag.Thead e = absurd (false≢true e)
+apart-is_void_part tag.Tr e = absurd (false≢true e)
+apart-is_void_part _ e = refl
+
+pub apart-is_table_head : (t : Tag) → is_table_head t ≡ true → is_part t ≡ false
+apart-is_table_head tag.Caption e = absurd (false≢true e)
+apart-is_table_head tag.Colgroup e = absurd (false≢true e)
+apart-is_table_head tag.Tbody e = absurd (false≢true e)
+apart-is_table_head tag.Td e = absurd (false≢true e)
+apart-is_table_head tag.Tfoot e = absurd (false≢true e)
+apart-is_table_head tag.Th e = absurd (false≢true e)
+apart-is_table_head tag.Thead e = absurd (false≢true e)
+apart-is_table_head tag.Tr e = absurd (false≢true e)
+apart-is_table_head _ e = refl
+
+pub apart-is_formatting : (t : Tag) → is_formatting t ≡ true → is_part t ≡ false
+apart-is_formatting tag.Caption e = absurd (false≢true e)
+apart-is_formatting tag.Colgroup e = absurd (false≢true e)
+apart-is_formatting tag.Tbody e = absurd (false≢true e)
+apart-is_formatting tag.Td e = absurd (false≢true e)
+apart-is_formatting tag.Tfoot e = absurd (false≢true e)
+apart-is_formatting tag.Th e = absurd (false≢true e)
+apart-is_formatting tag.Thead e = absurd (false≢true e)
+apart-is_formatting tag.Tr e = absurd (false≢true e)
+apart-is_formatting _ e = refl
+
+pub apart-is_noscript_part : (t : Tag) → is_noscript_part t ≡ true → is_part t ≡ false
+apart-is_noscript_part tag.Caption e = absurd (false≢true e)
+apart-is_noscript_part tag.Colgroup e = absurd (false≢true e)
+apart-is_noscript_part tag.Tbody e = absurd (false≢true e)
+apart-is_noscript_part tag.Td e = absurd (false≢true e)
+apart-is_noscript_part tag.Tfoot e = absurd (false≢true e)
+apart-is_noscript_part tag.Th e = absurd (false≢true e)
+apart-is_noscript_part tag.Thead e = absurd (false≢true e)
+apart-is_noscript_part tag.Tr e = absurd (false≢true e)
+apart-is_noscript_part _ e = refl
+
+pub apart-unplaced : (t : Tag) → is_placed t ≡ false → is_part t ≡ false
+apart-unplaced tag.Caption e = absurd (false≢true (sym e))
+apart-unplaced tag.Colgroup e = absurd (false≢true (sym e))
+apart-unplaced tag.Tbody e = absurd (false≢true (sym e))
+apart-unplaced tag.Td e = absurd (false≢true (sym e))
+apart-unplaced tag.Tfoot e = absurd (false≢true (sym e))
+apart-unplaced tag.Th e = absurd (false≢true (sym e))
+apart-unplaced tag.Thead e = absurd (false≢true (sym e))
+apart-unplaced tag.Tr e = absurd (false≢true (sym e))
+apart-unplaced _ e = refl
+
+pub part-is_cell : (t : Tag) → is_cell t ≡ true → is_part t ≡ true
+part-is_cell tag.Td e = refl
+part-is_cell tag.Th e = refl
+part-is_cell _ e = absurd (false≢true e)
+
+pub part-is_section : (t : Tag) → is_section t ≡ true → is_part t ≡ true
+part-is_section tag.Tbody e = refl
+part-is_section tag.Tfoot e = refl
+part-is_section tag.Thead e = refl
+part-is_section _ e = absurd (false≢true e)

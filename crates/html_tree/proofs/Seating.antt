@@ -7,6 +7,7 @@ use Rattle.std.proofs.lemmas.List.{append_assoc}
 use Rattle.html_names.specs.declared.sets.Scope.TheVariants as scope
 use Rattle.html_names.specs.declared.tag.Tag.{Tag}
 use Rattle.html_names.specs.declared.tag.Tag.TheVariants as tag
+use Rattle.html_names.specs.Groups.{is_table_part}
 use Rattle.html_names.specs.Sets.{ends_default_scope, is_cell, is_formatting, is_row_context, is_section_context, is_special, is_table_context}
 use Rattle.html_names.specs.Tags.{is_same}
 use Rattle.html_arena.specs.declared.data.NodeData.TheVariants as node
@@ -24,7 +25,7 @@ use Rattle.html_open.proofs.Descending.{label-kept, round-made}
 use Rattle.html_open.proofs.Keeps.{Distinct-remove, cases_bool, cases_eqb, eqb-self, split-last}
 use Rattle.html_tree.specs.Closing.{remaining}
 use Rattle.html_tree.specs.OpenTags.{HasFewer, HasReopened, open_tags, tags_down}
-use Rattle.html_tree.specs.Seats.{AreSeated, IsSeated, carries_part, is_part, is_table_part, sits_on}
+use Rattle.html_tree.specs.Seats.{AreSeated, IsSeated, carries_part, is_part, sits_on}
 use Rattle.html_tree.specs.States.{State}
 use Rattle.html_tree.proofs.Adopted.{formatting-plain as formatting-ordinary}
 use Rattle.html_open.proofs.Inserted.{get-before}
@@ -99,7 +100,7 @@ carrier-ends _ h n = absurd (let k = h in cc)
 plain-carries : (g : Tag) → is_special g ≡ false → carries_part g ≡ false
 plain-carries g h = elim (cases_bool (carries_part g)) [ inl a ↦ absurd (false≢true (sym h ∙ carrier-special g a)) | inr a ↦ a ]
 
-formatting-carries : (g : Tag) → is_formatting g ≡ true → carries_part g ≡ false
+pub formatting-carries : (g : Tag) → is_formatting g ≡ true → carries_part g ≡ false
 formatting-carries g h = plain-carries g (formatting-ordinary g h)
 
 -- the elements from the first on

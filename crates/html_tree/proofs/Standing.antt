@@ -4,6 +4,7 @@ use Rattle.std.proofs.lemmas.Bool.{false≢true}
 use Rattle.std.proofs.lemmas.List.{length-map as length_map, take-append-drop}
 use Rattle.html_names.specs.declared.tag.Tag.{Tag}
 use Rattle.html_names.specs.declared.tag.Tag.TheVariants as tag
+use Rattle.html_names.specs.Groups.{is_table_part}
 use Rattle.html_names.specs.Sets.{ends_default_scope, is_cell, is_formatting}
 use Rattle.html_names.specs.Tags.{is_same}
 use Rattle.html_arena.specs.declared.data.NewNode.{NewNode}
@@ -39,7 +40,7 @@ use Rattle.html_tree.specs.declared.groups.Target.{Target}
 use Rattle.html_tree.specs.declared.groups.Target.TheVariants as target
 use Rattle.html_tree.specs.Inserting.{IsNew}
 use Rattle.html_tree.specs.OpenTags.{tags_down}
-use Rattle.html_tree.specs.Seats.{AreSeated, ArePartsSeated, CanSeat, HasSeats, IsSeated, carries_part, is_part, is_seat, is_table_part, may_carry, seat_at, sits_on}
+use Rattle.html_tree.specs.Seats.{AreSeated, ArePartsSeated, CanSeat, HasSeats, IsSeated, carries_part, is_part, is_seat, may_carry, seat_at, sits_on}
 use Rattle.html_tree.specs.Since.{essence}
 use Rattle.html_tree.specs.States.{IsUnderWay, State, state_of}
 use Rattle.html_tree.specs.Targets.{CanTarget, place_at}

@@ -2,7 +2,8 @@
 use Rattle.std.specs.Prelude.{◌≡◌, ℕ, Bool, true, false, cond, eqb, ◌||◌, List, [], ◌∷◌, Option, Some, None}
 use Rattle.html_names.specs.declared.tag.Tag.{Tag}
 use Rattle.html_names.specs.declared.tag.Tag.TheVariants as tag
-use Rattle.html_names.specs.Sets.{is_cell, is_row_context, is_section, is_section_context, is_table_context}
+use Rattle.html_names.specs.Groups.{is_table_part}
+use Rattle.html_names.specs.Sets.{is_cell, is_row_context, is_section_context, is_table_context}
 use Rattle.html_names.specs.Tags.{is_same}
 use Rattle.html_arena.specs.declared.data.NodeData.{NodeData}
 use Rattle.html_arena.specs.declared.data.NodeData.TheVariants.{Document, Contents, Element, Text, Comment, Doctype}
@@ -13,10 +14,6 @@ use Rattle.html_tree.specs.declared.groups.Target.{Target}
 use Rattle.html_tree.specs.declared.groups.Target.TheVariants as target
 use Rattle.html_tree.specs.OpenTags.{tags_down}
 use Rattle.html_tree.specs.States.{State}
-
--- what a table holds, besides cells and rows
-abbrev pub is_table_part : Tag → Bool
-is_table_part g = is_section g || (is_same g tag.Caption || is_same g tag.Colgroup)
 
 -- a part of a table
 abbrev pub is_part : Tag → Bool

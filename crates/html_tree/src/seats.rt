@@ -1,6 +1,6 @@
 // What parts of tables stand on (13.2.6.4.9 to 13.2.6.4.15).
 ghost use Rattle.std.specs.Prelude.{◌≡◌};
-ghost use Rattle.html_tree.specs.Seats.{is_table_part, may_carry, sits_on};
+ghost use Rattle.html_tree.specs.Seats.{may_carry, sits_on};
 
 use html_arena::NodeId;
 use html_names::Tag;
@@ -24,16 +24,9 @@ fn sits_on(part: Tag, tag: Tag) -> bool
         tag.is_row_context()
     } else if part.is(Tag::Tr) {
         tag.is_section_context()
-    } else if is_table_part(part) {
+    } else if part.is_table_part() {
         tag.is_table_context()
     } else {
         true
     }
-}
-
-/// What a table holds, besides cells and rows.
-fn is_table_part(tag: Tag) -> bool
-    ensures value { result ≡ is_table_part tag }
-{
-    tag.is_section() || tag.is(Tag::Caption) || tag.is(Tag::Colgroup)
 }

@@ -15,7 +15,9 @@ ghost use Rattle.html_tree.specs.declared.groups.Group.TheVariants as group;
 ghost use Rattle.html_tree.specs.declared.groups.Stop.TheVariants as stop;
 ghost use Rattle.html_tree.specs.Closing.{before_index, cleared_to, closed_through, first_few, popped, remaining};
 ghost use Rattle.html_tree.specs.OpenTags.{open_tags};
+ghost use Rattle.html_arena.specs.Tree.{tag_at};
 ghost use Rattle.html_tree.specs.Searching.{found, found_name};
+ghost use Rattle.html_tree.specs.Seats.{carries_part};
 ghost use Rattle.html_construction.specs.Calls.{IsTree, is_first, item_group};
 
 use super::Construction;
@@ -207,10 +209,11 @@ impl Construction {
         self.tree.pop_to(depth);
     }
 
-    /// Closes an element, wherever it stands, unless it is the first.
+    /// Closes an element on which no part of a table stands, wherever it is, unless it is the first.
     pub(super) fn remove_open(&mut self, node: NodeId)
         requires opened { 0 < length self.old.stack }
         requires node { node < length self.old.tree.tree.labels }
+        requires plain { carries_part (tag_at self.old.tree.tree node) ≡ false }
         ensures rest { self.new ≡ record self.old { tree = self.new.tree; stack = self.new.stack } }
         ensures keeps { Keeps self.old self.new }
         ensures grown { Grown 0 0 0 0 0 self.old self.new }

@@ -1,12 +1,14 @@
 // Nodes that are made of tokens, or implied by them. A token gets its fate first, and then its node is made: so no node comes from a token
 // without a fate, also where the node is refused.
-ghost use Rattle.std.specs.Prelude.{◌≡◌, ◌+◌, ◌*◌, ◌<◌, ◌≤◌, ◌∷◌, [], IfOk, IsTrue, OnOk, false, length, true, slice_index};
+ghost use Rattle.std.specs.Prelude.{◌≡◌, ◌+◌, ◌*◌, ◌<◌, ◌≤◌, ◌∷◌, [], IfOk, IsTrue, OnOk, false, length, true, slice_index, if◌then◌else◌};
 ghost use Rattle.html_names.specs.declared.tag.Tag.TheVariants as tag;
 ghost use Rattle.html_names.specs.declared.tag.Tag.TheVariants.{Image};
 ghost use Rattle.html_names.specs.Groups.{is_outermost};
 ghost use Rattle.html_names.specs.Sets.{is_formatting};
 ghost use Rattle.html_arena.specs.Tree.{named, tag_at, with_merged};
 ghost use Rattle.html_names.specs.Tags.{is_same};
+ghost use Rattle.html_tree.specs.Seats.{CanSeat, has_seat, is_part};
+ghost use Rattle.html_ledger.specs.declared.fate.Cause.TheVariants.{Misplaced};
 ghost use Rattle.html_construction.specs.Origins.{is_made_alone};
 ghost use Rattle.html_ledger.specs.Symbols.{symbol_of};
 ghost use Rattle.html_ledger.specs.declared.symbol.Symbol.TheVariants.{Comment, Doctype, Start};
@@ -17,16 +19,16 @@ ghost use Rattle.html_construction.specs.Targets.{CanTarget};
 ghost use Rattle.html_construction.specs.Weights.{weight};
 ghost use Rattle.html_open.specs.Marking.{bare};
 ghost use Rattle.html_tree.specs.declared.groups.Target.TheVariants.{Current, Document};
-ghost use Rattle.html_ledger.specs.declared.fate.Fate.TheVariants.{Made, Merged};
+ghost use Rattle.html_ledger.specs.declared.fate.Fate.TheVariants.{Dropped, Made, Merged};
 ghost use Rattle.html_ledger.specs.Entries.{number_of};
-ghost use Rattle.html_construction.specs.Tokens.{attrs_of, tag_name};
+ghost use Rattle.html_construction.specs.Tokens.{attrs_of, element_tag, tag_name};
 ghost use Rattle.html_construction.specs.Calls.{HasFate, IsTree, comment_of, counting, doctype_of, element_of, implied_of, listed_at, opened_at, placed_at, root_of, void_of};
 
 use super::Construction;
 use crate::refusal::Refusal;
 use crate::token::{copy_attrs, copy_data, copy_doctype, copy_element_name, copy_name};
 use html_arena::NodeId;
-use html_ledger::{Fate, Symbol};
+use html_ledger::{Cause, Fate, Symbol};
 use html_names::Tag;
 use html_tokens::TokenKind;
 use html_tree::Target;
@@ -36,6 +38,7 @@ impl Construction {
     pub fn insert(&mut self, token: &TokenKind, tag: Tag) -> Result<(), Refusal>
         requires symbol { symbol_of token.now ≡ Start tag }
         requires named { is_same tag Image ≡ false }
+        requires part { is_part tag ≡ false }
         requires opened { 0 < length self.old.stack }
         requires quiet { self.old.ledger.kept ≡ [] }
         ensures rest { OnOk result (self.new ≡ record self.old { tree = self.new.tree; ledger = self.new.ledger; stack = tag ∷ self.old.stack }) }
@@ -54,6 +57,7 @@ impl Construction {
     pub fn insert_at(&mut self, token: &TokenKind, tag: Tag, target: Target) -> Result<(), Refusal>
         requires symbol { symbol_of token.now ≡ Start tag }
         requires named { is_same tag Image ≡ false }
+        requires part { is_part tag ≡ false }
         requires opened { 0 < length self.old.stack }
         requires quiet { self.old.ledger.kept ≡ [] }
         ensures rest { OnOk result (self.new ≡ record self.old { tree = self.new.tree; ledger = self.new.ledger; stack = tag ∷ self.old.stack }) }
@@ -77,6 +81,7 @@ impl Construction {
     ) -> Result<NodeId, Refusal>
         requires symbol { symbol_of token.now ≡ Start tag }
         requires named { is_same tag Image ≡ false }
+        requires seat { CanSeat self.old.tree tag target }
         requires opened { 0 < length self.old.stack }
         requires quiet { self.old.ledger.kept ≡ [] }
         ensures rest { OnOk result (self.new ≡ record self.old { tree = self.new.tree; ledger = self.new.ledger; stack = tag ∷ self.old.stack }) }
@@ -97,9 +102,37 @@ impl Construction {
         Ok(node)
     }
 
+    /// Makes the element of a start tag that is a part of a table, puts it in the current node and opens it, where that may hold it. Where it
+    /// may not, as it always may in a real run, the token is dropped as misplaced.
+    pub fn insert_part(&mut self, token: &TokenKind, tag: Tag) -> Result<(), Refusal>
+        requires symbol { symbol_of token.now ≡ Start tag }
+        requires part { is_part tag ≡ true }
+        requires opened { 0 < length self.old.stack }
+        requires quiet { self.old.ledger.kept ≡ [] }
+        ensures rest { OnOk result (self.new ≡ record self.old { tree = self.new.tree; ledger = self.new.ledger; stack = self.new.stack }) }
+        ensures takes { OnOk result (Takes token.now self.old self.new) }
+        ensures quiet { OnOk result (self.new.ledger.kept ≡ []) }
+        ensures grown { OnOk result (Grown 1 2 0 0 0 self.old self.new) }
+        ensures works { OnOk result (Works 1 0 1 self.old self.new) }
+        ensures opened { OnOk result (0 < length self.new.stack) }
+        ensures heavier { OnOk result (weight self.new.stack ≤ weight self.old.stack + 4) }
+        ensures tags { OnOk result (self.new.stack ≡ (if has_seat self.old.tree tag then tag ∷ self.old.stack else self.old.stack)) }
+        ensures fate { OnOk result (HasFate (Start tag) (if has_seat self.old.tree tag then Made (length self.old.tree.tree.labels) else Dropped Misplaced) self.old self.new) }
+        ensures exact { OnOk result (has_seat self.old.tree tag ≡ true → IsTree (opened_at (element_of self.old token.now) (Current false) (counting (number_of self.old.ledger + 1) self.old.tree)) self.new) }
+        ensures same { OnOk result (has_seat self.old.tree tag ≡ false → IsTree self.old.tree self.new) }
+    {
+        if self.has_seat(tag) {
+            let _ = self.open_at(token, tag, Target::Current(false))?;
+        } else {
+            self.drop_token(token, Symbol::Start(tag), Cause::Misplaced)?;
+        }
+        Ok(())
+    }
+
     /// Makes the element of a start tag and puts it at the place for the current node; it is not opened.
     pub fn insert_void(&mut self, token: &TokenKind, tag: Tag) -> Result<(), Refusal>
         requires symbol { symbol_of token.now ≡ Start tag }
+        requires part { is_part tag ≡ false }
         requires opened { 0 < length self.old.stack }
         requires quiet { self.old.ledger.kept ≡ [] }
         ensures rest { OnOk result (self.new ≡ record self.old { tree = self.new.tree; ledger = self.new.ledger }) }
@@ -122,6 +155,7 @@ impl Construction {
         target: Target,
     ) -> Result<(), Refusal>
         requires symbol { symbol_of token.now ≡ Start tag }
+        requires part { is_part tag ≡ false }
         requires opened { 0 < length self.old.stack }
         requires quiet { self.old.ledger.kept ≡ [] }
         ensures rest { OnOk result (self.new ≡ record self.old { tree = self.new.tree; ledger = self.new.ledger }) }
@@ -144,6 +178,7 @@ impl Construction {
         target: Target,
     ) -> Result<NodeId, Refusal>
         requires symbol { symbol_of token.now ≡ Start tag }
+        requires part { is_part tag ≡ false }
         requires opened { 0 < length self.old.stack }
         requires quiet { self.old.ledger.kept ≡ [] }
         ensures rest { OnOk result (self.new ≡ record self.old { tree = self.new.tree; ledger = self.new.ledger }) }
@@ -151,7 +186,7 @@ impl Construction {
         ensures quiet { OnOk result (self.new.ledger.kept ≡ []) }
         ensures grown { OnOk result (Grown 1 2 0 0 0 self.old self.new) }
         ensures works { OnOk result (Works 1 0 0 self.old self.new) }
-        ensures node { IfOk result (λ x. x < length self.new.tree.tree.labels) }
+        ensures node { IfOk result (λ x. (x < length self.new.tree.tree.labels) × (tag_at self.new.tree.tree x ≡ element_tag tag)) }
         ensures exact { OnOk result (IsTree (placed_at (void_of self.old tag token.now) target (counting (number_of self.old.ledger + 1) self.old.tree)) self.new) }
         ensures fate { OnOk result (HasFate (Start tag) (Made (length self.old.tree.tree.labels)) self.old self.new) }
     {
@@ -325,6 +360,7 @@ impl Construction {
     /// Makes an element that no token asked for, puts it at the place for the current node and opens it. No token gets a fate.
     pub fn insert_implied(&mut self, tag: Tag) -> Result<(), Refusal>
         requires alone { is_made_alone tag ≡ true }
+        requires part { is_part tag ≡ false }
         requires opened { 0 < length self.old.stack }
         ensures rest { OnOk result (self.new ≡ record self.old { tree = self.new.tree; stack = tag ∷ self.old.stack }) }
         ensures keeps { OnOk result (Keeps self.old self.new) }
@@ -339,6 +375,7 @@ impl Construction {
     /// Makes an element that no token asked for, puts it at the place for the current node and opens it, and answers it.
     pub(super) fn open_implied(&mut self, tag: Tag) -> Result<NodeId, Refusal>
         requires alone { is_made_alone tag ≡ true }
+        requires part { is_part tag ≡ false }
         requires opened { 0 < length self.old.stack }
         ensures rest { OnOk result (self.new ≡ record self.old { tree = self.new.tree; stack = tag ∷ self.old.stack }) }
         ensures keeps { OnOk result (Keeps self.old self.new) }
@@ -352,9 +389,48 @@ impl Construction {
         Ok(node)
     }
 
+    /// Makes a part of a table that no token asked for, puts it in the current node and opens it, where that may hold it, as it always may
+    /// in a real run. No token gets a fate.
+    pub fn insert_implied_part(&mut self, tag: Tag) -> Result<(), Refusal>
+        requires alone { is_made_alone tag ≡ true }
+        requires part { is_part tag ≡ true }
+        requires opened { 0 < length self.old.stack }
+        ensures rest { OnOk result (self.new ≡ record self.old { tree = self.new.tree; stack = self.new.stack }) }
+        ensures keeps { OnOk result (Keeps self.old self.new) }
+        ensures grown { OnOk result (Grown 0 2 0 0 1 self.old self.new) }
+        ensures works { OnOk result (Works 1 0 1 self.old self.new) }
+        ensures opened { OnOk result (0 < length self.new.stack) }
+        ensures heavier { OnOk result (weight self.new.stack ≤ weight self.old.stack + 4) }
+        ensures tags { OnOk result (self.new.stack ≡ (if has_seat self.old.tree tag then tag ∷ self.old.stack else self.old.stack)) }
+        ensures exact { OnOk result (has_seat self.old.tree tag ≡ true → IsTree (opened_at (implied_of tag) (Current false) self.old.tree) self.new) }
+        ensures same { OnOk result (has_seat self.old.tree tag ≡ false → IsTree self.old.tree self.new) }
+    {
+        if self.has_seat(tag) {
+            self.open_implied_part(tag)?;
+        }
+        Ok(())
+    }
+
+    /// Makes a part of a table that no token asked for, puts it in the current node, which may hold it, and opens it.
+    fn open_implied_part(&mut self, tag: Tag) -> Result<(), Refusal>
+        requires alone { is_made_alone tag ≡ true }
+        requires seat { has_seat self.old.tree tag ≡ true }
+        requires opened { 0 < length self.old.stack }
+        ensures rest { OnOk result (self.new ≡ record self.old { tree = self.new.tree; stack = tag ∷ self.old.stack }) }
+        ensures keeps { OnOk result (Keeps self.old self.new) }
+        ensures grown { OnOk result (Grown 0 2 0 0 1 self.old self.new) }
+        ensures works { OnOk result (Works 1 0 0 self.old self.new) }
+        ensures exact { OnOk result (IsTree (opened_at (implied_of tag) (Current false) self.old.tree) self.new) }
+    {
+        self.tree.laws();
+        self.tree.insert_implied(tag, false)?;
+        Ok(())
+    }
+
     /// Makes an element that no token asked for and puts it at the place for the current node; it is not opened. No token gets a fate.
     pub fn insert_implied_void(&mut self, tag: Tag) -> Result<(), Refusal>
         requires alone { is_made_alone tag ≡ true }
+        requires part { is_part tag ≡ false }
         requires opened { 0 < length self.old.stack }
         ensures rest { OnOk result (self.new ≡ record self.old { tree = self.new.tree }) }
         ensures keeps { OnOk result (Keeps self.old self.new) }

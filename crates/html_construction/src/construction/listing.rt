@@ -1,6 +1,7 @@
 // The list of active formatting elements (13.2.4.3). No call gives a token its fate.
-ghost use Rattle.std.specs.Prelude.{◌≡◌, ◌<◌, ◌≤◌, IfSome, OnOk, length, true, ◌++◌, ◌∷◌, [], IfOk};
+ghost use Rattle.std.specs.Prelude.{◌≡◌, ℕ, ◌<◌, ◌≤◌, IfSome, OnOk, length, true, ◌++◌, ◌∷◌, [], IfOk};
 ghost use Rattle.html_names.specs.Sets.{is_formatting};
+ghost use Rattle.html_arena.specs.Tree.{tag_at};
 ghost use Rattle.html_construction.specs.Built.{Keeps};
 ghost use Rattle.html_construction.specs.Grown.{Grown};
 ghost use Rattle.html_construction.specs.Works.{Works};
@@ -73,6 +74,7 @@ impl Construction {
         ensures lighter { OnOk result (weight self.new.stack ≤ weight self.old.stack) }
         ensures opened { OnOk result (0 < length self.new.stack) }
         ensures tags { OnOk result (self.new.stack ≡ open_tags self.new.tree) }
+        ensures tags_stay { OnOk result ((x : ℕ) → x < length self.old.tree.tree.labels → tag_at self.new.tree.tree x ≡ tag_at self.old.tree.tree x) }
         ensures exact { OnOk result (HasEnded tag self.old.fostering self.old.tree self.new.tree) }
     {
         match self.adopt(tag)? {
@@ -94,6 +96,7 @@ impl Construction {
         ensures lighter { OnOk result (weight self.new.stack ≤ weight self.old.stack) }
         ensures opened { OnOk result (0 < length self.new.stack) }
         ensures tags { OnOk result (self.new.stack ≡ open_tags self.new.tree) }
+        ensures tags_stay { OnOk result ((x : ℕ) → x < length self.old.tree.tree.labels → tag_at self.new.tree.tree x ≡ tag_at self.old.tree.tree x) }
         ensures exact { IfOk result (λ end. IsAdopted tag self.old.fostering end self.old.tree self.new.tree) }
     {
         self.tree.laws();
@@ -128,9 +131,11 @@ impl Construction {
         ensures grown { Grown 0 0 0 0 0 self.old self.new }
         ensures works { Works 1 0 0 self.old self.new }
         ensures node { IfSome result (λ x. x < length self.new.tree.tree.labels) }
+        ensures formatting { IfSome result (λ x. is_formatting (tag_at self.new.tree.tree x) ≡ true) }
         ensures listed { result ≡ last_named self.old.tree.tree tag self.old.tree.list }
         ensures same { IsTree self.old.tree self.new }
     {
+        self.tree.laws();
         self.tree.last_listed(tag)
     }
 

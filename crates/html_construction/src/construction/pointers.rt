@@ -72,6 +72,7 @@ impl Construction {
     /// Points to a form.
     fn set_form(&mut self, form: NodeId)
         requires node { form < length self.old.tree.tree.labels }
+        requires tag { tag_at self.old.tree.tree form ≡ tag.Form }
         ensures exact { IsTree (record self.old.tree { form = Some form }) self.new }
         ensures rest { self.new ≡ record self.old { tree = self.new.tree } }
         ensures keeps { Keeps self.old self.new }
@@ -146,7 +147,7 @@ impl Construction {
         ensures keeps { Keeps self.old self.new }
         ensures grown { Grown 0 0 0 0 0 self.old self.new }
         ensures works { Works 0 0 0 self.old self.new }
-        ensures node { IfSome result (λ x. x < length self.new.tree.tree.labels) }
+        ensures node { IfSome result (λ x. (x < length self.new.tree.tree.labels) × (tag_at self.new.tree.tree x ≡ tag.Form)) }
         ensures taken { result ≡ self.old.tree.form }
         ensures exact { IsTree (record self.old.tree { form = None }) self.new }
     {

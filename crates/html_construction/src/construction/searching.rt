@@ -9,6 +9,7 @@ ghost use Rattle.html_names.specs.declared.tag.Tag.TheVariants as html;
 ghost use Rattle.html_tree.specs.declared.groups.Group.TheVariants as group;
 ghost use Rattle.html_tree.specs.declared.groups.Stop.TheVariants as stop;
 ghost use Rattle.html_tree.specs.Searching.{found};
+ghost use Rattle.html_tree.specs.Seats.{has_seat};
 ghost use Rattle.html_construction.specs.Calls.{IsTree, is_first};
 
 use super::Construction;
@@ -50,6 +51,20 @@ impl Construction {
     {
         self.tree.laws();
         self.tree.current_tag().unwrap_or(Tag::Other)
+    }
+
+    /// Whether the current node may hold a part of a table of this tag, or, being a template, its contents may.
+    pub(super) fn has_seat(&mut self, part: Tag) -> bool
+        ensures rest { self.new ≡ record self.old { tree = self.new.tree } }
+        ensures keeps { Keeps self.old self.new }
+        ensures grown { Grown 0 0 0 0 0 self.old self.new }
+        ensures works { Works 0 0 1 self.old self.new }
+        ensures same { IsTree self.old.tree self.new }
+        ensures answer { result ≡ has_seat self.old.tree part }
+        ensures still { has_seat self.new.tree part ≡ has_seat self.old.tree part }
+    {
+        self.tree.laws();
+        self.tree.has_seat(part)
     }
 
     /// Whether the current node is of a group.

@@ -12,6 +12,7 @@ ghost use Rattle.html_modes.specs.Steps.{Falls, Grows, Steps, Worked, compared};
 ghost use Rattle.html_modes.specs.declared.outcome.Outcome.TheVariants.{Done};
 ghost use Rattle.html_names.specs.Sets.{is_formatting};
 ghost use Rattle.html_names.specs.Tags.{is_same as same_tag};
+ghost use Rattle.html_tree.specs.Seats.{is_part};
 
 use crate::guards::has_form;
 use crate::modes::body_end::{body_end, html_end};
@@ -370,6 +371,7 @@ fn late_frameset_start(page: &mut Construction, token: &TokenKind) -> Result<(),
 fn block_start(page: &mut Construction, token: &TokenKind, tag: Tag) -> Result<(), Refusal>
     requires small { weight_of tag ≤ 4 }
     requires named { same_tag tag Tag.Image ≡ false }
+    requires part { is_part tag ≡ false }
     requires symbol { symbol_of token.now ≡ Symbol.Start tag }
     requires calls { Calls page.old }
     ensures fits { OnOk result (Fits page.new) }
@@ -387,6 +389,7 @@ fn block_start(page: &mut Construction, token: &TokenKind, tag: Tag) -> Result<(
 fn heading_start(page: &mut Construction, token: &TokenKind, tag: Tag) -> Result<(), Refusal>
     requires small { weight_of tag ≤ 4 }
     requires named { same_tag tag Tag.Image ≡ false }
+    requires part { is_part tag ≡ false }
     requires symbol { symbol_of token.now ≡ Symbol.Start tag }
     requires calls { Calls page.old }
     ensures fits { OnOk result (Fits page.new) }
@@ -404,6 +407,7 @@ fn heading_start(page: &mut Construction, token: &TokenKind, tag: Tag) -> Result
 fn preformatted_start(page: &mut Construction, token: &TokenKind, tag: Tag) -> Result<(), Refusal>
     requires small { weight_of tag ≤ 4 }
     requires named { same_tag tag Tag.Image ≡ false }
+    requires part { is_part tag ≡ false }
     requires symbol { symbol_of token.now ≡ Symbol.Start tag }
     requires calls { Calls page.old }
     ensures fits { OnOk result (Fits page.new) }
@@ -444,6 +448,7 @@ fn form_start(page: &mut Construction, token: &TokenKind) -> Result<(), Refusal>
 fn item_start(page: &mut Construction, token: &TokenKind, tag: Tag) -> Result<(), Refusal>
     requires small { weight_of tag ≤ 4 }
     requires named { same_tag tag Tag.Image ≡ false }
+    requires part { is_part tag ≡ false }
     requires symbol { symbol_of token.now ≡ Symbol.Start tag }
     requires calls { Calls page.old }
     ensures fits { OnOk result (Fits page.new) }
@@ -512,6 +517,7 @@ fn rule_start(page: &mut Construction, token: &TokenKind) -> Result<(), Refusal>
 fn plain_start(page: &mut Construction, token: &TokenKind, tag: Tag) -> Result<(), Refusal>
     requires small { weight_of tag ≤ 4 }
     requires named { same_tag tag Tag.Image ≡ false }
+    requires part { is_part tag ≡ false }
     requires symbol { symbol_of token.now ≡ Symbol.Start tag }
     requires calls { Calls page.old }
     ensures fits { OnOk result (Fits page.new) }
@@ -529,6 +535,7 @@ fn plain_start(page: &mut Construction, token: &TokenKind, tag: Tag) -> Result<(
 #[tactic(auto, using(crate::proofs::Settled::body_rules))]
 fn void_start(page: &mut Construction, token: &TokenKind, tag: Tag) -> Result<(), Refusal>
     requires symbol { symbol_of token.now ≡ Symbol.Start tag }
+    requires part { is_part tag ≡ false }
     requires calls { Calls page.old }
     ensures fits { OnOk result (Fits page.new) }
     ensures takes { OnOk result (Takes token.now page.old page.new) }
@@ -582,6 +589,7 @@ fn button_start(page: &mut Construction, token: &TokenKind) -> Result<(), Refusa
 fn marker_start(page: &mut Construction, token: &TokenKind, tag: Tag) -> Result<(), Refusal>
     requires small { weight_of tag ≤ 4 }
     requires named { same_tag tag Tag.Image ≡ false }
+    requires part { is_part tag ≡ false }
     requires symbol { symbol_of token.now ≡ Symbol.Start tag }
     requires calls { Calls page.old }
     ensures fits { OnOk result (Fits page.new) }
@@ -607,6 +615,7 @@ fn ruby_start(
 ) -> Result<(), Refusal>
     requires small { weight_of tag ≤ 4 }
     requires named { same_tag tag Tag.Image ≡ false }
+    requires part { is_part tag ≡ false }
     requires symbol { symbol_of token.now ≡ Symbol.Start tag }
     requires calls { Calls page.old }
     ensures fits { OnOk result (Fits page.new) }
@@ -712,6 +721,7 @@ fn is_in_table(mode: Mode) -> bool {
 fn option_start(page: &mut Construction, token: &TokenKind, tag: Tag) -> Result<(), Refusal>
     requires small { weight_of tag ≤ 4 }
     requires named { same_tag tag Tag.Image ≡ false }
+    requires part { is_part tag ≡ false }
     requires symbol { symbol_of token.now ≡ Symbol.Start tag }
     requires calls { Calls page.old }
     ensures fits { OnOk result (Fits page.new) }

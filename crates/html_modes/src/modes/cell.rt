@@ -9,7 +9,7 @@ ghost use Rattle.html_construction.specs.Weights.{weight, weight_of};
 ghost use Rattle.html_modes.specs.Fitting.{Fits, Calls};
 ghost use Rattle.html_modes.specs.Steps.{Falls, Grows, Steps, Worked};
 ghost use Rattle.html_modes.specs.declared.outcome.Outcome.TheVariants.{Done};
-ghost use Rattle.html_names.specs.Tags.{is_same};
+ghost use Rattle.html_tree.specs.Seats.{is_part};
 
 use crate::modes::body_start::body_rules;
 use crate::outcome::Outcome;
@@ -26,8 +26,7 @@ pub(crate) fn cell_start(
     token: &TokenKind,
     tag: Tag,
 ) -> Result<(), Refusal>
-    requires small { weight_of tag ≤ 4 }
-    requires named { is_same tag Tag.Image ≡ false }
+    requires part { is_part tag ≡ true }
     requires symbol { symbol_of token.now ≡ Symbol.Start tag }
     requires calls { Calls page.old }
     ensures fits { OnOk result (Fits page.new) }
@@ -37,7 +36,7 @@ pub(crate) fn cell_start(
     ensures works { OnOk result (Worked Done token.now page.old page.new) }
 {
     page.clear_to(TableContext::Row);
-    page.insert(token, tag)?;
+    page.insert_part(token, tag)?;
     page.add_marker()?;
     page.set_mode(Mode::InCell);
     Ok(())

@@ -15,6 +15,7 @@ ghost use Rattle.html_modes.specs.Plain.{Turns};
 ghost use Rattle.html_modes.specs.Steps.{Falls, Grows, Steps, Worked};
 ghost use Rattle.html_modes.specs.Ranks.{rank, top_rank};
 ghost use Rattle.html_modes.specs.declared.outcome.Outcome.TheVariants.{Done};
+ghost use Rattle.html_tree.specs.Seats.{is_part};
 
 use crate::modes::body_start::html_start;
 use crate::modes::initial::doctype;
@@ -114,6 +115,7 @@ pub(crate) fn head_start(
     tag: Tag,
 ) -> Result<(), Refusal>
     requires symbol { symbol_of token.now ≡ Symbol.Start tag }
+    requires part { is_part tag ≡ false }
     requires calls { Calls page.old }
     ensures fits { OnOk result (Fits page.new) }
     ensures takes { OnOk result (Takes token.now page.old page.new) }
@@ -135,6 +137,7 @@ fn head_start_at(
     target: Target,
 ) -> Result<(), Refusal>
     requires symbol { symbol_of token.now ≡ Symbol.Start tag }
+    requires part { is_part tag ≡ false }
     requires calls { Calls page.old }
     ensures fits { OnOk result (Fits page.new) }
     ensures takes { OnOk result (Takes token.now page.old page.new) }

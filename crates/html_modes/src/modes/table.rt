@@ -47,26 +47,26 @@ pub(crate) fn in_table(
         Symbol::Start(Tag::Caption) => {
             page.clear_to(TableContext::Table);
             page.add_marker()?;
-            page.insert(token, Tag::Caption)?;
+            page.insert_part(token, Tag::Caption)?;
             page.set_mode(Mode::InCaption);
         }
         // A start tag whose tag name is "colgroup": clear the stack back to a table context.
         Symbol::Start(Tag::Colgroup) => {
             page.clear_to(TableContext::Table);
-            page.insert(token, Tag::Colgroup)?;
+            page.insert_part(token, Tag::Colgroup)?;
             page.set_mode(Mode::InColumnGroup);
         }
         // A start tag whose tag name is "col": insert a "colgroup" without attributes, reprocess.
         Symbol::Start(Tag::Col) => {
             page.clear_to(TableContext::Table);
-            page.insert_implied(Tag::Colgroup)?;
+            page.insert_implied_part(Tag::Colgroup)?;
             page.set_mode(Mode::InColumnGroup);
             return Ok(Outcome::Reprocess);
         }
         // A start tag whose tag name is one of: "tbody", "tfoot", "thead".
         Symbol::Start(tag) if tag.is_section() => {
             page.clear_to(TableContext::Table);
-            page.insert(token, tag)?;
+            page.insert_part(token, tag)?;
             page.set_mode(Mode::InTableBody);
         }
         // A start tag whose tag name is one of: "td", "th", "tr": insert a "tbody" without attributes, reprocess.
@@ -103,7 +103,7 @@ fn imply_section(page: &mut Construction) -> Result<(), Refusal>
     ensures heavier { OnOk result (weight page.new.stack ≤ weight page.old.stack + 4) }
 {
     page.clear_to(TableContext::Table);
-    page.insert_implied(Tag::Tbody)?;
+    page.insert_implied_part(Tag::Tbody)?;
     page.set_mode(Mode::InTableBody);
     Ok(())
 }

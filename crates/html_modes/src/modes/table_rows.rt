@@ -41,14 +41,14 @@ pub(crate) fn in_table_body(
         // A start tag whose tag name is "tr": clear the stack back to a table body context.
         Symbol::Start(Tag::Tr) => {
             page.clear_to(TableContext::Body);
-            page.insert(token, Tag::Tr)?;
+            page.insert_part(token, Tag::Tr)?;
             page.set_mode(Mode::InRow);
         }
         // A start tag whose tag name is one of: "th", "td": insert an HTML element for a "tr" start tag token
         // with no attributes, reprocess.
         Symbol::Start(tag) if tag.is_cell() => {
             page.clear_to(TableContext::Body);
-            page.insert_implied(Tag::Tr)?;
+            page.insert_implied_part(Tag::Tr)?;
             page.set_mode(Mode::InRow);
             return Ok(Outcome::Reprocess);
         }

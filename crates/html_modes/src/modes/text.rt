@@ -10,6 +10,7 @@ ghost use Rattle.html_modes.specs.Fitting.{Fits, Calls};
 ghost use Rattle.html_modes.specs.Steps.{Falls, Grows, Steps, Worked};
 ghost use Rattle.html_modes.specs.declared.outcome.Outcome.TheVariants.{Done};
 ghost use Rattle.html_names.specs.Tags.{is_same};
+ghost use Rattle.html_tree.specs.Seats.{is_part};
 
 use crate::outcome::Outcome;
 use html_construction::{Construction, Mode, Refusal};
@@ -27,6 +28,7 @@ pub(crate) fn text_start(
 ) -> Result<(), Refusal>
     requires small { weight_of tag ≤ 4 }
     requires named { is_same tag Tag.Image ≡ false }
+    requires part { is_part tag ≡ false }
     requires symbol { symbol_of token.now ≡ Symbol.Start tag }
     requires calls { Calls page.old }
     ensures fits { OnOk result (Fits page.new) }
@@ -49,6 +51,7 @@ pub(crate) fn text_start_at(
 ) -> Result<(), Refusal>
     requires small { weight_of tag ≤ 4 }
     requires named { is_same tag Tag.Image ≡ false }
+    requires part { is_part tag ≡ false }
     requires symbol { symbol_of token.now ≡ Symbol.Start tag }
     requires calls { Calls page.old }
     ensures fits { OnOk result (Fits page.new) }

@@ -1,8 +1,11 @@
-use Rattle.std.proofs.Common.{refl}
+use Rattle.std.proofs.Common.{refl, ◌<◌, ◌∙◌, length, ap, sym, subst}
 use Rattle.html_construction.proofs.Kept.{kept, lighter-besides, stack-is, adds-none}
 use Rattle.html_construction.proofs.Copying.{grown-kept}
 use Rattle.html_construction.proofs.Cloning.{adopted-copies}
 use Rattle.html_construction.proofs.Working.{works-adopted}
+use Rattle.html_construction.specs.States.{State}
+use Rattle.html_arena.specs.Tree.{tag_at}
+use Rattle.html_tree.proofs.Kept.{same-tag_in, since-self}
 use Rattle.html_construction.proofs.construction.Construction.adopt.Goals as goal
 
 pub returns-clause-keeps : goal.returns-clause-keeps
@@ -18,3 +21,8 @@ returns-clause-grown c =
 
 pub returns-clause-works : goal.returns-clause-works
 returns-clause-works c = works-adopted c.args.self.now _ _ c.self.view_is c.laws.ensures.sound c.self.invariant.tokens c.requires.listed c.in_ok-end.ensures.keeps (adds-none _ _ refl) c.adopt.ensures.steps
+
+pub returns-clause-tags_stay : goal.returns-clause-tags_stay
+returns-clause-tags_stay c = λ x b.
+    let k = c.in_ok-end.ensures.keeps c.self.inside.tree (since-self c.self.inside.tree) in
+    same-tag_in _ _ (k.labels x (subst (λ (n : State). x < length n.tree.tree.labels) (sym c.self.view_is) b)) ∙ ap (λ (n : State). tag_at n.tree.tree x) c.self.view_is

@@ -5,6 +5,7 @@ use Rattle.html_construction.proofs.Kept.{kept, adds-none}
 use Rattle.html_construction.proofs.Building.{as-was}
 use Rattle.html_tree.specs.States.{State as Tree}
 use Rattle.html_construction.proofs.Working.{works-list}
+use Rattle.html_construction.proofs.Seats.{listed-formatting}
 use Rattle.html_construction.proofs.construction.Construction.last_listed.Goals as goal
 
 pub returns-clause-keeps : goal.returns-clause-keeps
@@ -15,3 +16,7 @@ returns-clause-listed c = c.last_listed.ensures.node ∙ ap (λ (x : State). las
 
 pub returns-clause-works : goal.returns-clause-works
 returns-clause-works c = works-list c.args.self.now _ _ c.self.inside.ledger c.self.view_is c.requires.listed c.last_listed.ensures.keeps (adds-none _ _ refl) (let h = c.last_listed.ensures.steps in omega (arith, h))
+
+pub returns-clause-formatting : goal.returns-clause-formatting
+returns-clause-formatting c =
+    listed-formatting c.self.inside.tree.tree c.last_listed.new.self.tree c.args.tag c.self.inside.tree.list c.last_listed.result c.last_listed.ensures.node c.laws.ensures.sound.formatting (ap (λ (x : Tree). x.tree) c.last_listed.ensures.rest)

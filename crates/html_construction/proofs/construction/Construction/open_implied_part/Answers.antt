@@ -1,0 +1,24 @@
+use Rattle.std.proofs.Common.{◌≡◌, false, true, refl, sym, subst, ap, arith}
+use Rattle.html_construction.specs.States.{State}
+use Rattle.html_construction.proofs.Kept.{implied, adds-none}
+use Rattle.html_construction.proofs.Copying.{copied-implied, grown-kept}
+use Rattle.html_construction.proofs.Working.{works-walk}
+use Rattle.html_tree.specs.Seats.{has_seat}
+use Rattle.html_tree.specs.States.{State as Tree}
+use Rattle.html_tree.specs.declared.groups.Target.TheVariants as target
+use Rattle.html_tree.specs.Targets.{place_for}
+use Rattle.html_construction.proofs.construction.Construction.open_implied_part.Goals as goal
+
+pub insert_implied-requires-clause-seat : goal.insert_implied-requires-clause-seat
+insert_implied-requires-clause-seat c = λ p. (refl, subst (λ (b : State). has_seat b.tree c.args.tag ≡ true) (sym c.self.view_is) c.requires.seat)
+
+pub returns-clause-keeps : goal.returns-clause-keeps
+returns-clause-keeps c = implied _ c.args.self.now _ (place_for c.self.inside.tree (target.Current false)) c.args.tag c.self.view_is refl c.in_ok-insert_implied.ensures.keeps (ap (λ (x : Tree). x.tree) c.in_ok-insert_implied.ensures.exact) c.requires.alone
+
+pub returns-clause-grown : goal.returns-clause-grown
+returns-clause-grown c =
+    grown-kept 2 0 0 1 1 _ c.args.self.now _ _ c.self.view_is c.in_ok-insert_implied.ensures.grown
+    (copied-implied c.self.inside.tree.tree _ (place_for c.self.inside.tree (target.Current false)) c.args.tag (ap (λ (x : Tree). x.tree) c.in_ok-insert_implied.ensures.exact))
+
+pub returns-clause-works : goal.returns-clause-works
+returns-clause-works c = works-walk c.args.self.now _ _ c.self.inside.ledger c.self.view_is c.laws.ensures.sound c.self.invariant.tokens c.in_ok-insert_implied.ensures.keeps (adds-none _ _ refl) (let h = c.in_ok-insert_implied.ensures.steps in omega (arith, h))
