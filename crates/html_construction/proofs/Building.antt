@@ -23,7 +23,7 @@ use Rattle.html_ledger.specs.Symbols.{symbol_of, chars_of as symbol_chars}
 use Rattle.html_ledger.specs.declared.setting.Setting.{Setting}
 use Rattle.html_ledger.specs.declared.setting.Setting.TheVariants as setting
 use Rattle.html_construction.specs.Origins.{HasRoot, IsRootLabel}
-use Rattle.html_construction.specs.Built.{IsRooted, chars_of, symbols}
+use Rattle.html_construction.specs.Built.{IsRooted, IsSince, chars_of, symbols}
 
 pub symbols-push : (ts : List TokenKind) (t : TokenKind) → symbols (ts ++ t ∷ []) ≡ symbols ts ++ symbol_of t ∷ []
 symbols-push [] t = refl
@@ -82,6 +82,11 @@ free-linked a b x w r (inr (inr p)) = free-later a b x w p.0 (r x p.0 p.1)
 -- what was rooted is rooted still
 pub rooted-since : (a b : Tree) → Since a b → IsRooted a → IsRooted b
 rooted-since a b w r = λ x l e. free-linked a b x w r (w.linked x l e)
+
+-- what was so since an earlier tree is so still
+pub since-keeps : (o : Option Tree) (a b : Tree) → TreeKeeps a b → IsSince o a → IsSince o b
+since-keeps None a b k w = tt
+since-keeps (Some e) a b k w = k e w
 
 pub rooted-keeps : (a b : Tree) → TreeKeeps a b → IsRooted a → IsRooted b
 rooted-keeps a b k r = rooted-since a b (k a (Since-same a)) r

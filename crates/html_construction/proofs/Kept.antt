@@ -32,7 +32,7 @@ use Rattle.html_arena.specs.declared.arena.Limits.{Limits}
 use Rattle.html_ledger.specs.declared.setting.Setting.TheVariants as setting
 use Rattle.html_construction.specs.Origins.{HasRoot, is_made_alone}
 use Rattle.html_construction.proofs.Beginning.{document-root, document-rooted, document-told, fragment-limits, fragment-root, fragment-rooted, fragment-told}
-use Rattle.html_construction.specs.Built.{BeginsWith, Handed, IsBuilt, IsRooted, nothing_of, Keeps, Releases, Takes, TakesRun, chars_of, symbols, with_tokens}
+use Rattle.html_construction.specs.Built.{BeginsWith, Handed, IsBuilt, IsRooted, nothing_of, Keeps, Releases, Takes, TakesRun, chars_of, since_tree, symbols, with_tokens}
 use Rattle.html_construction.specs.Modes.{is_reset}
 use Rattle.html_construction.specs.UnderWay.{IsUnderWay}
 use Rattle.html_construction.specs.Weights.{group_weight, weight, weight_of}
@@ -47,7 +47,7 @@ use Rattle.html_tree.specs.Texts.{text_node, with_text}
 use Rattle.html_construction.specs.Tokens.{attrs_of, data_of, element_name, name_id, public_id, system_id}
 use Rattle.html_construction.proofs.Accounting.{IsNext, Told, fed-most, fed-none, fed-same, next-comment, next-doctype, next-element, told-besides, told-clones, told-implied, told-kept, told-merged, told-next, told-released, told-text}
 use Rattle.html_construction.proofs.Weighing.{same-tag, group-weighs, weight-le, weight-less, weight_of-formatting}
-use Rattle.html_construction.proofs.Building.{new-limits, root-keeps, rooted-keeps, symbols-append, symbols-chars, symbols-push}
+use Rattle.html_construction.proofs.Building.{Since-same, new-limits, root-keeps, rooted-keeps, since-keeps, symbols-append, symbols-chars, symbols-push}
 
 -- both of two tests
 both : (a b : Bool) → (a && b) ≡ true → (a ≡ true) × (b ≡ true)
@@ -103,6 +103,7 @@ begun-document l k a e d = record {
   origins = told.origins;
   made = told.made;
   texts = told.texts;
+  since = tt;
 }
   where
     told : Told [] a.ledger.fates a.tree.tree.labels
@@ -119,6 +120,7 @@ begun-fragment g f l k a e d = record {
   origins = told.origins;
   made = told.made;
   texts = told.texts;
+  since = tt;
 }
   where
     told : Told [] a.ledger.fates a.tree.tree.labels
@@ -263,6 +265,7 @@ kept v n z e f k c = λ h w.
       origins = (all h u).origins;
       made = (all h u).made;
       texts = (all h u).texts;
+      since = since-keeps h.earlier v.tree z.tree k u.since;
     }
   where
     all : (h : Handed) → IsBuilt h v → Told h.tokens z.ledger.fates z.tree.tree.labels
@@ -280,10 +283,26 @@ implied v n z at g e f k q a = λ h w.
       origins = (all h u).origins;
       made = (all h u).made;
       texts = (all h u).texts;
+      since = since-keeps h.earlier v.tree z.tree k u.since;
     }
   where
     all : (h : Handed) → IsBuilt h v → Told h.tokens z.ledger.fates z.tree.tree.labels
     all h u = subst (λ (l : Entries). Told h.tokens l.fates z.tree.tree.labels) (sym f) (told-implied h.tokens v.ledger.fates v.tree.tree z.tree.tree at g a q (told-built h v u))
+
+-- the tree is known from here on
+pub built-since : (h : Handed) (a : State) → IsBuilt h a → IsBuilt (since_tree h a.tree) a
+unfolding since_tree
+built-since h a w = record {
+  fed = w.fed;
+  known = w.known;
+  rooted = w.rooted;
+  limits = w.limits;
+  root = w.root;
+  origins = w.origins;
+  made = w.made;
+  texts = w.texts;
+  since = Since-same a.tree;
+}
 
 -- the ledger took a token, and the tree may have changed
 pub taken : (v n z : State) (t : TokenKind) (y : Symbol) → v ≡ n → symbol_of t ≡ y → LedgerTakes y v.ledger z.ledger → AddsFates v.ledger z.ledger → TreeKeeps v.tree z.tree → z.tree.tree.limits ≡ v.tree.tree.limits → Tells (t ∷ []) v z → Takes t n z
@@ -298,6 +317,7 @@ taken v n z t y e f g m k l x = λ h w.
       origins = (x.told h u.fed (told-built h v u)).origins;
       made = (x.told h u.fed (told-built h v u)).made;
       texts = (x.told h u.fed (told-built h v u)).texts;
+      since = since-keeps h.earlier v.tree z.tree k u.since;
     }
 
 -- the ledger took code points
@@ -313,6 +333,7 @@ taken-run v n z cs e g m k l x = λ h w.
       origins = (x.told h u.fed (told-built h v u)).origins;
       made = (x.told h u.fed (told-built h v u)).made;
       texts = (x.told h u.fed (told-built h v u)).texts;
+      since = since-keeps h.earlier v.tree z.tree k u.since;
     }
 
 -- the tree is as it was
@@ -428,6 +449,7 @@ released v n z cs e r m k = λ h w.
           origins = y.origins;
           made = y.made;
           texts = y.texts;
+          since = u.since;
         }
 
 -- a front of code points that may become text in one go

@@ -4,6 +4,7 @@ use Rattle.html_arena.specs.declared.arena.Limits.{Limits}
 use Rattle.html_arena.specs.Tree.{host_at, parent_of}
 use Rattle.html_tokens.specs.declared.token.TokenKind.{TokenKind}
 use Rattle.html_tokens.specs.declared.token.TokenKind.TheVariants as kind
+use Rattle.html_tree.specs.Since.{Since}
 use Rattle.html_tree.specs.States.{State as Tree}
 use Rattle.html_ledger.specs.declared.setting.Setting.{Setting}
 use Rattle.html_ledger.specs.declared.symbol.Symbol.{Symbol}
@@ -32,26 +33,38 @@ IsRooted t =
     (x : ℕ) → x < length t.tree.labels → parent_of t.tree x ≡ None
     → (x ≡ 0) ⊎ (((h : ℕ) × (host_at t.tree x ≡ Some h)) ⊎ (t.detached ≡ Some x))
 
--- What is parsed, the limits to which the tree keeps, the tokens that were handed in, and fates that the first of them are known to have.
+-- What is parsed, the limits to which the tree keeps, the tokens that were handed in, fates that the first of them are known to have, and an earlier
+-- tree that is known, if one is.
 pub record Handed : Type 0 where
   pub setting : Setting
   pub limits : Option Limits
   pub tokens : List TokenKind
   pub known : List Fate
+  pub earlier : Option Tree
 
 -- before the first token
 abbrev pub nothing_of : Setting → Option Limits → Handed
-nothing_of s l = record { setting = s; limits = l; tokens = []; known = [] }
+nothing_of s l = record { setting = s; limits = l; tokens = []; known = []; earlier = None }
 
 -- after more tokens
 unfoldable pub with_tokens : Handed → List TokenKind → Handed
 with_tokens h ts = record h { tokens = h.tokens ++ ts }
 
+-- where this earlier tree is known
+unfoldable pub since_tree : Handed → Tree → Handed
+since_tree h t = record h { earlier = Some t }
+
 -- these members come first
 abbrev pub BeginsWith : List Fate → List Fate → Type 0
 BeginsWith front fates = (rest : List Fate) × (fates ≡ front ++ rest)
 
--- The tree and the ledger are what was built of what was handed in; fates that were known are as they were.
+-- What was so of an earlier tree is so still.
+abbrev pub IsSince : Option Tree → Tree → Type 0
+IsSince None t = Unit {0}
+IsSince (Some e) t = Since e t
+
+-- The tree and the ledger are what was built of what was handed in; fates that were known are as they were, and what was closed in an earlier tree
+-- that is known is closed.
 pub record IsBuilt (h : Handed) (a : State) : Type 0 where
   pub fed : Fed h.setting a.ledger (symbols h.tokens)
   pub known : BeginsWith h.known a.ledger.fates
@@ -61,6 +74,7 @@ pub record IsBuilt (h : Handed) (a : State) : Type 0 where
   pub origins : AreOrigins h.tokens a.ledger.fates a.tree.tree.labels
   pub made : AreMade a.ledger.fates a.tree.tree.labels
   pub texts : AreTexts (symbols h.tokens) a.ledger.fates a.tree.tree.labels
+  pub since : IsSince h.earlier a.tree
 
 -- From one state to a later one: the tokens handed in are the same.
 abbrev pub Keeps : State → State → Type 0

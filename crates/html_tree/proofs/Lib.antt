@@ -1,6 +1,7 @@
 pub mod Kept
 pub mod OpenTags
 pub mod Inserted
+pub mod Blanks
 pub mod Searches
 pub mod SearchEnds
 pub mod Relisting

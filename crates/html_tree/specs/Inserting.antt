@@ -14,7 +14,7 @@ use Rattle.html_arena.specs.declared.data.NodeData.{NodeData}
 use Rattle.html_arena.specs.declared.data.NodeData.TheVariants.{Contents}
 use Rattle.html_arena.specs.Budget.{budget}
 use Rattle.html_arena.specs.Make.{has_contents, label_for, made, made_weight, nodes_made}
-use Rattle.html_arena.specs.Tree.{Tree, WellFormed, more}
+use Rattle.html_arena.specs.Tree.{Tree, WellFormed, children_of, label_of, more}
 use Rattle.html_arena.specs.Weight.{weight}
 use Rattle.html_open.specs.declared.error.OpenError.{OpenError}
 use Rattle.html_open.specs.declared.error.OpenError.TheVariants.{OutOfMemory, NodeBudget, HeldBudget}
@@ -28,6 +28,12 @@ use Rattle.html_tree.specs.States.{State}
 -- the next node is there
 abbrev pub with_new : Tree → Place → NewNode → Tree
 with_new t at n = bare (put (made t n) at (length t.labels))
+
+-- x is a node of this kind that has no children
+pub record IsBlank (d : NodeData) (x : ℕ) (t : Tree) : Type 0 where
+  pub label_is : label_of t x ≡ d
+  pub childless : children_of t x ≡ []
+  pub listed : x < length t.children
 
 -- the next node is open
 abbrev pub with_open : State → List ℕ

@@ -5,6 +5,7 @@ ghost use Rattle.html_names.specs.declared.tag.Tag.TheVariants as tag;
 ghost use Rattle.html_names.specs.declared.tag.Tag.TheVariants.{Image};
 ghost use Rattle.html_names.specs.Groups.{is_outermost};
 ghost use Rattle.html_names.specs.Sets.{is_formatting};
+ghost use Rattle.html_arena.specs.Make.{label_for};
 ghost use Rattle.html_arena.specs.Tree.{named, tag_at, with_merged};
 ghost use Rattle.html_names.specs.Tags.{is_same};
 ghost use Rattle.html_tree.specs.Seats.{CanSeat, has_seat, is_part};
@@ -19,6 +20,7 @@ ghost use Rattle.html_construction.specs.Targets.{CanTarget};
 ghost use Rattle.html_construction.specs.Weights.{weight};
 ghost use Rattle.html_open.specs.Marking.{bare};
 ghost use Rattle.html_tree.specs.declared.groups.Target.TheVariants.{Current, Document};
+ghost use Rattle.html_tree.specs.Inserting.{IsBlank};
 ghost use Rattle.html_ledger.specs.declared.fate.Fate.TheVariants.{Dropped, Made, Merged};
 ghost use Rattle.html_ledger.specs.Entries.{number_of};
 ghost use Rattle.html_construction.specs.Tokens.{attrs_of, element_tag, tag_name};
@@ -66,6 +68,7 @@ impl Construction {
         ensures grown { OnOk result (Grown 1 2 0 0 0 self.old self.new) }
         ensures works { OnOk result (Works 1 0 0 self.old self.new) }
         ensures exact { OnOk result (IsTree (opened_at (element_of self.old token.now) target (counting (number_of self.old.ledger + 1) self.old.tree)) self.new) }
+        ensures blank { OnOk result (IsBlank (label_for self.old.tree.tree (element_of self.old token.now)) (length self.old.tree.tree.labels) self.new.tree.tree) }
         ensures fate { OnOk result (HasFate (Start tag) (Made (length self.old.tree.tree.labels)) self.old self.new) }
     {
         let _ = self.open_at(token, tag, target)?;
@@ -92,6 +95,7 @@ impl Construction {
         ensures node { IfOk result (λ x. (x < length self.new.tree.tree.labels) × (tag_at self.new.tree.tree x ≡ tag)) }
         ensures made { IfOk result (λ x. x ≡ length self.old.tree.tree.labels) }
         ensures exact { OnOk result (IsTree (opened_at (element_of self.old token.now) target (counting (number_of self.old.ledger + 1) self.old.tree)) self.new) }
+        ensures blank { OnOk result (IsBlank (label_for self.old.tree.tree (element_of self.old token.now)) (length self.old.tree.tree.labels) self.new.tree.tree) }
         ensures fate { OnOk result (HasFate (Start tag) (Made (length self.old.tree.tree.labels)) self.old self.new) }
     {
         let name = copy_name(self.alloc(), token)?;

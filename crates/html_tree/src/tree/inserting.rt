@@ -11,7 +11,7 @@ ghost use Rattle.html_arena.specs.Tree.{tag_at};
 ghost use Rattle.html_arena.specs.Weight.{weight};
 ghost use Rattle.html_open.specs.Entries.{push_steps, pushed};
 ghost use Rattle.html_open.specs.Opened.{CanList, open_at};
-ghost use Rattle.html_tree.specs.Inserting.{CanBeFirst, IsFor, IsRefused, IsTold, with_new, with_open};
+ghost use Rattle.html_tree.specs.Inserting.{CanBeFirst, IsBlank, IsFor, IsRefused, IsTold, with_new, with_open};
 ghost use Rattle.html_tree.specs.OpenTags.{HasReopened, open_tags};
 ghost use Rattle.html_tree.specs.Seats.{CanSeat, is_part};
 ghost use Rattle.html_tree.specs.Since.{Grown, Keeps};
@@ -52,6 +52,7 @@ impl OpenTree {
           tokens = token + 1;
         }) }
         ensures tag { IfOk result (λ id. (id < length self.new.tree.labels) × (tag_at self.new.tree id ≡ tag_of name)) }
+        ensures blank { OnOk result (IsBlank (label_for self.old.tree (Element name attrs (Token token))) (length self.old.tree.labels) self.new.tree) }
         ensures steps { OnOk result (self.new.steps ≤ self.old.steps + length self.old.stack + 4) }
         ensures keeps { OnOk result (Keeps self.old self.new) }
         ensures grown { OnOk result (Grown 2 1 0 (weight (label_for self.old.tree (Element name attrs (Token token)))) self.old self.new) }
@@ -422,6 +423,7 @@ impl OpenTree {
           tokens = next;
         }) }
         ensures tag { IfOk result (λ id. (id < length self.new.tree.labels) × (tag_at self.new.tree id ≡ tag_of name)) }
+        ensures blank { OnOk result (IsBlank (label_for self.old.tree (Element name attrs origin)) (length self.old.tree.labels) self.new.tree) }
         ensures can_list { OnOk result (is_formatting (tag_of name) ≡ true → CanList (open_at self.new.stack self.new.list self.new.tree) (length self.old.tree.labels)) }
         ensures within { OnOk result (budget self.old.tree (nodes_made (Element name attrs origin)) (made_weight self.old.tree (Element name attrs origin)) ≡ Ok tt) }
         ensures steps { OnOk result (self.new.steps ≤ self.old.steps + length self.old.stack + 4) }

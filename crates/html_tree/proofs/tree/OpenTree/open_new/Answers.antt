@@ -7,11 +7,13 @@ use Rattle.html_arena.specs.Make.{label_for, made_weight, nodes_made}
 use Rattle.html_arena.specs.Siblings.{first_of}
 use Rattle.html_arena.specs.Tree.{Tree, tag_at}
 use Rattle.html_open.specs.Opened.{CanList, CanPush, IsOpen, open_at}
-use Rattle.html_tree.specs.Inserting.{CanBeFirst, IsFor}
+use Rattle.html_open.specs.Marking.{bare}
+use Rattle.html_tree.specs.Inserting.{CanBeFirst, IsBlank, IsFor}
 use Rattle.html_arena.specs.Weight.{weight}
 use Rattle.html_tree.specs.Since.{Grown}
 use Rattle.html_tree.specs.States.{State, state_of}
 use Rattle.html_tree.specs.Targets.{CanTarget, place_at}
+use Rattle.html_tree.proofs.Blanks.{blank-opened}
 use Rattle.html_tree.proofs.Inserted.{element-element, element-tag, made-under_way, new-unseen, opened-exact, opened-grown, opened-keeps, opened-steps, opened-under_way, own-least}
 use Rattle.html_tree.proofs.Listed.{bare-listed}
 use Rattle.html_names.specs.Sets.{is_formatting}
@@ -82,6 +84,11 @@ returns-clause-tag c =
       ap (λ (v : Tree). tag_at v c.in_ok-node.node) c.in_ok-open_node.ensures.tree ∙ ap (λ x. tag_at c.put_new.new.arena x) id
           ∙ ap tag_in c.in_ok-node.ensures.new.laws.label_is ∙ element-tag c.self.inside.arena c.args.name c.args.attrs c.args.origin,
     )
+
+pub returns-clause-blank : goal.returns-clause-blank
+returns-clause-blank c =
+    subst (λ (a : State). IsBlank (label_for a.tree (Element c.args.name c.args.attrs c.args.origin)) (length a.tree.labels) (bare c.open_node.new.arena)) c.self.view_is
+    (blank-opened c.self.inside.arena c.put_new.new.arena c.open_node.new.arena (place_at c.self.inside.arena c.self.inside.stack c.self.inside.head c.args.target) (Element c.args.name c.args.attrs c.args.origin) (length c.self.inside.stack + 3) c.in_ok-node.node c.in_ok-node.ensures.new c.in_ok-open_node.ensures.tree)
 
 pub returns-clause-steps : goal.returns-clause-steps
 returns-clause-steps c = opened-steps c.args.self.now c.self.inside.stack c.open_node.new.stack c.self.inside.list c.self.inside.arena c.put_new.new.arena c.open_node.new.arena c.args.target (Element c.args.name c.args.attrs c.args.origin) (length c.self.inside.stack + 3) c.self.inside.tokens c.args.next c.in_ok-node.node c.self.inside.head c.self.inside.form c.self.inside.detached c.self.view_is c.in_ok-node.ensures.new c.in_ok-open_node.ensures.stack c.in_ok-node.ensures.id c.in_ok-open_node.ensures.tree (omega arith)
