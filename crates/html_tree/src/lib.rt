@@ -11,4 +11,5 @@ mod tree;
 
 pub use groups::{Group, Stop, TableContext, Target};
 pub use html_open::{AdoptEnd, OpenError, Scope};
+pub use seats::is_part;
 pub use tree::OpenTree;

@@ -8,14 +8,14 @@ ghost use Rattle.html_open.specs.AdoptFinding.{element_in_scope};
 ghost use Rattle.html_tree.specs.Paragraphs.{seeks_p};
 ghost use Rattle.html_tree.specs.Searching.{current_tag, found, found_name};
 ghost use Rattle.html_tree.specs.OpenTags.{is_tag_in_scope, open_tags};
-ghost use Rattle.html_tree.specs.Seats.{has_seat};
+ghost use Rattle.html_tree.specs.Seats.{CanSeat, has_seat, is_part};
 ghost use Rattle.html_tree.specs.Since.{Grown, Keeps};
 
 use super::OpenTree;
-use crate::groups::{Group, Stop};
+use crate::groups::{Group, Stop, Target};
 use crate::paragraphs::{is_last_p, seeks_p};
 use crate::search::{Sought, last_index, last_node, member_at, name_index, named_at, steps_down};
-use crate::seats::may_carry;
+use crate::seats::{is_part, may_carry};
 use html_arena::NodeId;
 use html_names::Tag;
 
@@ -47,9 +47,30 @@ impl OpenTree {
         ensures tags { open_tags self.new ≡ open_tags self.old }
     {
         self.charge(1);
-        match last_node(self.stack.as_slice()) {
-            Some(node) => may_carry(part, node, self.arena.tag(node)),
-            None => false,
+        if let Some(node) = last_node(self.stack.as_slice()) {
+            return may_carry(part, node, self.arena.tag(node));
+        }
+        false
+    }
+
+    /// Whether an element of this tag can be put at a target and opened there: a part of a table in the current node alone, where that may
+    /// hold it. One step for a part.
+    pub fn can_seat(&mut self, tag: Tag, target: Target) -> bool
+        ensures can { result ≡ true → CanSeat self.new tag target }
+        ensures plain { is_part tag ≡ false → result ≡ true }
+        ensures rest { self.new ≡ record self.old { steps = self.new.steps } }
+        ensures keeps { Keeps self.old self.new }
+        ensures grown { Grown 0 0 0 0 self.old self.new }
+        ensures tags { open_tags self.new ≡ open_tags self.old }
+    {
+        if !is_part(tag) {
+            return true;
+        }
+        match target {
+            Target::Current(foster) => { if foster { false } else { self.has_seat(tag) } }
+            Target::Head => false,
+            Target::First => false,
+            Target::Document => false,
         }
     }
 
