@@ -7,7 +7,7 @@ use html_arena::{Limits, NodeId};
 use html_charref::Str;
 use html_names::Tag;
 use html_tokens::Attrs;
-use html_tree::{AdoptEnd, Group, OpenError, OpenTree, Stop, TableContext, Target};
+use html_tree::{AdoptEnd, Group, OpenError, OpenTree, Stop, TableContext, Target, is_part};
 use std::alloc::Global;
 use std::marker::Model;
 
@@ -85,7 +85,7 @@ impl Page {
         target: Target,
     ) -> Result<NodeId, Refusal> {
         let token = next_token(self.next, self.known)?;
-        if !self.takes(target) {
+        if !self.takes(target) || !self.tree.can_seat(Tag::of(name.as_str()), target) {
             return Err(Refusal::Condition);
         }
         self.known = false;
@@ -103,7 +103,7 @@ impl Page {
         target: Target,
     ) -> Result<NodeId, Refusal> {
         let token = next_token(self.next, self.known)?;
-        if !self.takes(target) {
+        if !self.takes(target) || is_part(Tag::of(name.as_str())) {
             return Err(Refusal::Condition);
         }
         self.known = false;
@@ -133,7 +133,7 @@ impl Page {
 
     /// An element that no token asked for, opened.
     pub(crate) fn insert_implied(&mut self, tag: Tag, foster: bool) -> Result<NodeId, Refusal> {
-        if self.tree.depth() == 0 {
+        if self.tree.depth() == 0 || !self.tree.can_seat(tag, Target::Current(foster)) {
             return Err(Refusal::Condition);
         }
         let known = self.known;
@@ -149,7 +149,7 @@ impl Page {
         tag: Tag,
         foster: bool,
     ) -> Result<NodeId, Refusal> {
-        if self.tree.depth() == 0 {
+        if self.tree.depth() == 0 || is_part(tag) {
             return Err(Refusal::Condition);
         }
         let known = self.known;
@@ -195,7 +195,7 @@ impl Page {
     pub(crate) fn insert_form(&mut self, name: Str, attrs: Attrs) -> Result<NodeId, Refusal> {
         let token = next_token(self.next, self.known)?;
         let target = Target::Current(false);
-        if !self.takes(target) {
+        if !self.takes(target) || !Tag::of(name.as_str()).is(Tag::Form) {
             return Err(Refusal::Condition);
         }
         self.known = false;
@@ -341,6 +341,7 @@ impl Page {
 
     /// Closes the last listed element of a name, wherever it stands, and answers it.
     pub(crate) fn remove_last(&mut self, name: Tag) -> Option<NodeId> {
+        self.tree.laws();
         match self.tree.last_listed(name) {
             None => None,
             Some(node) => {
