@@ -11,6 +11,8 @@ use Rattle.html_arena.specs.Data.{host_in, label_in, name_in, tag_in}
 use Rattle.html_arena.specs.Weight.{capped, weight as label_weight}
 use Rattle.html_construction.specs.Copies.{implied_count, most_clones}
 use Rattle.html_construction.specs.Works.{tokenless}
+use Rattle.html_tree.specs.Seats.{HasSeats}
+use Rattle.html_tree.proofs.Standing.{seats-as}
 use Rattle.html_builder.proofs.Counting.{counted-most, tokenless-few}
 use Rattle.html_builder.proofs.Holding.{holding}
 use Rattle.std.specs.List.{sum_by}
@@ -264,9 +266,10 @@ module _ (a : Nodes) (t : Tree) (e : bare t ≡ a.tree) (r : IsRootedTree a) (s 
 pub outcome : (s : Setting) (l : Option Limits) (ts : List TokenKind) (b : BuilderState) (t : Tree) (fs : List Fate) (es : List ℕ) → Handed s l ts b → EndsAtEof ts
     → bare t ≡ b.page.tree.tree → WellFormed t → IsNamed b.page.tree.tree tag.Body b.page.tree.detached → fs ≡ b.page.ledger.fates
     → ((h : Given) → b.page.ledger.kept ≡ [] → IsBuilt h b.page → Fated h.setting (symbols h.tokens) fs)
-    → ((h : Given) → b.page.ledger.kept ≡ [] → IsBuilt h b.page → AreErrors h.setting (symbols h.tokens) fs es) → IsOutcome s ts fs es t
-outcome s l ts b t fs es h e q w d p f g =
+    → ((h : Given) → b.page.ledger.kept ≡ [] → IsBuilt h b.page → AreErrors h.setting (symbols h.tokens) fs es) → HasSeats b.page.tree.tree b.page.tree.stack → IsOutcome s ts fs es t
+outcome s l ts b t fs es h e q w d p f g seats =
     let k = quiet-end s l ts b h e in
+    let stand = seats-as b.page.tree.tree t b.page.tree.stack (ap (λ (u : Tree). u.labels) q) (ap (λ (u : Tree). u.parents) q) seats in
     let same : t.labels ≡ b.page.tree.tree.labels = ap (λ (u : Tree). u.labels) q in record {
       well_formed = w;
       rooted = rooted b.page.tree t q h.built.rooted s h.built.root d;
@@ -276,6 +279,8 @@ outcome s l ts b t fs es h e q w d p f g =
       texts = subst (λ x. AreTexts (symbols ts) fs x) (sym same) (subst (λ x. AreTexts (symbols ts) x b.page.tree.tree.labels) (sym p) h.built.texts);
       fated = f (given s l ts) k h.built;
       told = g (given s l ts) k h.built;
+      parts = stand.parts;
+      templates = stand.templates;
     }
 
 -- the limits to which it was built are kept

@@ -10,7 +10,7 @@ pub returns-clause-outcome : goal.returns-clause-outcome
 returns-clause-outcome c = λ s l ts h e.
     outcome s l ts (record { page = c.self.inside.construction; entries = c.self.inside.entries; stopped = c.self.inside.stopped }) c.into_parts.result.0 c.into_parts.result.1 c.into_parts.result.2.items
     (subst (λ b. Handed s l ts b) (sym c.self.view_is) h) e
-    c.into_parts.ensures.nodes c.into_parts.ensures.well_formed c.into_parts.ensures.body c.into_parts.ensures.fates c.into_parts.ensures.fated c.into_parts.ensures.told
+    c.into_parts.ensures.nodes c.into_parts.ensures.well_formed c.into_parts.ensures.body c.into_parts.ensures.fates c.into_parts.ensures.fated c.into_parts.ensures.told c.into_parts.ensures.seats
 
 pub returns-clause-bounds : goal.returns-clause-bounds
 returns-clause-bounds c = λ s l ts h n k.
