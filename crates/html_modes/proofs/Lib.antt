@@ -9,3 +9,4 @@ pub mod Current
 pub mod Closing
 pub mod Plain
 pub mod TextRuns
+pub mod RawText

@@ -189,7 +189,7 @@ last-split (x ∷ y ∷ s) h = let k = last-split (y ∷ s) (omega arith) in (x 
 kept-all : (n : ℕ) → 0 < n → kept_to (n + 1) ((n + 1) - 1) ≡ n
 kept-all n h = omega (arith, h)
 
-popped-push : (s : List ℕ) (x : ℕ) → 0 < length s → popped (s ++ x ∷ []) ≡ s
+pub popped-push : (s : List ℕ) (x : ℕ) → 0 < length s → popped (s ++ x ∷ []) ≡ s
 popped-push s x h =
     let e : kept_to (length (s ++ x ∷ [])) (length (s ++ x ∷ []) - 1) ≡ length s = rw (length-append s (x ∷ [])) (kept-all (length s) h) in
     ap (λ n. take n (s ++ x ∷ [])) e ∙ take-append_seam s (x ∷ [])

@@ -22,7 +22,7 @@ use Rattle.html_construction.specs.Grown.{Grown}
 use Rattle.html_construction.specs.Works.{Works, reach_of, toll_of}
 use Rattle.html_modes.proofs.Counting.{Settles-grows}
 use Rattle.html_modes.proofs.Moded.{ModeFits-loose, opened-loose, Quiet-none, top_rank-loose, top_rank-reset, loose-reset, loose-table, rank-reset_table, rank-reset_eof, rank-char_table, rank-start_table, rank-top, rank-reset, rank-loose, rank-table_text, top_rank-all, Quiet-other, is-table_text, other-loose, other-runs, loose-runs, is-text, other-text}
-use Rattle.html_modes.proofs.Tagged.{named-is_block, unlisted-is_block, named-is_heading, named-is_preformatted, named-takes_marker, named-is_head_text, named-is_section, named-is_cell, small-other, small-is_block, small-is_heading, small-is_preformatted, small-takes_marker, small-is_head_text, small-is_section, small-is_cell, small-is_formatting, weight_of-most, placed-is_table_piece, placed-ends_section, placed-ends_row, rank-section, rank-row, rank-cell, rank-caption, rank-group, group-least, rank-table_part, outside-ends_select, outside-ends_select_in_table, may_misplace-placed, is_visible-space, apart-is_headish, apart-is_noscript_part, apart-is_head_text, apart-is_block, apart-is_heading, apart-is_preformatted, apart-takes_marker, apart-is_void_phrase, apart-is_void_part, apart-is_formatting, apart-unplaced, part-is_section, apart-is_table_head, part-is_cell}
+use Rattle.html_modes.proofs.Tagged.{named-is_block, unlisted-is_block, named-is_heading, named-is_preformatted, named-takes_marker, named-is_head_text, named-is_section, named-is_cell, small-other, small-is_block, small-is_heading, small-is_preformatted, small-takes_marker, small-is_head_text, small-is_section, small-is_cell, small-is_formatting, weight_of-most, placed-is_table_piece, placed-ends_section, placed-ends_row, rank-section, rank-row, rank-cell, rank-caption, rank-group, group-least, rank-table_part, outside-ends_select, outside-ends_select_in_table, may_misplace-placed, is_visible-space, apart-is_headish, apart-is_head_text, apart-is_block, apart-is_heading, apart-is_preformatted, apart-takes_marker, apart-is_void_phrase, apart-is_void_part, apart-is_formatting, apart-unplaced, part-is_section, part-is_cell}
 
 pub Fits-loose : (s : State) → is_loose s.mode ≡ true → 0 < length s.stack → s.ledger.kept ≡ [] → length s.tree.list ≤ length s.ledger.fates → Fits s
 Fits-loose s l h q k = record { stack = ModeFits-loose s.mode s.original s.stack l h; quiet = Quiet-none s.mode s.ledger.kept q; listed = k }
@@ -59,11 +59,11 @@ table_text-stack s e f = (subst (λ m. ModeFits m s.original s.stack) e f.stack)
 pub table_text-original : (s : State) → s.mode ≡ mode.InTableText → Fits s → is_table_mode s.original ≡ true
 table_text-original s e f = (subst (λ m. ModeFits m s.original s.stack) e f.stack).1
 
-pub ruleset mode_rules = (Fits-loose, Calls-loose, Fits-opened, Fits-initial, Fits-before, is_visible-space, apart-is_headish, apart-is_noscript_part)
+pub ruleset mode_rules = (Fits-loose, Calls-loose, Fits-opened, Fits-initial, Fits-before, is_visible-space)
 
 pub ruleset text_rules = (Fits-loose, Fits-text, text-stack, text-original, top_rank-loose, rank-loose, small-is_head_text, named-is_head_text, is_visible-space)
 
-pub ruleset head_rules = (Fits-loose, Calls-loose, Fits-text, small-is_head_text, named-is_head_text, apart-is_head_text)
+pub ruleset head_rules = (Fits-loose, Calls-loose, Fits-text, small-is_head_text, named-is_head_text, apart-is_head_text, apart-is_headish)
 
 pub ruleset body_rules = (Fits-loose, Calls-loose, small-other, small-is_block, small-is_heading, small-is_preformatted, small-takes_marker, named-is_block, named-is_heading, named-is_preformatted, named-takes_marker, small-is_formatting, may_misplace-placed, unlisted-is_block, apart-is_headish, apart-is_block, apart-is_heading, apart-is_preformatted, apart-takes_marker, apart-is_void_phrase, apart-is_void_part, apart-is_formatting, apart-unplaced)
 
@@ -93,7 +93,7 @@ Steps-kept Done t a b c d j s k = λ h w. k (with_tokens h (t ∷ [])) (s h (j h
 Steps-kept Reprocess t a b c d j s k = λ h w. k h (s h (j h w))
 Steps-kept (Foreign name) t a b c d j s k = s
 
-pub ruleset table_rules = (Fits-loose, Calls-loose, Fits-opened, Fits-table_text, rank-char_table, rank-start_table, rank-reset_table, loose-reset, loose-table, top_rank-reset, is_visible-space, small-is_section, named-is_section, part-is_section, apart-is_table_head)
+pub ruleset table_rules = (Fits-loose, Calls-loose, Fits-opened, Fits-table_text, rank-char_table, rank-start_table, rank-reset_table, loose-reset, loose-table, top_rank-reset, is_visible-space, small-is_section, named-is_section, part-is_section)
 
 pub ruleset part_rules = (Fits-loose, Calls-loose, Fits-opened, is_visible-space, small-is_cell, named-is_cell, rank-section, rank-row, rank-cell, rank-caption, rank-group, group-least, placed-is_table_piece, placed-ends_section, placed-ends_row, may_misplace-placed, part-is_cell)
 

@@ -6,7 +6,7 @@ use Rattle.html_names.specs.declared.tag.Tag.{Tag}
 use Rattle.html_names.specs.declared.tag.Tag.TheVariants as tag
 use Rattle.html_names.specs.Sets.{is_block, is_heading, is_headish, is_section, is_cell, is_formatting}
 use Rattle.html_tree.specs.Seats.{is_part}
-use Rattle.html_names.specs.Groups.{is_preformatted, takes_marker, is_head_text, is_table_piece, ends_section, ends_row, is_placed, is_table_part, ends_select, ends_select_in_table, is_void_phrase, is_void_part, is_table_head, is_noscript_part}
+use Rattle.html_names.specs.Groups.{is_preformatted, takes_marker, is_head_text, is_table_piece, ends_section, ends_row, is_placed, is_table_part, ends_select, ends_select_in_table, is_void_phrase, is_void_part}
 use Rattle.html_names.specs.Tags.{is_same}
 use Rattle.html_ledger.specs.declared.symbol.Symbol.TheVariants.{Start}
 use Rattle.html_ledger.specs.declared.history.History.{History}
@@ -349,17 +349,6 @@ apart-is_void_part tag.Thead e = absurd (false≢true e)
 apart-is_void_part tag.Tr e = absurd (false≢true e)
 apart-is_void_part _ e = refl
 
-pub apart-is_table_head : (t : Tag) → is_table_head t ≡ true → is_part t ≡ false
-apart-is_table_head tag.Caption e = absurd (false≢true e)
-apart-is_table_head tag.Colgroup e = absurd (false≢true e)
-apart-is_table_head tag.Tbody e = absurd (false≢true e)
-apart-is_table_head tag.Td e = absurd (false≢true e)
-apart-is_table_head tag.Tfoot e = absurd (false≢true e)
-apart-is_table_head tag.Th e = absurd (false≢true e)
-apart-is_table_head tag.Thead e = absurd (false≢true e)
-apart-is_table_head tag.Tr e = absurd (false≢true e)
-apart-is_table_head _ e = refl
-
 pub apart-is_formatting : (t : Tag) → is_formatting t ≡ true → is_part t ≡ false
 apart-is_formatting tag.Caption e = absurd (false≢true e)
 apart-is_formatting tag.Colgroup e = absurd (false≢true e)
@@ -370,17 +359,6 @@ apart-is_formatting tag.Th e = absurd (false≢true e)
 apart-is_formatting tag.Thead e = absurd (false≢true e)
 apart-is_formatting tag.Tr e = absurd (false≢true e)
 apart-is_formatting _ e = refl
-
-pub apart-is_noscript_part : (t : Tag) → is_noscript_part t ≡ true → is_part t ≡ false
-apart-is_noscript_part tag.Caption e = absurd (false≢true e)
-apart-is_noscript_part tag.Colgroup e = absurd (false≢true e)
-apart-is_noscript_part tag.Tbody e = absurd (false≢true e)
-apart-is_noscript_part tag.Td e = absurd (false≢true e)
-apart-is_noscript_part tag.Tfoot e = absurd (false≢true e)
-apart-is_noscript_part tag.Th e = absurd (false≢true e)
-apart-is_noscript_part tag.Thead e = absurd (false≢true e)
-apart-is_noscript_part tag.Tr e = absurd (false≢true e)
-apart-is_noscript_part _ e = refl
 
 pub apart-unplaced : (t : Tag) → is_placed t ≡ false → is_part t ≡ false
 apart-unplaced tag.Caption e = absurd (false≢true (sym e))

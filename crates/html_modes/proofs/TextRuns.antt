@@ -18,7 +18,7 @@ use Rattle.html_modes.specs.Plain.{AreListed, EndsCurrent, GoesOn, GoesOnText, H
 use Rattle.html_modes.proofs.InBody.{IsUnmoved, fostering-same, context-same, ledger-same, mode-same, node-same, text-same}
 use Rattle.html_modes.proofs.Plain.{IsAlike, later, plain-alike}
 
-fates-run : (e : Entries) (cs : List ℕ) (f : Fate) → (given_run e cs f).fates ≡ e.fates ++ map (λ c. f) cs
+pub fates-run : (e : Entries) (cs : List ℕ) (f : Fate) → (given_run e cs f).fates ≡ e.fates ++ map (λ c. f) cs
 fates-run e [] f = by e.fates
   where
     by : (xs : List Fate) → xs ≡ xs ++ []

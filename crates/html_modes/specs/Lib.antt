@@ -4,3 +4,4 @@ pub mod Entering
 pub mod Steps
 pub mod Guards
 pub mod Plain
+pub mod RawText

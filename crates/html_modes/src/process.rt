@@ -9,6 +9,8 @@ ghost use Rattle.html_modes.specs.Plain.{GoesOn, Turns};
 ghost use Rattle.html_modes.specs.Steps.{Counted, Falls, Pays, Settles, Spends, Steps, Toils, compared, root_of};
 ghost use Rattle.html_modes.specs.Ranks.{top_rank};
 ghost use Rattle.html_modes.specs.Guards.{is_droppable, is_of_frames, is_of_selects, is_table_text};
+ghost use Rattle.html_modes.specs.RawText.{Adds, Ends, Opens};
+ghost use Rattle.html_modes.specs.declared.outcome.Outcome.TheVariants.{Done};
 
 use crate::guards::{is_astray, is_table_text, is_unfounded};
 use crate::modes::after::{after_after_body, after_body};
@@ -52,6 +54,9 @@ pub fn take(
     ensures enters { IfOk result (λ f. f ≡ None → Enters 1 entries.old entries.new page.old page.new) }
     ensures toils { IfOk result (λ f. f ≡ None → Toils (compared token.now page.new) page.old page.new) }
     ensures plain { IfOk result (λ f. f ≡ None → GoesOn symbol token.now page.old page.new) }
+    ensures opens { IfOk result (λ f. f ≡ None → Opens Done symbol page.new) }
+    ensures adds { IfOk result (λ f. f ≡ None → Adds Done symbol page.old page.new) }
+    ensures ends { IfOk result (λ f. f ≡ None → Ends Done symbol token.now page.old page.new) }
 {
     page.begin_call();
     'steps: loop {
@@ -85,7 +90,7 @@ fn settle(page: &mut Construction)
 }
 
 /// One entry: the text of a table, what every mode drops, or the rules of the mode that is set.
-#[tactic(auto, using(crate::proofs::Settled::step_rules, crate::proofs::Plain::step_plain))]
+#[tactic(auto, using(crate::proofs::Settled::step_rules, crate::proofs::Plain::step_plain, crate::proofs::RawText::step_texts))]
 fn step(page: &mut Construction, token: &TokenKind, symbol: Symbol) -> Result<Outcome, Refusal>
     requires symbol { symbol_of token.now ≡ symbol }
     requires fits { Fits page.old }
@@ -96,6 +101,9 @@ fn step(page: &mut Construction, token: &TokenKind, symbol: Symbol) -> Result<Ou
     ensures counts { IfOk result (λ o. Counted o token.now page.old page.new) }
     ensures settles { IfOk result (λ o. Settles o symbol page.old page.new) }
     ensures plain { IfOk result (λ o. Turns o symbol token.now page.old page.new) }
+    ensures opens { IfOk result (λ o. Opens o symbol page.new) }
+    ensures adds { IfOk result (λ o. Adds o symbol page.old page.new) }
+    ensures ends { IfOk result (λ o. Ends o symbol token.now page.old page.new) }
 {
     if is_table_text(page.mode()) {
         let outcome = in_table_text(page, token, symbol)?;
@@ -114,7 +122,7 @@ fn step(page: &mut Construction, token: &TokenKind, symbol: Symbol) -> Result<Ou
 }
 
 /// The rules of the mode that is set.
-#[tactic(auto, using(crate::proofs::Settled::rules_rules, crate::proofs::Plain::rules_plain))]
+#[tactic(auto, using(crate::proofs::Settled::rules_rules, crate::proofs::Plain::rules_plain, crate::proofs::RawText::other_rules))]
 fn rules(page: &mut Construction, token: &TokenKind, symbol: Symbol) -> Result<Outcome, Refusal>
     requires symbol { symbol_of token.now ≡ symbol }
     requires fits { Fits page.old }
@@ -130,6 +138,9 @@ fn rules(page: &mut Construction, token: &TokenKind, symbol: Symbol) -> Result<O
     ensures counts { IfOk result (λ o. Counted o token.now page.old page.new) }
     ensures settles { IfOk result (λ o. Settles o symbol page.old page.new) }
     ensures plain { IfOk result (λ o. Turns o symbol token.now page.old page.new) }
+    ensures opens { IfOk result (λ o. Opens o symbol page.new) }
+    ensures adds { IfOk result (λ o. Adds o symbol page.old page.new) }
+    ensures ends { IfOk result (λ o. Ends o symbol token.now page.old page.new) }
 {
     match page.mode() {
         Mode::Initial => initial(page, token, symbol),

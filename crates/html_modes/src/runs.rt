@@ -9,6 +9,7 @@ ghost use Rattle.html_modes.specs.Guards.{is_text, takes_runs};
 ghost use Rattle.html_modes.specs.Plain.{GoesOnText};
 ghost use Rattle.html_modes.specs.Ranks.{top_rank};
 ghost use Rattle.html_modes.specs.Steps.{Pays, Toils};
+ghost use Rattle.html_modes.specs.RawText.{AddsText};
 ghost use Rattle.html_construction.specs.Weights.{weight};
 
 use crate::guards::{is_text, takes_run};
@@ -39,6 +40,7 @@ pub fn take_front(
     ensures enters { IfOk result (λ n. Enters n entries.old entries.new page.old page.new) }
     ensures toils { OnOk result (Toils 0 page.old page.new) }
     ensures plain { IfOk result (λ n. list_all is_not_null (take n text.now) ≡ true → GoesOnText (take n text.now) page.old page.new) }
+    ensures adds { IfOk result (λ n. AddsText (take n text.now) page.old page.new) }
 {
     if takes_run(page, text[0]) {
         let end = null_index(text);
@@ -60,6 +62,7 @@ fn take_char(page: &mut Construction, c: char, entries: &mut u64) -> Result<(), 
     ensures enters { OnOk result (Enters 1 entries.old entries.new page.old page.new) }
     ensures toils { OnOk result (Toils 0 page.old page.new) }
     ensures plain { (c == 0) ≡ false → OnOk result (GoesOnText (c ∷ []) page.old page.new) }
+    ensures adds { OnOk result (AddsText (c ∷ []) page.old page.new) }
 {
     let token = TokenKind::Char(c);
     let _ = take(page, &token, Symbol::Char(c), entries)?;
@@ -80,6 +83,7 @@ fn take_run(page: &mut Construction, run: &[char]) -> Result<usize, Refusal>
     ensures lighter { OnOk result (weight page.new.stack + top_rank page.new.mode ≤ weight page.old.stack + top_rank page.old.mode) }
     ensures toils { OnOk result (Toils 0 page.old page.new) }
     ensures plain { IfOk result (λ n. GoesOnText (take n run.now) page.old page.new) }
+    ensures adds { IfOk result (λ n. AddsText (take n run.now) page.old page.new) }
 {
     if is_text(page.mode()) {
         let count = take_text_run(page, run)?;
@@ -102,6 +106,7 @@ fn take_text_run(page: &mut Construction, run: &[char]) -> Result<usize, Refusal
     ensures pays { OnOk result (Pays page.old page.new) }
     ensures lighter { OnOk result (weight page.new.stack + top_rank page.new.mode ≤ weight page.old.stack + top_rank page.old.mode) }
     ensures toils { OnOk result (Toils 0 page.old page.new) }
+    ensures adds { IfOk result (λ n. AddsText (take n run.now) page.old page.new) }
 {
     page.begin_call();
     let count = page.insert_run(run)?;
@@ -123,6 +128,7 @@ fn take_body_run(page: &mut Construction, run: &[char]) -> Result<usize, Refusal
     ensures lighter { OnOk result (weight page.new.stack + top_rank page.new.mode ≤ weight page.old.stack + top_rank page.old.mode) }
     ensures toils { OnOk result (Toils 0 page.old page.new) }
     ensures plain { IfOk result (λ n. GoesOnText (take n run.now) page.old page.new) }
+    ensures adds { IfOk result (λ n. AddsText (take n run.now) page.old page.new) }
 {
     page.begin_call();
     let count = body_run(page, run)?;

@@ -9,6 +9,7 @@ ghost use Rattle.html_modes.specs.Fitting.{Fits, Calls};
 ghost use Rattle.html_modes.specs.Plain.{Turns};
 ghost use Rattle.html_modes.specs.Steps.{Falls, Grows, Steps, Worked};
 ghost use Rattle.html_modes.specs.declared.outcome.Outcome.TheVariants.{Done};
+ghost use Rattle.html_modes.specs.RawText.{Opens};
 
 use crate::modes::body_start::{body_char, html_start};
 use crate::modes::initial::doctype;
@@ -20,7 +21,7 @@ use html_tokens::TokenKind;
 use html_tree::Target;
 
 /// The rules for the "after body" insertion mode (13.2.6.4.19).
-#[tactic(auto, using(crate::proofs::Settled::mode_rules))]
+#[tactic(auto, using(crate::proofs::Settled::mode_rules, crate::proofs::RawText::open_rules))]
 pub(crate) fn after_body(
     page: &mut Construction,
     token: &TokenKind,
@@ -37,6 +38,7 @@ pub(crate) fn after_body(
     ensures grows { IfOk result (λ o. Grows o page.old page.new) }
     ensures works { IfOk result (λ o. Worked o token.now page.old page.new) }
     ensures plain { IfOk result (λ o. Turns o symbol token.now page.old page.new) }
+    ensures opens { IfOk result (λ o. Opens o symbol page.new) }
 {
     match symbol {
         // A character token that is one of U+0009, U+000A, U+000C, U+000D, U+0020: process the token using the rules for "in body".
@@ -82,7 +84,7 @@ fn end_page(page: &mut Construction, token: &TokenKind) -> Result<(), Refusal>
 }
 
 /// The rules for the "after after body" insertion mode (13.2.6.4.22).
-#[tactic(auto, using(crate::proofs::Settled::mode_rules))]
+#[tactic(auto, using(crate::proofs::Settled::mode_rules, crate::proofs::RawText::open_rules))]
 pub(crate) fn after_after_body(
     page: &mut Construction,
     token: &TokenKind,
@@ -99,6 +101,7 @@ pub(crate) fn after_after_body(
     ensures grows { IfOk result (λ o. Grows o page.old page.new) }
     ensures works { IfOk result (λ o. Worked o token.now page.old page.new) }
     ensures plain { IfOk result (λ o. Turns o symbol token.now page.old page.new) }
+    ensures opens { IfOk result (λ o. Opens o symbol page.new) }
 {
     match symbol {
         // A character token that is one of U+0009, U+000A, U+000C, U+000D, U+0020: process the token using the rules for "in body".

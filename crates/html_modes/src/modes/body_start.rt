@@ -1,5 +1,5 @@
 // The mode in body (13.2.6.4.7), but for end tags.
-ghost use Rattle.std.specs.Prelude.{◌≡◌, ◌+◌, ◌<◌, ◌≤◌, [], IfOk, OnOk, IsTrue, length, take, false};
+ghost use Rattle.std.specs.Prelude.{◌≡◌, ◌+◌, ◌<◌, ◌≤◌, [], IfOk, OnOk, IsTrue, length, take, false, true};
 ghost use Rattle.html_ledger.specs.Symbols.{symbol_of};
 ghost use Rattle.html_ledger.specs.Flags.{is_free, may_text_run};
 ghost use Rattle.html_construction.specs.Built.{Keeps, Takes, TakesRun};
@@ -10,7 +10,8 @@ ghost use Rattle.html_modes.specs.Fitting.{Fits, Calls};
 ghost use Rattle.html_modes.specs.Plain.{IsPlainState, IsRunTurn, Turns, TurnsInBody};
 ghost use Rattle.html_modes.specs.Steps.{Falls, Grows, Steps, Worked, compared};
 ghost use Rattle.html_modes.specs.declared.outcome.Outcome.TheVariants.{Done};
-ghost use Rattle.html_names.specs.Sets.{is_formatting};
+ghost use Rattle.html_modes.specs.RawText.{HasOpened, Opens, holds_text_alone, is_body_text};
+ghost use Rattle.html_names.specs.Sets.{is_formatting, is_headish};
 ghost use Rattle.html_names.specs.Tags.{is_same as same_tag};
 ghost use Rattle.html_tree.specs.Seats.{is_part};
 
@@ -30,7 +31,7 @@ use html_tokens::{Attr, TokenKind};
 use html_tree::Group;
 
 /// The rules for the "in body" insertion mode (13.2.6.4.7).
-#[tactic(auto, using(crate::proofs::Settled::mode_rules))]
+#[tactic(auto, using(crate::proofs::Settled::mode_rules, crate::proofs::RawText::open_rules))]
 pub(crate) fn in_body(
     page: &mut Construction,
     token: &TokenKind,
@@ -47,6 +48,7 @@ pub(crate) fn in_body(
     ensures grows { IfOk result (λ o. Grows o page.old page.new) }
     ensures works { IfOk result (λ o. Worked o token.now page.old page.new) }
     ensures plain { IfOk result (λ o. Turns o symbol token.now page.old page.new) }
+    ensures opens { IfOk result (λ o. Opens o symbol page.new) }
 {
     match symbol {
         // An end tag whose tag name is "html".
@@ -67,7 +69,7 @@ pub(crate) fn in_body(
 }
 
 /// The rules of the mode in body that other modes share: all but those for the end tag of the root, which no other mode takes from it.
-#[tactic(auto, using(crate::proofs::Settled::body_rules))]
+#[tactic(auto, using(crate::proofs::Settled::body_rules, crate::proofs::RawText::open_rules))]
 pub(crate) fn body_rules(
     page: &mut Construction,
     token: &TokenKind,
@@ -82,6 +84,7 @@ pub(crate) fn body_rules(
     ensures grows { IfOk result (λ o. Grows o page.old page.new) }
     ensures works { IfOk result (λ o. Worked o token.now page.old page.new) }
     ensures plain { IfOk result (λ o. TurnsInBody o symbol token.now page.old page.new) }
+    ensures opens { IfOk result (λ o. Opens o symbol page.new) }
 {
     match symbol {
         // A character token.
@@ -184,7 +187,7 @@ fn are_spaces(run: &[char]) -> bool {
 }
 
 /// A start tag: the parts of a page, and blocks.
-#[tactic(auto, using(crate::proofs::Settled::body_rules))]
+#[tactic(auto, using(crate::proofs::Settled::body_rules, crate::proofs::RawText::body_names))]
 fn body_start(page: &mut Construction, token: &TokenKind, tag: Tag) -> Result<(), Refusal>
     requires symbol { symbol_of token.now ≡ Symbol.Start tag }
     requires calls { Calls page.old }
@@ -194,6 +197,7 @@ fn body_start(page: &mut Construction, token: &TokenKind, tag: Tag) -> Result<()
     ensures grows { OnOk result (Grows Done page.old page.new) }
     ensures works { OnOk result (Worked Done token.now page.old page.new) }
     ensures plain { OnOk result (TurnsInBody Done (Symbol.Start tag) token.now page.old page.new) }
+    ensures opens { OnOk result (HasOpened tag page.new) }
 {
     match tag {
         // A start tag whose tag name is "html".
@@ -231,9 +235,10 @@ fn body_start(page: &mut Construction, token: &TokenKind, tag: Tag) -> Result<()
 }
 
 /// A start tag: what stands among text.
-#[tactic(auto, using(crate::proofs::Settled::body_rules))]
+#[tactic(auto, using(crate::proofs::Settled::body_rules, crate::proofs::RawText::body_names))]
 fn phrase_start(page: &mut Construction, token: &TokenKind, tag: Tag) -> Result<(), Refusal>
     requires small { weight_of tag ≤ 4 }
+    requires other { is_headish tag ≡ false }
     requires symbol { symbol_of token.now ≡ Symbol.Start tag }
     requires calls { Calls page.old }
     ensures fits { OnOk result (Fits page.new) }
@@ -242,6 +247,7 @@ fn phrase_start(page: &mut Construction, token: &TokenKind, tag: Tag) -> Result<
     ensures grows { OnOk result (Grows Done page.old page.new) }
     ensures works { OnOk result (Worked Done token.now page.old page.new) }
     ensures plain { OnOk result (TurnsInBody Done (Symbol.Start tag) token.now page.old page.new) }
+    ensures opens { OnOk result (HasOpened tag page.new) }
 {
     match tag {
         // A start tag whose tag name is "a".
@@ -268,15 +274,18 @@ fn phrase_start(page: &mut Construction, token: &TokenKind, tag: Tag) -> Result<
         _ if tag.is_void_phrase() => void_start(page, token, tag),
         // A start tag whose tag name is one of: "param", "source", "track".
         _ if tag.is_void_part() => page.insert_void(token, tag),
+        // A start tag whose tag name is one of: "iframe", "noembed", "textarea", "xmp".
+        _ if is_body_text(tag) => body_text_start(page, token, tag),
         _ => other_start(page, token, tag),
     }
 }
 
-/// A start tag: elements of text alone, selects, what is ignored, and all others.
-#[tactic(auto, using(crate::proofs::Settled::body_rules))]
+/// A start tag: selects, what is ignored, and all others.
+#[tactic(auto, using(crate::proofs::Settled::body_rules, crate::proofs::RawText::body_names))]
 fn other_start(page: &mut Construction, token: &TokenKind, tag: Tag) -> Result<(), Refusal>
     requires small { weight_of tag ≤ 4 }
     requires named { same_tag tag Tag.Image ≡ false }
+    requires other { holds_text_alone tag ≡ false }
     requires symbol { symbol_of token.now ≡ Symbol.Start tag }
     requires calls { Calls page.old }
     ensures fits { OnOk result (Fits page.new) }
@@ -287,14 +296,6 @@ fn other_start(page: &mut Construction, token: &TokenKind, tag: Tag) -> Result<(
     ensures plain { is_formatting tag ≡ false → OnOk result (TurnsInBody Done (Symbol.Start tag) token.now page.old page.new) }
 {
     match tag {
-        // A start tag whose tag name is "textarea".
-        Tag::Textarea => textarea_start(page, token),
-        // A start tag whose tag name is "xmp".
-        Tag::Xmp => xmp_start(page, token),
-        // A start tag whose tag name is "iframe".
-        Tag::Iframe => iframe_start(page, token),
-        // A start tag whose tag name is "noembed".
-        Tag::Noembed => text_start(page, token, Tag::Noembed),
         // A start tag whose tag name is "select".
         Tag::Select => select_start(page, token),
         // A start tag whose tag name is one of: "optgroup", "option".
@@ -643,6 +644,40 @@ fn close_ruby_part(page: &mut Construction, except: Option<Tag>)
     }
 }
 
+/// An element of the body that holds text alone.
+#[tactic(auto, using(crate::proofs::Settled::text_rules, crate::proofs::RawText::body_names))]
+fn body_text_start(page: &mut Construction, token: &TokenKind, tag: Tag) -> Result<(), Refusal>
+    requires small { weight_of tag ≤ 4 }
+    requires named { same_tag tag Tag.Image ≡ false }
+    requires text { is_body_text tag ≡ true }
+    requires symbol { symbol_of token.now ≡ Symbol.Start tag }
+    requires calls { Calls page.old }
+    ensures fits { OnOk result (Fits page.new) }
+    ensures takes { OnOk result (Takes token.now page.old page.new) }
+    ensures falls { OnOk result (Falls Done (Symbol.Start tag) page.old page.new) }
+    ensures grows { OnOk result (Grows Done page.old page.new) }
+    ensures works { OnOk result (Worked Done token.now page.old page.new) }
+    ensures opens { OnOk result (HasOpened tag page.new) }
+{
+    match tag {
+        // A start tag whose tag name is "textarea".
+        Tag::Textarea => textarea_start(page, token),
+        // A start tag whose tag name is "xmp".
+        Tag::Xmp => xmp_start(page, token),
+        // A start tag whose tag name is "iframe".
+        Tag::Iframe => iframe_start(page, token),
+        // A start tag whose tag name is "noembed".
+        _ => text_start(page, token, tag),
+    }
+}
+
+/// Whether an element of the body holds text alone.
+fn is_body_text(tag: Tag) -> bool
+    ensures value { result ≡ is_body_text tag }
+{
+    matches!(tag, Tag::Textarea | Tag::Xmp | Tag::Iframe | Tag::Noembed)
+}
+
 #[tactic(auto, using(crate::proofs::Settled::text_rules))]
 fn textarea_start(page: &mut Construction, token: &TokenKind) -> Result<(), Refusal>
     requires symbol { symbol_of token.now ≡ Symbol.Start Tag.Textarea }
@@ -652,6 +687,7 @@ fn textarea_start(page: &mut Construction, token: &TokenKind) -> Result<(), Refu
     ensures falls { OnOk result (Falls Done (Symbol.Start Tag.Textarea) page.old page.new) }
     ensures grows { OnOk result (Grows Done page.old page.new) }
     ensures works { OnOk result (Worked Done token.now page.old page.new) }
+    ensures opens { OnOk result (HasOpened Tag.Textarea page.new) }
 {
     page.frameset_off();
     text_start(page, token, Tag::Textarea)
@@ -666,6 +702,7 @@ fn xmp_start(page: &mut Construction, token: &TokenKind) -> Result<(), Refusal>
     ensures falls { OnOk result (Falls Done (Symbol.Start Tag.Xmp) page.old page.new) }
     ensures grows { OnOk result (Grows Done page.old page.new) }
     ensures works { OnOk result (Worked Done token.now page.old page.new) }
+    ensures opens { OnOk result (HasOpened Tag.Xmp page.new) }
 {
     page.close_p();
     page.reconstruct()?;
@@ -682,6 +719,7 @@ fn iframe_start(page: &mut Construction, token: &TokenKind) -> Result<(), Refusa
     ensures falls { OnOk result (Falls Done (Symbol.Start Tag.Iframe) page.old page.new) }
     ensures grows { OnOk result (Grows Done page.old page.new) }
     ensures works { OnOk result (Worked Done token.now page.old page.new) }
+    ensures opens { OnOk result (HasOpened Tag.Iframe page.new) }
 {
     page.frameset_off();
     text_start(page, token, Tag::Iframe)

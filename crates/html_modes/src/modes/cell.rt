@@ -10,6 +10,7 @@ ghost use Rattle.html_modes.specs.Fitting.{Fits, Calls};
 ghost use Rattle.html_modes.specs.Steps.{Falls, Grows, Steps, Worked};
 ghost use Rattle.html_modes.specs.declared.outcome.Outcome.TheVariants.{Done};
 ghost use Rattle.html_tree.specs.Seats.{is_part};
+ghost use Rattle.html_modes.specs.RawText.{Opens};
 
 use crate::modes::body_start::body_rules;
 use crate::outcome::Outcome;
@@ -43,7 +44,7 @@ pub(crate) fn cell_start(
 }
 
 /// The rules for the "in cell" insertion mode (13.2.6.4.15).
-#[tactic(auto, using(crate::proofs::Settled::part_rules))]
+#[tactic(auto, using(crate::proofs::Settled::part_rules, crate::proofs::RawText::open_rules))]
 pub(crate) fn in_cell(
     page: &mut Construction,
     token: &TokenKind,
@@ -59,6 +60,7 @@ pub(crate) fn in_cell(
     ensures falls { IfOk result (λ o. Falls o symbol page.old page.new) }
     ensures grows { IfOk result (λ o. Grows o page.old page.new) }
     ensures works { IfOk result (λ o. Worked o token.now page.old page.new) }
+    ensures opens { IfOk result (λ o. Opens o symbol page.new) }
 {
     match symbol {
         // A start tag whose tag name is one of: "caption", "col", "colgroup", "tbody", "td", "tfoot", "th",

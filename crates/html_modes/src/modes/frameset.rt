@@ -10,6 +10,7 @@ ghost use Rattle.html_modes.specs.Fitting.{Fits, is_loose};
 ghost use Rattle.html_modes.specs.Steps.{Falls, Grows, Steps, Worked};
 ghost use Rattle.html_modes.specs.Ranks.{top_rank};
 ghost use Rattle.html_modes.specs.Guards.{is_droppable};
+ghost use Rattle.html_modes.specs.RawText.{Opens};
 
 use crate::modes::body_start::{body_char, html_start};
 use crate::modes::initial::doctype;
@@ -22,7 +23,7 @@ use html_tokens::TokenKind;
 use html_tree::Target;
 
 /// The rules for the "in frameset" insertion mode (13.2.6.4.20).
-#[tactic(auto, using(crate::proofs::Settled::mode_rules))]
+#[tactic(auto, using(crate::proofs::Settled::mode_rules, crate::proofs::RawText::open_rules))]
 pub(crate) fn in_frameset(
     page: &mut Construction,
     token: &TokenKind,
@@ -39,6 +40,7 @@ pub(crate) fn in_frameset(
     ensures falls { IfOk result (λ o. Falls o symbol page.old page.new) }
     ensures grows { IfOk result (λ o. Grows o page.old page.new) }
     ensures works { IfOk result (λ o. Worked o token.now page.old page.new) }
+    ensures opens { IfOk result (λ o. Opens o symbol page.new) }
 {
     match symbol {
         // A character token that is one of U+0009, U+000A, U+000C, U+000D, U+0020: insert the character.
@@ -91,7 +93,7 @@ fn close_frameset(page: &mut Construction)
 }
 
 /// The rules for the "after frameset" insertion mode (13.2.6.4.21).
-#[tactic(auto, using(crate::proofs::Settled::mode_rules))]
+#[tactic(auto, using(crate::proofs::Settled::mode_rules, crate::proofs::RawText::open_rules))]
 pub(crate) fn after_frameset(
     page: &mut Construction,
     token: &TokenKind,
@@ -108,6 +110,7 @@ pub(crate) fn after_frameset(
     ensures falls { IfOk result (λ o. Falls o symbol page.old page.new) }
     ensures grows { IfOk result (λ o. Grows o page.old page.new) }
     ensures works { IfOk result (λ o. Worked o token.now page.old page.new) }
+    ensures opens { IfOk result (λ o. Opens o symbol page.new) }
 {
     match symbol {
         // A character token that is one of U+0009, U+000A, U+000C, U+000D, U+0020: insert the character.
@@ -134,7 +137,7 @@ pub(crate) fn after_frameset(
 }
 
 /// The rules for the "after after frameset" insertion mode (13.2.6.4.23).
-#[tactic(auto, using(crate::proofs::Settled::mode_rules))]
+#[tactic(auto, using(crate::proofs::Settled::mode_rules, crate::proofs::RawText::open_rules))]
 pub(crate) fn after_after_frameset(
     page: &mut Construction,
     token: &TokenKind,
@@ -151,6 +154,7 @@ pub(crate) fn after_after_frameset(
     ensures falls { IfOk result (λ o. Falls o symbol page.old page.new) }
     ensures grows { IfOk result (λ o. Grows o page.old page.new) }
     ensures works { IfOk result (λ o. Worked o token.now page.old page.new) }
+    ensures opens { IfOk result (λ o. Opens o symbol page.new) }
 {
     match symbol {
         // A character token that is one of U+0009, U+000A, U+000C, U+000D, U+0020: process the token using the rules for "in body".

@@ -1,6 +1,7 @@
 // The modes of the head (13.2.6.4.4 to 13.2.6.4.6).
 ghost use Rattle.std.specs.Prelude.{◌≡◌, ◌+◌, ◌<◌, ◌≤◌, ◌&&◌, [], IfOk, OnOk, IsTrue, drop, length, nat_lt, true};
 ghost use Rattle.html_names.specs.declared.tag.Tag.TheVariants as tag;
+ghost use Rattle.html_names.specs.Sets.{is_headish};
 ghost use Rattle.html_tree.specs.Closing.{popped};
 ghost use Rattle.html_tree.specs.declared.groups.Group.TheVariants as group;
 ghost use Rattle.html_ledger.specs.Symbols.{symbol_of};
@@ -15,7 +16,7 @@ ghost use Rattle.html_modes.specs.Plain.{Turns};
 ghost use Rattle.html_modes.specs.Steps.{Falls, Grows, Steps, Worked};
 ghost use Rattle.html_modes.specs.Ranks.{rank, top_rank};
 ghost use Rattle.html_modes.specs.declared.outcome.Outcome.TheVariants.{Done};
-ghost use Rattle.html_tree.specs.Seats.{is_part};
+ghost use Rattle.html_modes.specs.RawText.{HasOpened, Opens};
 
 use crate::modes::body_start::html_start;
 use crate::modes::initial::doctype;
@@ -29,7 +30,7 @@ use html_tokens::TokenKind;
 use html_tree::{Group, Target};
 
 /// The rules for the "in head" insertion mode (13.2.6.4.4).
-#[tactic(auto, using(crate::proofs::Settled::mode_rules))]
+#[tactic(auto, using(crate::proofs::Settled::mode_rules, crate::proofs::RawText::head_names))]
 pub(crate) fn in_head(
     page: &mut Construction,
     token: &TokenKind,
@@ -46,6 +47,7 @@ pub(crate) fn in_head(
     ensures grows { IfOk result (λ o. Grows o page.old page.new) }
     ensures works { IfOk result (λ o. Worked o token.now page.old page.new) }
     ensures plain { IfOk result (λ o. Turns o symbol token.now page.old page.new) }
+    ensures opens { IfOk result (λ o. Opens o symbol page.new) }
 {
     match symbol {
         // A character token that is one of U+0009, U+000A, U+000C, U+000D, U+0020: insert the character.
@@ -108,20 +110,21 @@ fn leave_head(page: &mut Construction)
 }
 
 /// A start tag that belongs into the head.
-#[tactic(auto, using(crate::proofs::Settled::head_rules))]
+#[tactic(auto, using(crate::proofs::Settled::head_rules, crate::proofs::RawText::head_names))]
 pub(crate) fn head_start(
     page: &mut Construction,
     token: &TokenKind,
     tag: Tag,
 ) -> Result<(), Refusal>
+    requires headish { is_headish tag ≡ true }
     requires symbol { symbol_of token.now ≡ Symbol.Start tag }
-    requires part { is_part tag ≡ false }
     requires calls { Calls page.old }
     ensures fits { OnOk result (Fits page.new) }
     ensures takes { OnOk result (Takes token.now page.old page.new) }
     ensures falls { OnOk result (Falls Done (Symbol.Start tag) page.old page.new) }
     ensures grows { OnOk result (Grows Done page.old page.new) }
     ensures works { OnOk result (Worked Done token.now page.old page.new) }
+    ensures opens { OnOk result (HasOpened tag page.new) }
 {
     let target = page.here();
     head_start_at(page, token, tag, target)
@@ -129,21 +132,22 @@ pub(crate) fn head_start(
 
 /// A start tag that belongs into the head, whose element goes to a target: last into the head, as if that were open, where it comes after
 /// the head's end.
-#[tactic(auto, using(crate::proofs::Settled::head_rules))]
+#[tactic(auto, using(crate::proofs::Settled::head_rules, crate::proofs::RawText::head_names))]
 fn head_start_at(
     page: &mut Construction,
     token: &TokenKind,
     tag: Tag,
     target: Target,
 ) -> Result<(), Refusal>
+    requires headish { is_headish tag ≡ true }
     requires symbol { symbol_of token.now ≡ Symbol.Start tag }
-    requires part { is_part tag ≡ false }
     requires calls { Calls page.old }
     ensures fits { OnOk result (Fits page.new) }
     ensures takes { OnOk result (Takes token.now page.old page.new) }
     ensures falls { OnOk result (Falls Done (Symbol.Start tag) page.old page.new) }
     ensures grows { OnOk result (Grows Done page.old page.new) }
     ensures works { OnOk result (Worked Done token.now page.old page.new) }
+    ensures opens { OnOk result (HasOpened tag page.new) }
 {
     if tag.is_head_text() {
         return text_start_at(page, token, tag, target);
@@ -155,7 +159,7 @@ fn head_start_at(
 }
 
 /// The rules for the "in head noscript" insertion mode (13.2.6.4.5).
-#[tactic(auto, using(crate::proofs::Settled::mode_rules))]
+#[tactic(auto, using(crate::proofs::Settled::mode_rules, crate::proofs::RawText::head_names))]
 pub(crate) fn in_head_noscript(
     page: &mut Construction,
     token: &TokenKind,
@@ -171,6 +175,7 @@ pub(crate) fn in_head_noscript(
     ensures falls { IfOk result (λ o. Falls o symbol page.old page.new) }
     ensures grows { IfOk result (λ o. Grows o page.old page.new) }
     ensures works { IfOk result (λ o. Worked o token.now page.old page.new) }
+    ensures opens { IfOk result (λ o. Opens o symbol page.new) }
 {
     match symbol {
         // A character token that is one of U+0009, U+000A, U+000C, U+000D, U+0020: insert the character.
@@ -226,7 +231,7 @@ fn leave_noscript(page: &mut Construction)
 }
 
 /// The rules for the "after head" insertion mode (13.2.6.4.6).
-#[tactic(auto, using(crate::proofs::Settled::mode_rules))]
+#[tactic(auto, using(crate::proofs::Settled::mode_rules, crate::proofs::RawText::head_names))]
 pub(crate) fn after_head(
     page: &mut Construction,
     token: &TokenKind,
@@ -243,6 +248,7 @@ pub(crate) fn after_head(
     ensures grows { IfOk result (λ o. Grows o page.old page.new) }
     ensures works { IfOk result (λ o. Worked o token.now page.old page.new) }
     ensures plain { IfOk result (λ o. Turns o symbol token.now page.old page.new) }
+    ensures opens { IfOk result (λ o. Opens o symbol page.new) }
 {
     match symbol {
         // A character token that is one of U+0009, U+000A, U+000C, U+000D, U+0020: insert the character.

@@ -12,6 +12,7 @@ ghost use Rattle.html_construction.specs.Works.{Works};
 ghost use Rattle.html_modes.specs.Fitting.{Fits};
 ghost use Rattle.html_modes.specs.Plain.{Turns};
 ghost use Rattle.html_modes.specs.Steps.{Falls, Grows, Steps, Worked};
+ghost use Rattle.html_modes.specs.RawText.{Opens};
 
 use crate::modes::body_start::html_start;
 use crate::outcome::Outcome;
@@ -23,7 +24,7 @@ use html_tokens::TokenKind;
 use html_tree::Target;
 
 /// The rules for the "initial" insertion mode (13.2.6.4.1).
-#[tactic(auto, using(crate::proofs::Settled::mode_rules))]
+#[tactic(auto, using(crate::proofs::Settled::mode_rules, crate::proofs::RawText::open_rules))]
 pub(crate) fn initial(
     page: &mut Construction,
     token: &TokenKind,
@@ -40,6 +41,7 @@ pub(crate) fn initial(
     ensures grows { IfOk result (λ o. Grows o page.old page.new) }
     ensures works { IfOk result (λ o. Worked o token.now page.old page.new) }
     ensures plain { IfOk result (λ o. Turns o symbol token.now page.old page.new) }
+    ensures opens { IfOk result (λ o. Opens o symbol page.new) }
 {
     match symbol {
         // A comment token: insert a comment as the last child of the Document object.
@@ -61,7 +63,7 @@ pub(crate) fn initial(
 }
 
 /// The rules for the "before html" insertion mode (13.2.6.4.2).
-#[tactic(auto, using(crate::proofs::Settled::mode_rules))]
+#[tactic(auto, using(crate::proofs::Settled::mode_rules, crate::proofs::RawText::open_rules))]
 pub(crate) fn before_html(
     page: &mut Construction,
     token: &TokenKind,
@@ -78,6 +80,7 @@ pub(crate) fn before_html(
     ensures grows { IfOk result (λ o. Grows o page.old page.new) }
     ensures works { IfOk result (λ o. Worked o token.now page.old page.new) }
     ensures plain { IfOk result (λ o. Turns o symbol token.now page.old page.new) }
+    ensures opens { IfOk result (λ o. Opens o symbol page.new) }
 {
     match symbol {
         // A comment token: insert a comment as the last child of the Document object.
@@ -102,7 +105,7 @@ pub(crate) fn before_html(
 }
 
 /// The rules for the "before head" insertion mode (13.2.6.4.3).
-#[tactic(auto, using(crate::proofs::Settled::mode_rules))]
+#[tactic(auto, using(crate::proofs::Settled::mode_rules, crate::proofs::RawText::open_rules))]
 pub(crate) fn before_head(
     page: &mut Construction,
     token: &TokenKind,
@@ -119,6 +122,7 @@ pub(crate) fn before_head(
     ensures grows { IfOk result (λ o. Grows o page.old page.new) }
     ensures works { IfOk result (λ o. Worked o token.now page.old page.new) }
     ensures plain { IfOk result (λ o. Turns o symbol token.now page.old page.new) }
+    ensures opens { IfOk result (λ o. Opens o symbol page.new) }
 {
     match symbol {
         // A comment token: insert a comment.

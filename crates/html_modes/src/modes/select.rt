@@ -13,6 +13,7 @@ ghost use Rattle.html_modes.specs.Ranks.{rank};
 ghost use Rattle.html_modes.specs.declared.outcome.Outcome.TheVariants.{Done};
 ghost use Rattle.html_ledger.specs.MayDrop.{is_in_select};
 ghost use Rattle.html_modes.specs.Guards.{is_droppable};
+ghost use Rattle.html_modes.specs.RawText.{Opens};
 
 use crate::modes::body_start::{body_rules, html_start};
 use crate::modes::head::head_start;
@@ -27,7 +28,7 @@ use html_tokens::TokenKind;
 use html_tree::Group;
 
 /// The rules for the "in select" insertion mode (13.2.6.4.16).
-#[tactic(auto, using(crate::proofs::Settled::mode_rules))]
+#[tactic(auto, using(crate::proofs::Settled::mode_rules, crate::proofs::RawText::open_rules))]
 pub(crate) fn in_select(
     page: &mut Construction,
     token: &TokenKind,
@@ -44,13 +45,14 @@ pub(crate) fn in_select(
     ensures falls { IfOk result (λ o. Falls o symbol page.old page.new) }
     ensures grows { IfOk result (λ o. Grows o page.old page.new) }
     ensures works { IfOk result (λ o. Worked o token.now page.old page.new) }
+    ensures opens { IfOk result (λ o. Opens o symbol page.new) }
 {
     let outcome = select_rules(page, token, symbol)?;
     Ok(outcome)
 }
 
 /// The rules that both modes share.
-#[tactic(auto, using(crate::proofs::Settled::reset_rules))]
+#[tactic(auto, using(crate::proofs::Settled::reset_rules, crate::proofs::RawText::open_rules))]
 fn select_rules(
     page: &mut Construction,
     token: &TokenKind,
@@ -66,6 +68,7 @@ fn select_rules(
     ensures falls { IfOk result (λ o. Falls o symbol page.old page.new) }
     ensures grows { IfOk result (λ o. Grows o page.old page.new) }
     ensures works { IfOk result (λ o. Worked o token.now page.old page.new) }
+    ensures opens { IfOk result (λ o. Opens o symbol page.new) }
 {
     match symbol {
         // A character token: insert the token's character, unless it is U+0000 NULL.
@@ -90,7 +93,7 @@ fn select_rules(
     Ok(Outcome::Done)
 }
 
-#[tactic(auto, using(crate::proofs::Settled::reset_rules))]
+#[tactic(auto, using(crate::proofs::Settled::reset_rules, crate::proofs::RawText::head_names))]
 fn select_start_tag(
     page: &mut Construction,
     token: &TokenKind,
@@ -105,6 +108,7 @@ fn select_start_tag(
     ensures falls { IfOk result (λ o. Falls o (Symbol.Start tag) page.old page.new) }
     ensures grows { IfOk result (λ o. Grows o page.old page.new) }
     ensures works { IfOk result (λ o. Worked o token.now page.old page.new) }
+    ensures opens { IfOk result (λ o. Opens o (Symbol.Start tag) page.new) }
 {
     match tag {
         // A start tag whose tag name is "html": process the token using the rules for "in body".
@@ -125,7 +129,8 @@ fn select_start_tag(
             page.insert_void(token, Tag::Hr)?;
         }
         // A start tag whose tag name is one of: "script", "template": process the token using the rules for "in head".
-        Tag::Script | Tag::Template => head_start(page, token, tag)?,
+        Tag::Script => head_start(page, token, Tag::Script)?,
+        Tag::Template => head_start(page, token, Tag::Template)?,
         // A start tag whose tag name is "select": it gets treated like an end tag.
         Tag::Select => {
             let _ = close_select(page);
@@ -219,7 +224,7 @@ fn close_grouped_option(page: &mut Construction)
 }
 
 /// A start tag that closes the select, and is dropped where none is in scope.
-#[tactic(auto, using(crate::proofs::Settled::reset_rules))]
+#[tactic(auto, using(crate::proofs::Settled::reset_rules, crate::proofs::RawText::open_rules))]
 fn leave_select(page: &mut Construction, token: &TokenKind, tag: Tag) -> Result<Outcome, Refusal>
     requires seen { may_select page.old.ledger.history ≡ true }
     requires high { 7 ≤ rank page.old.mode (Symbol.Start tag) }
@@ -231,6 +236,7 @@ fn leave_select(page: &mut Construction, token: &TokenKind, tag: Tag) -> Result<
     ensures falls { IfOk result (λ o. Falls o (Symbol.Start tag) page.old page.new) }
     ensures grows { IfOk result (λ o. Grows o page.old page.new) }
     ensures works { IfOk result (λ o. Worked o token.now page.old page.new) }
+    ensures opens { IfOk result (λ o. Opens o (Symbol.Start tag) page.new) }
 {
     if close_select(page) {
         return Ok(Outcome::Reprocess);
@@ -262,7 +268,7 @@ fn close_select(page: &mut Construction) -> bool
 }
 
 /// The rules for the "in select in table" insertion mode (13.2.6.4.17).
-#[tactic(auto, using(crate::proofs::Settled::select_rules))]
+#[tactic(auto, using(crate::proofs::Settled::select_rules, crate::proofs::RawText::open_rules))]
 pub(crate) fn in_select_in_table(
     page: &mut Construction,
     token: &TokenKind,
@@ -279,6 +285,7 @@ pub(crate) fn in_select_in_table(
     ensures falls { IfOk result (λ o. Falls o symbol page.old page.new) }
     ensures grows { IfOk result (λ o. Grows o page.old page.new) }
     ensures works { IfOk result (λ o. Worked o token.now page.old page.new) }
+    ensures opens { IfOk result (λ o. Opens o symbol page.new) }
 {
     match symbol {
         // A start tag whose tag name is one of: "caption", "table", "tbody", "tfoot", "thead", "tr", "td", "th".

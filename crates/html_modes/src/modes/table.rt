@@ -10,6 +10,7 @@ ghost use Rattle.html_construction.specs.Weights.{weight};
 ghost use Rattle.html_modes.specs.Fitting.{Fits, Calls, is_loose, is_table_mode};
 ghost use Rattle.html_modes.specs.Steps.{Falls, Grows, Steps, Worked};
 ghost use Rattle.html_modes.specs.declared.outcome.Outcome.TheVariants.{Done};
+ghost use Rattle.html_modes.specs.RawText.{Opens};
 
 use crate::guards::has_form;
 use crate::modes::body_start::{body_rules, is_hidden};
@@ -25,7 +26,7 @@ use html_tokens::TokenKind;
 use html_tree::TableContext;
 
 /// The rules for the "in table" insertion mode (13.2.6.4.9).
-#[tactic(auto, using(crate::proofs::Settled::table_rules))]
+#[tactic(auto, using(crate::proofs::Settled::table_rules, crate::proofs::RawText::table_names))]
 pub(crate) fn in_table(
     page: &mut Construction,
     token: &TokenKind,
@@ -41,6 +42,7 @@ pub(crate) fn in_table(
     ensures falls { IfOk result (λ o. Falls o symbol page.old page.new) }
     ensures grows { IfOk result (λ o. Grows o page.old page.new) }
     ensures works { IfOk result (λ o. Worked o token.now page.old page.new) }
+    ensures opens { IfOk result (λ o. Opens o symbol page.new) }
 {
     match symbol {
         // A start tag whose tag name is "caption".
@@ -109,7 +111,7 @@ fn imply_section(page: &mut Construction) -> Result<(), Refusal>
 }
 
 /// The rules of the mode in table that the modes in table body and in row share.
-#[tactic(auto, using(crate::proofs::Settled::table_rules))]
+#[tactic(auto, using(crate::proofs::Settled::table_rules, crate::proofs::RawText::table_names))]
 pub(crate) fn table_rules(
     page: &mut Construction,
     token: &TokenKind,
@@ -124,6 +126,7 @@ pub(crate) fn table_rules(
     ensures falls { IfOk result (λ o. Falls o symbol page.old page.new) }
     ensures grows { IfOk result (λ o. Grows o page.old page.new) }
     ensures works { IfOk result (λ o. Worked o token.now page.old page.new) }
+    ensures opens { IfOk result (λ o. Opens o symbol page.new) }
 {
     match symbol {
         // A character token.
@@ -185,7 +188,7 @@ fn collects_text(page: &mut Construction) -> bool
     tag.is_fostering() || tag.is(Tag::Template)
 }
 
-#[tactic(auto, using(crate::proofs::Settled::table_rules))]
+#[tactic(auto, using(crate::proofs::Settled::table_rules, crate::proofs::RawText::table_names))]
 fn table_rules_start(
     page: &mut Construction,
     token: &TokenKind,
@@ -199,6 +202,7 @@ fn table_rules_start(
     ensures falls { IfOk result (λ o. Falls o (Symbol.Start tag) page.old page.new) }
     ensures grows { IfOk result (λ o. Grows o page.old page.new) }
     ensures works { IfOk result (λ o. Worked o token.now page.old page.new) }
+    ensures opens { IfOk result (λ o. Opens o (Symbol.Start tag) page.new) }
 {
     match tag {
         // A start tag whose tag name is "table".
@@ -319,7 +323,7 @@ fn form_in_table(page: &mut Construction, token: &TokenKind) -> Result<(), Refus
 }
 
 /// The rules of the mode in body for what can't stand in a table: it is put before the table.
-#[tactic(auto, using(crate::proofs::Settled::foster_rules))]
+#[tactic(auto, using(crate::proofs::Settled::foster_rules, crate::proofs::RawText::table_names))]
 fn foster_rules(
     page: &mut Construction,
     token: &TokenKind,
@@ -333,6 +337,7 @@ fn foster_rules(
     ensures falls { IfOk result (λ o. Falls o symbol page.old page.new) }
     ensures grows { IfOk result (λ o. Grows o page.old page.new) }
     ensures works { IfOk result (λ o. Worked o token.now page.old page.new) }
+    ensures opens { IfOk result (λ o. Opens o symbol page.new) }
 {
     page.foster_on();
     let outcome = body_rules(page, token, symbol)?;

@@ -9,6 +9,7 @@ ghost use Rattle.html_construction.specs.Weights.{weight};
 ghost use Rattle.html_modes.specs.Fitting.{Fits, Calls};
 ghost use Rattle.html_modes.specs.Steps.{Falls, Grows, Steps, Worked};
 ghost use Rattle.html_modes.specs.Ranks.{rank};
+ghost use Rattle.html_modes.specs.RawText.{Opens};
 
 use crate::guards::is_outside_column_group;
 use crate::modes::body_start::{body_rules, html_start};
@@ -22,7 +23,7 @@ use html_tokens::TokenKind;
 use html_tree::Group;
 
 /// The rules for the "in caption" insertion mode (13.2.6.4.11).
-#[tactic(auto, using(crate::proofs::Settled::part_rules))]
+#[tactic(auto, using(crate::proofs::Settled::part_rules, crate::proofs::RawText::open_rules))]
 pub(crate) fn in_caption(
     page: &mut Construction,
     token: &TokenKind,
@@ -38,6 +39,7 @@ pub(crate) fn in_caption(
     ensures falls { IfOk result (λ o. Falls o symbol page.old page.new) }
     ensures grows { IfOk result (λ o. Grows o page.old page.new) }
     ensures works { IfOk result (λ o. Worked o token.now page.old page.new) }
+    ensures opens { IfOk result (λ o. Opens o symbol page.new) }
 {
     match symbol {
         // A start tag whose tag name is one of: "caption", "col", "colgroup", "tbody", "td", "tfoot", "th",
@@ -99,7 +101,7 @@ fn close_caption(page: &mut Construction) -> bool
 }
 
 /// The rules for the "in column group" insertion mode (13.2.6.4.12).
-#[tactic(auto, using(crate::proofs::Settled::part_rules))]
+#[tactic(auto, using(crate::proofs::Settled::part_rules, crate::proofs::RawText::open_rules))]
 pub(crate) fn in_column_group(
     page: &mut Construction,
     token: &TokenKind,
@@ -115,6 +117,7 @@ pub(crate) fn in_column_group(
     ensures falls { IfOk result (λ o. Falls o symbol page.old page.new) }
     ensures grows { IfOk result (λ o. Grows o page.old page.new) }
     ensures works { IfOk result (λ o. Worked o token.now page.old page.new) }
+    ensures opens { IfOk result (λ o. Opens o symbol page.new) }
 {
     match symbol {
         // A character token that is one of U+0009, U+000A, U+000C, U+000D, U+0020: insert the character.
@@ -186,7 +189,7 @@ fn close_column_group(page: &mut Construction) -> bool
 
 /// A token that closes the column group, and is dropped where none is open. (In a real run a col was made then, or the context is a
 /// column group, and the token came in this mode; else the rules of the body go on.)
-#[tactic(auto, using(crate::proofs::Settled::part_rules))]
+#[tactic(auto, using(crate::proofs::Settled::part_rules, crate::proofs::RawText::open_rules))]
 fn leave_column_group(
     page: &mut Construction,
     token: &TokenKind,
@@ -202,6 +205,7 @@ fn leave_column_group(
     ensures falls { IfOk result (λ o. Falls o symbol page.old page.new) }
     ensures grows { IfOk result (λ o. Grows o page.old page.new) }
     ensures works { IfOk result (λ o. Worked o token.now page.old page.new) }
+    ensures opens { IfOk result (λ o. Opens o symbol page.new) }
 {
     if close_column_group(page) {
         return Ok(Outcome::Reprocess);

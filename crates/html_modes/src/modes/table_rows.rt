@@ -9,6 +9,7 @@ ghost use Rattle.html_construction.specs.Weights.{weight};
 ghost use Rattle.html_modes.specs.Fitting.{Fits, Calls};
 ghost use Rattle.html_modes.specs.declared.outcome.Outcome.TheVariants.{Done};
 ghost use Rattle.html_modes.specs.Steps.{Falls, Grows, Steps, Worked};
+ghost use Rattle.html_modes.specs.RawText.{Opens};
 
 use crate::modes::cell::cell_start;
 use crate::modes::table::table_rules;
@@ -20,7 +21,7 @@ use html_tokens::TokenKind;
 use html_tree::{Group, TableContext};
 
 /// The rules for the "in table body" insertion mode (13.2.6.4.13).
-#[tactic(auto, using(crate::proofs::Settled::part_rules))]
+#[tactic(auto, using(crate::proofs::Settled::part_rules, crate::proofs::RawText::table_names))]
 pub(crate) fn in_table_body(
     page: &mut Construction,
     token: &TokenKind,
@@ -36,6 +37,7 @@ pub(crate) fn in_table_body(
     ensures falls { IfOk result (λ o. Falls o symbol page.old page.new) }
     ensures grows { IfOk result (λ o. Grows o page.old page.new) }
     ensures works { IfOk result (λ o. Worked o token.now page.old page.new) }
+    ensures opens { IfOk result (λ o. Opens o symbol page.new) }
 {
     match symbol {
         // A start tag whose tag name is "tr": clear the stack back to a table body context.
@@ -150,7 +152,7 @@ fn close_section(page: &mut Construction) -> bool
 }
 
 /// The rules for the "in row" insertion mode (13.2.6.4.14).
-#[tactic(auto, using(crate::proofs::Settled::part_rules))]
+#[tactic(auto, using(crate::proofs::Settled::part_rules, crate::proofs::RawText::table_names))]
 pub(crate) fn in_row(
     page: &mut Construction,
     token: &TokenKind,
@@ -166,6 +168,7 @@ pub(crate) fn in_row(
     ensures falls { IfOk result (λ o. Falls o symbol page.old page.new) }
     ensures grows { IfOk result (λ o. Grows o page.old page.new) }
     ensures works { IfOk result (λ o. Worked o token.now page.old page.new) }
+    ensures opens { IfOk result (λ o. Opens o symbol page.new) }
 {
     match symbol {
         // A start tag whose tag name is one of: "th", "td".

@@ -8,6 +8,7 @@ ghost use Rattle.html_construction.specs.Works.{Works};
 ghost use Rattle.html_construction.specs.Weights.{weight};
 ghost use Rattle.html_modes.specs.Fitting.{Fits};
 ghost use Rattle.html_modes.specs.Steps.{Counted, Counts, Falls, Settles, Spends, Steps};
+ghost use Rattle.html_modes.specs.RawText.{Opens};
 
 use crate::modes::body_start::body_char;
 use crate::outcome::Outcome;
@@ -16,7 +17,7 @@ use html_ledger::{Cause, Symbol, is_space};
 use html_tokens::TokenKind;
 
 /// The rules for the "in table text" insertion mode (13.2.6.4.10): code points are kept until another token comes.
-#[tactic(auto, using(crate::proofs::Settled::table_text_rules))]
+#[tactic(auto, using(crate::proofs::Settled::table_text_rules, crate::proofs::RawText::open_rules))]
 pub(crate) fn in_table_text(
     page: &mut Construction,
     token: &TokenKind,
@@ -31,6 +32,7 @@ pub(crate) fn in_table_text(
     ensures spends { OnOk result (Spends 2 page.old page.new) }
     ensures counts { IfOk result (λ o. Counted o token.now page.old page.new) }
     ensures settles { IfOk result (λ o. Settles o symbol page.old page.new) }
+    ensures opens { IfOk result (λ o. Opens o symbol page.new) }
 {
     match symbol {
         // A character token: append the character token to the pending table character tokens list.

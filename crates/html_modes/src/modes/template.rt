@@ -11,6 +11,7 @@ ghost use Rattle.html_modes.specs.Fitting.{Fits, Calls, is_loose};
 ghost use Rattle.html_modes.specs.Steps.{Falls, Grows, Steps, Worked};
 ghost use Rattle.html_modes.specs.Ranks.{rank};
 ghost use Rattle.html_modes.specs.declared.outcome.Outcome.TheVariants.{Done};
+ghost use Rattle.html_modes.specs.RawText.{Opens};
 
 use crate::modes::body_start::body_rules;
 use crate::modes::head::head_start;
@@ -86,7 +87,7 @@ fn close_template(page: &mut Construction) -> bool
 }
 
 /// The rules for the "in template" insertion mode (13.2.6.4.18).
-#[tactic(auto, using(crate::proofs::Settled::template_rules))]
+#[tactic(auto, using(crate::proofs::Settled::template_rules, crate::proofs::RawText::head_names))]
 pub(crate) fn in_template(
     page: &mut Construction,
     token: &TokenKind,
@@ -102,6 +103,7 @@ pub(crate) fn in_template(
     ensures falls { IfOk result (λ o. Falls o symbol page.old page.new) }
     ensures grows { IfOk result (λ o. Grows o page.old page.new) }
     ensures works { IfOk result (λ o. Worked o token.now page.old page.new) }
+    ensures opens { IfOk result (λ o. Opens o symbol page.new) }
 {
     match symbol {
         // A character token, a comment token, a DOCTYPE token: process the token using the rules for the "in

@@ -1,14 +1,15 @@
 // The mode text (13.2.6.4.8).
-ghost use Rattle.std.specs.Prelude.{◌≡◌, ◌<◌, ◌≤◌, [], IfOk, OnOk, IsTrue, false, length};
+ghost use Rattle.std.specs.Prelude.{◌≡◌, ◌<◌, ◌≤◌, ◌∷◌, [], IfOk, OnOk, IsTrue, false, length};
 ghost use Rattle.html_ledger.specs.Symbols.{symbol_of};
 ghost use Rattle.html_ledger.specs.Flags.{is_free};
-ghost use Rattle.html_construction.specs.Built.{Takes};
+ghost use Rattle.html_construction.specs.Built.{Keeps, Takes};
 ghost use Rattle.html_construction.specs.Grown.{Grown};
 ghost use Rattle.html_construction.specs.Works.{Works};
-ghost use Rattle.html_construction.specs.Weights.{weight_of};
+ghost use Rattle.html_construction.specs.Weights.{weight, weight_of};
 ghost use Rattle.html_modes.specs.Fitting.{Fits, Calls};
 ghost use Rattle.html_modes.specs.Steps.{Falls, Grows, Steps, Worked};
 ghost use Rattle.html_modes.specs.declared.outcome.Outcome.TheVariants.{Done};
+ghost use Rattle.html_modes.specs.RawText.{Adds, AddsText, Ends, HasOpened, IsLeft, Opens};
 ghost use Rattle.html_names.specs.Tags.{is_same};
 ghost use Rattle.html_tree.specs.Seats.{is_part};
 
@@ -36,6 +37,7 @@ pub(crate) fn text_start(
     ensures falls { OnOk result (Falls Done (Symbol.Start tag) page.old page.new) }
     ensures grown { OnOk result (Grown 1 2 0 0 0 page.old page.new) }
     ensures works { OnOk result (Works 6 0 6 page.old page.new) }
+    ensures opens { OnOk result (HasOpened tag page.new) }
 {
     let target = page.here();
     text_start_at(page, token, tag, target)
@@ -59,6 +61,7 @@ pub(crate) fn text_start_at(
     ensures falls { OnOk result (Falls Done (Symbol.Start tag) page.old page.new) }
     ensures grown { OnOk result (Grown 1 2 0 0 0 page.old page.new) }
     ensures works { OnOk result (Works 6 0 6 page.old page.new) }
+    ensures opens { OnOk result (HasOpened tag page.new) }
 {
     page.insert_at(token, tag, target)?;
     page.enter(Mode::Text);
@@ -66,7 +69,7 @@ pub(crate) fn text_start_at(
 }
 
 /// The rules for the "text" insertion mode (13.2.6.4.8).
-#[tactic(auto, using(crate::proofs::Settled::text_rules))]
+#[tactic(auto, using(crate::proofs::Settled::text_rules, crate::proofs::RawText::text_texts))]
 pub(crate) fn text(
     page: &mut Construction,
     token: &TokenKind,
@@ -82,28 +85,48 @@ pub(crate) fn text(
     ensures falls { IfOk result (λ o. Falls o symbol page.old page.new) }
     ensures grows { IfOk result (λ o. Grows o page.old page.new) }
     ensures works { IfOk result (λ o. Worked o token.now page.old page.new) }
+    ensures opens { IfOk result (λ o. Opens o symbol page.new) }
+    ensures adds { IfOk result (λ o. Adds o symbol page.old page.new) }
+    ensures ends { IfOk result (λ o. Ends o symbol token.now page.old page.new) }
 {
     match symbol {
         // A character token: insert the token's character. (No tokenizer gives U+0000 here.)
         Symbol::Char(c) => insert_text_char(page, token, c)?,
         // Any other end tag: pop the current node, switch the insertion mode to the original insertion mode.
         Symbol::End(_) => {
-            page.pop();
-            page.leave();
+            leave_text(page);
             page.end(token, symbol)?;
         }
         // An end-of-file token: pop the current node, switch the insertion mode to the original insertion mode,
         // reprocess. (Of these a tokenizer gives the end alone.)
         Symbol::Start(_) | Symbol::Comment | Symbol::Doctype | Symbol::Eof => {
-            page.pop();
-            page.leave();
+            leave_text(page);
             return Ok(Outcome::Reprocess);
         }
     }
     Ok(Outcome::Done)
 }
 
+/// Closes the element that holds text alone, and comes back to the mode in which it began.
+#[tactic(auto, using(crate::proofs::Settled::text_rules))]
+fn leave_text(page: &mut Construction)
+    requires mode { page.old.mode ≡ Mode.Text }
+    requires fits { Fits page.old }
+    ensures rest { page.new ≡ record page.old { tree = page.new.tree; stack = page.new.stack; mode = page.old.original } }
+    ensures keeps { Keeps page.old page.new }
+    ensures grown { Grown 0 0 0 0 0 page.old page.new }
+    ensures works { Works 6 0 6 page.old page.new }
+    ensures lighter { weight page.new.stack ≤ weight page.old.stack }
+    ensures opened { 0 < length page.new.stack }
+    ensures left { IsLeft page.old.tree page.new.tree }
+{
+    page.laws();
+    page.pop();
+    page.leave();
+}
+
 /// A code point of text, which is dropped where it is U+0000.
+#[tactic(auto, using(crate::proofs::RawText::text_texts))]
 pub(crate) fn insert_text_char(
     page: &mut Construction,
     token: &TokenKind,
@@ -118,6 +141,7 @@ pub(crate) fn insert_text_char(
     ensures quiet { OnOk result (page.new.ledger.kept ≡ []) }
     ensures grown { OnOk result (Grown 1 1 0 0 0 page.old page.new) }
     ensures works { OnOk result (Works 6 0 6 page.old page.new) }
+    ensures adds { OnOk result (AddsText (c ∷ []) page.old page.new) }
 {
     if c == '\0' {
         return page.drop_token(token, Symbol::Char(c), Cause::Null);

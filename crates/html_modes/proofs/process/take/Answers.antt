@@ -1,10 +1,12 @@
-use Rattle.std.proofs.Common.{arith, length, subst}
+use Rattle.std.proofs.Common.{ap, arith, length, subst, ◌∙◌}
 use Rattle.html_construction.specs.States.{State}
 use Rattle.html_modes.specs.Entering.{Enters}
+use Rattle.html_modes.specs.Guards.{is_text}
 use Rattle.html_modes.specs.Steps.{Steps, Toils, compared}
 use Rattle.html_modes.proofs.Entering.{enters-done, enters-next}
 use Rattle.html_modes.proofs.Settled.{Entered, entered-next, toils-done}
 use Rattle.html_modes.proofs.Plain.{IsAlike, alike-begun, alike-counted, alike-then, goes-not, goes-on, next-alike}
+use Rattle.html_modes.proofs.RawText.{adds-done, adds-not, ends-done, leaving-on, opens-settled}
 use Rattle.html_modes.proofs.process.take.Goals as goal
 
 pub steps-preserved : goal.steps-preserved
@@ -26,6 +28,13 @@ steps-preserved c =
       entered = enters-next c.in_ok-step.field-0 c.args.symbol c.begin_call.new.self c.steps.page c.count_steps.new.self c.step.new.page c.args.entries.now c.steps.entries c.saturating_add.result c.in-Reprocess.is
           c.count_steps.ensures.rest c.in_ok-step.ensures.falls (let k = c.saturating_add.ensures in omega (arith, k)) i.entered;
       falls = e.1.1.1.1.1.1.1;
+      adds = λ m p. absurd (
+          adds-not c.in_ok-step.field-0 c.args.symbol c.begin_call.new.self c.count_steps.new.self c.step.new.page c.in-Reprocess.is
+          (alike-then c.begin_call.new.self c.steps.page c.count_steps.new.self (i.adds m p) (alike-counted c.steps.page c.count_steps.new.self c.count_steps.ensures.rest c.count_steps.ensures.same))
+          c.in_ok-step.ensures.adds m p
+          );
+      ends = leaving-on c.in_ok-step.field-0 c.args.symbol c.args.token.now c.begin_call.new.self c.steps.page c.count_steps.new.self c.step.new.page c.in-Reprocess.is i.ends
+          (alike-counted c.steps.page c.count_steps.new.self c.count_steps.ensures.rest c.count_steps.ensures.same) (λ h w. c.count_steps.ensures.keeps h (i.keeps h w)) c.count_steps.ensures.keeps c.in_ok-step.ensures.ends c.in_ok-step.ensures.takes;
       plain = λ h. absurd (
           goes-not c.in_ok-step.field-0 c.args.symbol c.args.token.now c.begin_call.new.self c.count_steps.new.self c.step.new.page c.in-Reprocess.is
           (alike-then c.begin_call.new.self c.steps.page c.count_steps.new.self (i.plain h) (alike-counted c.steps.page c.count_steps.new.self c.count_steps.ensures.rest c.count_steps.ensures.same))
@@ -54,3 +63,25 @@ returns-in-Done-clause-plain c = λ n h.
     let before : IsAlike c.args.page.now c.count_steps.new.self = alike-then c.args.page.now c.steps.page c.count_steps.new.self sofar (alike-counted c.steps.page c.count_steps.new.self c.count_steps.ensures.rest c.count_steps.ensures.same) in
     goes-on c.in_ok-step.field-0 c.args.symbol c.args.token.now c.args.page.now c.count_steps.new.self c.step.new.page c.settle.new.page c.in-Done.is before c.in_ok-step.ensures.plain c.settle.ensures.same
     c.laws.ensures.sound c.laws.ensures.tags h
+
+pub returns-in-Done-clause-opens : goal.returns-in-Done-clause-opens
+returns-in-Done-clause-opens c = λ n.
+    opens-settled c.in_ok-step.field-0 c.args.symbol c.step.new.page c.settle.new.page c.in-Done.is c.in_ok-step.ensures.opens c.settle.ensures.rest c.settle.ensures.same
+
+pub returns-in-Done-clause-adds : goal.returns-in-Done-clause-adds
+returns-in-Done-clause-adds c = λ n.
+    let begun : IsAlike c.args.page.now c.begin_call.new.self = alike-begun c.args.page.now c.begin_call.new.self c.args.page.now.mode (length c.args.page.now.stack) (length c.args.page.now.tree.tree.labels) c.begin_call.ensures.rest in
+    adds-done c.in_ok-step.field-0 c.args.symbol c.args.page.now c.count_steps.new.self c.step.new.page c.settle.new.page c.in-Done.is
+    (λ m p. alike-then c.args.page.now c.begin_call.new.self c.count_steps.new.self begun (
+    alike-then c.begin_call.new.self c.steps.page c.count_steps.new.self (c.steps.invariant.adds (ap (λ (x : State). is_text x.mode) begun.same ∙ m) p)
+    (alike-counted c.steps.page c.count_steps.new.self c.count_steps.ensures.rest c.count_steps.ensures.same)
+    ))
+    c.in_ok-step.ensures.adds c.settle.ensures.same
+
+pub returns-in-Done-clause-ends : goal.returns-in-Done-clause-ends
+returns-in-Done-clause-ends c = λ n.
+    ends-done c.in_ok-step.field-0 c.args.symbol c.args.token.now c.args.page.now c.begin_call.new.self c.steps.page c.count_steps.new.self c.step.new.page c.settle.new.page c.in-Done.is
+    (alike-begun c.args.page.now c.begin_call.new.self c.args.page.now.mode (length c.args.page.now.stack) (length c.args.page.now.tree.tree.labels) c.begin_call.ensures.rest)
+    c.begin_call.ensures.keeps c.steps.invariant.ends c.steps.invariant.keeps
+    (alike-counted c.steps.page c.count_steps.new.self c.count_steps.ensures.rest c.count_steps.ensures.same) c.count_steps.ensures.keeps
+    c.in_ok-step.ensures.ends c.in_ok-step.ensures.takes c.settle.ensures.keeps

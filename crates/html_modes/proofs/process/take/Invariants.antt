@@ -1,13 +1,15 @@
-use Rattle.std.proofs.Common.{◌+◌, ◌*◌, ◌≤◌, length}
+use Rattle.std.proofs.Common.{◌≡◌, ◌+◌, ◌*◌, ◌≤◌, false, length, true}
 use Rattle.html_construction.specs.Built.{Keeps}
 use Rattle.html_construction.specs.Copies.{implied_count}
 use Rattle.html_construction.specs.Weights.{weight}
 use Rattle.html_construction.specs.Works.{reach_of, toll_of}
 use Rattle.html_modes.specs.Fitting.{Fits}
+use Rattle.html_modes.specs.Guards.{is_text}
 use Rattle.html_modes.specs.Plain.{IsNext}
 use Rattle.html_modes.specs.Ranks.{rank}
-use Rattle.html_modes.specs.Steps.{ClonesFew, allowance, fee_of, turn_of}
+use Rattle.html_modes.specs.Steps.{ClonesFew, allowance, fee_of, is_code_point, turn_of}
 use Rattle.html_modes.proofs.Plain.{IsAlike}
+use Rattle.html_modes.proofs.RawText.{Leaving}
 use Rattle.html_modes.proofs.process.take.Given as goal
 
 abbrev pub invariant-steps : goal.invariant-steps
@@ -24,6 +26,8 @@ invariant-steps l = record {
   counts : l.page.tree.steps + length l.initial.page.ledger.fates * fee_of l.page + (weight l.page.stack + rank l.page.mode l.symbol) * turn_of l.page
       ≤ l.initial.page.tree.steps + length l.page.ledger.fates * fee_of l.page + (weight l.initial.page.stack + rank l.initial.page.mode l.symbol) * turn_of l.page;
   fates : length l.initial.page.ledger.fates ≤ length l.page.ledger.fates;
+  adds : is_text l.initial.page.mode ≡ true → is_code_point l.symbol ≡ true → IsAlike l.initial.page l.page;
+  ends : is_text l.initial.page.mode ≡ true → is_code_point l.symbol ≡ false → Leaving l.token l.initial.page l.page;
   plain : IsNext l.symbol l.token l.initial.page → IsAlike l.initial.page l.page;
   entered : l.entries + (weight l.page.stack + rank l.page.mode l.symbol) ≤ l.initial.entries + (weight l.initial.page.stack + rank l.initial.page.mode l.symbol);
   falls : weight l.page.stack + rank l.page.mode l.symbol ≤ weight l.initial.page.stack + rank l.initial.page.mode l.symbol;

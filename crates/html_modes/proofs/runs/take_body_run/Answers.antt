@@ -1,5 +1,6 @@
 use Rattle.std.proofs.Common.{length, take}
 use Rattle.html_modes.proofs.Plain.{alike-begun, alike-counted}
+use Rattle.html_modes.proofs.RawText.{run-other}
 use Rattle.html_modes.proofs.TextRuns.{run-goes-on}
 use Rattle.html_modes.proofs.runs.take_body_run.Goals as goal
 
@@ -9,3 +10,6 @@ returns-clause-plain c =
     (alike-begun c.args.page.now c.begin_call.new.self c.args.page.now.mode (length c.args.page.now.stack) (length c.args.page.now.tree.tree.labels) c.begin_call.ensures.rest)
     c.in_ok-count.ensures.plain (alike-counted c.body_run.new.page c.count_steps.new.self c.count_steps.ensures.rest c.count_steps.ensures.same)
     c.laws.ensures.sound c.laws.ensures.tags
+
+pub returns-clause-adds : goal.returns-clause-adds
+returns-clause-adds c = run-other (take c.in_ok-count.count c.args.run.now) c.args.page.now c.count_steps.new.self c.requires.loose

@@ -9,3 +9,6 @@ pub returns-clause-plain : goal.returns-clause-plain
 returns-clause-plain c = λ v.
     char-goes-on c.args.c c.args.page.now c.take.new.page v
     (c.in_ok-take.ensures.plain (char-foreign c.args.c c.in_ok-take.field-0 c.in_ok-take.ensures.foreign))
+
+pub returns-clause-adds : goal.returns-clause-adds
+returns-clause-adds c = c.in_ok-take.ensures.adds (char-foreign c.args.c c.in_ok-take.field-0 c.in_ok-take.ensures.foreign)
