@@ -1,8 +1,10 @@
-//! Calls that are refused, and lists of attributes.
+//! Calls that are refused, lists of attributes, and inputs in one call.
 
-use crate::given::{feed, give};
+use crate::given::{Begin, feed, give};
+use crate::show::{show, show_faults};
 use anyhow::Result;
 use html_charref::{EntityTable, Str};
+use html_page::{LIMIT, TokenList, tokenize};
 use html_tokens::{Attr, Attrs, TextMode, Tokenizer};
 use std::alloc::Global;
 
@@ -52,4 +54,34 @@ pub(crate) fn attributes(alloc: Global) -> Result<String> {
         write!(out, " {name}")?;
     }
     Ok(out)
+}
+
+/// The tokens of an input by one call, its parse errors, and its steps.
+pub(crate) fn input(
+    alloc: Global,
+    table: &EntityTable,
+    begin: Begin<'_>,
+    bytes: &[u8],
+) -> Result<String> {
+    let list = tokenize(alloc, table, begin.mode, begin.name, bytes)?;
+    show_list(alloc, &list)
+}
+
+fn show_list(alloc: Global, list: &TokenList) -> Result<String> {
+    let mut out = String::new(alloc);
+    for token in list.tokens.as_slice() {
+        show(&mut out, token)?;
+    }
+    show_faults(&mut out, list.errors.as_slice())?;
+    let steps = list.steps;
+    write!(out, " {steps} steps")?;
+    Ok(out)
+}
+
+/// Why an input has no tokens that has one code point more than it may.
+pub(crate) fn too_long(alloc: Global, table: &EntityTable) -> Result<String> {
+    let mut bytes = Vec::new(alloc);
+    bytes.resize(LIMIT as usize + 1, b'a')?;
+    let why = tokenize(alloc, table, TextMode::Data, None, bytes.as_slice()).err();
+    Ok(format!(in alloc; "{why:?}")?)
 }

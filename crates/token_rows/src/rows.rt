@@ -1,5 +1,6 @@
 //! Rows and their answers.
 
+use crate::calls::input;
 use crate::given::{Begin, Given, MOST, feed, give, read_text};
 use crate::show::show;
 use anyhow::{Result, bail};
@@ -27,6 +28,9 @@ fn text_of(alloc: Global, written: &str) -> Result<String, AllocError> {
             '␀' => '\0',
             '␉' => '\t',
             '␣' => ' ',
+            '␊' => '\n',
+            '␍' => '\r',
+            '␂' => '\u{FEFF}',
             other => other,
         })?;
     }
@@ -66,6 +70,7 @@ pub(crate) fn answer(alloc: Global, table: &EntityTable, line: &str) -> Result<S
     let text = text_of(alloc, written)?;
     let text = text.as_str();
     match asked {
+        "input" => input(alloc, table, begin, text.as_bytes()),
         "runs" | "switch" | "count" => called(alloc, table, begin, asked, text),
         _ => both_ways(alloc, table, begin, asked, text),
     }
