@@ -15,23 +15,34 @@ mod given;
 mod rows;
 mod show;
 
-use anyhow::Result;
+use anyhow::{Result, bail};
 use html_charref::EntityTable;
+use std::io::Read;
 
 fn main(rt: HostRuntime) -> Result<()> {
-    let alloc = rt.alloc();
-    let mut lines = rt.lines(alloc);
-    let table = match lines.next() {
-        Some(line) => EntityTable::read(alloc, line?.as_bytes())?,
-        None => return Ok(()),
+    let mut bytes = Vec::new(rt.alloc());
+    rt.stdin().read_to_end(&mut bytes)?;
+    answer_all(&rt, bytes.as_slice())
+}
+
+/// Prints what the rows answer, and then the other calls.
+fn answer_all(rt: &HostRuntime, bytes: &[u8]) -> Result<()> {
+    let text = std::str::from_utf8(bytes)?;
+    let Some((first, rest)) = text.split_once('\n') else {
+        bail!("no table");
     };
-    for line in lines {
-        let answer = rows::answer(alloc, &table, line?.as_str())?;
-        println!(rt; "{answer}")?;
+    let table = EntityTable::read(rt.alloc(), first.as_bytes())?;
+    answer_over(rt, &table, rest)
+}
+
+fn answer_over(rt: &HostRuntime, table: &EntityTable, rows: &str) -> Result<()> {
+    let mut out = String::new(rt.alloc());
+    for line in rows.lines() {
+        rows::answer(rt.alloc(), table, line, &mut out)?;
+        println!(rt; "{out}")?;
+        out.clear();
     }
-    let stopped = calls::stopped(alloc, &table)?;
-    let attributes = calls::attributes(alloc)?;
-    let too_long = calls::too_long(alloc, &table)?;
-    println!(rt; "{stopped}\n{attributes}\n{too_long}")?;
+    calls::answer(rt.alloc(), table, &mut out)?;
+    println!(rt; "{out}")?;
     Ok(())
 }
