@@ -165,6 +165,13 @@ fn find_place(page: &mut Page, word: Word<'_>, out: &mut String) -> Result<(), R
     push_place(out, place)
 }
 
+/// Follows an end tag of a formatting name.
+fn follow(page: &mut Page, alloc: Global, word: Word<'_>, out: &mut String) -> Result<(), Refusal> {
+    let end = adopt(page, alloc, word.tag(), word.fosters())?;
+    push_end(out, end)?;
+    Ok(())
+}
+
 fn push_end(out: &mut String, end: AdoptEnd) -> Result<(), AllocError> {
     out.push_str(match end {
         AdoptEnd::Done => "done",
@@ -177,7 +184,7 @@ fn end(page: &mut Page, alloc: Global, word: Word<'_>, out: &mut String) -> Resu
     let nodes = page.arena().len();
     let start = page.arena().meter().steps;
     let size = (page.depth() as u128).saturating_add(4);
-    push_end(out, adopt(page, alloc, word.tag(), word.fosters())?)?;
+    follow(page, alloc, word, out)?;
     let clones = page.arena().len().saturating_sub(nodes);
     let steps = page.arena().meter().steps.saturating_sub(start);
     let most = size.saturating_mul(size).saturating_mul(32);
@@ -200,20 +207,20 @@ fn adopt_last(
     let old = mem::replace(page, Page::new(alloc));
     let nodes = old.arena().len();
     let (mut arena, end) = old.adopt_last(word.tag(), word.fosters())?;
-    tell_left(&mut arena, alloc, nodes, end, out)
+    tell_left(&mut arena, nodes, end, out)
 }
 
 fn tell_left(
     arena: &mut Arena,
-    alloc: Global,
     nodes: u64,
     end: Result<AdoptEnd, OpenError>,
     out: &mut String,
 ) -> Result<(), Refusal> {
     let clones = arena.len().saturating_sub(nodes);
-    let left = tree(arena, alloc)?;
+    write!(out, "{end:?} {clones} ")?;
+    tree(arena, out)?;
     let node = arena.make(NewNode::Text)?;
     let goes_on = is_node(arena, node);
-    write!(out, "{end:?} {clones} {left} {goes_on}")?;
+    write!(out, " {goes_on}")?;
     Ok(())
 }
