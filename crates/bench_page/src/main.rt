@@ -5,7 +5,7 @@
 #![tactic(auto)]
 
 use anyhow::{Result, bail};
-use html_parser::{EntityTable, parse, parse_tree};
+use html_parser::{EntityTable, ParseError, parse, parse_tree};
 use std::alloc::{AllocError, Global};
 use std::env;
 use std::fs::File;
@@ -57,34 +57,58 @@ struct Taken {
 
 fn main(rt: HostRuntime) -> Result<()> {
     let words: Vec<String> = env::args(&rt)?.collect(rt.alloc())?;
-    let table = EntityTable::core(rt.alloc())?;
-    let Some(command) = words.get(1) else {
-        return small(&rt, &table);
-    };
-    let (Some(path), Some(times)) = (words.get(2), words.get(3)) else {
-        bail!("bench FILE REPS, or ledger FILE REPS");
-    };
-    let times = times.as_str().parse::<u32>()?;
-    let bytes = bytes_of(&rt, path.as_str())?;
-    match command.as_str() {
-        "bench" => bench(&rt, &table, bytes.as_slice(), times, false),
-        "ledger" => bench(&rt, &table, bytes.as_slice(), times, true),
-        _ => bail!("no such command"),
+    match words.as_slice() {
+        [_, command, path, times, ..] => {
+            measure(&rt, command.as_str(), path.as_str(), times.as_str())
+        }
+        [_, _, ..] => bail!("bench FILE REPS, or ledger FILE REPS"),
+        _ => small(&rt),
     }
 }
 
 /// Parses small pages.
-fn small(rt: &HostRuntime, table: &EntityTable) -> Result<()> {
+fn small(rt: &HostRuntime) -> Result<()> {
+    let table = EntityTable::core(rt.alloc())?;
+    small_over(rt, &table)
+}
+
+fn small_over(rt: &HostRuntime, table: &EntityTable) -> Result<()> {
     for load in &LOADS {
-        let name = load.name;
-        let page = repeated(rt.alloc(), load.piece, load.times)?;
-        let tree = parse_tree(rt.alloc(), table, page.as_slice())?;
-        let nodes = tree.arena.len();
-        let tokens = tree.token_count;
-        let bytes = page.len();
-        println!(rt; "{name}: {bytes} bytes, {tokens} tokens, {nodes} nodes")?;
+        show(rt, table, load)?;
     }
     Ok(())
+}
+
+/// Says how large the tree of a small page is.
+fn show(rt: &HostRuntime, table: &EntityTable, load: &Load) -> Result<()> {
+    let page = repeated(rt.alloc(), load.piece, load.times)?;
+    let (tokens, nodes) = sizes(rt.alloc(), table, page.as_slice())?;
+    let (name, bytes) = (load.name, page.len());
+    println!(rt; "{name}: {bytes} bytes, {tokens} tokens, {nodes} nodes")?;
+    Ok(())
+}
+
+/// How many tokens and nodes a page has.
+fn sizes(alloc: Global, table: &EntityTable, page: &[u8]) -> Result<(u64, u64), ParseError> {
+    let tree = parse_tree(alloc, table, page)?;
+    Ok((tree.token_count, tree.arena.len()))
+}
+
+/// Does what a command says with a file.
+fn measure(rt: &HostRuntime, command: &str, path: &str, times: &str) -> Result<()> {
+    let keeps_ledger = match command {
+        "bench" => false,
+        "ledger" => true,
+        _ => bail!("no such command"),
+    };
+    let times = times.parse::<u32>()?;
+    let bytes = bytes_of(rt, path)?;
+    measure_bytes(rt, bytes.as_slice(), times, keeps_ledger)
+}
+
+fn measure_bytes(rt: &HostRuntime, bytes: &[u8], times: u32, keeps_ledger: bool) -> Result<()> {
+    let table = EntityTable::core(rt.alloc())?;
+    bench(rt, &table, bytes, times, keeps_ledger)
 }
 
 fn repeated(alloc: Global, piece: &str, times: u32) -> Result<Vec<u8>, AllocError> {

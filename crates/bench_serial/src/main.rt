@@ -5,7 +5,7 @@
 mod build;
 
 use build::{Shape, build, is_root};
-use html_arena::{Arena, NewNode};
+use html_arena::{Arena, NewNode, NodeId};
 use html_page::{DeviceFault, Profile, Sink, serialise_tree};
 use std::env;
 use std::time::Instant;
@@ -64,40 +64,62 @@ impl Sink for Counter {
 }
 
 fn main(rt: HostRuntime) -> anyhow::Result<()> {
-    let words: Vec<String> = env::args(&rt)?.collect(rt.alloc())?;
-    let given = words
-        .get(1)
-        .and_then(|word| word.as_str().parse::<u32>().ok());
+    let given = given(&rt)?;
     for shape in SHAPES {
         measure(&rt, shape, given)?;
     }
     Ok(())
 }
 
+/// The number that is given to the program.
+fn given(rt: &HostRuntime) -> anyhow::Result<Option<u32>> {
+    let word = env::args(rt)?.nth(1);
+    Ok(word.and_then(|word| word.as_str().parse::<u32>().ok()))
+}
+
 /// Writes one shape.
 fn measure(rt: &HostRuntime, shape: Shape, given: Option<u32>) -> anyhow::Result<()> {
-    let times = u64::from(given.unwrap_or(1));
     let mut arena = Arena::new(rt.alloc());
+    measure_in(rt, &mut arena, shape, given)
+}
+
+fn measure_in(
+    rt: &HostRuntime,
+    arena: &mut Arena,
+    shape: Shape,
+    given: Option<u32>,
+) -> anyhow::Result<()> {
     let root = arena.make(NewNode::Document)?;
+    build(rt.alloc(), arena, root, larger(shape, given.unwrap_or(1)))?;
+    let nodes = arena.len();
+    let start = Instant::now(rt)?;
+    let bytes = written(arena, root)?;
+    let took = start.elapsed(rt)?.as_micros();
+    let name = shape.name;
+    println!(rt; "{name:>8} {nodes:>9} nodes {bytes:>9} bytes")?;
+    if given.is_some() {
+        println!(rt; "{took:>8} us")?;
+    }
+    Ok(())
+}
+
+/// A shape, so many times as large.
+fn larger(shape: Shape, times: u32) -> Shape {
+    let times = u64::from(times);
     let mut large = shape;
     if shape.elements > 1 {
         large.elements = shape.elements.saturating_mul(times);
     } else {
         large.copies = shape.copies.saturating_mul(times);
     }
-    build(rt.alloc(), &mut arena, root, large)?;
-    let nodes = arena.len();
+    large
+}
+
+/// How many bytes a tree is written in.
+fn written(arena: &Arena, root: NodeId) -> anyhow::Result<u64> {
     let mut counter = Counter { bytes: 0 };
-    let start = Instant::now(rt)?;
-    if is_root(&arena, root) {
-        serialise_tree(&arena, root, Profile::One, &mut counter)?;
+    if is_root(arena, root) {
+        serialise_tree(arena, root, Profile::One, &mut counter)?;
     }
-    let took = start.elapsed(rt)?.as_micros();
-    let name = shape.name;
-    let bytes = counter.bytes;
-    println!(rt; "{name:>8} {nodes:>9} nodes {bytes:>9} bytes")?;
-    if given.is_some() {
-        println!(rt; "{took:>8} us")?;
-    }
-    Ok(())
+    Ok(counter.bytes)
 }

@@ -10,38 +10,94 @@ use std::env;
 use std::mem::size_of;
 use std::time::CpuClock;
 
-/// A text to be cut into tokens: one piece of it, and how often it stands there.
+/// A text to be cut into tokens, and what is taken of it.
 struct Load {
     name: &'static str,
-    piece: &'static str,
-    times: u32,
+    source: Source,
+    taken: Taken,
 }
 
-const LOADS: [Load; 4] = [
+/// How a text is made.
+#[derive(Clone, Copy)]
+enum Source {
+    /// A piece, so many times.
+    Repeated(&'static str, u32),
+    /// A start tag of many attributes, each name of which stands there so many times.
+    WideTag(u32),
+}
+
+/// What is taken of a text: its tokens, or its runs and the tokens between them, of the whole text or piece by piece.
+#[derive(Clone, Copy)]
+enum Taken {
+    Tokens,
+    Runs,
+    Pieces,
+}
+
+const WORDS: Source = Source::Repeated("The quick brown fox jumps over the lazy dog. ", 360_000);
+
+const LOADS: [Load; 8] = [
     Load {
         name: "text through next",
-        piece: "The quick brown fox jumps over the lazy dog. ",
-        times: 360_000,
+        source: WORDS,
+        taken: Taken::Tokens,
     },
     Load {
         name: "tags with attributes",
-        piece: "<a class=\"link wide\" href=\"https://example.org/page\" id=x7 hidden><b></b></a>",
-        times: 100_000,
+        source: Source::Repeated(
+            "<a class=\"link wide\" href=\"https://example.org/page\" id=x7 hidden><b></b></a>",
+            100_000,
+        ),
+        taken: Taken::Tokens,
     },
     Load {
         name: "references",
-        piece: "&amp;&lt;&quot;&gt;&#8212;&nbsp;",
-        times: 100_000,
+        source: Source::Repeated("&amp;&lt;&quot;&gt;&#8212;&nbsp;", 100_000),
+        taken: Taken::Tokens,
     },
     Load {
         name: "comments and doctypes",
-        piece: "<!-- a comment of some words --><!DOCTYPE html PUBLIC \"-//W3C//DTD HTML 4.01//EN\">",
-        times: 50_000,
+        source: Source::Repeated(
+            "<!-- a comment of some words --><!DOCTYPE html PUBLIC \"-//W3C//DTD HTML 4.01//EN\">",
+            50_000,
+        ),
+        taken: Taken::Tokens,
+    },
+    Load {
+        name: "text in runs",
+        source: WORDS,
+        taken: Taken::Runs,
+    },
+    Load {
+        name: "text in runs, in pieces",
+        source: WORDS,
+        taken: Taken::Pieces,
+    },
+    Load {
+        name: "one wide tag",
+        source: Source::WideTag(1),
+        taken: Taken::Tokens,
+    },
+    Load {
+        name: "one wide tag, each name twice",
+        source: Source::WideTag(2),
+        taken: Taken::Tokens,
     },
 ];
 
-/// How many attributes the one tag has whose names are all different.
+/// How many attributes the one tag has.
 const ATTRIBUTES: u32 = 100_000;
+
+/// The text of a load, or a short one of its kind.
+fn text_of(alloc: Global, source: Source, is_short: bool) -> Result<Vec<char>, AllocError> {
+    match source {
+        Source::Repeated(piece, times) => repeated(alloc, piece, if is_short { 2 } else { times }),
+        Source::WideTag(times) => {
+            let count = if is_short { 30 } else { ATTRIBUTES };
+            wide_tag(alloc, count, count.checked_div(times).unwrap_or(count))
+        }
+    }
+}
 
 fn repeated(alloc: Global, piece: &str, times: u32) -> Result<Vec<char>, AllocError> {
     let mut text = Vec::new(alloc);
@@ -68,99 +124,120 @@ fn wide_tag(alloc: Global, count: u32, names: u32) -> Result<Vec<char>, AllocErr
     Ok(text)
 }
 
-/// How many tokens a text has, and how many of its code points come in runs.
-#[derive(Clone, Copy)]
-struct Counts {
-    code_points: usize,
-    tokens: u64,
+/// How many code points a piece has, where a text is fed in pieces.
+const PIECE: usize = 4_096;
+
+/// Counts the tokens of a text, or the code points of its runs.
+fn count(
+    alloc: Global,
+    table: &EntityTable,
+    text: &[char],
+    taken: Taken,
+) -> Result<u64, TokenError> {
+    let mut tokenizer = Tokenizer::new(alloc, table, TextMode::Data, None)?;
+    let mut out = Vec::new(alloc);
+    take(&mut tokenizer, &mut out, text, taken)
 }
 
-/// Cuts a text into tokens.
-fn count(alloc: Global, table: &EntityTable, text: &[char]) -> Result<Counts, TokenError> {
-    let mut tokenizer = Tokenizer::new(alloc, table, TextMode::Data, None)?;
+fn take(
+    tokenizer: &mut Tokenizer<'_>,
+    out: &mut Vec<char>,
+    text: &[char],
+    taken: Taken,
+) -> Result<u64, TokenError> {
+    match taken {
+        Taken::Tokens => take_tokens(tokenizer, text),
+        Taken::Runs => take_runs(tokenizer, out, text),
+        Taken::Pieces => take_pieces(tokenizer, out, text),
+    }
+}
+
+/// Feeds a text and takes its tokens.
+fn take_tokens(tokenizer: &mut Tokenizer<'_>, text: &[char]) -> Result<u64, TokenError> {
     tokenizer.feed(text)?;
     tokenizer.finish()?;
     let mut tokens = 0u64;
     // There is at most one token more than code points.
     for _ in 0..=text.len() {
-        if tokenizer.next()?.is_none() {
+        if is_over(tokenizer)? {
             break;
         }
         tokens = tokens.wrapping_add(1);
     }
-    Ok(Counts {
-        code_points: text.len(),
-        tokens,
-    })
+    Ok(tokens)
 }
 
-/// Takes the runs of a text, and the tokens between them; the tokens counted are the code points of runs.
-fn count_runs(alloc: Global, table: &EntityTable, text: &[char]) -> Result<Counts, TokenError> {
-    let mut tokenizer = Tokenizer::new(alloc, table, TextMode::Data, None)?;
+/// Takes a token, and answers whether there was none.
+fn is_over(tokenizer: &mut Tokenizer<'_>) -> Result<bool, TokenError> {
+    Ok(tokenizer.next()?.is_none())
+}
+
+/// Feeds a text and takes its runs, and the tokens between them.
+fn take_runs(
+    tokenizer: &mut Tokenizer<'_>,
+    out: &mut Vec<char>,
+    text: &[char],
+) -> Result<u64, TokenError> {
     tokenizer.feed(text)?;
     tokenizer.finish()?;
-    let mut out = Vec::new(alloc);
-    for _ in 0..=text.len() {
-        if tokenizer.next_run(&mut out)?.is_none() && tokenizer.next()?.is_none() {
-            break;
-        }
-    }
-    Ok(Counts {
-        code_points: text.len(),
-        tokens: out.len() as u64,
-    })
+    take_fed(tokenizer, out, text.len())?;
+    Ok(out.len() as u64)
 }
 
-/// How many code points a piece has, where a text is fed in pieces.
-const PIECE: usize = 4_096;
-
 /// The same, where the text comes in pieces and what was put out is let go after each.
-fn count_pieces(alloc: Global, table: &EntityTable, text: &[char]) -> Result<Counts, TokenError> {
-    let mut tokenizer = Tokenizer::new(alloc, table, TextMode::Data, None)?;
-    let mut out = Vec::new(alloc);
+fn take_pieces(
+    tokenizer: &mut Tokenizer<'_>,
+    out: &mut Vec<char>,
+    text: &[char],
+) -> Result<u64, TokenError> {
     let mut tokens = 0u64;
     for piece in text.chunks(PIECE) {
         tokenizer.feed(piece)?;
-        for _ in 0..=piece.len() {
-            if tokenizer.next_run(&mut out)?.is_none() && tokenizer.next()?.is_none() {
-                break;
-            }
-        }
+        take_fed(tokenizer, out, piece.len())?;
         tokens = tokens.wrapping_add(out.len() as u64);
         out.clear();
     }
-    Ok(Counts {
-        code_points: text.len(),
-        tokens,
-    })
+    Ok(tokens)
 }
 
-/// What is taken of a text: its tokens, or its runs and the tokens between them, of the whole text or piece by piece.
-#[derive(Clone, Copy)]
-enum Taken {
-    Tokens,
-    Runs,
-    Pieces,
+/// Takes the runs that are there, and the tokens between them, of no more than so many code points.
+fn take_fed(
+    tokenizer: &mut Tokenizer<'_>,
+    out: &mut Vec<char>,
+    most: usize,
+) -> Result<(), TokenError> {
+    for _ in 0..=most {
+        if tokenizer.next_run(out)?.is_none() && is_over(tokenizer)? {
+            break;
+        }
+    }
+    Ok(())
 }
 
+/// Makes the text of a load, and cuts it.
 fn show(
     rt: &(impl Print + CpuClock),
     alloc: Global,
     table: &EntityTable,
-    name: &str,
+    load: &Load,
+    is_timed: bool,
+) -> Result<()> {
+    let text = text_of(alloc, load.source, !is_timed)?;
+    cut(rt, alloc, table, load, text.as_slice(), is_timed)
+}
+
+fn cut(
+    rt: &(impl Print + CpuClock),
+    alloc: Global,
+    table: &EntityTable,
+    load: &Load,
     text: &[char],
-    taken: Taken,
     is_timed: bool,
 ) -> Result<()> {
     let before = rt.thread_cpu_time()?.as_micros();
-    let counts = match taken {
-        Taken::Tokens => count(alloc, table, text)?,
-        Taken::Runs => count_runs(alloc, table, text)?,
-        Taken::Pieces => count_pieces(alloc, table, text)?,
-    };
+    let tokens = count(alloc, table, text, load.taken)?;
     let micros = rt.thread_cpu_time()?.as_micros().saturating_sub(before);
-    let code_points = counts.code_points;
-    let tokens = counts.tokens;
+    let (name, code_points) = (load.name, text.len());
     if !is_timed {
         println!(rt; "{name}: {code_points} code points, {tokens} tokens")?;
         return Ok(());
@@ -173,55 +250,37 @@ fn show(
     Ok(())
 }
 
-/// Whether a text is cut: it is the one that is named, or none is.
-fn is_wanted(wanted: &Option<String>, name: &str) -> bool {
-    match wanted {
-        None => true,
-        Some(wanted) => wanted.as_str() == name,
+/// Cuts the text that is named, or each where none is.
+fn show_all(
+    rt: &(impl Print + CpuClock),
+    alloc: Global,
+    wanted: Option<&str>,
+    is_timed: bool,
+) -> Result<()> {
+    let table = EntityTable::core(alloc)?;
+    show_each(rt, alloc, &table, wanted, is_timed)
+}
+
+fn show_each(
+    rt: &(impl Print + CpuClock),
+    alloc: Global,
+    table: &EntityTable,
+    wanted: Option<&str>,
+    is_timed: bool,
+) -> Result<()> {
+    for load in &LOADS {
+        if wanted.unwrap_or(load.name) == load.name {
+            show(rt, alloc, table, load, is_timed)?;
+        }
     }
+    Ok(())
 }
 
 fn main(rt: HostRuntime) -> Result<()> {
-    let alloc = rt.alloc();
     let is_timed = env::args(&rt)?.nth(1).is_some();
     let wanted = env::args(&rt)?.nth(2);
-    let table = EntityTable::core(alloc)?;
-    for load in &LOADS {
-        if is_wanted(&wanted, load.name) {
-            let times = if is_timed { load.times } else { 2 };
-            let text = repeated(alloc, load.piece, times)?;
-            show(
-                &rt,
-                alloc,
-                &table,
-                load.name,
-                &text,
-                Taken::Tokens,
-                is_timed,
-            )?;
-        }
-    }
-    for (name, taken) in [
-        ("text in runs", Taken::Runs),
-        ("text in runs, in pieces", Taken::Pieces),
-    ] {
-        if is_wanted(&wanted, name) {
-            let times = if is_timed { LOADS[0].times } else { 2 };
-            let text = repeated(alloc, LOADS[0].piece, times)?;
-            show(&rt, alloc, &table, name, &text, taken, is_timed)?;
-        }
-    }
-    for (name, is_twice) in [
-        ("one wide tag", false),
-        ("one wide tag, each name twice", true),
-    ] {
-        if is_wanted(&wanted, name) {
-            let attributes = if is_timed { ATTRIBUTES } else { 30 };
-            let names = if is_twice { attributes / 2 } else { attributes };
-            let text = wide_tag(alloc, attributes, names)?;
-            show(&rt, alloc, &table, name, &text, Taken::Tokens, is_timed)?;
-        }
-    }
+    let wanted = wanted.as_ref().map(|name| name.as_str());
+    show_all(&rt, rt.alloc(), wanted, is_timed)?;
     let bytes = size_of::<Token>();
     println!(rt; "bytes a token: {bytes}")?;
     Ok(())

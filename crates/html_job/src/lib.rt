@@ -3,8 +3,6 @@
 
 mod jobs;
 mod line;
-#[cfg(test)]
-mod tests;
 mod words;
 
 pub use jobs::{Command, Job, JobFault, Profile};

@@ -10,8 +10,6 @@ mod printing;
 mod refusal;
 mod running;
 mod status;
-#[cfg(test)]
-mod tests;
 mod tree;
 
 pub use refusal::{Refusal, TableRefusal, outcome};

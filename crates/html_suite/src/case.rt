@@ -6,7 +6,7 @@ use crate::expected::{expected, text};
 use crate::given::given;
 use crate::texts::{CaseFault, Texts};
 use html_page::{EntityTable, TokenListError, tokenize};
-use html_tokens::TextMode;
+use html_tokens::{TextMode, Token};
 use serde_json::Value;
 use std::alloc::Global;
 
@@ -28,23 +28,35 @@ pub(crate) fn run_case(
     let Some(mode) = mode_of(state) else {
         return Ok(Outcome::Skipped);
     };
-    let case = match read_case(alloc, test) {
-        Ok(case) => case,
-        Err(CaseFault::NotRun) => return Ok(Outcome::Skipped),
-        Err(fault) => return Err(fault),
-    };
+    match read_case(alloc, test) {
+        Ok(case) => run_read(alloc, &case, mode, table),
+        Err(CaseFault::NotRun) => Ok(Outcome::Skipped),
+        Err(fault) => Err(fault),
+    }
+}
+
+/// Runs a case that was read.
+fn run_read(
+    alloc: Global,
+    case: &Case,
+    mode: TextMode,
+    table: &EntityTable,
+) -> Result<Outcome, CaseFault> {
     let last_name = case.last_name.as_deref();
     match tokenize(alloc, table, mode, last_name, case.input.as_bytes()) {
-        Ok(list) => {
-            let given = given(alloc, list.tokens.as_slice())?;
-            if are_same(given.as_slice(), case.output.as_slice()) {
-                Ok(Outcome::Passed)
-            } else {
-                Ok(Outcome::Failed)
-            }
-        }
+        Ok(list) => compared(alloc, list.tokens.as_slice(), case.output.as_slice()),
         Err(TokenListError::OutOfMemory) => Err(CaseFault::OutOfMemory),
         Err(_) => Ok(Outcome::Failed),
+    }
+}
+
+/// Whether these are the tokens that are wanted.
+fn compared(alloc: Global, tokens: &[Token], wanted: &[Entry]) -> Result<Outcome, CaseFault> {
+    let given = given(alloc, tokens)?;
+    if are_same(given.as_slice(), wanted) {
+        Ok(Outcome::Passed)
+    } else {
+        Ok(Outcome::Failed)
     }
 }
 

@@ -12,14 +12,23 @@ pub(crate) fn expected(
     texts: Texts,
 ) -> Result<Vec<Entry>, CaseFault> {
     let mut entries = Vec::new(alloc);
+    read_all(alloc, &mut entries, output, texts)?;
+    Ok(entries)
+}
+
+fn read_all(
+    alloc: Global,
+    entries: &mut Vec<Entry>,
+    output: &[Value],
+    texts: Texts,
+) -> Result<(), CaseFault> {
     for value in output {
         let Some(fields) = value.as_array() else {
             return Err(CaseFault::Malformed);
         };
-        let entry = entry(alloc, fields, texts)?;
-        push(&mut entries, entry)?;
+        push(entries, entry(alloc, fields, texts)?)?;
     }
-    Ok(entries)
+    Ok(())
 }
 
 /// Adds an entry, joined to the one before it where both are characters.

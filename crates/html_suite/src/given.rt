@@ -8,10 +8,15 @@ use std::alloc::{AllocError, Global};
 /// The entries of tokens, the end of the input left out.
 pub(crate) fn given(alloc: Global, tokens: &[Token]) -> Result<Vec<Entry>, AllocError> {
     let mut entries = Vec::new(alloc);
-    for token in tokens {
-        add(alloc, &mut entries, &token.kind)?;
-    }
+    add_all(alloc, &mut entries, tokens)?;
     Ok(entries)
+}
+
+fn add_all(alloc: Global, entries: &mut Vec<Entry>, tokens: &[Token]) -> Result<(), AllocError> {
+    for token in tokens {
+        add(alloc, entries, &token.kind)?;
+    }
+    Ok(())
 }
 
 fn add(alloc: Global, entries: &mut Vec<Entry>, kind: &TokenKind) -> Result<(), AllocError> {

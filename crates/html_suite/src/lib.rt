@@ -9,8 +9,6 @@ mod escapes;
 mod expected;
 mod given;
 mod suite;
-#[cfg(test)]
-mod tests;
 mod texts;
 mod tree_case;
 

@@ -90,6 +90,17 @@ fn run_tests<W: Write>(
     writer: &mut W,
 ) -> Result<(), SuiteFault> {
     let value = Value::from_slice(alloc, bytes)?;
+    run_value(alloc, name, &value, table, counts, writer)
+}
+
+fn run_value<W: Write>(
+    alloc: Global,
+    name: &str,
+    value: &Value,
+    table: &EntityTable,
+    counts: &mut Counts,
+    writer: &mut W,
+) -> Result<(), SuiteFault> {
     if !value.is_object() {
         return Err(SuiteFault::Malformed);
     }

@@ -36,21 +36,25 @@ fn add(alloc: Global, tokens: &mut Tokens, word: &str) -> Result<()> {
     let Some((what, span)) = word.split_once('@') else {
         bail!("no span")
     };
-    if let Some((start, end)) = span.split_once('-') {
-        tokens.push(Token {
-            kind: kind_of(alloc, what)?,
-            span: Span {
-                start: number(start)?,
-                end: number(end)?,
-            },
-        })?;
-        return Ok(());
+    match span.split_once('-') {
+        Some((start, end)) => add_token(alloc, tokens, what, number(start)?, number(end)?),
+        None => add_text(alloc, tokens, what, number(span)?),
     }
+}
+
+fn add_token(alloc: Global, tokens: &mut Tokens, what: &str, start: u64, end: u64) -> Result<()> {
+    let kind = kind_of(alloc, what)?;
+    let span = Span { start, end };
+    tokens.push(Token { kind, span })?;
+    Ok(())
+}
+
+fn add_text(alloc: Global, tokens: &mut Tokens, letters: &str, place: u64) -> Result<()> {
     let mut text = Vec::new(alloc);
-    for c in what.chars() {
+    for c in letters.chars() {
         text.push(char_of(c))?;
     }
-    tokens.push_text(text.as_slice(), number(span)?)?;
+    tokens.push_text(text.as_slice(), place)?;
     Ok(())
 }
 
@@ -70,28 +74,36 @@ fn show(out: &mut String, token: TokenRef<'_>) -> Result<()> {
     Ok(())
 }
 
-/// The tokens that a list has after the words, and the one of a number.
-pub(crate) fn list(alloc: Global, index: &str, words: &[&str]) -> Result<String> {
+/// Adds the tokens that a list has after the words, and the one of a number.
+pub(crate) fn list(alloc: Global, index: &str, words: &[&str], out: &mut String) -> Result<()> {
     let mut tokens = Tokens::new(alloc);
-    let mut out = String::new(alloc);
+    fill(alloc, &mut tokens, words)?;
+    show_list(out, &tokens, index)
+}
+
+fn fill(alloc: Global, tokens: &mut Tokens, words: &[&str]) -> Result<()> {
     if tokens.is_empty() {
         for word in words {
-            add(alloc, &mut tokens, *word)?;
+            add(alloc, tokens, *word)?;
         }
     }
+    Ok(())
+}
+
+fn show_list(out: &mut String, tokens: &Tokens, index: &str) -> Result<()> {
     let len = tokens.len();
     write!(out, "{len}:")?;
     for token in tokens.iter() {
         out.push(' ')?;
-        show(&mut out, token)?;
+        show(out, token)?;
         out.push(',')?;
     }
     match tokens.get(number(index)?) {
         Some(token) => {
             write!(out, " {index} is ")?;
-            show(&mut out, token)?;
+            show(out, token)?;
         },
         None => write!(out, " {index} is none")?,
     }
-    Ok(out)
+    Ok(())
 }

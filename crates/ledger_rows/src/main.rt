@@ -29,18 +29,29 @@ use anyhow::Result;
 use std::env;
 
 fn main(rt: HostRuntime) -> Result<()> {
-    let alloc = rt.alloc();
-    let arguments: Vec<String> = env::args(&rt)?.collect(alloc)?;
-    let given = arguments
-        .get(1)
-        .and_then(|word| word.as_str().parse::<u64>().ok());
-    if let Some(count) = given {
-        measures::measure(&rt, count)?;
-        return measures::measure_ledger(&rt, count);
+    match given(&rt)? {
+        Some(count) => measures::measure(&rt, count),
+        None => answer_rows(&rt),
     }
-    for line in rt.lines(alloc) {
-        let answer = rows::answer(alloc, line?.as_str())?;
-        println!(rt; "{answer}")?;
+}
+
+/// The number that is given to the program.
+fn given(rt: &HostRuntime) -> Result<Option<u64>> {
+    let word = env::args(rt)?.nth(1);
+    Ok(word.and_then(|word| word.as_str().parse::<u64>().ok()))
+}
+
+fn answer_rows(rt: &HostRuntime) -> Result<()> {
+    let mut out = String::new(rt.alloc());
+    for line in rt.lines(rt.alloc()) {
+        answer_row(rt, line?.as_str(), &mut out)?;
     }
+    Ok(())
+}
+
+fn answer_row(rt: &HostRuntime, line: &str, out: &mut String) -> Result<()> {
+    rows::answer(rt.alloc(), line, out)?;
+    println!(rt; "{out}")?;
+    out.clear();
     Ok(())
 }

@@ -10,15 +10,10 @@ use html_tokens::{Span, Token, TokenKind};
 use std::alloc::Global;
 use std::time::Instant;
 
-/// A ledger in a body.
-fn in_body(alloc: Global) -> Result<Ledger> {
-    let mut ledger = Ledger::new(alloc, Setting::Document);
-    let _ = give(
-        &mut ledger,
-        Symbol::Start(Tag::Body),
-        Fate::Made(NodeId::at(3)),
-    )?;
-    Ok(ledger)
+/// Brings a ledger into a body.
+fn enter_body(ledger: &mut Ledger) -> Result<()> {
+    give(ledger, Symbol::Start(Tag::Body), Fate::Made(NodeId::at(3)))?;
+    Ok(())
 }
 
 /// Adds fates of code points to a list, one by one.
@@ -81,31 +76,51 @@ fn say(rt: &HostRuntime, what: &str, number: u64, start: Instant) -> Result<()> 
     Ok(())
 }
 
-/// Says what the calls took.
+/// Says what the calls took: on lists, in a ledger, and in one go.
 pub(crate) fn measure(rt: &HostRuntime, count: u64) -> Result<()> {
-    let start = Instant::now(rt)?;
-    let mut fates = Fates::new(rt.alloc());
-    push_fates(&mut fates, count)?;
-    say(rt, "fates one by one", fates.len(), start)?;
-    let start = Instant::now(rt)?;
-    let mut tokens = Tokens::new(rt.alloc());
-    push_tokens(&mut tokens, count)?;
-    say(rt, "tokens one by one", tokens.len(), start)?;
-    Ok(())
+    measure_fates(rt, count)?;
+    measure_tokens(rt, count, false)?;
+    measure_ledger(rt, count)?;
+    measure_tokens(rt, count, true)
 }
 
-/// Says what it took in a ledger, and in one go.
-pub(crate) fn measure_ledger(rt: &HostRuntime, count: u64) -> Result<()> {
+fn measure_fates(rt: &HostRuntime, count: u64) -> Result<()> {
+    let mut fates = Fates::new(rt.alloc());
+    time_fates(rt, &mut fates, count)
+}
+
+fn measure_ledger(rt: &HostRuntime, count: u64) -> Result<()> {
+    let mut ledger = Ledger::new(rt.alloc(), Setting::Document);
+    time_ledger(rt, &mut ledger, count)
+}
+
+fn time_fates(rt: &HostRuntime, fates: &mut Fates, count: u64) -> Result<()> {
     let start = Instant::now(rt)?;
-    let mut ledger = in_body(rt.alloc())?;
-    give_chars(&mut ledger, count)?;
+    push_fates(fates, count)?;
+    say(rt, "fates one by one", fates.len(), start)
+}
+
+fn measure_tokens(rt: &HostRuntime, count: u64, in_runs: bool) -> Result<()> {
+    let mut tokens = Tokens::new(rt.alloc());
+    time_tokens(rt, &mut tokens, count, in_runs)
+}
+
+fn time_tokens(rt: &HostRuntime, tokens: &mut Tokens, count: u64, in_runs: bool) -> Result<()> {
+    let start = Instant::now(rt)?;
+    if in_runs {
+        push_runs(tokens, count)?;
+        return say(rt, "tokens in runs", tokens.len(), start);
+    }
+    push_tokens(tokens, count)?;
+    say(rt, "tokens one by one", tokens.len(), start)
+}
+
+fn time_ledger(rt: &HostRuntime, ledger: &mut Ledger, count: u64) -> Result<()> {
+    let start = Instant::now(rt)?;
+    enter_body(ledger)?;
+    give_chars(ledger, count)?;
     say(rt, "given one by one", ledger.number(), start)?;
     let start = Instant::now(rt)?;
-    give_runs(&mut ledger, count)?;
-    say(rt, "given in runs", ledger.number(), start)?;
-    let start = Instant::now(rt)?;
-    let mut tokens = Tokens::new(rt.alloc());
-    push_runs(&mut tokens, count)?;
-    say(rt, "tokens in runs", tokens.len(), start)?;
-    Ok(())
+    give_runs(ledger, count)?;
+    say(rt, "given in runs", ledger.number(), start)
 }

@@ -4,16 +4,20 @@ use crate::entering::enter_all;
 use crate::lists::list;
 use crate::words::{fate_of, fates, setting_of, symbol_of, word_of};
 use anyhow::{Result, bail};
-use html_ledger::{Fate, History, Ledger, Setting, Symbol, is_fated};
+use html_ledger::{Fate, Fates, History, Ledger, Setting, Symbol, is_fated};
 use std::alloc::Global;
 
-/// The answer of a row.
-pub(crate) fn answer(alloc: Global, line: &str) -> Result<String> {
+/// Adds the answer of a row.
+pub(crate) fn answer(alloc: Global, line: &str, out: &mut String) -> Result<()> {
     let words: Vec<&str> = line.split(' ').collect(alloc)?;
-    match words.as_slice() {
-        ["may", setting, rest @ ..] => may(alloc, setting_of(*setting)?, rest),
-        ["tokens", index, rest @ ..] => list(alloc, *index, rest),
-        ["ledger", setting, rest @ ..] => ledger(alloc, setting_of(*setting)?, rest),
+    ask(alloc, words.as_slice(), out)
+}
+
+fn ask(alloc: Global, words: &[&str], out: &mut String) -> Result<()> {
+    match words {
+        ["may", setting, rest @ ..] => may(alloc, setting_of(*setting)?, rest, out),
+        ["tokens", index, rest @ ..] => list(alloc, *index, rest, out),
+        ["ledger", setting, rest @ ..] => ledger(alloc, setting_of(*setting)?, rest, out),
         _ => bail!("no such question"),
     }
 }
@@ -25,12 +29,8 @@ struct Page {
     fates: Vec<Fate>,
 }
 
-/// The tokens of a row, each but the last with its fate.
-fn page_of(alloc: Global, words: &[&str]) -> Result<Page> {
-    let mut page = Page {
-        tokens: Vec::new(alloc),
-        fates: Vec::new(alloc),
-    };
+/// Adds the tokens of a row, each but the last with its fate.
+fn read_page(page: &mut Page, words: &[&str]) -> Result<()> {
     for pair in words.chunks(2) {
         if let [token, rest @ ..] = pair {
             page.tokens.push(symbol_of(*token)?)?;
@@ -39,7 +39,7 @@ fn page_of(alloc: Global, words: &[&str]) -> Result<Page> {
             }
         }
     }
-    Ok(page)
+    Ok(())
 }
 
 /// What is known after the tokens that have a fate.
@@ -66,44 +66,68 @@ fn may_have(setting: Setting, history: History, page: &mut Page, fate: Fate) -> 
     Ok(told)
 }
 
-/// The fates that the last token may have.
-fn may(alloc: Global, setting: Setting, words: &[&str]) -> Result<String> {
-    let mut page = page_of(alloc, words)?;
-    let history = history_of(setting, &page);
-    let mut out = String::new(alloc);
+/// Adds the fates that the last token may have.
+fn may(alloc: Global, setting: Setting, words: &[&str], out: &mut String) -> Result<()> {
+    let mut page = Page {
+        tokens: Vec::new(alloc),
+        fates: Vec::new(alloc),
+    };
+    may_of(&mut page, setting, words, out)
+}
+
+fn may_of(page: &mut Page, setting: Setting, words: &[&str], out: &mut String) -> Result<()> {
+    read_page(page, words)?;
+    let history = history_of(setting, page);
     for (word, fate) in &fates() {
-        if may_have(setting, history, &mut page, *fate)? {
+        if may_have(setting, history, page, *fate)? {
             let space = if out.is_empty() { "" } else { " " };
             write!(out, "{space}{word}")?;
         }
     }
-    Ok(out)
+    Ok(())
 }
 
-/// What a ledger says after the tokens of a row.
-fn ledger(alloc: Global, setting: Setting, words: &[&str]) -> Result<String> {
+/// Adds what a ledger says after the tokens of a row.
+fn ledger(alloc: Global, setting: Setting, words: &[&str], out: &mut String) -> Result<()> {
     let mut ledger = Ledger::new(alloc, setting);
-    let mut out = String::new(alloc);
-    if !enter_all(alloc, &mut ledger, words)? {
-        let number = ledger.number();
-        return Ok(format!(in alloc; "no such fate at {number}")?);
+    if enter_counted(alloc, &mut ledger, words, out)? {
+        show(out, ledger)
+    } else {
+        Ok(())
     }
-    let kept = ledger.kept().len();
+}
+
+/// Gives the tokens of a row their fates, says how many have one, and answers whether the ledger took all.
+fn enter_counted(
+    alloc: Global,
+    ledger: &mut Ledger,
+    words: &[&str],
+    out: &mut String,
+) -> Result<bool> {
+    let is_taken = enter_all(alloc, ledger, words)?;
     let number = ledger.number();
-    write!(out, "{number} fates, {kept} kept")?;
-    show(&mut out, ledger)?;
-    Ok(out)
+    if is_taken {
+        let kept = ledger.kept().len();
+        write!(out, "{number} fates, {kept} kept")?;
+    } else {
+        write!(out, "no such fate at {number}")?;
+    }
+    Ok(is_taken)
 }
 
 /// The fates in their runs, and the errors.
 fn show(out: &mut String, ledger: Ledger) -> Result<()> {
     let (fates, errors) = ledger.into_parts();
+    show_parts(out, &fates, errors.as_slice())
+}
+
+fn show_parts(out: &mut String, fates: &Fates, errors: &[u64]) -> Result<()> {
     for run in fates.runs() {
         let (count, word) = (run.count, word_of(&run.fate));
         write!(out, ", {count} {word}")?;
     }
     out.push_str(", errors")?;
-    for number in &errors {
+    for number in errors {
         write!(out, " {number}")?;
     }
     Ok(())

@@ -4,6 +4,7 @@ use crate::markup::{read, tree};
 use crate::page::{Page, is_node};
 use crate::refusal::Refusal;
 use crate::shown::{push_bool, push_index, push_node, push_place};
+use crate::work::{adopt, reopen};
 use html_arena::{Arena, Limits, NewNode, NodeId};
 use html_charref::Str;
 use html_names::{Scope, Tag};
@@ -77,8 +78,8 @@ pub(crate) fn make_call(
             { on_stack(page, word, out) }
         "enter" | "marker" | "clear" | "last" | "forget" | "is-listed" => on_list(page, word, out),
         "place" => find_place(page, word, out),
-        "reopen" => reopen(page, alloc, word),
-        "adopt" => Ok(push_end(out, adopt(page, alloc, word)?)?),
+        "reopen" => reopen(page, alloc, word.first == "foster"),
+        "adopt" => Ok(push_end(out, adopt(page, alloc, word.tag(), word.fosters())?)?),
         "end" => end(page, alloc, word, out),
         "adopt-last" => adopt_last(page, alloc, word, out),
         _ => Err(Refusal::NoCall),
@@ -164,19 +165,11 @@ fn find_place(page: &mut Page, word: Word<'_>, out: &mut String) -> Result<(), R
     push_place(out, place)
 }
 
-/// After a refusal the page is empty.
-fn reopen(page: &mut Page, alloc: Global, word: Word<'_>) -> Result<(), Refusal> {
-    let old = mem::replace(page, Page::new(alloc));
-    *page = old.reopen(word.first == "foster")?;
+/// Follows an end tag of a formatting name.
+fn follow(page: &mut Page, alloc: Global, word: Word<'_>, out: &mut String) -> Result<(), Refusal> {
+    let end = adopt(page, alloc, word.tag(), word.fosters())?;
+    push_end(out, end)?;
     Ok(())
-}
-
-/// After a refusal the page is empty.
-fn adopt(page: &mut Page, alloc: Global, word: Word<'_>) -> Result<AdoptEnd, Refusal> {
-    let old = mem::replace(page, Page::new(alloc));
-    let (new, end) = old.adopt(word.tag(), word.fosters())?;
-    *page = new;
-    Ok(end)
 }
 
 fn push_end(out: &mut String, end: AdoptEnd) -> Result<(), AllocError> {
@@ -191,7 +184,7 @@ fn end(page: &mut Page, alloc: Global, word: Word<'_>, out: &mut String) -> Resu
     let nodes = page.arena().len();
     let start = page.arena().meter().steps;
     let size = (page.depth() as u128).saturating_add(4);
-    push_end(out, adopt(page, alloc, word)?)?;
+    follow(page, alloc, word, out)?;
     let clones = page.arena().len().saturating_sub(nodes);
     let steps = page.arena().meter().steps.saturating_sub(start);
     let most = size.saturating_mul(size).saturating_mul(32);
@@ -214,20 +207,20 @@ fn adopt_last(
     let old = mem::replace(page, Page::new(alloc));
     let nodes = old.arena().len();
     let (mut arena, end) = old.adopt_last(word.tag(), word.fosters())?;
-    tell_left(&mut arena, alloc, nodes, end, out)
+    tell_left(&mut arena, nodes, end, out)
 }
 
 fn tell_left(
     arena: &mut Arena,
-    alloc: Global,
     nodes: u64,
     end: Result<AdoptEnd, OpenError>,
     out: &mut String,
 ) -> Result<(), Refusal> {
     let clones = arena.len().saturating_sub(nodes);
-    let left = tree(arena, alloc)?;
+    write!(out, "{end:?} {clones} ")?;
+    tree(arena, out)?;
     let node = arena.make(NewNode::Text)?;
     let goes_on = is_node(arena, node);
-    write!(out, "{end:?} {clones} {left} {goes_on}")?;
+    write!(out, " {goes_on}")?;
     Ok(())
 }

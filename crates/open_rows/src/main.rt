@@ -16,16 +16,12 @@ mod rows;
 mod shown;
 mod work;
 
-use measures::{measure_deep, measure_misnested, measure_open, measure_reopened};
+use measures::Load;
 use rows::answer;
 use std::env;
 
 fn main(rt: HostRuntime) -> anyhow::Result<()> {
-    let words: Vec<String> = env::args(&rt)?.collect(rt.alloc())?;
-    let given = words
-        .get(1)
-        .and_then(|word| word.as_str().parse::<u64>().ok());
-    match given {
+    match given(&rt)? {
         Some(count) => measure(&rt, count, true),
         None => {
             answer_rows(&rt)?;
@@ -34,23 +30,34 @@ fn main(rt: HostRuntime) -> anyhow::Result<()> {
     }
 }
 
+/// The number that is given to the program.
+fn given(rt: &HostRuntime) -> anyhow::Result<Option<u64>> {
+    let word = env::args(rt)?.nth(1);
+    Ok(word.and_then(|word| word.as_str().parse::<u64>().ok()))
+}
+
 fn answer_rows(rt: &HostRuntime) -> anyhow::Result<()> {
+    let mut out = String::new(rt.alloc());
     for line in rt.lines(rt.alloc()) {
-        let line = line?;
-        let row = line.as_str();
-        if !row.starts_with("#") {
-            let mut out = String::new(rt.alloc());
-            answer(rt.alloc(), row, &mut out)?;
-            println!(rt; "{out}")?;
-        }
+        answer_row(rt, line?.as_str(), &mut out)?;
+    }
+    Ok(())
+}
+
+/// Prints the answer of a row, where it is one.
+fn answer_row(rt: &HostRuntime, row: &str, out: &mut String) -> anyhow::Result<()> {
+    if !row.starts_with("#") {
+        answer(rt.alloc(), row, out)?;
+        println!(rt; "{out}")?;
+        out.clear();
     }
     Ok(())
 }
 
 fn measure(rt: &HostRuntime, count: u64, timed: bool) -> anyhow::Result<()> {
-    measure_open(rt, count, timed)?;
-    measure_reopened(rt, count / 10, timed)?;
-    measure_misnested(rt, count, timed)?;
-    measure_deep(rt, "div", count, timed)?;
-    measure_deep(rt, "span", count, timed)
+    measures::measure(rt, Load::Open, count, timed)?;
+    measures::measure(rt, Load::Reopened, count / 10, timed)?;
+    measures::measure(rt, Load::Misnested, count, timed)?;
+    measures::measure(rt, Load::Deep("div"), count, timed)?;
+    measures::measure(rt, Load::Deep("span"), count, timed)
 }

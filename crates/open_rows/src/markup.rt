@@ -44,28 +44,32 @@ pub(crate) fn read(page: &mut Page, alloc: Global, source: &str) -> Result<(), R
     Ok(())
 }
 
-/// The elements below the first, as `b[1 p[2]]`.
-pub(crate) fn tree(arena: &Arena, alloc: Global) -> Result<String, Refusal> {
-    let mut text = String::new(alloc);
+/// Adds the elements below the first, as `b[1 p[2]]`.
+pub(crate) fn tree(arena: &Arena, out: &mut String) -> Result<(), Refusal> {
     let root = NodeId::at(0);
     if !is_node(arena, root) || arena.parent(root).is_some() || arena.host(root).is_some() {
         return Err(Refusal::Condition);
     }
     for event in Walk::new(arena, Show::All, root) {
-        match event {
-            Event::Enter(node) => {
-                if is_node(arena, node) {
-                    push_start(&mut text, arena, node)?;
-                }
+        push_event(out, arena, event)?;
+    }
+    Ok(())
+}
+
+fn push_event(out: &mut String, arena: &Arena, event: Event) -> Result<(), AllocError> {
+    match event {
+        Event::Enter(node) => {
+            if is_node(arena, node) {
+                push_start(out, arena, node)?;
             }
-            Event::Leave(node) => {
-                if has_children(arena, node) {
-                    text.push_str("]")?;
-                }
+        }
+        Event::Leave(node) => {
+            if has_children(arena, node) {
+                out.push_str("]")?;
             }
         }
     }
-    Ok(text)
+    Ok(())
 }
 
 fn has_children(arena: &Arena, node: NodeId) -> bool {
@@ -86,17 +90,16 @@ fn push_start(text: &mut String, arena: &Arena, node: NodeId) -> Result<(), Allo
     Ok(())
 }
 
-/// The names of the open elements, the current node last.
-pub(crate) fn open(page: &mut Page, alloc: Global) -> Result<String, Refusal> {
-    let mut text = String::new(alloc);
+/// Adds the names of the open elements, the current node last.
+pub(crate) fn open(page: &mut Page, out: &mut String) -> Result<(), Refusal> {
     for index in 0..page.depth() {
-        let node = page.at(index)?;
         if index > 0 {
-            text.push_str(" ")?;
+            out.push_str(" ")?;
         }
-        push_name(&mut text, page.arena(), node)?;
+        let node = page.at(index)?;
+        push_name(out, page.arena(), node)?;
     }
-    Ok(text)
+    Ok(())
 }
 
 fn push_name(text: &mut String, arena: &Arena, node: NodeId) -> Result<(), Refusal> {

@@ -1,8 +1,9 @@
 // What is done, and what it took.
 use crate::page::Page;
 use crate::work::{
-    end, list_many, look, make_many, misnest, nest, open_many, reopen_many, start, start_body,
+    adopt, list_many, look, make_many, misnest, nest, open_many, reopen_many, start, start_body,
 };
+use html_names::Tag;
 use std::time::Instant;
 
 /// How often a scope is looked through.
@@ -11,12 +12,34 @@ const LOOKS: u64 = 100;
 /// How many elements are listed.
 const LISTED: u64 = 100;
 
-/// Opens so many elements, and looks through them.
-pub(crate) fn measure_open(rt: &HostRuntime, count: u64, timed: bool) -> anyhow::Result<()> {
+/// What is measured.
+#[derive(Clone, Copy)]
+pub(crate) enum Load {
+    /// So many elements are opened, and looked through.
+    Open,
+    /// The listed elements are opened anew so many times.
+    Reopened,
+    /// `<b><p></b></p>` is read so many times.
+    Misnested,
+    /// The end tag of a `b` is followed in which so many elements of a name are open, and a `p` in them.
+    Deep(&'static str),
+}
+
+/// Measures on a page of its own.
+pub(crate) fn measure(rt: &HostRuntime, load: Load, count: u64, timed: bool) -> anyhow::Result<()> {
     let mut page = Page::new(rt.alloc());
-    let made = time_making(rt, &mut page, count)?;
-    let opened = time_opening(rt, &mut page, count)?;
-    let looked = time_looking(rt, &mut page)?;
+    match load {
+        Load::Open => measure_open(rt, &mut page, count, timed),
+        Load::Reopened => measure_reopened(rt, &mut page, count, timed),
+        Load::Misnested => measure_misnested(rt, &mut page, count, timed),
+        Load::Deep(name) => measure_deep(rt, &mut page, name, count, timed),
+    }
+}
+
+fn measure_open(rt: &HostRuntime, page: &mut Page, count: u64, timed: bool) -> anyhow::Result<()> {
+    let made = time_making(rt, page, count)?;
+    let opened = time_opening(rt, page, count)?;
+    let looked = time_looking(rt, page)?;
     say(rt, "open", page.depth() as u128)?;
     say(rt, "steps", page.arena().meter().steps)?;
     if timed {
@@ -27,13 +50,16 @@ pub(crate) fn measure_open(rt: &HostRuntime, count: u64, timed: bool) -> anyhow:
     Ok(())
 }
 
-/// Opens the listed elements anew so many times.
-pub(crate) fn measure_reopened(rt: &HostRuntime, times: u64, timed: bool) -> anyhow::Result<()> {
-    let mut page = Page::new(rt.alloc());
-    open_many(&mut page, rt.alloc(), 1)?;
-    list_many(&mut page, rt.alloc(), LISTED)?;
+fn measure_reopened(
+    rt: &HostRuntime,
+    page: &mut Page,
+    times: u64,
+    timed: bool,
+) -> anyhow::Result<()> {
+    open_many(page, rt.alloc(), 1)?;
+    list_many(page, rt.alloc(), LISTED)?;
     let start = Instant::now(rt)?;
-    let page = reopen_many(page, times)?;
+    reopen_many(page, rt.alloc(), times)?;
     let took = start.elapsed(rt)?.as_micros();
     say(rt, "nodes reopened", page.arena().len() as u128)?;
     say(rt, "steps", page.arena().meter().steps)?;
@@ -43,12 +69,15 @@ pub(crate) fn measure_reopened(rt: &HostRuntime, times: u64, timed: bool) -> any
     Ok(())
 }
 
-/// Reads `<b><p></b></p>` so many times.
-pub(crate) fn measure_misnested(rt: &HostRuntime, times: u64, timed: bool) -> anyhow::Result<()> {
-    let mut page = Page::new(rt.alloc());
-    start_body(&mut page, rt.alloc())?;
+fn measure_misnested(
+    rt: &HostRuntime,
+    page: &mut Page,
+    times: u64,
+    timed: bool,
+) -> anyhow::Result<()> {
+    start_body(page, rt.alloc())?;
     let start = Instant::now(rt)?;
-    let page = misnest(page, rt.alloc(), times)?;
+    misnest(page, rt.alloc(), times)?;
     let took = start.elapsed(rt)?.as_micros();
     say(rt, "nodes misnested", page.arena().len() as u128)?;
     say(rt, "steps", page.arena().meter().steps)?;
@@ -58,21 +87,21 @@ pub(crate) fn measure_misnested(rt: &HostRuntime, times: u64, timed: bool) -> an
     Ok(())
 }
 
-/// Follows the end tag of a `b` in which so many elements of a name are open, and a `p` in them; says what the end tag alone takes.
-pub(crate) fn measure_deep(
+/// Says what the end tag alone takes.
+fn measure_deep(
     rt: &HostRuntime,
+    page: &mut Page,
     name: &str,
     count: u64,
     timed: bool,
 ) -> anyhow::Result<()> {
-    let mut page = Page::new(rt.alloc());
-    start_body(&mut page, rt.alloc())?;
-    nest(&mut page, rt.alloc(), name, count)?;
-    let _block = start(&mut page, rt.alloc(), "p")?;
+    start_body(page, rt.alloc())?;
+    nest(page, rt.alloc(), name, count)?;
+    let _block = start(page, rt.alloc(), "p")?;
     let nodes = page.arena().len();
     let steps = page.arena().meter().steps;
     let before = Instant::now(rt)?;
-    let page = end(page)?;
+    adopt(page, rt.alloc(), Tag::B, false)?;
     let took = before.elapsed(rt)?.as_micros();
     let clones = page.arena().len().saturating_sub(nodes);
     let steps = page.arena().meter().steps.saturating_sub(steps);

@@ -32,7 +32,7 @@ fn follow(page: &mut Page, alloc: Global, row: &str, out: &mut String) -> Result
 
 /// What a word asks for: what there is, or a call's answer, a slash and its steps.
 fn step(page: &mut Page, alloc: Global, word: Word<'_>, out: &mut String) -> Result<(), Refusal> {
-    if show(page, alloc, word, out)? {
+    if show(page, word, out)? {
         return Ok(());
     }
     let start = page.arena().meter().steps;

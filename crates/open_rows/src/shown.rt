@@ -7,7 +7,6 @@ use crate::refusal::Refusal;
 use html_arena::NodeId;
 use html_names::Tag;
 use html_open::Place;
-use std::alloc::Global;
 
 /// A node's number, or a dash.
 pub(crate) fn push_node(out: &mut String, node: Option<NodeId>) -> Result<(), Refusal> {
@@ -43,45 +42,47 @@ pub(crate) fn push_place(out: &mut String, place: Place) -> Result<(), Refusal> 
 }
 
 /// Writes what a word asks to see, and answers whether it does.
-pub(crate) fn show(
-    page: &mut Page,
-    alloc: Global,
-    word: Word<'_>,
-    out: &mut String,
-) -> Result<bool, Refusal> {
+pub(crate) fn show(page: &mut Page, word: Word<'_>, out: &mut String) -> Result<bool, Refusal> {
     match word.name {
-        "stack" => stack(page, out)?,
-        "tree" => write!(out, "{} ", tree(page.arena(), alloc)?)?,
-        "open" => write!(out, "{} ", open(page, alloc)?)?,
-        "held" => write!(out, "{} ", page.arena().held())?,
-        _ => return show_name(word, out),
-    }
-    Ok(true)
-}
-
-/// Writes what html_names says of a name, where a word asks that, and answers whether it does.
-fn show_name(word: Word<'_>, out: &mut String) -> Result<bool, Refusal> {
-    let tag = word.tag();
-    match word.name {
-        "tag" if tag.is(Tag::Other) => out.push_str("-")?,
-        "tag" => out.push_str(tag.name())?,
-        "is-formatting" => push_bool(out, tag.is_formatting())?,
-        "is-special" => push_bool(out, tag.is_special())?,
-        "ends" => push_bool(out, tag.ends_scope(word.scope()?))?,
+        "stack" | "tree" | "open" | "held" => show_page(page, word, out)?,
+        "tag" | "is-formatting" | "is-special" | "ends" => show_name(word, out)?,
         _ => return Ok(false),
     }
     out.push_str(" ")?;
     Ok(true)
 }
 
+/// Writes what there is of a page.
+fn show_page(page: &mut Page, word: Word<'_>, out: &mut String) -> Result<(), Refusal> {
+    match word.name {
+        "stack" => stack(page, out),
+        "tree" => tree(page.arena(), out),
+        "open" => open(page, out),
+        _ => Ok(write!(out, "{}", page.arena().held())?),
+    }
+}
+
+/// Writes what html_names says of a name.
+fn show_name(word: Word<'_>, out: &mut String) -> Result<(), Refusal> {
+    let tag = word.tag();
+    match word.name {
+        "tag" => Ok(out.push_str(if tag.is(Tag::Other) { "-" } else { tag.name() })?),
+        "is-formatting" => push_bool(out, tag.is_formatting()),
+        "is-special" => push_bool(out, tag.is_special()),
+        _ => push_bool(out, tag.ends_scope(word.scope()?)),
+    }
+}
+
 /// The numbers of the open elements, each after its parent's.
 fn stack(page: &mut Page, out: &mut String) -> Result<(), Refusal> {
     for index in 0..page.depth() {
+        if index > 0 {
+            out.push_str(" ")?;
+        }
         let node = page.at(index)?;
         push_node(out, page.parent(node)?)?;
         out.push_str(">")?;
         push_node(out, Some(node))?;
-        out.push_str(" ")?;
     }
     Ok(())
 }

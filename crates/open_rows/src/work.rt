@@ -4,9 +4,10 @@ use crate::refusal::Refusal;
 use html_arena::NodeId;
 use html_charref::Str;
 use html_names::Tag;
-use html_open::Scope;
+use html_open::{AdoptEnd, Scope};
 use html_tokens::{Attr, Attrs};
 use std::alloc::Global;
+use std::mem;
 
 /// Makes so many elements.
 pub(crate) fn make_many(page: &mut Page, alloc: Global, count: u64) -> Result<(), Refusal> {
@@ -46,16 +47,36 @@ pub(crate) fn look(page: &mut Page, times: u64) {
     }
 }
 
+/// Opens the listed elements anew. After a refusal the page is empty.
+pub(crate) fn reopen(page: &mut Page, alloc: Global, foster: bool) -> Result<(), Refusal> {
+    let old = mem::replace(page, Page::new(alloc));
+    *page = old.reopen(foster)?;
+    Ok(())
+}
+
+/// Follows an end tag of a formatting name. After a refusal the page is empty.
+pub(crate) fn adopt(
+    page: &mut Page,
+    alloc: Global,
+    name: Tag,
+    foster: bool,
+) -> Result<AdoptEnd, Refusal> {
+    let old = mem::replace(page, Page::new(alloc));
+    let (new, end) = old.adopt(name, foster)?;
+    *page = new;
+    Ok(end)
+}
+
 /// Opens the listed elements anew and closes them, so many times.
-pub(crate) fn reopen_many(mut page: Page, times: u64) -> Result<Page, Refusal> {
+pub(crate) fn reopen_many(page: &mut Page, alloc: Global, times: u64) -> Result<(), Refusal> {
     for _ in 0..times {
         let depth = page.depth();
-        page = page.reopen(false)?;
+        reopen(page, alloc, false)?;
         for _ in depth..page.depth() {
             page.pop();
         }
     }
-    Ok(page)
+    Ok(())
 }
 
 /// Makes an element, the last child of the current node.
@@ -91,22 +112,16 @@ pub(crate) fn nest(page: &mut Page, alloc: Global, name: &str, count: u64) -> Re
     Ok(())
 }
 
-/// Follows the end tag of `b`.
-pub(crate) fn end(page: Page) -> Result<Page, Refusal> {
-    let (page, _) = page.adopt(Tag::B, false)?;
-    Ok(page)
-}
-
 /// Reads `<b><p></b></p>` so many times.
-pub(crate) fn misnest(mut page: Page, alloc: Global, times: u64) -> Result<Page, Refusal> {
+pub(crate) fn misnest(page: &mut Page, alloc: Global, times: u64) -> Result<(), Refusal> {
     for _ in 0..times {
-        page = page.reopen(false)?;
-        nest(&mut page, alloc, "p", 1)?;
-        page = end(page)?;
+        reopen(page, alloc, false)?;
+        nest(page, alloc, "p", 1)?;
+        adopt(page, alloc, Tag::B, false)?;
         if page.has_in_scope(Tag::P, Scope::Button) {
             page.implied(Some(Tag::P));
             page.pop();
         }
     }
-    Ok(page)
+    Ok(())
 }

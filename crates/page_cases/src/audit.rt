@@ -1,47 +1,49 @@
 // What became of each token, and how large a page is.
 
-use crate::brackets::brackets_text;
+use crate::brackets::print_brackets;
 use html_arena::{Arena, NodeId};
 use html_parser::{Cause, Fate, Page, PageFault, TokenRef, Tree};
 use html_tokens::{Span, TokenKind};
-use std::alloc::{AllocError, Global};
+use std::alloc::AllocError;
 
-/// A line for each token: its span, what it is, and its fate; a line for each error; and the counts.
-pub(crate) fn audit_text(alloc: Global, page: &Page) -> Result<String, AllocError> {
-    let mut out = String::new(alloc);
-    let mut fates = page.fates.iter();
-    for token in page.tokens.iter() {
-        print_token(&mut out, token)?;
-        match fates.next() {
-            Some(fate) => print_fate(&mut out, fate)?,
-            None => writeln!(out, " no fate")?,
-        }
-    }
-    print_errors(&mut out, page.errors.as_slice())?;
-    print_counts(&mut out, page.n, page.tokens.len(), &page.arena)?;
+/// Adds a line for each token: its span, what it is, and its fate; a line for each error; and the counts.
+pub(crate) fn print_audit(out: &mut String, page: &Page) -> Result<(), AllocError> {
+    print_ledger(out, page)?;
+    print_errors(out, page.errors.as_slice())?;
+    print_counts(out, page.n, page.tokens.len(), &page.arena)?;
     if page.tokens.len() != page.fates.len() {
         let fates = page.fates.len();
         writeln!(out, "fates {fates}")?;
     }
-    Ok(out)
+    Ok(())
 }
 
-/// The tree of a page, its errors and its counts, without its ledger.
-pub(crate) fn summary_of_page(alloc: Global, page: &Page) -> Result<String, AllocError> {
-    let mut out = brackets_text(alloc, &page.arena)?;
-    print_errors(&mut out, page.errors.as_slice())?;
-    print_counts(&mut out, page.n, page.tokens.len(), &page.arena)?;
-    print_steps(&mut out, page.steps)?;
-    Ok(out)
+fn print_ledger(out: &mut String, page: &Page) -> Result<(), AllocError> {
+    let mut fates = page.fates.iter();
+    for token in page.tokens.iter() {
+        print_token(out, token)?;
+        match fates.next() {
+            Some(fate) => print_fate(out, fate)?,
+            None => writeln!(out, " no fate")?,
+        }
+    }
+    Ok(())
 }
 
-/// The same of a tree that has no ledger.
-pub(crate) fn summary_of_tree(alloc: Global, tree: &Tree) -> Result<String, AllocError> {
-    let mut out = brackets_text(alloc, &tree.arena)?;
-    print_errors(&mut out, tree.errors.as_slice())?;
-    print_counts(&mut out, tree.n, tree.token_count, &tree.arena)?;
-    print_steps(&mut out, tree.steps)?;
-    Ok(out)
+/// Adds the tree of a page, its errors and its counts, without its ledger.
+pub(crate) fn summarise_page(out: &mut String, page: &Page) -> Result<(), AllocError> {
+    print_brackets(out, &page.arena)?;
+    print_errors(out, page.errors.as_slice())?;
+    print_counts(out, page.n, page.tokens.len(), &page.arena)?;
+    print_steps(out, page.steps)
+}
+
+/// Adds the same of a tree that has no ledger.
+pub(crate) fn summarise_tree(out: &mut String, tree: &Tree) -> Result<(), AllocError> {
+    print_brackets(out, &tree.arena)?;
+    print_errors(out, tree.errors.as_slice())?;
+    print_counts(out, tree.n, tree.token_count, &tree.arena)?;
+    print_steps(out, tree.steps)
 }
 
 fn print_errors(out: &mut String, errors: &[PageFault]) -> Result<(), AllocError> {

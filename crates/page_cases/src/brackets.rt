@@ -5,18 +5,15 @@ ghost use Rattle.html_arena.specs.Steps.{node_in};
 ghost use Rattle.html_arena.specs.Walking.{IsRoot};
 
 use html_arena::{Arena, Event, NodeData, NodeId, Show, Walk};
-use std::alloc::{AllocError, Global};
+use std::alloc::AllocError;
 
-/// The nodes below the first one, which is the root of the page.
-pub(crate) fn brackets_text(alloc: Global, arena: &Arena) -> Result<String, AllocError> {
-    let mut out = String::new(alloc);
+/// Adds the nodes below the first one, which is the root of the page.
+pub(crate) fn print_brackets(out: &mut String, arena: &Arena) -> Result<(), AllocError> {
     let root = NodeId::at(0);
     if arena.is_empty() || arena.parent(root).is_some() || arena.host(root).is_some() {
-        out.push_str("no root")?;
-        return Ok(out);
+        return out.push_str("no root");
     }
-    print_below(&mut out, arena, root)?;
-    Ok(out)
+    print_below(out, arena, root)
 }
 
 /// Prints the nodes below a root.

@@ -3,8 +3,8 @@
 ghost use Rattle.std.specs.Prelude.{◌≡◌, true};
 ghost use Rattle.html_arena.specs.Walking.{IsRoot};
 
-use crate::audit::{summary_of_page, summary_of_tree};
-use crate::cuts::{refusal_text, text_of};
+use crate::audit::{summarise_page, summarise_tree};
+use crate::cuts::{print_answer, print_input, print_refusal};
 use crate::page::{Ask, Reading, context_of, page_of};
 use anyhow::Result;
 use html_arena::{Arena, NodeId};
@@ -50,9 +50,22 @@ pub(crate) fn other_call(
 
 /// Whether the call that takes a whole input gives the same page as a parser.
 fn is_same_whole(alloc: Global, table: &EntityTable, ask: Ask<'_>, bytes: &[u8]) -> Result<bool> {
-    let fed = text_of(alloc, page_of(alloc, table, Reading::Whole, ask, bytes))?;
-    let whole = text_of(alloc, whole_page(alloc, table, ask, bytes))?;
+    let mut fed = String::new(alloc);
+    let mut whole = String::new(alloc);
+    print_input(alloc, table, Reading::Whole, ask, bytes, &mut fed)?;
+    print_whole_call(alloc, table, ask, bytes, &mut whole)?;
     Ok(whole.as_str() == fed.as_str())
+}
+
+fn print_whole_call(
+    alloc: Global,
+    table: &EntityTable,
+    ask: Ask<'_>,
+    bytes: &[u8],
+    out: &mut String,
+) -> Result<()> {
+    let page = whole_page(alloc, table, ask, bytes);
+    print_answer(out, &page)
 }
 
 /// The page of an input, by the call that takes it whole.
@@ -75,10 +88,36 @@ fn whole_page(
 
 /// Whether a document read from a reader is the same page.
 fn are_same_pages(alloc: Global, table: &EntityTable, bytes: &[u8]) -> Result<bool> {
-    let slice = text_of(alloc, page_by(alloc, table, Way::Slice, bytes))?;
-    let reader = text_of(alloc, page_by(alloc, table, Way::Reader, bytes))?;
-    let fed = text_of(alloc, page_by(alloc, table, Way::FedReader, bytes))?;
-    Ok(reader.as_str() == slice.as_str() && fed.as_str() == slice.as_str())
+    let mut slice = String::new(alloc);
+    print_page_by(alloc, table, Way::Slice, bytes, &mut slice)?;
+    Ok(
+        is_page_by(alloc, table, Way::Reader, bytes, slice.as_str())?
+            && is_page_by(alloc, table, Way::FedReader, bytes, slice.as_str())?,
+    )
+}
+
+/// Whether a page has this text.
+fn is_page_by(
+    alloc: Global,
+    table: &EntityTable,
+    way: Way,
+    bytes: &[u8],
+    wanted: &str,
+) -> Result<bool> {
+    let mut text = String::new(alloc);
+    print_page_by(alloc, table, way, bytes, &mut text)?;
+    Ok(text.as_str() == wanted)
+}
+
+fn print_page_by(
+    alloc: Global,
+    table: &EntityTable,
+    way: Way,
+    bytes: &[u8],
+    out: &mut String,
+) -> Result<()> {
+    let page = page_by(alloc, table, way, bytes);
+    print_answer(out, &page)
 }
 
 fn page_by(alloc: Global, table: &EntityTable, way: Way, bytes: &[u8]) -> Result<Page, ParseError> {
@@ -86,24 +125,69 @@ fn page_by(alloc: Global, table: &EntityTable, way: Way, bytes: &[u8]) -> Result
     match way {
         Way::Slice => parse(alloc, table, bytes),
         Way::Reader => parse_from(alloc, table, &mut reader),
-        Way::FedReader => {
-            let mut parser = Parser::document(alloc, table)?;
-            parser.feed_from(&mut reader)?;
-            parser.finish()
-        }
+        Way::FedReader => fed_page(alloc, table, &mut reader),
     }
+}
+
+fn fed_page(
+    alloc: Global,
+    table: &EntityTable,
+    reader: &mut OverRead<&[u8]>,
+) -> Result<Page, ParseError> {
+    let mut parser = Parser::document(alloc, table)?;
+    parser.feed_from(reader)?;
+    parser.finish()
 }
 
 /// Whether a document without its ledger is the same tree, with the same errors and counts.
 fn are_same_trees(alloc: Global, table: &EntityTable, bytes: &[u8]) -> Result<bool> {
-    let page = page_summary(alloc, parse(alloc, table, bytes))?;
-    for way in [Way::Slice, Way::Reader, Way::FedReader] {
-        let tree = tree_summary(alloc, tree_by(alloc, table, way, bytes))?;
-        if tree.as_str() != page.as_str() {
-            return Ok(false);
-        }
+    let mut page = String::new(alloc);
+    print_page_summary(alloc, table, bytes, &mut page)?;
+    Ok(
+        is_tree_by(alloc, table, Way::Slice, bytes, page.as_str())?
+            && is_tree_by(alloc, table, Way::Reader, bytes, page.as_str())?
+            && is_tree_by(alloc, table, Way::FedReader, bytes, page.as_str())?,
+    )
+}
+
+/// Whether a tree has this text.
+fn is_tree_by(
+    alloc: Global,
+    table: &EntityTable,
+    way: Way,
+    bytes: &[u8],
+    wanted: &str,
+) -> Result<bool> {
+    let mut text = String::new(alloc);
+    print_tree_by(alloc, table, way, bytes, &mut text)?;
+    Ok(text.as_str() == wanted)
+}
+
+fn print_page_summary(
+    alloc: Global,
+    table: &EntityTable,
+    bytes: &[u8],
+    out: &mut String,
+) -> Result<(), AllocError> {
+    let page = parse(alloc, table, bytes);
+    match &page {
+        Ok(page) => summarise_page(out, page),
+        Err(error) => print_refusal(out, *error),
     }
-    Ok(true)
+}
+
+fn print_tree_by(
+    alloc: Global,
+    table: &EntityTable,
+    way: Way,
+    bytes: &[u8],
+    out: &mut String,
+) -> Result<(), AllocError> {
+    let tree = tree_by(alloc, table, way, bytes);
+    match &tree {
+        Ok(tree) => summarise_tree(out, tree),
+        Err(error) => print_refusal(out, *error),
+    }
 }
 
 fn tree_by(alloc: Global, table: &EntityTable, way: Way, bytes: &[u8]) -> Result<Tree, ParseError> {
@@ -117,20 +201,6 @@ fn tree_by(alloc: Global, table: &EntityTable, way: Way, bytes: &[u8]) -> Result
             parser.feed_from(&mut reader)?;
             parser.finish()
         }
-    }
-}
-
-fn page_summary(alloc: Global, page: Result<Page, ParseError>) -> Result<String> {
-    match page {
-        Ok(page) => Ok(summary_of_page(alloc, &page)?),
-        Err(error) => refusal_text(alloc, error),
-    }
-}
-
-fn tree_summary(alloc: Global, tree: Result<Tree, ParseError>) -> Result<String> {
-    match tree {
-        Ok(tree) => Ok(summary_of_tree(alloc, &tree)?),
-        Err(error) => refusal_text(alloc, error),
     }
 }
 
@@ -153,10 +223,21 @@ pub(crate) fn html_text(
     bytes: &[u8],
 ) -> Result<Option<Vec<u8>>, ParseError> {
     let read = normalised(alloc, table, profile, bytes)?;
-    let page = page_html(alloc, &parse(alloc, table, bytes)?, profile)?;
-    let tree = tree_html(alloc, &parse_tree(alloc, table, bytes)?, profile)?;
-    let is_same = read.as_slice() == page.as_slice() && read.as_slice() == tree.as_slice();
+    let is_same = is_html(alloc, table, profile, bytes, read.as_slice())?;
     Ok(if is_same { Some(read) } else { None })
+}
+
+/// Whether a page and a tree are written so.
+fn is_html(
+    alloc: Global,
+    table: &EntityTable,
+    profile: Profile,
+    bytes: &[u8],
+    wanted: &[u8],
+) -> Result<bool, ParseError> {
+    let page = page_html(alloc, table, profile, bytes)?;
+    let tree = tree_html(alloc, table, profile, bytes)?;
+    Ok(page.as_slice() == wanted && tree.as_slice() == wanted)
 }
 
 fn normalised(
@@ -171,7 +252,17 @@ fn normalised(
     Ok(writer.into_inner())
 }
 
-fn page_html(alloc: Global, page: &Page, profile: Profile) -> Result<Vec<u8>, ParseError> {
+fn page_html(
+    alloc: Global,
+    table: &EntityTable,
+    profile: Profile,
+    bytes: &[u8],
+) -> Result<Vec<u8>, ParseError> {
+    let page = parse(alloc, table, bytes)?;
+    written_page(alloc, &page, profile)
+}
+
+fn written_page(alloc: Global, page: &Page, profile: Profile) -> Result<Vec<u8>, ParseError> {
     let mut writer = OverWrite::new(Vec::new(alloc));
     if is_root(&page.arena, page.root) {
         serialise(page, profile, &mut writer)?;
@@ -179,7 +270,17 @@ fn page_html(alloc: Global, page: &Page, profile: Profile) -> Result<Vec<u8>, Pa
     Ok(writer.into_inner())
 }
 
-fn tree_html(alloc: Global, tree: &Tree, profile: Profile) -> Result<Vec<u8>, ParseError> {
+fn tree_html(
+    alloc: Global,
+    table: &EntityTable,
+    profile: Profile,
+    bytes: &[u8],
+) -> Result<Vec<u8>, ParseError> {
+    let tree = parse_tree(alloc, table, bytes)?;
+    written_tree(alloc, &tree, profile)
+}
+
+fn written_tree(alloc: Global, tree: &Tree, profile: Profile) -> Result<Vec<u8>, ParseError> {
     let mut writer = OverWrite::new(Vec::new(alloc));
     if is_root(&tree.arena, tree.root) {
         tree.serialise(profile, &mut writer)?;

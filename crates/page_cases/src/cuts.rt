@@ -1,12 +1,12 @@
 // Inputs cut into pieces.
 
-use crate::audit::audit_text;
-use crate::brackets::brackets_text;
+use crate::audit::print_audit;
+use crate::brackets::print_brackets;
 use crate::page::{Ask, Reading, page_of};
 use anyhow::Result;
 use html_charref::EntityTable;
 use html_parser::{Page, ParseError};
-use std::alloc::Global;
+use std::alloc::{AllocError, Global};
 
 /// Whether the same comes of an input whole, in two pieces for every cut, and byte by byte.
 pub(crate) fn is_same_cut(
@@ -15,17 +15,25 @@ pub(crate) fn is_same_cut(
     ask: Ask<'_>,
     input: &[u8],
 ) -> Result<bool> {
-    if !is_same_by_bytes(alloc, table, ask, input)? {
-        return Ok(false);
-    }
-    let whole = page_text(alloc, table, Reading::Whole, ask, input)?;
+    let mut whole = String::new(alloc);
+    print_input(alloc, table, Reading::Whole, ask, input, &mut whole)?;
+    are_same_pieces(alloc, table, ask, input, whole.as_str())
+}
+
+/// Whether this text comes of an input in two pieces for every cut, and byte by byte.
+fn are_same_pieces(
+    alloc: Global,
+    table: &EntityTable,
+    ask: Ask<'_>,
+    input: &[u8],
+    whole: &str,
+) -> Result<bool> {
     for at in 0..input.len() {
-        let cut = page_text(alloc, table, Reading::Cut(at), ask, input)?;
-        if cut.as_str() != whole.as_str() {
+        if !gives(alloc, table, Reading::Cut(at), ask, input, whole)? {
             return Ok(false);
         }
     }
-    Ok(true)
+    gives(alloc, table, Reading::Bytes, ask, input, whole)
 }
 
 /// Of an input that has a page, or holds foreign content: the length of its first front for which neither is so, or of which something else
@@ -57,9 +65,23 @@ fn is_same_by_bytes(
     ask: Ask<'_>,
     input: &[u8],
 ) -> Result<bool> {
-    let whole = page_text(alloc, table, Reading::Whole, ask, input)?;
-    let bytes = page_text(alloc, table, Reading::Bytes, ask, input)?;
-    Ok(bytes.as_str() == whole.as_str())
+    let mut whole = String::new(alloc);
+    print_input(alloc, table, Reading::Whole, ask, input, &mut whole)?;
+    gives(alloc, table, Reading::Bytes, ask, input, whole.as_str())
+}
+
+/// Whether this text comes of an input.
+fn gives(
+    alloc: Global,
+    table: &EntityTable,
+    reading: Reading,
+    ask: Ask<'_>,
+    input: &[u8],
+    wanted: &str,
+) -> Result<bool> {
+    let mut text = String::new(alloc);
+    print_input(alloc, table, reading, ask, input, &mut text)?;
+    Ok(text.as_str() == wanted)
 }
 
 /// Whether an input has a page, or is refused for foreign content.
@@ -70,32 +92,34 @@ fn is_page_or_foreign(alloc: Global, table: &EntityTable, ask: Ask<'_>, bytes: &
     }
 }
 
-/// The tree and the ledger of an input's page, or why there is none.
-fn page_text(
+/// Adds the tree and the ledger of an input's page, or why there is none.
+pub(crate) fn print_input(
     alloc: Global,
     table: &EntityTable,
     reading: Reading,
     ask: Ask<'_>,
     bytes: &[u8],
-) -> Result<String> {
-    text_of(alloc, page_of(alloc, table, reading, ask, bytes))
+    out: &mut String,
+) -> Result<()> {
+    let page = page_of(alloc, table, reading, ask, bytes);
+    print_answer(out, &page)
 }
 
-/// The tree and the ledger of a page, or why there is none.
-pub(crate) fn text_of(alloc: Global, page: Result<Page, ParseError>) -> Result<String> {
+/// Adds the tree and the ledger of a page, or why there is none.
+pub(crate) fn print_answer(out: &mut String, page: &Result<Page, ParseError>) -> Result<()> {
     match page {
-        Ok(page) => {
-            let mut out = brackets_text(alloc, &page.arena)?;
-            out.push_str("\n")?;
-            out.push_str(audit_text(alloc, &page)?.as_str())?;
-            Ok(out)
-        }
-        Err(error) => refusal_text(alloc, error),
+        Ok(page) => print_whole(out, page)?,
+        Err(error) => print_refusal(out, *error)?,
     }
+    Ok(())
 }
 
-pub(crate) fn refusal_text(alloc: Global, error: ParseError) -> Result<String> {
-    let mut out = String::new(alloc);
-    writeln!(out, "refused: {error}")?;
-    Ok(out)
+fn print_whole(out: &mut String, page: &Page) -> Result<(), AllocError> {
+    print_brackets(out, &page.arena)?;
+    out.push('\n')?;
+    print_audit(out, page)
+}
+
+pub(crate) fn print_refusal(out: &mut String, error: ParseError) -> Result<(), AllocError> {
+    writeln!(out, "refused: {error}")
 }

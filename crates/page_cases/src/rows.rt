@@ -1,7 +1,7 @@
 // Pages, a row each, with the tree that they give.
 
-use crate::audit::audit_text;
-use crate::brackets::brackets_text;
+use crate::audit::print_audit;
+use crate::brackets::print_brackets;
 use crate::calls::{html_text, other_call, tokens_in_hand};
 use crate::cuts::{is_same_cut, odd_front};
 use crate::page::{Ask, Reading, page_of};
@@ -17,14 +17,18 @@ pub(crate) fn run(rt: &HostRuntime, bytes: &[u8]) -> Result<()> {
         bail!("no table");
     };
     let table = EntityTable::read(rt.alloc(), first.as_bytes())?;
-    for line in rest.lines() {
+    print_rows(rt, &table, rest)
+}
+
+fn print_rows(rt: &HostRuntime, table: &EntityTable, rows: &str) -> Result<()> {
+    for line in rows.lines() {
         let Some((name, row)) = line.split_once('|') else {
             bail!("a row without a page");
         };
         let Some((words, input)) = row.split_once('|') else {
             bail!("a row without a page");
         };
-        print_row(rt, &table, name.trim(), words, input)?;
+        print_row(rt, table, name.trim(), words, input)?;
     }
     Ok(())
 }
@@ -37,42 +41,77 @@ fn print_row(
     input: &str,
 ) -> Result<()> {
     let input = unescaped(rt.alloc(), input)?;
-    let context = match context_in(words) {
-        Some(name) => Some(unescaped(rt.alloc(), name)?),
-        None => None,
+    let context = unescaped(rt.alloc(), context_in(words).unwrap_or(""))?;
+    let has_context = context_in(words).is_some();
+    let context = if has_context {
+        Some(context.as_str())
+    } else {
+        None
     };
-    let ask = ask_of(words, context.as_deref())?;
-    match page_of(rt.alloc(), table, Reading::Whole, ask, input.as_bytes()) {
-        Ok(page) => print_page(rt, name, has_word(words, "audit"), &page)?,
-        Err(error) => println!(rt; "{name}: refused: {error}")?,
-    }
-    if !is_same_cut(rt.alloc(), table, ask, input.as_bytes())? {
+    let ask = ask_of(words, context)?;
+    print_asked(rt, table, name, words, ask, input.as_bytes())
+}
+
+fn print_asked(
+    rt: &HostRuntime,
+    table: &EntityTable,
+    name: &str,
+    words: &str,
+    ask: Ask<'_>,
+    input: &[u8],
+) -> Result<()> {
+    print_answer(rt, table, name, has_word(words, "audit"), ask, input)?;
+    if !is_same_cut(rt.alloc(), table, ask, input)? {
         println!(rt; "  something else in pieces")?;
     }
-    if let Some(length) = odd_front(rt.alloc(), table, ask, input.as_bytes())? {
+    if let Some(length) = odd_front(rt.alloc(), table, ask, input)? {
         println!(rt; "  something else of the first {length} bytes")?;
     }
-    if let Some(call) = other_call(rt.alloc(), table, ask, input.as_bytes())? {
+    if let Some(call) = other_call(rt.alloc(), table, ask, input)? {
         println!(rt; "  something else {call}")?;
     }
     if has_word(words, "html") {
-        print_html(rt, table, input.as_bytes())?;
+        print_html(rt, table, input)?;
     }
     Ok(())
+}
+
+/// Prints the page of an input, or why there is none.
+fn print_answer(
+    rt: &HostRuntime,
+    table: &EntityTable,
+    name: &str,
+    is_audited: bool,
+    ask: Ask<'_>,
+    input: &[u8],
+) -> Result<()> {
+    let page = page_of(rt.alloc(), table, Reading::Whole, ask, input);
+    match &page {
+        Ok(page) => print_page(rt, name, is_audited, page),
+        Err(error) => Ok(println!(rt; "{name}: refused: {error}")?),
+    }
 }
 
 /// Prints how many tokens of a document are in hand before the end of the input, and the document as HTML, in both profiles.
 fn print_html(rt: &HostRuntime, table: &EntityTable, bytes: &[u8]) -> Result<()> {
     let count = tokens_in_hand(rt.alloc(), table, bytes)?;
     println!(rt; "  tokens before the end {count}")?;
-    for profile in [Profile::One, Profile::Two] {
-        match html_text(rt.alloc(), table, profile, bytes)? {
-            Some(html) => {
-                let text = std::str::from_utf8(html.as_slice())?;
-                println!(rt; "  html {text}")?;
-            }
-            None => println!(rt; "  something else as HTML")?,
+    print_html_in(rt, table, Profile::One, bytes)?;
+    print_html_in(rt, table, Profile::Two, bytes)
+}
+
+fn print_html_in(
+    rt: &HostRuntime,
+    table: &EntityTable,
+    profile: Profile,
+    bytes: &[u8],
+) -> Result<()> {
+    match html_text(rt.alloc(), table, profile, bytes)? {
+        Some(html) => {
+            let text = std::str::from_utf8(html.as_slice())?;
+            println!(rt; "  html {text}")?;
         }
+        None => println!(rt; "  something else as HTML")?,
     }
     Ok(())
 }
@@ -159,9 +198,11 @@ fn unescaped(alloc: Global, text: &str) -> Result<String, AllocError> {
 }
 
 fn print_page(rt: &HostRuntime, name: &str, is_audited: bool, page: &Page) -> Result<()> {
-    let tree = brackets_text(rt.alloc(), &page.arena)?;
+    let mut tree = String::new(rt.alloc());
+    let mut audit = String::new(rt.alloc());
+    print_brackets(&mut tree, &page.arena)?;
+    print_audit(&mut audit, page)?;
     println!(rt; "{name}: {tree}")?;
-    let audit = audit_text(rt.alloc(), page)?;
     for line in audit.as_str().lines() {
         if is_audited || is_count(line) {
             println!(rt; "  {line}")?;

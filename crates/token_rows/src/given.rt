@@ -3,7 +3,7 @@
 use crate::show::{show, show_faults};
 use anyhow::Result;
 use html_charref::EntityTable;
-use html_tokens::{TextMode, Tokenizer};
+use html_tokens::{TextMode, Token, Tokenizer};
 use std::alloc::Global;
 
 /// No text of a row has more tokens.
@@ -24,15 +24,38 @@ pub(crate) struct Given {
     pub steps: u128,
 }
 
+impl Given {
+    pub(crate) fn new(alloc: Global) -> Given {
+        Given {
+            tokens: String::new(alloc),
+            faults: String::new(alloc),
+            steps: 0,
+        }
+    }
+}
+
 /// Takes the tokens that are decided, and answers how many they are.
 pub(crate) fn give(t: &mut Tokenizer<'_>, out: &mut String) -> Result<u32> {
     for count in 0..MOST {
-        match t.next()? {
-            Some(token) => show(out, &token)?,
-            None => return Ok(count),
+        if !give_one(t, out)? {
+            return Ok(count);
         }
     }
     Ok(MOST)
+}
+
+/// Takes the next token, and answers whether there was one.
+pub(crate) fn give_one(t: &mut Tokenizer<'_>, out: &mut String) -> Result<bool> {
+    let token = t.next()?;
+    show_next(out, token.as_ref())
+}
+
+fn show_next(out: &mut String, token: Option<&Token>) -> Result<bool> {
+    match token {
+        Some(token) => show(out, token)?,
+        None => return Ok(false),
+    }
+    Ok(true)
 }
 
 pub(crate) fn feed(alloc: Global, t: &mut Tokenizer<'_>, text: &str) -> Result<()> {
@@ -42,16 +65,12 @@ pub(crate) fn feed(alloc: Global, t: &mut Tokenizer<'_>, text: &str) -> Result<(
 }
 
 /// What is left when the text has ended.
-fn end(alloc: Global, t: &mut Tokenizer<'_>, mut tokens: String) -> Result<Given> {
+fn end(t: &mut Tokenizer<'_>, given: &mut Given) -> Result<()> {
     t.finish()?;
-    give(t, &mut tokens)?;
-    let mut faults = String::new(alloc);
-    show_faults(&mut faults, t.errors())?;
-    Ok(Given {
-        tokens,
-        faults,
-        steps: t.steps(),
-    })
+    give(t, &mut given.tokens)?;
+    show_faults(&mut given.faults, t.errors())?;
+    given.steps = t.steps();
+    Ok(())
 }
 
 /// Feeds a text in its pieces, and adds what they give, with `¶` between them.
@@ -80,14 +99,19 @@ fn read_code_points(t: &mut Tokenizer<'_>, out: &mut String, text: &str) -> Resu
 }
 
 /// Reads a text with this tokenizer, in its pieces or code point by code point.
-fn read(alloc: Global, t: &mut Tokenizer<'_>, text: &str, in_pieces: bool) -> Result<Given> {
-    let mut tokens = String::new(alloc);
+fn read(
+    alloc: Global,
+    t: &mut Tokenizer<'_>,
+    text: &str,
+    in_pieces: bool,
+    given: &mut Given,
+) -> Result<()> {
     if in_pieces {
-        read_pieces(alloc, t, &mut tokens, text)?;
+        read_pieces(alloc, t, &mut given.tokens, text)?;
     } else {
-        read_code_points(t, &mut tokens, text)?;
+        read_code_points(t, &mut given.tokens, text)?;
     }
-    end(alloc, t, tokens)
+    end(t, given)
 }
 
 /// What a text gives that is fed in its pieces, with `¶` between what they give, or code point by code point.
@@ -97,7 +121,8 @@ pub(crate) fn read_text(
     begin: Begin<'_>,
     text: &str,
     in_pieces: bool,
-) -> Result<Given> {
+    given: &mut Given,
+) -> Result<()> {
     let mut t = Tokenizer::new(alloc, table, begin.mode, begin.name)?;
-    read(alloc, &mut t, text, in_pieces)
+    read(alloc, &mut t, text, in_pieces, given)
 }

@@ -1,7 +1,7 @@
 //! Rows and their answers.
 
-use crate::given::{Begin, Given, MOST, feed, give, read_text};
-use crate::show::show;
+use crate::calls::input;
+use crate::given::{Begin, Given, MOST, feed, give, give_one, read_text};
 use anyhow::{Result, bail};
 use html_charref::EntityTable;
 use html_tokens::{TextMode, Tokenizer};
@@ -27,6 +27,9 @@ fn text_of(alloc: Global, written: &str) -> Result<String, AllocError> {
             '␀' => '\0',
             '␉' => '\t',
             '␣' => ' ',
+            '␊' => '\n',
+            '␍' => '\r',
+            '␂' => '\u{FEFF}',
             other => other,
         })?;
     }
@@ -52,8 +55,13 @@ fn word<'a>(line: &'a str) -> Result<(&'a str, &'a str)> {
     }
 }
 
-/// The answer of a row.
-pub(crate) fn answer(alloc: Global, table: &EntityTable, line: &str) -> Result<String> {
+/// Adds the answer of a row.
+pub(crate) fn answer(
+    alloc: Global,
+    table: &EntityTable,
+    line: &str,
+    out: &mut String,
+) -> Result<()> {
     let (asked, line) = word(line)?;
     let (mode, line) = word(line)?;
     let (name, written) = word(line)?;
@@ -63,11 +71,33 @@ pub(crate) fn answer(alloc: Global, table: &EntityTable, line: &str) -> Result<S
         mode,
         name: name.as_ref().map(|name| name.as_str()),
     };
+    answer_text(alloc, table, begin, asked, written, out)
+}
+
+fn answer_text(
+    alloc: Global,
+    table: &EntityTable,
+    begin: Begin<'_>,
+    asked: &str,
+    written: &str,
+    out: &mut String,
+) -> Result<()> {
     let text = text_of(alloc, written)?;
-    let text = text.as_str();
+    ask(alloc, table, begin, asked, text.as_str(), out)
+}
+
+fn ask(
+    alloc: Global,
+    table: &EntityTable,
+    begin: Begin<'_>,
+    asked: &str,
+    text: &str,
+    out: &mut String,
+) -> Result<()> {
     match asked {
-        "runs" | "switch" | "count" => called(alloc, table, begin, asked, text),
-        _ => both_ways(alloc, table, begin, asked, text),
+        "input" => input(alloc, table, begin, text.as_bytes(), out),
+        "runs" | "switch" | "count" => called(alloc, table, begin, asked, text, out),
+        _ => both_ways(alloc, table, begin, asked, text, out),
     }
 }
 
@@ -78,21 +108,23 @@ fn both_ways(
     begin: Begin<'_>,
     asked: &str,
     text: &str,
-) -> Result<String> {
-    let whole = read_text(alloc, table, begin, text, true)?;
-    let cut = read_text(alloc, table, begin, text, false)?;
-    shown(alloc, asked, &whole, &cut)
+    out: &mut String,
+) -> Result<()> {
+    let mut whole = Given::new(alloc);
+    let mut cut = Given::new(alloc);
+    read_text(alloc, table, begin, text, true, &mut whole)?;
+    read_text(alloc, table, begin, text, false, &mut cut)?;
+    shown(alloc, asked, &whole, &cut, out)
 }
 
 /// What is asked of what a text gave, where it gave the same code point by code point.
-fn shown(alloc: Global, asked: &str, whole: &Given, cut: &Given) -> Result<String> {
-    let tokens = whole.tokens.as_str().replace(alloc, "¶", "")?;
-    if tokens != cut.tokens || whole.faults != cut.faults || whole.steps != cut.steps {
+fn shown(alloc: Global, asked: &str, whole: &Given, cut: &Given, out: &mut String) -> Result<()> {
+    if !are_same(alloc, whole, cut)? {
         let (tokens, faults) = (&cut.tokens, &cut.faults);
-        return Ok(format!(in alloc; "cut otherwise: {tokens}{faults}")?);
+        write!(out, "cut otherwise: {tokens}{faults}")?;
+        return Ok(());
     }
     let (tokens, faults, steps) = (&whole.tokens, &whole.faults, whole.steps);
-    let mut out = String::new(alloc);
     match asked {
         "tokens" => write!(out, "{tokens}")?,
         "errors" => write!(out, "{faults}")?,
@@ -100,7 +132,13 @@ fn shown(alloc: Global, asked: &str, whole: &Given, cut: &Given) -> Result<Strin
         "steps" => write!(out, "{steps}")?,
         _ => out.push_str("no such question")?,
     }
-    Ok(out)
+    Ok(())
+}
+
+/// Whether a text gave the same, but for the signs of pieces.
+fn are_same(alloc: Global, whole: &Given, cut: &Given) -> Result<bool> {
+    let tokens = whole.tokens.as_str().replace(alloc, "¶", "")?;
+    Ok(tokens == cut.tokens && whole.faults == cut.faults && whole.steps == cut.steps)
 }
 
 /// What other calls answer, in the order in which a caller makes them.
@@ -110,20 +148,25 @@ fn called(
     begin: Begin<'_>,
     asked: &str,
     text: &str,
-) -> Result<String> {
+    out: &mut String,
+) -> Result<()> {
     let mut t = Tokenizer::new(alloc, table, begin.mode, begin.name)?;
-    call(alloc, &mut t, asked, text)
+    call(alloc, &mut t, asked, text, out)
 }
 
-fn call(alloc: Global, t: &mut Tokenizer<'_>, asked: &str, text: &str) -> Result<String> {
-    let mut out = String::new(alloc);
+fn call(
+    alloc: Global,
+    t: &mut Tokenizer<'_>,
+    asked: &str,
+    text: &str,
+    out: &mut String,
+) -> Result<()> {
     feed(alloc, t, text)?;
     match asked {
-        "runs" => runs(alloc, t, &mut out)?,
-        "switch" => switched(t, &mut out)?,
-        _ => counted(alloc, t, &mut out)?,
+        "runs" => runs(alloc, t, out),
+        "switch" => switched(t, out),
+        _ => counted(alloc, t, out),
     }
-    Ok(out)
 }
 
 /// The runs of plain text, each with its place, and the tokens between them.
@@ -146,17 +189,12 @@ fn one_run(t: &mut Tokenizer<'_>, run: &mut Vec<char>, out: &mut String) -> Resu
         out.extend(run.as_slice().iter().copied())?;
         out.push('|')?;
     }
-    match t.next()? {
-        Some(token) => show(out, &token)?,
-        None => return Ok(false),
-    }
-    Ok(true)
+    give_one(t, out)
 }
 
 /// The tokens of a text, of which what follows the first token is read as RCDATA.
 fn switched(t: &mut Tokenizer<'_>, out: &mut String) -> Result<()> {
-    if let Some(token) = t.next()? {
-        show(out, &token)?;
+    if give_one(t, out)? {
         t.switch(TextMode::Rcdata);
     }
     t.finish()?;
@@ -167,9 +205,14 @@ fn switched(t: &mut Tokenizer<'_>, out: &mut String) -> Result<()> {
 /// How many tokens a text gives before its end is known, and how many after.
 fn counted(alloc: Global, t: &mut Tokenizer<'_>, out: &mut String) -> Result<()> {
     let mut tokens = String::new(alloc);
-    let before = give(t, &mut tokens)?;
-    t.finish()?;
-    let after = give(t, &mut tokens)?;
+    let (before, after) = counts(t, &mut tokens)?;
     write!(out, "{before} {after}")?;
     Ok(())
+}
+
+fn counts(t: &mut Tokenizer<'_>, tokens: &mut String) -> Result<(u32, u32)> {
+    let before = give(t, tokens)?;
+    t.finish()?;
+    let after = give(t, tokens)?;
+    Ok((before, after))
 }

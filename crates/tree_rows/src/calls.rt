@@ -7,7 +7,6 @@ use crate::words::{Word, number};
 use html_arena::{Limits, NodeId};
 use html_charref::Str;
 use html_tokens::{Attr, Attrs};
-use html_tree::OpenError;
 use std::alloc::Global;
 
 /// Makes the call that a word names, and writes its answer.
@@ -104,12 +103,7 @@ fn attributes(alloc: Global, name: &str) -> Result<Attrs, Refusal> {
 
 /// Adds a run: the text, and how many code points it took.
 fn append(page: &mut Page, alloc: Global, word: Word<'_>, out: &mut String) -> Result<(), Refusal> {
-    let mut run: Vec<char> = Vec::new(alloc);
-    for c in word.first.chars() {
-        if run.push(c).is_err() {
-            return Err(Refusal::Open(OpenError::OutOfMemory));
-        }
-    }
+    let run: Vec<char> = word.first.chars().collect(alloc)?;
     let (node, count) = page.append_run(run.as_slice(), word.fosters())?;
     push_node(out, Some(node))?;
     write!(out, "+{count}")?;

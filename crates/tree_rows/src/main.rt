@@ -19,11 +19,7 @@ use rows::answer;
 use std::env;
 
 fn main(rt: HostRuntime) -> anyhow::Result<()> {
-    let words: Vec<String> = env::args(&rt)?.collect(rt.alloc())?;
-    let given = words
-        .get(1)
-        .and_then(|word| word.as_str().parse::<u64>().ok());
-    match given {
+    match given(&rt)? {
         Some(count) => measure_nested(&rt, count, true),
         None => {
             answer_rows(&rt)?;
@@ -32,15 +28,26 @@ fn main(rt: HostRuntime) -> anyhow::Result<()> {
     }
 }
 
+/// The number that is given to the program.
+fn given(rt: &HostRuntime) -> anyhow::Result<Option<u64>> {
+    let word = env::args(rt)?.nth(1);
+    Ok(word.and_then(|word| word.as_str().parse::<u64>().ok()))
+}
+
 fn answer_rows(rt: &HostRuntime) -> anyhow::Result<()> {
+    let mut out = String::new(rt.alloc());
     for line in rt.lines(rt.alloc()) {
-        let line = line?;
-        let row = line.as_str();
-        if !row.starts_with("#") {
-            let mut out = String::new(rt.alloc());
-            answer(rt.alloc(), row, &mut out)?;
-            println!(rt; "{out}")?;
-        }
+        answer_row(rt, line?.as_str(), &mut out)?;
+    }
+    Ok(())
+}
+
+/// Prints the answer of a row, where it is one.
+fn answer_row(rt: &HostRuntime, row: &str, out: &mut String) -> anyhow::Result<()> {
+    if !row.starts_with("#") {
+        answer(rt.alloc(), row, out)?;
+        println!(rt; "{out}")?;
+        out.clear();
     }
     Ok(())
 }

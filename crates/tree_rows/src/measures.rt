@@ -11,8 +11,12 @@ use std::time::Instant;
 /// Opens so many `div`, each in the one before, after a look for an open `p`.
 pub(crate) fn measure_nested(rt: &HostRuntime, count: u64, timed: bool) -> anyhow::Result<()> {
     let mut page = Page::document(rt.alloc())?;
+    time_nested(rt, &mut page, count, timed)
+}
+
+fn time_nested(rt: &HostRuntime, page: &mut Page, count: u64, timed: bool) -> anyhow::Result<()> {
     let start = Instant::now(rt)?;
-    nest(&mut page, rt.alloc(), count)?;
+    nest(page, rt.alloc(), count)?;
     let took = start.elapsed(rt)?.as_micros();
     say(rt, "open", page.depth() as u128)?;
     if timed {

@@ -11,10 +11,7 @@ use std::alloc::{AllocError, Global};
 /// Makes the calls of a row on a document of its own, and writes what those after the last `|` answer, or why a call was not made.
 pub(crate) fn answer(alloc: Global, row: &str, out: &mut String) -> Result<(), AllocError> {
     match Page::document(alloc) {
-        Ok(page) => {
-            let mut page = page;
-            tell(&mut page, alloc, row, out)
-        }
+        Ok(mut page) => tell(&mut page, alloc, row, out),
         Err(error) => tell_refusal(Refusal::Open(error), out),
     }
 }

@@ -1,0 +1,33 @@
+//! Files of test cases.
+
+use crate::rows::show;
+use anyhow::Result;
+use html_parser::EntityTable;
+use html_suite::suite_file;
+use std::alloc::Global;
+
+/// Runs a file of test cases, and adds what is written and told, and the status.
+pub(crate) fn run_file(alloc: Global, name: &str, text: &str, out: &mut String) -> Result<()> {
+    let table = EntityTable::core(alloc)?;
+    run_over(alloc, name, text, &table, out)
+}
+
+fn run_over(
+    alloc: Global,
+    name: &str,
+    text: &str,
+    table: &EntityTable,
+    out: &mut String,
+) -> Result<()> {
+    let mut written = Vec::new(alloc);
+    let mut faults = Vec::new(alloc);
+    let status = suite_file(
+        alloc,
+        name,
+        text.as_bytes(),
+        table,
+        &mut written,
+        &mut faults,
+    );
+    show(out, written.as_slice(), faults.as_slice(), status)
+}
