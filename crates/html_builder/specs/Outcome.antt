@@ -12,6 +12,7 @@ use Rattle.html_ledger.specs.Fated.{Fated}
 use Rattle.html_construction.specs.Accounts.{AreMade, AreTexts}
 use Rattle.html_construction.specs.Built.{symbols}
 use Rattle.html_construction.specs.Origins.{AreOrigins, IsRootLabel}
+use Rattle.html_builder.specs.RawTexts.{AreRawTexts}
 
 -- WHICH NODES HAVE NO PARENT
 
@@ -55,7 +56,8 @@ pub record IsBounded (n : ℕ) (t : Tree) : Type 0 where
 -- ALL OF IT
 
 -- The tree, the fates and the numbers of tokens with an error that were built of these tokens, the end of the page last: each node has what its token
--- has, each token of which a node was made is that node's, and each text is of the code points with its fate.
+-- has, each token of which a node was made is that node's, each text is of the code points with its fate, and an element that holds text alone holds the
+-- text up to the next other token.
 pub record IsOutcome (s : Setting) (tokens : List TokenKind) (fates : List Fate) (errors : List ℕ) (t : Tree) : Type 0 where
   pub well_formed : WellFormed t
   pub rooted : IsRooted t
@@ -65,3 +67,4 @@ pub record IsOutcome (s : Setting) (tokens : List TokenKind) (fates : List Fate)
   pub made : AreMade fates t.labels
   pub texts : AreTexts (symbols tokens) fates t.labels
   pub told : AreErrors s (symbols tokens) fates errors
+  pub raw_texts : AreRawTexts (symbols tokens) fates t
