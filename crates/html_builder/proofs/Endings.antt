@@ -40,6 +40,8 @@ use Rattle.html_modes.specs.Steps.{allowance}
 use Rattle.html_builder.specs.Builders.{BuilderState}
 use Rattle.html_builder.specs.Handed.{CostAtMost, EndsAtEof, Handed, HaveFates, fates_of, given, own_total}
 use Rattle.html_builder.specs.Outcome.{IsBounded, IsOutcome, IsRooted, most_entries, most_held, most_nodes, most_tree_steps}
+use Rattle.html_builder.specs.RawTexts.{StandSoFar}
+use Rattle.html_builder.proofs.RawEnds.{raw-end}
 
 -- the first symbol of a list, and the rest
 abbrev first : List Symbol → Symbol
@@ -82,20 +84,20 @@ have-fates s l ts b h =
     }
 
 -- the last symbol of a list that is not empty
-abbrev last_or : Symbol → List Symbol → Symbol
+abbrev pub last_or : Symbol → List Symbol → Symbol
 last_or d [] = d
 last_or d (y ∷ ys) = last_or y ys
 
-last-of : (d y : Symbol) (ys : List Symbol) → last_or d (ys ++ y ∷ []) ≡ y
+pub last-of : (d y : Symbol) (ys : List Symbol) → last_or d (ys ++ y ∷ []) ≡ y
 last-of d y [] = refl
 last-of d y (z ∷ ys) = last-of z y ys
 
-symbols-append : (ts us : List TokenKind) → symbols (ts ++ us) ≡ symbols ts ++ symbols us
+pub symbols-append : (ts us : List TokenKind) → symbols (ts ++ us) ≡ symbols ts ++ symbols us
 symbols-append [] us = refl
 symbols-append (t ∷ ts) us = ap (λ xs. symbol_of t ∷ xs) (symbols-append ts us)
 
 -- code points end with a code point
-abbrev is_char : Symbol → Type 0
+abbrev pub is_char : Symbol → Type 0
 is_char (Char c) = Unit {0}
 is_char _ = ⊥
 
@@ -103,7 +105,7 @@ last-chars : (c : ℕ) (cs : List ℕ) → is_char (last_or (Char c) (symbol_cha
 last-chars c [] = tt
 last-chars c (d ∷ cs) = last-chars d cs
 
-last-append : (d : Symbol) (ys : List Symbol) (c : ℕ) (cs : List ℕ) → is_char (last_or d (ys ++ symbol_chars (c ∷ cs)))
+pub last-append : (d : Symbol) (ys : List Symbol) (c : ℕ) (cs : List ℕ) → is_char (last_or d (ys ++ symbol_chars (c ∷ cs)))
 last-append d [] c cs = last-chars c cs
 last-append d (y ∷ ys) c cs = last-append y ys c cs
 
@@ -120,11 +122,11 @@ quiet-end s l ts b h e = let f : Fed s b.page.ledger (symbols ts) = h.built.fed 
 
 -- HOW MANY NODES THERE ARE
 
-length-symbols : (ts : List TokenKind) → length (symbols ts) ≡ length ts
+pub length-symbols : (ts : List TokenKind) → length (symbols ts) ≡ length ts
 length-symbols [] = refl
 length-symbols (t ∷ ts) = ap suc (length-symbols ts)
 
-length-kept : (cs : List ℕ) → length (symbol_chars cs) ≡ length cs
+pub length-kept : (cs : List ℕ) → length (symbol_chars cs) ≡ length cs
 length-kept [] = refl
 length-kept (c ∷ cs) = ap suc (length-kept cs)
 
@@ -281,6 +283,7 @@ outcome s l ts b t fs es h e q w d p f g seats =
       told = g (given s l ts) k h.built;
       parts = stand.parts;
       templates = stand.templates;
+      raw_texts = raw-end ts fs b.page t e q (subst (λ x. StandSoFar (symbols ts) x b.page) (sym p) h.raw_texts);
     }
 
 -- the limits to which it was built are kept

@@ -17,7 +17,7 @@ use Rattle.html_ledger.specs.declared.fate.Fate.{Fate}
 use Rattle.html_ledger.specs.declared.fate.Fate.TheVariants as fate
 use Rattle.html_ledger.specs.Symbols.{symbol_of}
 use Rattle.html_ledger.specs.Runs.{last_of}
-use Rattle.html_construction.specs.Built.{BeginsWith, Handed as Given, IsBuilt, Takes, TakesRun, chars_of, ends_made, nothing_of, some_made, with_tokens}
+use Rattle.html_construction.specs.Built.{BeginsWith, Handed as Given, IsBuilt, Takes, TakesRun, chars_of, ends_made, nothing_of, some_made, symbols, with_tokens}
 use Rattle.html_construction.specs.Modes.{is_reset}
 use Rattle.html_construction.specs.States.{State}
 use Rattle.html_construction.specs.declared.mode.Mode.{Mode}
@@ -43,6 +43,10 @@ use Rattle.html_builder.proofs.Endings.{handed-count, have-fates}
 use Rattle.html_builder.proofs.Plainly.{begun-plain, plain-run, plain-token}
 use Rattle.html_builder.specs.Plain.{IsPlainSoFar}
 use Rattle.html_modes.specs.Plain.{GoesOn, GoesOnText}
+use Rattle.html_modes.specs.RawText.{AddsBy, AddsText, EndsBy, OpensBy}
+use Rattle.html_construction.proofs.Building.{symbols-chars}
+use Rattle.html_builder.specs.RawTexts.{StandSoFar}
+use Rattle.html_builder.proofs.RawTexts.{raw-run, raw-token}
 use Rattle.html_ledger.specs.Entries.{begun as begun_ledger}
 use Rattle.html_ledger.specs.Flags.{is_not_null}
 use Rattle.html_ledger.specs.declared.setting.Setting.TheVariants as setting
@@ -63,36 +67,7 @@ with-known h fs ts = refl
 
 -- what is built of tokens was built with the fates that there are
 pub built-knowing : (h : Given) (a : State) → IsBuilt h a → IsBuilt (knowing h a.ledger.fates) a
-built-knowing h a w = record { fed = w.fed; known = ([], sym (append-nil a.ledger.fates)); rooted = w.rooted; limits = w.limits; root = w.root; origins = w.origins; made = w.made; texts = w.texts }
-
--- so many tokens, handed in at once
-handed-in : (us : List TokenKind) (more : ℕ) (v w : BuilderState) → ((h : Given) → IsBuilt h v.page → IsBuilt (with_tokens h us) w.page) → Pays v.page w.page
-    → Enters (length us) v.entries w.entries v.page w.page → Toils more v.page w.page → more ≤ attribute_total us * span_of w.page → ((s : Setting) (ts : List TokenKind) → IsPlainSoFar s ts v.page → IsPlainSoFar s (ts ++ us) w.page) → 0 < length us → w.stopped ≡ false → HandsIn us v w
-handed-in us more v w f p r o m q k g = λ s l ts h.
-    let n : length (ts ++ us) ≡ length ts + length us = length-append ts us in
-    let b : IsBuilt (given s l (ts ++ us)) w.page = subst (λ x. IsBuilt x w.page) (with-given s l ts us) (f (given s l ts) h.built) in
-    let c = handed-count (given s l (ts ++ us)) w.page b in record {
-      going = g;
-      built = b;
-      paid = omega (arith, p.0, h.paid, n, k);
-      cloned = omega (arith, p.1.0, h.cloned);
-      implied = omega (arith, p.1.1.0, h.implied_paid, n, k);
-      implied_paid = omega (arith, p.1.1.1, h.implied_paid, n, k);
-      entered = omega (arith, r, h.entered, n);
-      counted = counted-in ts us more (given s l (ts ++ us)) v.page w.page refl b (omega (arith, c)) k h.counted (omega (arith, h.implied_paid)) o m;
-      plain = q s ts h.plain;
-    }
-
-pub handed-token : (t : TokenKind) (v w : BuilderState) → Takes t v.page w.page → Pays v.page w.page → Enters 1 v.entries w.entries v.page w.page → Toils (compared t w.page) v.page w.page → GoesOn (symbol_of t) t v.page w.page → w.stopped ≡ false → HandsIn (t ∷ []) v w
-handed-token t v w f p r o q g = handed-in (t ∷ []) (compared t w.page) v w f p r o (compared-one t (span_of w.page)) (plain-token t v.page w.page q) (omega arith) g
-
-length-chars : (cs : List ℕ) → length (chars_of cs) ≡ length cs
-length-chars [] = refl
-length-chars (c ∷ cs) = ap suc (length-chars cs)
-
-pub handed-run : (cs : List ℕ) (v w : BuilderState) → TakesRun cs v.page w.page → Pays v.page w.page → Enters (length cs) v.entries w.entries v.page w.page → Toils 0 v.page w.page → (list_all is_not_null cs ≡ true → GoesOnText cs v.page w.page) → 0 < length cs → w.stopped ≡ false
-    → HandsIn (chars_of cs) v w
-handed-run cs v w f p r o q k g = handed-in (chars_of cs) 0 v w f p (subst (λ n. Enters n v.entries w.entries v.page w.page) (sym (length-chars cs)) r) o (omega arith) (plain-run cs v.page w.page k q) (let e = length-chars cs in omega (arith, e, k)) g
+built-knowing h a w = record { fed = w.fed; known = ([], sym (append-nil a.ledger.fates)); rooted = w.rooted; limits = w.limits; root = w.root; origins = w.origins; made = w.made; texts = w.texts; since = w.since }
 
 -- fates are only added
 added : (us : List TokenKind) (v w : BuilderState) → ((h : Given) → IsBuilt h v.page → IsBuilt (with_tokens h us) w.page) → AddsFates v w
@@ -105,6 +80,43 @@ added-token t v w f = added (t ∷ []) v w f
 
 pub added-run : (cs : List ℕ) (v w : BuilderState) → TakesRun cs v.page w.page → AddsFates v w
 added-run cs v w f = added (chars_of cs) v w f
+
+-- what elements that hold text alone hold so far
+abbrev pub RawSoFar : List TokenKind → BuilderState → BuilderState → Type 0
+RawSoFar us v w = (s : Setting) (l : Option Limits) (ts : List TokenKind) → Handed s l ts v → StandSoFar (symbols (ts ++ us)) w.page.ledger.fates w.page
+
+-- so many tokens, handed in at once
+handed-in : (us : List TokenKind) (more : ℕ) (v w : BuilderState) → ((h : Given) → IsBuilt h v.page → IsBuilt (with_tokens h us) w.page) → Pays v.page w.page
+    → Enters (length us) v.entries w.entries v.page w.page → Toils more v.page w.page → more ≤ attribute_total us * span_of w.page → ((s : Setting) (ts : List TokenKind) → IsPlainSoFar s ts v.page → IsPlainSoFar s (ts ++ us) w.page) → RawSoFar us v w → 0 < length us → w.stopped ≡ false → HandsIn us v w
+handed-in us more v w f p r o m q z k g = λ s l ts h.
+    let n : length (ts ++ us) ≡ length ts + length us = length-append ts us in
+    let b : IsBuilt (given s l (ts ++ us)) w.page = subst (λ x. IsBuilt x w.page) (with-given s l ts us) (f (given s l ts) h.built) in
+    let c = handed-count (given s l (ts ++ us)) w.page b in record {
+      going = g;
+      built = b;
+      paid = omega (arith, p.0, h.paid, n, k);
+      cloned = omega (arith, p.1.0, h.cloned);
+      implied = omega (arith, p.1.1.0, h.implied_paid, n, k);
+      implied_paid = omega (arith, p.1.1.1, h.implied_paid, n, k);
+      entered = omega (arith, r, h.entered, n);
+      counted = counted-in ts us more (given s l (ts ++ us)) v.page w.page refl b (omega (arith, c)) k h.counted (omega (arith, h.implied_paid)) o m;
+      plain = q s ts h.plain;
+      raw_texts = z s l ts h;
+    }
+
+pub handed-token : (t : TokenKind) (v w : BuilderState) → Takes t v.page w.page → Pays v.page w.page → Enters 1 v.entries w.entries v.page w.page → Toils (compared t w.page) v.page w.page → GoesOn (symbol_of t) t v.page w.page
+    → OpensBy (symbol_of t) w.page → AddsBy (symbol_of t) v.page w.page → EndsBy (symbol_of t) t v.page w.page → w.stopped ≡ false → HandsIn (t ∷ []) v w
+handed-token t v w f p r o q x y z g = handed-in (t ∷ []) (compared t w.page) v w f p r o (compared-one t (span_of w.page)) (plain-token t v.page w.page q)
+    (λ s l ts h. raw-token (given s l ts) ts t v.page w.page refl h.built f x y z (added-token t v w f s l ts h) h.raw_texts) (omega arith) g
+
+length-chars : (cs : List ℕ) → length (chars_of cs) ≡ length cs
+length-chars [] = refl
+length-chars (c ∷ cs) = ap suc (length-chars cs)
+
+pub handed-run : (cs : List ℕ) (v w : BuilderState) → TakesRun cs v.page w.page → Pays v.page w.page → Enters (length cs) v.entries w.entries v.page w.page → Toils 0 v.page w.page → (list_all is_not_null cs ≡ true → GoesOnText cs v.page w.page) → AddsText cs v.page w.page → 0 < length cs → w.stopped ≡ false
+    → HandsIn (chars_of cs) v w
+handed-run cs v w f p r o q z k g = handed-in (chars_of cs) 0 v w f p (subst (λ n. Enters n v.entries w.entries v.page w.page) (sym (length-chars cs)) r) o (omega arith) (plain-run cs v.page w.page k q)
+    (λ s l ts h. raw-run (given s l ts) ts (chars_of cs) cs v.page w.page refl h.built (symbols-chars cs) f z (added-run cs v w f s l ts h) h.raw_texts) (let e = length-chars cs in omega (arith, e, k)) g
 
 -- ONE AFTER ANOTHER
 
@@ -140,7 +152,7 @@ none-fated s l a w = let c = handed-count (nothing_of s l) a w in length-none a.
 
 begun : (s : Setting) (l : Option Limits) (b : BuilderState) → b.stopped ≡ false → b.entries ≡ 0 → IsBuilt (nothing_of s l) b.page → length b.page.tree.tree.labels + 2 * (weight b.page.stack + top_rank b.page.mode) ≤ 40
     → most_clones b.page.tree.tree.labels ≡ 0 → implied_count b.page.tree.tree.labels ≤ 1 → b.page.tree.steps ≤ 2 + reach_of b.page → weight b.page.stack + top_rank b.page.mode ≤ 14 → IsPlainSoFar s [] b.page → Handed s l [] b
-begun s l b g z w p c i t r q = record { going = g; built = w; paid = omega (arith, p); cloned = omega (arith, c); implied = omega (arith, i); implied_paid = omega (arith, i, r); entered = omega (arith, z, r); counted = counted-none [] b.page t r; plain = q }
+begun s l b g z w p c i t r q = record { going = g; built = w; paid = omega (arith, p); cloned = omega (arith, c); implied = omega (arith, i); implied_paid = omega (arith, i, r); entered = omega (arith, z, r); counted = counted-none [] b.page t r; plain = q; raw_texts = tt }
 
 pub begun-document : (l : Option Limits) (b : BuilderState) → b.stopped ≡ false → b.entries ≡ 0 → IsBuilt (nothing_of setting.Document l) b.page → b.page.mode ≡ mode.Initial → b.page.stack ≡ [] → length b.page.tree.tree.labels ≡ 1
     → most_clones b.page.tree.tree.labels ≡ 0 → implied_count b.page.tree.tree.labels ≤ 1 → b.page.tree.steps ≤ 2 + reach_of b.page → (z : Option Limits) × (j : ℕ) × (b.page.tree ≡ document_state z j)
@@ -231,11 +243,13 @@ text-cause-part s l ts us fs gs text part start at (error.HeldBudget place) p q 
 
 -- the same, where the state is seen as a view
 pub viewed-token : (t : TokenKind) (y : Symbol) (u v w : BuilderState) → u ≡ v → y ≡ symbol_of t → Takes t u.page w.page → Pays u.page w.page → Enters 1 u.entries w.entries u.page w.page → Toils (compared t w.page) u.page w.page → GoesOn y t u.page w.page
-    → w.stopped ≡ false → HandsIn (t ∷ []) v w
-viewed-token t y u v w e i f p r o q g = subst (λ x. HandsIn (t ∷ []) x w) e (handed-token t u w f p r o (subst (λ z. GoesOn z t u.page w.page) i q) g)
+    → OpensBy y w.page → AddsBy y u.page w.page → EndsBy y t u.page w.page → w.stopped ≡ false → HandsIn (t ∷ []) v w
+viewed-token t y u v w e i f p r o q x m n g =
+    subst (λ x. HandsIn (t ∷ []) x w) e
+    (handed-token t u w f p r o (subst (λ z. GoesOn z t u.page w.page) i q) (subst (λ z. OpensBy z w.page) i x) (subst (λ z. AddsBy z u.page w.page) i m) (subst (λ z. EndsBy z t u.page w.page) i n) g)
 
-pub viewed-run : (cs : List ℕ) (u v w : BuilderState) → u ≡ v → TakesRun cs u.page w.page → Pays u.page w.page → Enters (length cs) u.entries w.entries u.page w.page → Toils 0 u.page w.page → (list_all is_not_null cs ≡ true → GoesOnText cs u.page w.page) → 0 < length cs → w.stopped ≡ false → HandsIn (chars_of cs) v w
-viewed-run cs u v w e f p r o q k g = subst (λ x. HandsIn (chars_of cs) x w) e (handed-run cs u w f p r o q k g)
+pub viewed-run : (cs : List ℕ) (u v w : BuilderState) → u ≡ v → TakesRun cs u.page w.page → Pays u.page w.page → Enters (length cs) u.entries w.entries u.page w.page → Toils 0 u.page w.page → (list_all is_not_null cs ≡ true → GoesOnText cs u.page w.page) → AddsText cs u.page w.page → 0 < length cs → w.stopped ≡ false → HandsIn (chars_of cs) v w
+viewed-run cs u v w e f p r o q z k g = subst (λ x. HandsIn (chars_of cs) x w) e (handed-run cs u w f p r o q z k g)
 
 pub viewed-added : (cs : List ℕ) (u v w : BuilderState) → u ≡ v → TakesRun cs u.page w.page → AddsFates v w
 viewed-added cs u v w e f = subst (λ x. AddsFates x w) e (added-run cs u w f)

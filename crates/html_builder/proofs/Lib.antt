@@ -1,5 +1,7 @@
 pub mod Counting
+pub mod RawEnds
 pub mod Endings
+pub mod RawTexts
 pub mod Handing
 pub mod Holding
 pub mod Adding

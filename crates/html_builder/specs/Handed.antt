@@ -1,5 +1,5 @@
 -- What callers know of a builder: what it was begun with, the tokens handed in, and what became of them.
-use Rattle.std.specs.Prelude.{◌≡◌, ℕ, ◌+◌, ◌*◌, ◌<◌, ◌≤◌, Bool, false, List, [], ◌∷◌, ◌++◌, length, Option}
+use Rattle.std.specs.Prelude.{◌≡◌, ℕ, ◌+◌, ◌*◌, ◌<◌, ◌≤◌, Bool, false, List, [], ◌∷◌, ◌++◌, length, Option, None}
 use Rattle.std.specs.List.{sum_by}
 use Rattle.html_names.specs.declared.tag.Tag.{Tag}
 use Rattle.html_names.specs.declared.tag.Tag.TheVariants as tag
@@ -21,6 +21,7 @@ use Rattle.html_modes.specs.Ranks.{top_rank}
 use Rattle.html_modes.specs.Steps.{allowance, fee_of, turn_of}
 use Rattle.html_builder.specs.Builders.{BuilderState}
 use Rattle.html_builder.specs.Plain.{IsPlainSoFar}
+use Rattle.html_builder.specs.RawTexts.{StandSoFar}
 use Rattle.html_builder.specs.declared.error.BuildError.{BuildError}
 use Rattle.html_builder.specs.declared.error.BuildError.TheVariants as refusal
 
@@ -34,7 +35,7 @@ is_stopped b = b.stopped
 
 -- what was handed in
 abbrev pub given : Setting → Option Limits → List TokenKind → Given
-given s limits tokens = record { setting = s; limits = limits; tokens = tokens; known = [] }
+given s limits tokens = record { setting = s; limits = limits; tokens = tokens; known = []; earlier = None }
 
 -- how many attributes a token has, and tokens have together
 abbrev pub attribute_count : TokenKind → ℕ
@@ -51,7 +52,7 @@ most_compared tokens = 2 * (attribute_total tokens * attribute_total tokens * (l
 -- those for which the open elements and the mode are room, are no more than so many tokens grant; of one token's element there are ten clones at most
 -- for each fate; and so are bounded the elements that no token asked for, and the steps that it counted: a fee for each fate, and for each token so many
 -- entries into the rules, less those for which the open elements and the mode are still room. Where the tokens begin those of a plain page, the tree is
--- that page's so far.
+-- that page's so far. Each element that holds text alone holds the text up to the next other token, or so far.
 pub record Handed (s : Setting) (limits : Option Limits) (tokens : List TokenKind) (b : BuilderState) : Type 0 where
   pub going : b.stopped ≡ false
   pub built : IsBuilt (given s limits tokens) b.page
@@ -63,6 +64,7 @@ pub record Handed (s : Setting) (limits : Option Limits) (tokens : List TokenKin
   pub counted : b.page.tree.steps + (weight b.page.stack + top_rank b.page.mode) * turn_of b.page
       ≤ length b.page.ledger.fates * fee_of b.page + (16 + 16 * length tokens) * turn_of b.page + most_compared tokens
   pub plain : IsPlainSoFar s tokens b.page
+  pub raw_texts : StandSoFar (symbols tokens) b.page.ledger.fates b.page
 
 -- These tokens were handed in.
 abbrev pub HandsIn : List TokenKind → BuilderState → BuilderState → Type 0

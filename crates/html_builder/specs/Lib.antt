@@ -4,4 +4,5 @@ pub mod Errors
 pub mod Handed
 pub mod Outcome
 pub mod Plain
+pub mod RawTexts
 pub mod Switches

@@ -14,6 +14,7 @@ use Rattle.html_tree.specs.Seats.{ArePartsSeated}
 use Rattle.html_construction.specs.Accounts.{AreMade, AreTexts}
 use Rattle.html_construction.specs.Built.{symbols}
 use Rattle.html_construction.specs.Origins.{AreOrigins, IsRootLabel}
+use Rattle.html_builder.specs.RawTexts.{AreRawTexts}
 
 -- WHICH NODES HAVE NO PARENT
 
@@ -57,8 +58,8 @@ pub record IsBounded (n : ℕ) (t : Tree) : Type 0 where
 -- ALL OF IT
 
 -- The tree, the fates and the numbers of tokens with an error that were built of these tokens, the end of the page last: each node has what its token
--- has, each token of which a node was made is that node's, each text is of the code points with its fate, parts of tables stand on what may hold them
--- (13.2.6.4.9 to 13.2.6.4.15), and no template has children of its own (4.12.3).
+-- has, each token of which a node was made is that node's, each text is of the code points with its fate, an element that holds text alone holds the text up
+-- to the next other token, parts of tables stand on what may hold them (13.2.6.4.9 to 13.2.6.4.15), and no template has children of its own (4.12.3).
 pub record IsOutcome (s : Setting) (tokens : List TokenKind) (fates : List Fate) (errors : List ℕ) (t : Tree) : Type 0 where
   pub well_formed : WellFormed t
   pub rooted : IsRooted t
@@ -70,3 +71,4 @@ pub record IsOutcome (s : Setting) (tokens : List TokenKind) (fates : List Fate)
   pub told : AreErrors s (symbols tokens) fates errors
   pub parts : ArePartsSeated t
   pub templates : AreTemplatesEmpty t
+  pub raw_texts : AreRawTexts (symbols tokens) fates t

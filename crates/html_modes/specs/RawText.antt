@@ -96,3 +96,14 @@ Leaves (Foreign name) t a b = Unit {0}
 
 pub record Ends (o : Outcome) (y : Symbol) (t : TokenKind) (a b : State) : Type 0 where
   pub ends : is_text a.mode ≡ true → is_code_point y ≡ false → Leaves o t a b
+
+-- WHAT A TOKEN DOES THAT IS DONE WITH
+
+abbrev pub OpensBy : Symbol → State → Type 0
+OpensBy y b = Opens Done y b
+
+abbrev pub AddsBy : Symbol → State → State → Type 0
+AddsBy y a b = Adds Done y a b
+
+abbrev pub EndsBy : Symbol → TokenKind → State → State → Type 0
+EndsBy y t a b = Ends Done y t a b

@@ -9,8 +9,7 @@ ghost use Rattle.html_modes.specs.Plain.{GoesOn, Turns};
 ghost use Rattle.html_modes.specs.Steps.{Counted, Falls, Pays, Settles, Spends, Steps, Toils, compared, root_of};
 ghost use Rattle.html_modes.specs.Ranks.{top_rank};
 ghost use Rattle.html_modes.specs.Guards.{is_droppable, is_of_frames, is_of_selects, is_table_text};
-ghost use Rattle.html_modes.specs.RawText.{Adds, Ends, Opens};
-ghost use Rattle.html_modes.specs.declared.outcome.Outcome.TheVariants.{Done};
+ghost use Rattle.html_modes.specs.RawText.{Adds, AddsBy, Ends, EndsBy, Opens, OpensBy};
 
 use crate::guards::{is_astray, is_table_text, is_unfounded};
 use crate::modes::after::{after_after_body, after_body};
@@ -54,9 +53,9 @@ pub fn take(
     ensures enters { IfOk result (λ f. f ≡ None → Enters 1 entries.old entries.new page.old page.new) }
     ensures toils { IfOk result (λ f. f ≡ None → Toils (compared token.now page.new) page.old page.new) }
     ensures plain { IfOk result (λ f. f ≡ None → GoesOn symbol token.now page.old page.new) }
-    ensures opens { IfOk result (λ f. f ≡ None → Opens Done symbol page.new) }
-    ensures adds { IfOk result (λ f. f ≡ None → Adds Done symbol page.old page.new) }
-    ensures ends { IfOk result (λ f. f ≡ None → Ends Done symbol token.now page.old page.new) }
+    ensures opens { IfOk result (λ f. f ≡ None → OpensBy symbol page.new) }
+    ensures adds { IfOk result (λ f. f ≡ None → AddsBy symbol page.old page.new) }
+    ensures ends { IfOk result (λ f. f ≡ None → EndsBy symbol token.now page.old page.new) }
 {
     page.begin_call();
     'steps: loop {
