@@ -1,6 +1,6 @@
 //! Calls of a ledger, each where the ledger takes it.
 
-use crate::words::{char_of, fate_of, symbol_of};
+use crate::words::{chars_of, fate_of, symbol_of};
 use anyhow::Result;
 use html_arena::NodeId;
 use html_ledger::{Cause, Fate, Ledger, Symbol};
@@ -48,15 +48,16 @@ fn settle(ledger: &mut Ledger) -> Result<bool> {
 
 /// Gives code points their fates in one go where they may all become text, else one by one.
 fn give_run(alloc: Global, ledger: &mut Ledger, letters: &str) -> Result<bool> {
-    let mut run = Vec::new(alloc);
-    for c in letters.chars() {
-        run.push(char_of(c))?;
-    }
-    if ledger.is_quiet() && ledger.history().may_text_run(run.as_slice()) {
-        ledger.give_run(run.as_slice(), NodeId::at(5))?;
+    let run = chars_of(alloc, letters)?;
+    give_chars(ledger, run.as_slice())
+}
+
+fn give_chars(ledger: &mut Ledger, run: &[char]) -> Result<bool> {
+    if ledger.is_quiet() && ledger.history().may_text_run(run) {
+        ledger.give_run(run, NodeId::at(5))?;
         return Ok(true);
     }
-    for c in &run {
+    for c in run {
         if !give_char(ledger, *c)? {
             return Ok(false);
         }

@@ -1,6 +1,6 @@
 //! Lists of tokens.
 
-use crate::words::char_of;
+use crate::words::{char_of, chars_of};
 use anyhow::{Result, bail};
 use html_charref::Str;
 use html_token_list::{TokenRef, Tokens};
@@ -50,10 +50,7 @@ fn add_token(alloc: Global, tokens: &mut Tokens, what: &str, start: u64, end: u6
 }
 
 fn add_text(alloc: Global, tokens: &mut Tokens, letters: &str, place: u64) -> Result<()> {
-    let mut text = Vec::new(alloc);
-    for c in letters.chars() {
-        text.push(char_of(c))?;
-    }
+    let text = chars_of(alloc, letters)?;
     tokens.push_text(text.as_slice(), place)?;
     Ok(())
 }

@@ -4,6 +4,7 @@ use anyhow::{Result, bail};
 use html_arena::NodeId;
 use html_ledger::{Cause, Fate, Setting, Symbol};
 use html_names::Tag;
+use std::alloc::{AllocError, Global};
 
 /// What is parsed.
 pub(crate) fn setting_of(word: &str) -> Result<Setting> {
@@ -24,6 +25,15 @@ pub(crate) fn char_of(c: char) -> char {
         '␀' => '\0',
         other => other,
     }
+}
+
+/// The code points that letters stand for.
+pub(crate) fn chars_of(alloc: Global, letters: &str) -> Result<Vec<char>, AllocError> {
+    let mut run = Vec::new(alloc);
+    for c in letters.chars() {
+        run.push(char_of(c))?;
+    }
+    Ok(run)
 }
 
 /// The name in a tag.

@@ -1,6 +1,7 @@
 //! Calls that are refused, lists of attributes, and inputs in one call.
 
-use crate::given::{Begin, feed, give};
+use crate::given::{Begin, Given, feed, give};
+use crate::rows::with_tokenizer;
 use crate::show::{show, show_faults};
 use anyhow::Result;
 use html_charref::{EntityTable, Str};
@@ -19,13 +20,23 @@ pub(crate) fn answer(alloc: Global, table: &EntityTable, out: &mut String) -> Re
 
 /// After a call that is refused, each is.
 fn stopped(alloc: Global, table: &EntityTable, out: &mut String) -> Result<()> {
-    let mut t = Tokenizer::new(alloc, table, TextMode::Data, None)?;
-    refuse(alloc, &mut t, out)
+    let mut given = Given::new(alloc);
+    let begin = Begin {
+        mode: TextMode::Data,
+        name: None,
+    };
+    with_tokenizer(alloc, table, begin, "stopped", "a", &mut given)?;
+    Ok(out.push_str(given.tokens.as_str())?)
 }
 
-/// A piece is fed after the end.
-fn refuse(alloc: Global, t: &mut Tokenizer<'_>, out: &mut String) -> Result<()> {
-    feed(alloc, t, "a")?;
+/// Feeds a text, ends twice, and adds what each call answers then.
+pub(crate) fn refuse(
+    alloc: Global,
+    t: &mut Tokenizer<'_>,
+    text: &str,
+    out: &mut String,
+) -> Result<()> {
+    feed(alloc, t, text)?;
     t.finish()?;
     t.finish()?;
     give(t, out)?;

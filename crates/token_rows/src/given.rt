@@ -2,7 +2,6 @@
 
 use crate::show::{show, show_faults};
 use anyhow::Result;
-use html_charref::EntityTable;
 use html_tokens::{TextMode, Token, Tokenizer};
 use std::alloc::Global;
 
@@ -98,31 +97,19 @@ fn read_code_points(t: &mut Tokenizer<'_>, out: &mut String, text: &str) -> Resu
     Ok(())
 }
 
-/// Reads a text with this tokenizer, in its pieces or code point by code point.
-fn read(
+/// Reads a text in its pieces, with `¶` between what they give.
+pub(crate) fn read_in_pieces(
     alloc: Global,
     t: &mut Tokenizer<'_>,
     text: &str,
-    in_pieces: bool,
     given: &mut Given,
 ) -> Result<()> {
-    if in_pieces {
-        read_pieces(alloc, t, &mut given.tokens, text)?;
-    } else {
-        read_code_points(t, &mut given.tokens, text)?;
-    }
+    read_pieces(alloc, t, &mut given.tokens, text)?;
     end(t, given)
 }
 
-/// What a text gives that is fed in its pieces, with `¶` between what they give, or code point by code point.
-pub(crate) fn read_text(
-    alloc: Global,
-    table: &EntityTable,
-    begin: Begin<'_>,
-    text: &str,
-    in_pieces: bool,
-    given: &mut Given,
-) -> Result<()> {
-    let mut t = Tokenizer::new(alloc, table, begin.mode, begin.name)?;
-    read(alloc, &mut t, text, in_pieces, given)
+/// Reads a text code point by code point.
+pub(crate) fn read_by_points(t: &mut Tokenizer<'_>, text: &str, given: &mut Given) -> Result<()> {
+    read_code_points(t, &mut given.tokens, text)?;
+    end(t, given)
 }

@@ -1,7 +1,7 @@
 //! Rows and their answers.
 
-use crate::calls::input;
-use crate::given::{Begin, Given, MOST, feed, give, give_one, read_text};
+use crate::calls::{input, refuse};
+use crate::given::{Begin, Given, MOST, feed, give, give_one, read_by_points, read_in_pieces};
 use anyhow::{Result, bail};
 use html_charref::EntityTable;
 use html_tokens::{TextMode, Tokenizer};
@@ -96,13 +96,12 @@ fn ask(
 ) -> Result<()> {
     match asked {
         "input" => input(alloc, table, begin, text.as_bytes(), out),
-        "runs" | "switch" | "count" => called(alloc, table, begin, asked, text, out),
-        _ => both_ways(alloc, table, begin, asked, text, out),
+        _ => ask_tokenizer(alloc, table, begin, asked, text, out),
     }
 }
 
-/// The tokens or the parse errors of a text or both, or its steps, fed in two ways that have to agree.
-fn both_ways(
+/// What is asked of a tokenizer. Tokens, parse errors or steps of a text are asked of it fed in two ways, which have to agree.
+fn ask_tokenizer(
     alloc: Global,
     table: &EntityTable,
     begin: Begin<'_>,
@@ -110,11 +109,26 @@ fn both_ways(
     text: &str,
     out: &mut String,
 ) -> Result<()> {
-    let mut whole = Given::new(alloc);
+    let mut given = Given::new(alloc);
+    with_tokenizer(alloc, table, begin, asked, text, &mut given)?;
+    match asked {
+        "runs" | "switch" | "count" => Ok(out.push_str(given.tokens.as_str())?),
+        _ => both_ways(alloc, table, begin, asked, text, &given, out),
+    }
+}
+
+fn both_ways(
+    alloc: Global,
+    table: &EntityTable,
+    begin: Begin<'_>,
+    asked: &str,
+    text: &str,
+    whole: &Given,
+    out: &mut String,
+) -> Result<()> {
     let mut cut = Given::new(alloc);
-    read_text(alloc, table, begin, text, true, &mut whole)?;
-    read_text(alloc, table, begin, text, false, &mut cut)?;
-    shown(alloc, asked, &whole, &cut, out)
+    with_tokenizer(alloc, table, begin, "by points", text, &mut cut)?;
+    shown(alloc, asked, whole, &cut, out)
 }
 
 /// What is asked of what a text gave, where it gave the same code point by code point.
@@ -141,36 +155,39 @@ fn are_same(alloc: Global, whole: &Given, cut: &Given) -> Result<bool> {
     Ok(tokens == cut.tokens && whole.faults == cut.faults && whole.steps == cut.steps)
 }
 
-/// What other calls answer, in the order in which a caller makes them.
-fn called(
+/// What is asked of a tokenizer of its own.
+pub(crate) fn with_tokenizer(
     alloc: Global,
     table: &EntityTable,
     begin: Begin<'_>,
     asked: &str,
     text: &str,
-    out: &mut String,
+    given: &mut Given,
 ) -> Result<()> {
     let mut t = Tokenizer::new(alloc, table, begin.mode, begin.name)?;
-    call(alloc, &mut t, asked, text, out)
+    use_tokenizer(alloc, &mut t, asked, text, given)
 }
 
-fn call(
+fn use_tokenizer(
     alloc: Global,
     t: &mut Tokenizer<'_>,
     asked: &str,
     text: &str,
-    out: &mut String,
+    given: &mut Given,
 ) -> Result<()> {
-    feed(alloc, t, text)?;
     match asked {
-        "runs" => runs(alloc, t, out),
-        "switch" => switched(t, out),
-        _ => counted(alloc, t, out),
+        "runs" => runs(alloc, t, text, &mut given.tokens),
+        "switch" => switched(alloc, t, text, &mut given.tokens),
+        "count" => counted(alloc, t, text, &mut given.tokens),
+        "stopped" => refuse(alloc, t, text, &mut given.tokens),
+        "by points" => read_by_points(t, text, given),
+        _ => read_in_pieces(alloc, t, text, given),
     }
 }
 
 /// The runs of plain text, each with its place, and the tokens between them.
-fn runs(alloc: Global, t: &mut Tokenizer<'_>, out: &mut String) -> Result<()> {
+fn runs(alloc: Global, t: &mut Tokenizer<'_>, text: &str, out: &mut String) -> Result<()> {
+    feed(alloc, t, text)?;
     t.finish()?;
     let mut run: Vec<char> = Vec::new(alloc);
     for _ in 0..MOST {
@@ -193,7 +210,8 @@ fn one_run(t: &mut Tokenizer<'_>, run: &mut Vec<char>, out: &mut String) -> Resu
 }
 
 /// The tokens of a text, of which what follows the first token is read as RCDATA.
-fn switched(t: &mut Tokenizer<'_>, out: &mut String) -> Result<()> {
+fn switched(alloc: Global, t: &mut Tokenizer<'_>, text: &str, out: &mut String) -> Result<()> {
+    feed(alloc, t, text)?;
     if give_one(t, out)? {
         t.switch(TextMode::Rcdata);
     }
@@ -203,7 +221,8 @@ fn switched(t: &mut Tokenizer<'_>, out: &mut String) -> Result<()> {
 }
 
 /// How many tokens a text gives before its end is known, and how many after.
-fn counted(alloc: Global, t: &mut Tokenizer<'_>, out: &mut String) -> Result<()> {
+fn counted(alloc: Global, t: &mut Tokenizer<'_>, text: &str, out: &mut String) -> Result<()> {
+    feed(alloc, t, text)?;
     let mut tokens = String::new(alloc);
     let (before, after) = counts(t, &mut tokens)?;
     write!(out, "{before} {after}")?;
