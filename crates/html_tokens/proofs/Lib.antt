@@ -18,3 +18,5 @@ pub mod CopyLemmas
 pub mod PlaceLemmas
 pub mod ShortLemmas
 pub mod QuotedLemmas
+pub mod OrderLemmas
+pub mod ComparisonLemmas

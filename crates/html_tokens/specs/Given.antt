@@ -32,9 +32,17 @@ is_finished t = t.machine.input.finished
 
 -- the errors told so far
 unfoldable pub told : Tokenizer → List Fault
-told t = t.faults.list.items
+told t = t.faults.list
 
--- the code points taken and the comparisons made so far, as far as 128 bits count
+-- the code points taken so far, each by a visit of a state
+unfoldable pub visits_made : Tokenizer → ℕ
+visits_made t = t.machine.place
+
+-- the comparisons of two attribute names made so far
+unfoldable pub comparisons_made : Tokenizer → ℕ
+comparisons_made t = t.faults.compared
+
+-- both together, as far as 128 bits count
 unfoldable pub steps_taken : Tokenizer → ℕ
 steps_taken t = min (t.faults.compared + t.machine.place) (2 ^ 128 - 1)
 

@@ -18,3 +18,4 @@ pub mod Runs
 pub mod Given
 pub mod Cost
 pub mod Bounds
+pub mod Order

@@ -1,9 +1,12 @@
 // The parse errors that are told, and what they rest on.
-ghost use Rattle.std.specs.Prelude.{◌≡◌, ℕ, ◌≤◌, ◌+◌, [], length, MatchOption};
+ghost use Rattle.std.specs.Prelude.{◌≡◌, ℕ, ◌≤◌, ◌+◌, ◌-◌, ◌^◌, min, [], false, length, MatchOption};
+ghost use Rattle.html_tokens.specs.Order.{IsAdded};
+ghost use Rattle.html_tokens.specs.Places.{comparisons};
 ghost use Rattle.html_tokens.specs.Bounds.{Told};
 ghost use Rattle.html_tokens.specs.Input.{IsShort};
 
 use crate::comment::CommentKind;
+use crate::fault_list::FaultList;
 use crate::fault_name::FaultName;
 use crate::input::{Input, Peek};
 use crate::marks::is_at;
@@ -36,7 +39,7 @@ pub struct Watch {
 /// The parse errors told so far, and how many attribute names were compared.
 #[derive(Drop)]
 pub struct Faults {
-    pub list: Vec<Fault>,
+    pub list: FaultList,
     pub lost: bool,
     pub compared: u128,
     pub watch: Watch,
@@ -142,11 +145,11 @@ fn bogus_fault(input: &Input, place: u64) -> Option<Fault>
 
 impl Faults {
     pub(crate) fn new(alloc: Global) -> Faults
-        ensures list { result.list.items ≡ [] }
+        ensures list { result.list ≡ [] }
         ensures compared { result.compared ≡ 0 }
     {
         Faults {
-            list: Vec::new(alloc),
+            list: FaultList::new(alloc),
             lost: false,
             compared: 0,
             watch: Watch {
@@ -176,8 +179,10 @@ impl Faults {
     /// Adds an error, or notes that memory was refused.
     pub(crate) fn tell(&mut self, name: FaultName, place: u64)
         ensures told { Told 1 0 self.old self.new }
+        ensures added { self.new.lost ≡ false → IsAdded self.old.list (record { name = name; place = place }) self.new.list }
+        ensures compared { self.new.compared ≡ self.old.compared }
     {
-        match self.list.push(Fault { name, place }) {
+        match self.list.add(Fault { name, place }) {
             Ok(()) => {}
             Err(_) => self.lost = true,
         }
@@ -450,6 +455,7 @@ impl Faults {
     /// The name of an attribute is compared with those before it, up to the first equal one.
     fn name_end(&mut self, draft: &TagDraft, place: u64)
         ensures told { Told 1 (length draft.now.attrs) self.old self.new }
+        ensures compared { self.new.compared ≡ min (self.old.compared + comparisons draft.now.attr_name draft.now.attrs) (2 ^ 128 - 1) }
     {
         let (found, compared) = draft.attrs.search(&draft.attr_name);
         self.compared = self.compared.saturating_add(compared as u128);

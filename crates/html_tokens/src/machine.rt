@@ -78,7 +78,7 @@ impl<'a> Machine<'a> {
     ) -> Machine<'a>
         ensures begins { IsAt result (record { start = record { rows = table.now; mode = mode; name = last_name }; text = []; finished = false; given = []; switches = [] }) }
         ensures going { result.input.finished ≡ false }
-        ensures bounded { (faults : Faults) → faults.list.items ≡ [] → faults.compared ≡ 0 → IsBounded result faults }
+        ensures bounded { (faults : Faults) → faults.list ≡ [] → faults.compared ≡ 0 → IsBounded result faults }
         ensures room { result.place + length result.input.queue.items ≡ 0 }
     {
         // For the rule of the table, which this call tells.
