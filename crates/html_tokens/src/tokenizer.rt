@@ -239,6 +239,8 @@ impl<'a> Tokenizer<'a> {
         ensures count { result ≡ steps_taken self.now }
         ensures sum { result ≡ min (comparisons_made self.now + visits_made self.now) (2 ^ 128 - 1) }
         ensures visits { visits_made self.now ≤ 8 * (fed_len self.now + 2) }
+        // Once all tokens were given, each code point has been taken.
+        ensures all { (run : Run) → Fed self.now run → run.finished ≡ true → tokens_of run.text run.switches run.start ≡ run.given → length run.text ≤ result }
         ensures comparisons { comparisons_made self.now ≤ (fed_len self.now + 2) * (fed_len self.now + 2) }
         ensures bound { result ≤ 8 * (fed_len self.now + 2) + (fed_len self.now + 2) * (fed_len self.now + 2) }
     {
