@@ -20,3 +20,4 @@ pub mod ShortLemmas
 pub mod QuotedLemmas
 pub mod OrderLemmas
 pub mod ComparisonLemmas
+pub mod ScriptLemmas

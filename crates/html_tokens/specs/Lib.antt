@@ -19,3 +19,4 @@ pub mod Given
 pub mod Cost
 pub mod Bounds
 pub mod Order
+pub mod Script
