@@ -1,5 +1,5 @@
 -- The tokens of a text after none of which anything is said of the mode.
-use Rattle.std.proofs.Common.{◌≡◌, ℕ, zero, suc, ◌+◌, ◌-◌, ◌≤◌, List, [], ◌∷◌, ◌++◌, length, map, drop, Option, None, true, refl, ap, sym, subst, ◌∙◌, arith, length-append}
+use Rattle.std.proofs.Common.{◌≡◌, ℕ, zero, suc, ◌+◌, ◌-◌, ◌≤◌, List, [], ◌∷◌, ◌++◌, length, drop, Option, None, true, refl, ap, sym, subst, ◌∙◌, arith, length-append}
 use Rattle.std.proofs.Math.Seq.{drop-nil}
 use Rattle.std.specs.List.{AllByRecursion}
 use Rattle.html_charref.specs.declared.table.Row.{Row}
@@ -10,6 +10,7 @@ use Rattle.html_tokens.specs.Tokens.{tokens_after, next, mode_after, mode_after_
 use Rattle.html_tokens.specs.declared.token.TextMode.{TextMode}
 use Rattle.html_tokens.specs.declared.token.Token.{Token}
 use Rattle.html_tokens.specs.declared.tokenizer.Tokenizer.{Tokenizer}
+use Rattle.html_page.specs.TokenList.{unsaid}
 
 abbrev AreNone : List (Option TextMode) → Type 0
 AreNone switches = AllByRecursion (λ s. s ≡ None) switches
@@ -39,10 +40,6 @@ same_tokens rows zero mode name place (c ∷ rest) switches h =
     ∙ ap (λ (ts : List Token). first.tokens ++ ts) (same_tokens rows (first.len - 1) after (name_after first.tokens name) (place + 1) rest (drop n switches) (drop_none n switches h)
     ∙ ap (tokens_after rows (first.len - 1) after (name_after first.tokens name) (place + 1) rest) (sym (drop-nil n)))
 same_tokens rows (suc k) mode name place (c ∷ rest) switches h = same_tokens rows k mode name (place + 1) rest switches h
-
--- nothing said after each of so many tokens
-abbrev unsaid : List Token → List (Option TextMode)
-unsaid tokens = map (λ t. None) tokens
 
 unsaid_none : (tokens : List Token) → AreNone (unsaid tokens)
 unsaid_none [] = tt

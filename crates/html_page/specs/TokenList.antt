@@ -1,5 +1,5 @@
 -- The tokens of an input that is read in one text mode throughout.
-use Rattle.std.specs.Prelude.{◌<◌, ◌+◌, ◌*◌, ℕ, List, [], ◌∷◌, length, Option, None}
+use Rattle.std.specs.Prelude.{◌<◌, ◌+◌, ◌*◌, ℕ, List, [], ◌∷◌, length, map, Option, None}
 use Rattle.html_charref.specs.declared.table.Row.{Row}
 use Rattle.html_input.specs.Decode.{decode, code_points}
 use Rattle.html_input.specs.declared.decoder.TheConstants.{LIMIT}
@@ -26,6 +26,10 @@ start_of rows mode name = (run_from rows mode name).start
 -- the tokens of a document's text, by a table of references
 abbrev pub tokens_in : List Row → List ℕ → List Token
 tokens_in rows text = tokens_of text [] (start_of rows Data None)
+
+-- nothing is said of the mode after any of these tokens
+abbrev pub unsaid : List Token → List (Option TextMode)
+unsaid tokens = map (λ t. None) tokens
 
 -- the most errors and steps of a text of n code points
 abbrev pub most_errors : ℕ → ℕ

@@ -4,8 +4,11 @@ ghost use Rattle.std.specs.Prelude.{◌≡◌, ◌≤◌, ◌∷◌, [], OnOk, I
 ghost use Rattle.std.specs.Str.{chars};
 ghost use Rattle.html_input.specs.Decode.{code_points};
 ghost use Rattle.html_input.specs.declared.decoder.TheConstants.{LIMIT};
+ghost use Rattle.std.specs.List.Sorted.{IsNonDecreasingBy};
+ghost use Rattle.html_tokens.specs.Cost.{AreCosted};
+ghost use Rattle.html_tokens.specs.Given.{IsTold};
 ghost use Rattle.html_tokens.specs.Stream.{tokens_of};
-ghost use Rattle.html_page.specs.TokenList.{behind_mark, marked_text, most_errors, most_steps, start_of, IsListCause};
+ghost use Rattle.html_page.specs.TokenList.{behind_mark, marked_text, most_errors, most_steps, start_of, unsaid, IsListCause};
 
 use crate::error::TokenListError;
 use html_charref::EntityTable;
@@ -43,7 +46,14 @@ pub fn tokenize(
 ) -> Result<TokenList, TokenListError>
     ensures tokens { IfOk result (λ list. list.tokens.items
         ≡ tokens_of (marked_text bytes.now) [] (start_of table.now mode (option_map (λ name. chars name.now) last_name.entry))) }
+    ensures cost { IfOk result (λ list. AreCosted (length (marked_text bytes.now)) list.tokens.items) }
+
+    // The errors and steps are those of a tokenizer that was fed the text and gave all its tokens.
+    ensures told { IfOk result (λ list. IsTold (start_of table.now mode (option_map (λ name. chars name.now) last_name.entry)) (marked_text bytes.now)
+        (unsaid list.tokens.items) list.errors.items list.steps) }
+    ensures ordered { IfOk result (λ list. IsNonDecreasingBy (λ x. x.place) list.errors.items) }
     ensures errors { IfOk result (λ list. length list.errors.items ≤ most_errors (length (marked_text bytes.now))) }
+    ensures least { IfOk result (λ list. length (marked_text bytes.now) ≤ list.steps) }
     ensures steps { IfOk result (λ list. list.steps ≤ most_steps (length (marked_text bytes.now))) }
     ensures within { OnOk result (length (code_points (behind_mark bytes.now)) ≤ LIMIT) }
     ensures cause { IfErr result (IsListCause bytes.now) }
@@ -77,7 +87,12 @@ fn tokens_of_text(
 ) -> Result<TokenList, TokenListError>
     ensures tokens { IfOk result (λ list. list.tokens.items
         ≡ tokens_of text.now [] (start_of table.now mode (option_map (λ name. chars name.now) last_name.entry))) }
+    ensures cost { IfOk result (λ list. AreCosted (length text.now) list.tokens.items) }
+    ensures told { IfOk result (λ list. IsTold (start_of table.now mode (option_map (λ name. chars name.now) last_name.entry)) text.now
+        (unsaid list.tokens.items) list.errors.items list.steps) }
+    ensures ordered { IfOk result (λ list. IsNonDecreasingBy (λ x. x.place) list.errors.items) }
     ensures errors { IfOk result (λ list. length list.errors.items ≤ most_errors (length text.now)) }
+    ensures least { IfOk result (λ list. length text.now ≤ list.steps) }
     ensures steps { IfOk result (λ list. list.steps ≤ most_steps (length text.now)) }
     ensures cause { IfErr result (λ e. e ≡ TokenListError.OutOfMemory) }
 {

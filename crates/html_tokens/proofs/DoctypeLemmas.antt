@@ -32,7 +32,7 @@ use Rattle.html_tokens.specs.Marks.{begin_at}
 use Rattle.html_tokens.specs.Tokens.{tokens_after, token, doctype_kind, doctype_piece, opener}
 use Rattle.html_tokens.specs.Fed.{coming, Passes, Steps, BeginsDoctype, EndsDoctype}
 use Rattle.html_tokens.proofs.TokensLemmas.{tokens_begun, tokens_past}
-use Rattle.html_tokens.proofs.StepLemmas.{passes_count, passes_less}
+use Rattle.html_tokens.proofs.StepLemmas.{going_on, passes_count, passes_less}
 use Rattle.html_charref.specs.declared.table.Row.{Row}
 use Rattle.std.proofs.Common.{add-zero}
 
@@ -332,7 +332,7 @@ doctype_opens old new region s (d, n, p) k begun found = (
       ∙ ap (λ (x : Doctype). doctype_coming old.table.now old.place (old.place + 9) x old.mode old.last_name (drop 9 old.input.queue.items ++ more) switches)
       (sym (new_doctype_of d old.place (drop 9 old.input.queue.items ++ more) n)))),
   passes_less old new 9 _ p (omega arith) k,
-  passes_count old new 9 _ p k,
+  passes_count old new 9 _ p k (λ e. e),
   p.name,
 )
 
@@ -349,7 +349,7 @@ doctype_more old new d d' n s (e, g, k, b) p = (
       (ap (λ (x : Doctype). doctype_coming old.table.now d.start old.place x old.mode old.last_name (old.input.queue.items ++ more) switches) (e more f)
       ∙ doctype_on old.table.now d.start old.place n (draft_doctype d' (drop n old.input.queue.items ++ more)) old.mode old.last_name old.input.queue.items more switches k)),
   rw p.items (simp length-drop (omega arith)),
-  record { count = rw (p.place, p.items) (simp length-drop (omega arith)); finished = p.finished; table = p.table },
+  record { count = rw (p.place, p.items) (simp length-drop (omega arith)); finished = p.finished; table = p.table; drained = going_on old new _ p.state (λ e. e) },
   p.name,
 )
 
@@ -363,7 +363,7 @@ doctype_given old new d d' force_quirks n progress s (e, k, b) ends =
       (λ more switch switches f. rw (s, p.state, p.mode, p.name, p.place, p.items, p.table, b)
           (ap (λ (x : Doctype). doctype_coming old.table.now d.start old.place x old.mode old.last_name (old.input.queue.items ++ more) (switch ∷ switches)) (e more f)
           ∙ ap (λ (ts : List Token). token (doctype_kind whole) d.start (old.place + n) ∷ ts) (rw add-zero at (tokens_past old.table.now n 0 old.mode old.last_name old.place old.input.queue.items more switches k)))),
-      record { count = rw (p.place, p.items) (simp length-drop (omega arith)); finished = p.finished; table = p.table },
+      record { count = rw (p.place, p.items) (simp length-drop (omega arith)); finished = p.finished; table = p.table; drained = going_on old new _ p.state (λ e. e) },
       p.name,
     )
 

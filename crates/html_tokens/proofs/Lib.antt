@@ -18,3 +18,6 @@ pub mod CopyLemmas
 pub mod PlaceLemmas
 pub mod ShortLemmas
 pub mod QuotedLemmas
+pub mod OrderLemmas
+pub mod ComparisonLemmas
+pub mod ScriptLemmas

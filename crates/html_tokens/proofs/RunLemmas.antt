@@ -7,7 +7,7 @@ use Rattle.std.proofs.lemmas.Bool.{false≢true}
 use Rattle.std.proofs.lemmas.Bool.Decides.{nat_tests}
 use Rattle.html_tokens.specs.Tokens.{token, text_char}
 use Rattle.html_tokens.specs.Marks.{begin_at, region_in}
-use Rattle.html_tokens.specs.Fed.{Passes, Steps}
+use Rattle.html_tokens.specs.Fed.{IsEnded, Passes, Steps}
 use Rattle.html_tokens.specs.Stream.{Run, IsAt, gave, answered}
 use Rattle.html_tokens.specs.Runs.{is_plain, plain_front, is_text, plain_tokens, gave_all}
 use Rattle.html_tokens.specs.declared.machine.Machine.{Machine}
@@ -50,7 +50,7 @@ plain_char Plaintext c h = grind (arith, nat_tests)
 plain_steps : (old new : Machine) (c : ℕ) (items : List ℕ) → old.state ≡ Text Plain → is_plain old.mode c ≡ true → old.input.queue.items ≡ c ∷ items → Passes old 1 (Text Plain) new → 1 ≤ length old.input.queue.items →
     Steps old (Given (token (kinds.Char c) old.place (old.place + 1))) new
 plain_steps old new c items s h e p n =
-    open_given old new Plain (token (kinds.Char c) old.place (old.place + 1)) 1 (Text Plain) s p n (λ switch mode. refl) refl
+    open_given old new Plain (token (kinds.Char c) old.place (old.place + 1)) 1 (Text Plain) s p n (λ e. e) (λ switch mode. refl) refl
     (λ more switch switches f.
     let i : drop 1 old.input.queue.items ≡ items = rw e refl in
     rw i (char_given old.table.now Plain Plain old.mode old.last_name old.place (old.place + 1) c c old.input.queue.items items more switch switches e
@@ -145,6 +145,7 @@ at_same now new run e f p m n s t i = record {
   table = t ∙ i.table;
   name = n ∙ i.name;
   rule = i.rule;
+  drained = λ h. let d = i.drained (subst IsEnded s h) in (f ∙ d.0, e ∙ d.1);
 }
 
 taken_front : (xs rest : List ℕ) (start now new : Machine) (before after : List ℕ) → HasTaken start now before after → AllPass (is_plain start.mode) xs → now.input.queue.items ≡ xs ++ rest → new.input.queue.items ≡ rest → new.input.finished ≡ now.input.finished → new.place ≡ now.place + length xs → new.mode ≡ now.mode → new.last_name ≡ now.last_name → new.state ≡ now.state → new.table.now ≡ now.table.now →

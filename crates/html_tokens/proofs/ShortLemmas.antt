@@ -78,6 +78,6 @@ short_gives old new is_end opened len given s some fit begun piece name close en
     λ more. rw (← drop-drop len opened old.input.queue.items) (front_at rest more len 62 room close) in
     let gives : Steps b (Given given) new = tag_given_at b new d' d' 62 None false 1 (Given given) refl (closes_name d' refl refl) (λ more h. at more) (λ h. absurd (false≢true (ap (λ (n : ℕ). n == 47) h))) (omega arith) ends in (
       (λ more switch switches f. opens.0 more (switch ∷ switches) f ∙ copies.0 more (switch ∷ switches) f ∙ gives.0 more switch switches f),
-      record { count = gives.1.count ∙ copies.1.count ∙ opens.2.count; finished = gives.1.finished; table = gives.1.table },
+      record { count = gives.1.count ∙ copies.1.count ∙ opens.2.count; finished = gives.1.finished; table = gives.1.table; drained = λ h. gives.1.drained (copies.1.drained (opens.2.drained h)) },
       gives.2,
     )

@@ -1,5 +1,5 @@
 -- What each step gives, over plain variables.
-use Rattle.std.proofs.Common.{◌≡◌, ℕ, suc, ◌+◌, ◌<◌, ◌≤◌, List, [], ◌∷◌, ◌++◌, length, map, drop, Option, Some, None, true, false, refl, ap, sym, ◌∙◌, arith, length-append}
+use Rattle.std.proofs.Common.{◌≡◌, ℕ, suc, ◌+◌, ◌<◌, ◌≤◌, List, [], ◌∷◌, ◌++◌, length, map, drop, Bool, Option, Some, None, true, false, refl, ap, sym, subst, ◌∙◌, arith, length-append}
 use Rattle.html_tokens.specs.Cut.{Cut, shown}
 use Rattle.html_tokens.specs.Draft.{draft_cut}
 use Rattle.html_tokens.specs.Tokens.{tokens_after, text_char, token, begun_piece}
@@ -14,7 +14,7 @@ use Rattle.html_tokens.specs.declared.token.Begin.TheVariants as begins
 use Rattle.std.proofs.Common.{add-zero, length-drop}
 use Rattle.std.proofs.lemmas.List.{drop-append-le}
 use Rattle.html_tokens.specs.Copied.{CopiesComment, cut_by}
-use Rattle.html_tokens.specs.Fed.{Skips, coming, to_come, Passes, SameCount, Steps, switch_to, slack, GivesChars}
+use Rattle.html_tokens.specs.Fed.{Skips, coming, to_come, IsDrained, IsEnded, Passes, SameCount, Steps, switch_to, slack, GivesChars}
 use Rattle.html_tokens.specs.Input.{Decided, IsShort}
 use Rattle.html_tokens.specs.Input.{MayFollow}
 use Rattle.html_tokens.specs.declared.machine.Machine.{Machine}
@@ -35,6 +35,7 @@ use Rattle.html_tokens.specs.Tokens.{comment_piece, piece, mode_after_kind, name
 use Rattle.html_tokens.specs.declared.comment.CommentKind.{CommentKind}
 use Rattle.html_tokens.proofs.TokensLemmas.{tokens_text, tokens_begun, tokens_past, tokens_past_one}
 use Rattle.std.proofs.Common.{◌*◌}
+use Rattle.std.proofs.lemmas.Bool.{false≢true}
 use Rattle.std.specs.Char.{digit_value}
 use Rattle.std.specs.Int.Digits.{number_from_digits_after}
 use Rattle.html_charref.specs.Entities.{codes_with}
@@ -102,33 +103,40 @@ pub passes_come : (old new : Machine) (k : ℕ) (after : State) → Passes old k
     to_come new more switches ≡ coming old.table.now after old.mode old.last_name (old.place + k) (drop k old.input.queue.items ++ more) switches
 passes_come old new k after p more switches = rw (p.state, p.mode, p.name, p.place, p.items, p.table) refl
 
-pub passes_count : (old new : Machine) (k : ℕ) (after : State) → Passes old k after new → k ≤ length old.input.queue.items → SameCount old new
-passes_count old new k after p h = record { count = rw (p.place, p.items) (simp length-drop (omega arith)); finished = p.finished; table = p.table }
+-- in a state other than the end, nothing is said of it
+pub going_on : (old new : Machine) (after : State) → new.state ≡ after → (IsEnded after → ⊥) → IsDrained old → IsDrained new
+going_on old new after s off d e = absurd (off (subst IsEnded s e))
+
+pub passes_length : (old new : Machine) (k : ℕ) (after : State) → Passes old k after new → k ≤ length old.input.queue.items → new.place + length new.input.queue.items ≡ old.place + length old.input.queue.items
+passes_length old new k after p h = rw (p.place, p.items) (simp length-drop (omega arith))
+
+pub passes_count : (old new : Machine) (k : ℕ) (after : State) → Passes old k after new → k ≤ length old.input.queue.items → (IsEnded after → ⊥) → SameCount old new
+passes_count old new k after p h off = record { count = passes_length old new k after p h; finished = p.finished; table = p.table; drained = going_on old new after p.state off }
 
 pub passes_less : (old new : Machine) (k : ℕ) (after : State) → Passes old k after new → 0 < k → k ≤ length old.input.queue.items → length new.input.queue.items < length old.input.queue.items
 passes_less old new k after p g h = rw p.items (simp length-drop (omega arith))
 
 -- a step in text that gives no token
-pub open_more : (old new : Machine) (region : Region) (k : ℕ) (after : State) → old.state ≡ Text region → Passes old k after new → 0 < k → k ≤ length old.input.queue.items →
+pub open_more : (old new : Machine) (region : Region) (k : ℕ) (after : State) → old.state ≡ Text region → Passes old k after new → 0 < k → k ≤ length old.input.queue.items → (IsEnded after → ⊥) →
     ((more : List ℕ) (switches : List (Option TextMode)) → MayFollow old.input.finished more →
     coming old.table.now (Text region) old.mode old.last_name old.place (old.input.queue.items ++ more) switches ≡ coming old.table.now after old.mode old.last_name (old.place + k) (drop k old.input.queue.items ++ more) switches) →
     Steps old More new
-open_more old new region k after s p g h step = (
+open_more old new region k after s p g h off step = (
   (λ more switches f. rw s (step more switches f ∙ sym (passes_come old new k after p more switches))),
   passes_less old new k after p g h,
-  passes_count old new k after p h,
+  passes_count old new k after p h off,
   p.name,
 )
 
 -- a step in text that gives a token
-pub open_given : (old new : Machine) (region : Region) (given : Token) (k : ℕ) (after : State) → old.state ≡ Text region → Passes old k after new → k ≤ length old.input.queue.items →
+pub open_given : (old new : Machine) (region : Region) (given : Token) (k : ℕ) (after : State) → old.state ≡ Text region → Passes old k after new → k ≤ length old.input.queue.items → (IsEnded after → ⊥) →
     ((switch : Option TextMode) (mode : TextMode) → switch_to given.kind switch mode ≡ mode) → name_after_kind given.kind old.last_name ≡ old.last_name →
     ((more : List ℕ) (switch : Option TextMode) (switches : List (Option TextMode)) → MayFollow old.input.finished more →
     coming old.table.now (Text region) old.mode old.last_name old.place (old.input.queue.items ++ more) (switch ∷ switches) ≡ given ∷ coming old.table.now after old.mode old.last_name (old.place + k) (drop k old.input.queue.items ++ more) switches) →
     Steps old (Given given) new
-open_given old new region given k after s p h same named step = (
+open_given old new region given k after s p h off same named step = (
   (λ more switch switches f. rw s (step more switch switches f ∙ rw (p.state, p.mode, p.name, p.place, p.items, p.table, same switch old.mode) refl)),
-  passes_count old new k after p h,
+  passes_count old new k after p h off,
   p.name ∙ sym named,
 )
 
@@ -140,7 +148,7 @@ pub open_gives : (old new : Machine) (region : Region) (b : Begin) (given : Toke
     ((more : List ℕ) → MayFollow old.input.finished more → begun_piece old.table.now b old.place (old.input.queue.items ++ more) ≡ piece (given ∷ []) k) →
     Steps old (Given given) new
 open_gives old new region b given k s p g h same kept named stop begun whole =
-    open_given old new region given k (Text Plain) s p h same (named old.last_name)
+    open_given old new region given k (Text Plain) s p h (λ e. e) same (named old.last_name)
     (λ more switch switches f. piece_given old.table.now b region old.mode given k old.last_name old.place old.input.queue.items more switch switches (begun more f) stop (whole more f) g h (kept switch old.mode) (named old.last_name))
 
 -- the state is set after the pass
@@ -153,10 +161,17 @@ text_ends Plain rows mode name place switches = refl
 text_ends Escaped rows mode name place switches = refl
 text_ends Double rows mode name place switches = refl
 
+-- nothing may follow, and nothing is unread
+pub all_read : (finished : Bool) (items : List ℕ) → ((more : List ℕ) → MayFollow finished more → items ++ more ≡ []) → (finished ≡ true) × (items ≡ [])
+all_read true [] e = (refl, refl)
+all_read true (c ∷ rest) e = let h = e [] (λ f. refl) in cc
+all_read false [] e = let h = e (0 ∷ []) (λ f. absurd (false≢true f)) in cc
+all_read false (c ∷ rest) e = let h = e [] (λ f. refl) in cc
+
 pub state_ends : (old new : Machine) (region : Region) → old.state ≡ Text region → new ≡ record old { state = Ended } →
     ((more : List ℕ) → MayFollow old.input.finished more → old.input.queue.items ++ more ≡ []) → Steps old (Given (token kinds.Eof old.place old.place)) new
 state_ends old new region s n e =
-    ((λ more switch switches f. rw (s, e more f, n) (text_ends region old.table.now old.mode old.last_name old.place (switch ∷ switches))), rw n (record { count = refl; finished = refl; table = refl }), rw n refl)
+    ((λ more switch switches f. rw (s, e more f, n) (text_ends region old.table.now old.mode old.last_name old.place (switch ∷ switches))), rw n (record { count = refl; finished = refl; table = refl; drained = λ _ _. all_read old.input.finished old.input.queue.items e }), rw n refl)
 
 -- a comment reads on by a code point
 pub comment_reads : (rows : List Row) (draft draft' : CommentDraft) (mode : TextMode) (name : Option (List ℕ)) (place : ℕ) (items items' more : List ℕ) (switches : List (Option TextMode)) →
@@ -181,7 +196,7 @@ pub comment_more : (old : Machine) (input' : Input) (draft draft' : CommentDraft
 comment_more old input' draft draft' s (e, i, h, b, f) = (
   (λ more switches g. rw s (comment_reads old.table.now draft draft' old.mode old.last_name old.place old.input.queue.items input'.queue.items more switches (e more g) b i h)),
   rw i (simp length-drop (omega arith)),
-  record { count = rw i (simp length-drop (omega arith)); finished = f; table = refl },
+  record { count = rw i (simp length-drop (omega arith)); finished = f; table = refl; drained = λ _ h. absurd h },
   refl,
 )
 
@@ -190,7 +205,7 @@ pub comment_given : (old new : Machine) (input' : Input) (draft draft' : Comment
     Steps old (Given (token (kinds.Comment draft'.«data») draft'.start (old.place + n))) new
 comment_given old new input' draft draft' n s (e, h, i, f, b) p = (
   (λ more switch switches g. rw (s, p.state, p.mode, p.name, p.place, p.items, p.table, i) (comment_closes old.table.now draft draft' old.mode old.last_name old.place n old.input.queue.items more switch switches (e more g) b h)),
-  record { count = rw (p.place, p.items, i) (simp length-drop (omega arith)); finished = p.finished ∙ f; table = p.table },
+  record { count = rw (p.place, p.items, i) (simp length-drop (omega arith)); finished = p.finished ∙ f; table = p.table; drained = going_on old new _ p.state (λ h. h) },
   p.name,
 )
 
@@ -221,12 +236,12 @@ chars_given old new region len first None progress s begun h k found (e, p) =
     rw e (open_gives old new region begins.Reference (token (kinds.Char first) old.place (old.place + len)) len s p h k (λ switch mode. refl) (λ switch mode. refl) (λ name. refl) refl begun
     (λ more f. rw (found more f) refl))
 chars_given old new region len first (Some second) progress s begun h k found (e, p) =
-    rw e (open_given old new region (token (kinds.Char first) old.place (old.place + 1)) len (Second second (old.place + 1)) s p k (λ switch mode. refl) refl
+    rw e (open_given old new region (token (kinds.Char first) old.place (old.place + 1)) len (Second second (old.place + 1)) s p k (λ e. e) (λ switch mode. refl) refl
     (λ more switch switches f. pair_given old.table.now region old.mode (token (kinds.Char first) old.place (old.place + 1)) (token (kinds.Char second) (old.place + 1) (old.place + len)) len old.last_name old.place old.input.queue.items more switch switches
     (begun more f) (rw (found more f) refl) h k refl refl))
 
 pub second_given : (old new : Machine) (c start : ℕ) → old.state ≡ Second c start → new ≡ record old { state = Text Plain } → Steps old (Given (token (kinds.Char c) start old.place)) new
-second_given old new c start s n = ((λ more switch switches f. rw (s, n) refl), rw n (record { count = refl; finished = refl; table = refl }), rw n refl)
+second_given old new c start s n = ((λ more switch switches f. rw (s, n) refl), rw n (record { count = refl; finished = refl; table = refl; drained = λ _ h. absurd h }), rw n refl)
 
 -- the token of a number, and those after it
 abbrev number_coming : List Row → ℕ → ℕ → Numbered → TextMode → Option (List ℕ) → List ℕ → List (Option TextMode) → List Token
@@ -237,7 +252,7 @@ pub number_begins : (old new : Machine) (region : Region) (base : Base) (opened 
     0 < opened → opened ≤ length old.input.queue.items → Decided old.input ref_opener (Numeric base opened) →
     Passes old opened (Number (record { start = old.place; base = base; value = 0 })) new → Steps old More new
 number_begins old new region base opened s begun h k found p =
-    open_more old new region opened _ s p h k
+    open_more old new region opened _ s p h k (λ e. e)
     (λ more switches f.
     let items = old.input.queue.items in
     let n = numbered base 0 (drop opened items ++ more) in
@@ -300,7 +315,7 @@ number_more old new draft c d value s first h digit e v p = (
       (ap (λ (x : Numbered). number_coming old.table.now draft.start old.place x old.mode old.last_name (items ++ more) switches) (ap (λ (x : List ℕ). numbered draft.base draft.value x) text ∙ digit_first draft.base draft.value c rest digit)
       ∙ rw (i, tokens_past_one old.table.now n.len old.mode old.last_name old.place items (drop 1 items) more (drop 1 switches) refl h, same) refl)),
   passes_less old new 1 _ p (omega arith) h,
-  passes_count old new 1 _ p h,
+  passes_count old new 1 _ p h (λ e. e),
   p.name,
 )
 
@@ -313,7 +328,7 @@ number_given old new draft len progress s h whole (g, p) =
       (λ more switch switches f. rw (s, p.state, p.mode, p.name, p.place, p.items, p.table)
           (ap (λ (x : Numbered). number_coming old.table.now draft.start old.place x old.mode old.last_name (old.input.queue.items ++ more) (switch ∷ switches)) (whole more f)
           ∙ ap (λ (ts : List Token). token (kinds.Char (char_of draft.value)) draft.start (old.place + len) ∷ ts) (rw add-zero at (tokens_past old.table.now len 0 old.mode old.last_name old.place old.input.queue.items more switches h)))),
-      passes_count old new len _ p h,
+      passes_count old new len _ p h (λ e. e),
       p.name,
     )
 
@@ -352,6 +367,6 @@ comment_skips old new d d' n s (e, fit, st) p = (
   (λ more switches f. rw (s, p.state, p.mode, p.name, p.place, p.items, p.table, st)
       (ap (λ (c : Cut). comment_coming old.table.now d.start old.place c old.mode old.last_name (old.input.queue.items ++ more) switches) (e more)
       ∙ comment_on old.table.now d.start old.place n (draft_cut d' (drop n old.input.queue.items ++ more)) old.mode old.last_name old.input.queue.items more switches fit)),
-  record { count = rw (p.place, p.items) (simp length-drop (omega arith)); finished = p.finished; table = p.table },
+  record { count = rw (p.place, p.items) (simp length-drop (omega arith)); finished = p.finished; table = p.table; drained = going_on old new _ p.state (λ e. e) },
   p.name,
 )

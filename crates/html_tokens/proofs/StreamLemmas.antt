@@ -1,15 +1,16 @@
 -- A run of the machine goes on.
-use Rattle.std.proofs.Common.{◌≡◌, ℕ, zero, suc, ◌+◌, ◌≤◌, List, [], ◌∷◌, ◌++◌, length, drop, Option, Some, None, Bool, true, false, refl, ap, sym, ◌∙◌, arith, append_assoc, append-nil}
+use Rattle.std.proofs.Common.{◌≡◌, ℕ, zero, suc, ◌+◌, ◌≤◌, List, [], ◌∷◌, ◌++◌, length, drop, Option, Some, None, Bool, true, false, refl, ap, ap₂, sym, ◌∙◌, ◌-◌, arith, append_assoc, append-nil}
 use Rattle.std.specs.List.{AllByRecursion}
 use Rattle.std.specs.Option.{IfSome}
-use Rattle.html_tokens.specs.Tokens.{tokens_after, token, chars_at, next, text_or, text_after, begun_piece, ref_tokens, open_piece, opener, Piece, name_after_kind, when}
+use Rattle.html_tokens.specs.Tokens.{tokens_after, mode_after, name_after, tag_tokens, token, chars_at, next, text_or, text_after, begun_piece, ref_tokens, open_piece, opener, Piece, name_after_kind, when}
 use Rattle.html_tokens.specs.Marks.{begin_at, front}
 use Rattle.html_tokens.specs.Reference.{reference}
 use Rattle.html_charref.specs.declared.table.Row.{Row}
 use Rattle.html_tokens.specs.declared.token.Region.TheVariants.{Plain, Escaped, Double}
 use Rattle.html_tokens.specs.declared.token.Begin.{Begin}
 use Rattle.html_tokens.specs.declared.token.Begin.TheVariants as begins
-use Rattle.html_tokens.specs.Fed.{Skips, coming, to_come, switch_to, Steps, slack}
+use Rattle.html_tokens.specs.Tag.{draft_tag}
+use Rattle.html_tokens.specs.Fed.{IsEnded, Skips, coming, to_come, switch_to, Steps, slack}
 use Rattle.html_tokens.specs.Given.{IsStart}
 use Rattle.html_tokens.specs.Stream.{Run, IsAt, last_name, name_of, gave, answered, tokens_of, IsPrompt, IsLate, ended}
 use Rattle.html_tokens.specs.declared.token.Token.{Token}
@@ -31,6 +32,7 @@ run_more old new run s i = record {
   table = s.2.table ∙ i.table;
   name = s.3 ∙ i.name;
   rule = i.rule;
+  drained = s.2.drained i.drained;
 }
 
 pub run_skips : (old new : Machine) (run : Run) → Skips old new → IsAt old run → IsAt new run
@@ -41,6 +43,7 @@ run_skips old new run s i = record {
   table = s.1.table ∙ i.table;
   name = s.2 ∙ i.name;
   rule = i.rule;
+  drained = s.1.drained i.drained;
 }
 
 pub more_skips : (old new : Machine) → Steps old More new → Skips old new
@@ -49,7 +52,7 @@ more_skips old new s = (s.0, s.2, s.3)
 pub skips_trans : (a b c : Machine) → Skips a b → Skips b c → Skips a c
 skips_trans a b c s t = (
   (λ more switches f. s.0 more switches f ∙ t.0 more switches (rw s.1.finished f)),
-  record { count = t.1.count ∙ s.1.count; finished = t.1.finished ∙ s.1.finished; table = t.1.table ∙ s.1.table },
+  record { count = t.1.count ∙ s.1.count; finished = t.1.finished ∙ s.1.finished; table = t.1.table ∙ s.1.table; drained = λ h. t.1.drained (s.1.drained h) },
   t.2 ∙ s.2,
 )
 
@@ -67,6 +70,7 @@ run_given old new run given switch s i = record {
   table = s.1.table ∙ i.table;
   name = s.2 ∙ ap (name_after_kind given.kind) i.name ∙ sym (last_name-push run.given given run.start.name);
   rule = i.rule;
+  drained = s.1.drained i.drained;
 }
 
 abbrev Reaches : ℕ → Token → Type 0
@@ -200,4 +204,55 @@ ended_again t run e i = let f : true ≡ run.finished = sym e ∙ i.finished in 
   table = i.table;
   name = i.name;
   rule = i.rule;
+  drained = i.drained;
 }
+
+-- THE END
+
+last_none : {X : Type 0} (xs ys : List X) → xs ++ ys ≡ [] → ys ≡ []
+last_none [] ys e = e
+last_none (x ∷ xs) ys e = cc
+
+tokens_some : (rows : List Row) (k : ℕ) (mode : TextMode) (name : Option (List ℕ)) (place : ℕ) (text : List ℕ) (switches : List (Option TextMode)) → tokens_after rows k mode name place text switches ≡ [] → ⊥
+unfolding tokens_after
+tokens_some rows k mode name place [] switches e = cc
+tokens_some rows zero mode name place (c ∷ rest) switches e =
+    let first = next rows mode name place (c ∷ rest) in
+    tokens_some rows (first.len - 1) (mode_after first.tokens switches mode) (name_after first.tokens name) (place + 1) rest (drop (length first.tokens) switches)
+    (last_none first.tokens _ e)
+tokens_some rows (suc k) mode name place (c ∷ rest) switches e = tokens_some rows k mode name (place + 1) rest switches e
+
+-- where nothing is to come, the end was given
+none_to_come : (rows : List Row) (state : State) (mode : TextMode) (name : Option (List ℕ)) (place : ℕ) (rest : List ℕ) (switches : List (Option TextMode)) → coming rows state mode name place rest switches ≡ [] → IsEnded state
+none_to_come rows (Text Plain) mode name place rest switches e = absurd (tokens_some rows 0 mode name place rest switches e)
+none_to_come rows (Text Escaped) mode name place rest switches e = absurd (tokens_some rows _ mode name place rest _ (last_none (chars_at mode place (front mode Escaped name rest)) _ e))
+none_to_come rows (Text Double) mode name place rest switches e = absurd (tokens_some rows _ mode name place rest _ (last_none (chars_at mode place (front mode Double name rest)) _ e))
+none_to_come rows (Number draft) mode name place rest switches e = cc
+none_to_come rows (Second c start) mode name place rest switches e = cc
+none_to_come rows (Comment draft) mode name place rest switches e = cc
+none_to_come rows (Doctype draft) mode name place rest switches e = cc
+none_to_come rows (Tag draft) mode name place rest switches e =
+    let t = draft_tag rows draft rest in
+    absurd (tokens_some rows _ _ _ place rest _ (last_none (tag_tokens draft.is_end draft.start (place + t.tail.len) t) _ e))
+none_to_come rows Ended mode name place rest switches e = tt
+
+same_front : {X : Type 0} (xs ys : List X) → xs ≡ xs ++ ys → ys ≡ []
+same_front [] ys e = sym e
+same_front (x ∷ xs) ys e = same_front xs ys (tail_same e)
+  where
+    rest : {X : Type 0} → List X → List X
+    rest [] = []
+    rest (y ∷ ys) = ys
+
+    tail_same : {X : Type 0} {x y : X} {xs ys : List X} → x ∷ xs ≡ y ∷ ys → xs ≡ ys
+    tail_same h = ap rest h
+
+-- once all tokens were given, each code point was passed
+pub all_passed : (t : Machine) (run : Run) → IsAt t run → run.finished ≡ true → tokens_of run.text run.switches run.start ≡ run.given → length run.text ≤ t.place
+all_passed t run i f all =
+    let whole = i.tokens [] [] (λ _. refl) in
+    let none : to_come t [] [] ≡ [] = same_front run.given (to_come t [] []) (sym all ∙ ap₂ (λ text said. tokens_of text said run.start) (sym (append-nil run.text)) (sym (append-nil run.switches)) ∙ whole) in
+    let read = (i.drained (none_to_come t.table.now t.state t.mode t.last_name t.place (t.input.queue.items ++ []) [] none)).1 in
+    let count = i.count in
+    let empty = ap length read in
+    omega (arith, count, empty)

@@ -28,6 +28,7 @@ use Rattle.html_tokens.specs.declared.machine.State.{State}
 use Rattle.html_tokens.specs.declared.machine.State.TheVariants.{Text, Number, Second, Comment, Doctype, Tag, Ended}
 use Rattle.html_tokens.proofs.TokensLemmas.{tokens_begun, tokens_past, tokens_past_one}
 use Rattle.html_tokens.proofs.Cuts.{first_of}
+use Rattle.html_tokens.proofs.StepLemmas.{all_read, going_on}
 use Rattle.html_tokens.specs.Marks.{begin_at, is_stop}
 use Rattle.html_tokens.specs.Tokens.{begun_piece}
 use Rattle.html_charref.specs.declared.table.Row.{Row}
@@ -66,7 +67,7 @@ tag_opens old new b region is_end opened s (d, n, p) h k begun stop piece = (
       ∙ ap (λ (t : WholeTag). tag_coming old.table.now is_end old.place (old.place + opened) t old.mode old.last_name (drop opened old.input.queue.items ++ more) switches)
       (sym (new_tag_of old.table.now d is_end old.place (drop opened old.input.queue.items ++ more) n)))),
   rw p.items (simp length-drop (omega arith)),
-  record { count = rw (p.place, p.items) (simp length-drop (omega arith)); finished = p.finished; table = p.table },
+  record { count = rw (p.place, p.items) (simp length-drop (omega arith)); finished = p.finished; table = p.table; drained = going_on old new _ p.state (λ e. e) },
   p.name,
 )
 
@@ -100,7 +101,7 @@ tag_more old new d d' c after s (e, st, en) first second k p =
           (ap (λ (t : WholeTag). tag_coming old.table.now d.is_end d.start old.place t old.mode old.last_name (old.input.queue.items ++ more) switches) (ap (λ (x : List ℕ). draft_tag old.table.now d x) text ∙ whole)
           ∙ tag_step_on old.table.now d.is_end d.start old.place (draft_tag old.table.now d' (drop 1 old.input.queue.items ++ more)) old.mode old.last_name old.input.queue.items _ more switches refl h)),
       rw p.items (simp length-drop (omega arith)),
-      record { count = rw (p.place, p.items) (simp length-drop (omega arith)); finished = p.finished; table = p.table },
+      record { count = rw (p.place, p.items) (simp length-drop (omega arith)); finished = p.finished; table = p.table; drained = going_on old new _ p.state (λ e. e) },
       p.name,
     )
 
@@ -130,7 +131,7 @@ tag_given_at old new d d' c after self_closing n progress s (e, st, en, short) f
           ∙ rw (mode_same d.is_end t switch old.mode, name_same d.is_end t old.last_name)
           (ap (λ (ts : List Token). token (tag_kind d.is_end t) d.start (old.place + n) ∷ ts)
           (rw add-zero at (tokens_past old.table.now n 0 (switch_to (tag_kind d.is_end t) switch (mode_after_tag d.is_end old.mode)) (name_after_tag d.is_end d'.name old.last_name) old.place old.input.queue.items more switches fit))))),
-      record { count = rw (p.place, p.items) (simp length-drop (omega arith)); finished = p.finished; table = p.table },
+      record { count = rw (p.place, p.items) (simp length-drop (omega arith)); finished = p.finished; table = p.table; drained = going_on old new _ p.state (λ e. e) },
       p.name ∙ (rw en (sym (name_same d.is_end t old.last_name))),
     )
 
@@ -163,7 +164,7 @@ tag_dropped rows Ended mode name place switches h = absurd h
 pub tag_ends : (old new : Machine) → IsTag old.state → new ≡ record old { state = Ended } →
     ((more : List ℕ) → MayFollow old.input.finished more → old.input.queue.items ++ more ≡ []) → Steps old (Given (token kinds.Eof old.place old.place)) new
 tag_ends old new s n e =
-    ((λ more switch switches f. rw (e more f, n) (tag_dropped old.table.now old.state old.mode old.last_name old.place (switch ∷ switches) s)), rw n (record { count = refl; finished = refl; table = refl }), rw n refl)
+    ((λ more switch switches f. rw (e more f, n) (tag_dropped old.table.now old.state old.mode old.last_name old.place (switch ∷ switches) s)), rw n (record { count = refl; finished = refl; table = refl; drained = λ _ _. all_read old.input.finished old.input.queue.items e }), rw n refl)
 
 same_kind : (is_end : Bool) (k : ℕ) (t : WholeTag) → tag_kind is_end (tag_by k t) ≡ tag_kind is_end t
 same_kind true k t = refl
@@ -197,7 +198,7 @@ ref_more old new d d' found s (e, st, en) first h (b, some, fit) p = (
       (ap (λ (t : WholeTag). tag_coming old.table.now d.is_end d.start old.place t old.mode old.last_name (items ++ more) switches) whole
       ∙ tag_steps_on old.table.now d.is_end d.start old.place k (draft_tag old.table.now d' (drop k items ++ more)) old.mode old.last_name items more switches fit)),
   rw p.items (simp length-drop (omega arith)),
-  record { count = rw (p.place, p.items) (simp length-drop (omega arith)); finished = p.finished; table = p.table },
+  record { count = rw (p.place, p.items) (simp length-drop (omega arith)); finished = p.finished; table = p.table; drained = going_on old new _ p.state (λ e. e) },
   p.name,
 )
 
@@ -209,6 +210,6 @@ tag_skips old new d d' n s (e, fit, st, en) p = (
       rw (s, p.state, p.mode, p.name, p.place, p.items, p.table, st, en)
       (ap (λ (t : WholeTag). tag_coming old.table.now d.is_end d.start old.place t old.mode old.last_name (old.input.queue.items ++ more) switches) (e old.table.now more)
       ∙ tag_steps_on old.table.now d.is_end d.start old.place n (draft_tag old.table.now d' (drop n old.input.queue.items ++ more)) old.mode old.last_name old.input.queue.items more switches fit)),
-  record { count = rw (p.place, p.items) (simp length-drop (omega arith)); finished = p.finished; table = p.table },
+  record { count = rw (p.place, p.items) (simp length-drop (omega arith)); finished = p.finished; table = p.table; drained = going_on old new _ p.state (λ e. e) },
   p.name,
 )

@@ -7,7 +7,7 @@ use Rattle.html_tokens.specs.declared.machine.State.TheVariants.{Text, Number, S
 
 -- at most so many errors more, and so many comparisons
 abbrev pub Told : ℕ → ℕ → Faults → Faults → Type 0
-Told errors compared old new = (length new.list.items ≤ length old.list.items + errors) × (new.compared ≤ old.compared + compared)
+Told errors compared old new = (length new.list ≤ length old.list + errors) × (new.compared ≤ old.compared + compared)
 
 -- the errors that a state may still tell before a code point is passed
 abbrev pub due : State → ℕ
@@ -41,11 +41,11 @@ attr_count Ended = 0
 
 -- the errors and comparisons so far, at a place
 abbrev pub IsWithin : ℕ → Faults → Type 0
-IsWithin place faults = (length faults.list.items ≤ 8 * place + 8) × (faults.compared ≤ place * place + place)
+IsWithin place faults = (length faults.list ≤ 8 * place + 8) × (faults.compared ≤ place * place + place)
 
 -- the same with what a state may still add, which keeps it so
 pub record Bounded (state : State) (place : ℕ) (faults : Faults) : Type 0 where
-  pub told : length faults.list.items + due state ≤ 8 * place + 8
+  pub told : length faults.list + due state ≤ 8 * place + 8
   pub compared : faults.compared + searches state place ≤ place * place + place
   pub attrs : attr_count state ≤ place
 

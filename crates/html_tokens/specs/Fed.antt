@@ -51,11 +51,26 @@ coming rows Ended mode name place rest switches = []
 abbrev pub to_come : Machine → List ℕ → List (Option TextMode) → List Token
 to_come t more switches = coming t.table.now t.state t.mode t.last_name t.place (t.input.queue.items ++ more) switches
 
+-- the end was given
+abbrev pub IsEnded : State → Type 0
+IsEnded (Text region) = ⊥
+IsEnded (Number draft) = ⊥
+IsEnded (Second c start) = ⊥
+IsEnded (Comment draft) = ⊥
+IsEnded (Doctype draft) = ⊥
+IsEnded (Tag draft) = ⊥
+IsEnded Ended = Unit {0}
+
+-- where the end was given, all was fed and read
+abbrev pub IsDrained : Machine → Type 0
+IsDrained t = IsEnded t.state → (t.input.finished ≡ true) × (t.input.queue.items ≡ [])
+
 -- what was fed is what was read and what is unread, and the table is the same
 pub record SameCount (old new : Machine) : Type 0 where
   pub count : new.place + length new.input.queue.items ≡ old.place + length old.input.queue.items
   pub finished : new.input.finished ≡ old.input.finished
   pub table : new.table.now ≡ old.table.now
+  pub drained : IsDrained old → IsDrained new
 
 -- how much has to be seen: the longest name of a reference, the name of an end mark, or a mark of a region
 abbrev pub slack : List Row → Option (List ℕ) → ℕ

@@ -1,6 +1,6 @@
 -- What callers of a tokenizer know of it: its run.
-use Rattle.std.specs.Prelude.{ℕ, ◌+◌, ◌-◌, ◌^◌, min, List, [], length, Bool, false, cond, Option}
-use Rattle.html_tokens.specs.Stream.{Run, IsAt, gave, answered}
+use Rattle.std.specs.Prelude.{◌≡◌, ℕ, ◌+◌, ◌-◌, ◌^◌, min, List, [], length, Bool, true, false, cond, Option}
+use Rattle.html_tokens.specs.Stream.{Run, Start, IsAt, gave, answered, tokens_of}
 use Rattle.html_charref.specs.declared.table.Row.{Row}
 use Rattle.html_tokens.specs.Runs.{is_text, plain_front}
 use Rattle.html_tokens.specs.declared.token.Token.{Token}
@@ -32,11 +32,33 @@ is_finished t = t.machine.input.finished
 
 -- the errors told so far
 unfoldable pub told : Tokenizer → List Fault
-told t = t.faults.list.items
+told t = t.faults.list
 
--- the code points taken and the comparisons made so far, as far as 128 bits count
+-- the code points taken so far, each by a visit of a state
+unfoldable pub visits_made : Tokenizer → ℕ
+visits_made t = t.machine.place
+
+-- the comparisons of two attribute names made so far
+unfoldable pub comparisons_made : Tokenizer → ℕ
+comparisons_made t = t.faults.compared
+
+-- both together, as far as 128 bits count
 unfoldable pub steps_taken : Tokenizer → ℕ
 steps_taken t = min (t.faults.compared + t.machine.place) (2 ^ 128 - 1)
+
+-- What a tokenizer tells of a text: one that was begun so and fed the text to its end, with these switches after its tokens, has given all
+-- tokens, has told these errors, and made so many steps.
+pub record IsTold (start : Start) (text : List ℕ) (switches : List (Option TextMode)) (errors : List Fault) (steps : ℕ) : Type 0 where
+  pub tokenizer : Tokenizer
+  pub run : Run
+  pub fed : Fed tokenizer run
+  pub start_is : run.start ≡ start
+  pub text_is : run.text ≡ text
+  pub switches_are : run.switches ≡ switches
+  pub finished : run.finished ≡ true
+  pub all : tokens_of run.text run.switches run.start ≡ run.given
+  pub errors_are : told tokenizer ≡ errors
+  pub steps_are : steps_taken tokenizer ≡ steps
 
 -- the plain text that comes next, as far as it was fed
 unfoldable pub plain_next : Tokenizer → List ℕ

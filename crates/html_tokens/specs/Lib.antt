@@ -18,3 +18,5 @@ pub mod Runs
 pub mod Given
 pub mod Cost
 pub mod Bounds
+pub mod Order
+pub mod Script

@@ -5,7 +5,7 @@ use Rattle.html_tokens.specs.Input.{MayFollow}
 use Rattle.html_tokens.specs.Tokens.{tokens_after, name_after_kind}
 use Rattle.html_charref.specs.Table.{IsTable}
 use Rattle.html_charref.specs.declared.table.Row.{Row}
-use Rattle.html_tokens.specs.Fed.{to_come, switch_to, slack}
+use Rattle.html_tokens.specs.Fed.{to_come, switch_to, slack, IsDrained}
 use Rattle.html_tokens.specs.declared.token.Token.{Token}
 use Rattle.html_tokens.specs.declared.token.TextMode.{TextMode}
 use Rattle.html_tokens.specs.declared.machine.Machine.{Machine}
@@ -45,6 +45,8 @@ pub record IsAt (t : Machine) (run : Run) : Type 0 where
   pub table : t.table.now ≡ run.start.rows
   pub name : t.last_name ≡ name_of run
   pub rule : IsTable run.start.rows
+  -- and where it has given the end, it has read all
+  pub drained : IsDrained t
 
 -- the run after a token, and what is said of the mode after it
 abbrev pub gave : Run → Token → Option TextMode → Run

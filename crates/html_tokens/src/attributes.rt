@@ -1,5 +1,6 @@
 // The attributes of a tag.
 ghost use Rattle.html_tokens.specs.Tag.{has_name};
+ghost use Rattle.html_tokens.specs.Places.{comparisons};
 ghost use Rattle.std.specs.Prelude.{◌≤◌, ◌≡◌, ◌∷◌, [], ◌++◌, IfOk, OnErr, OnOk, length};
 
 use html_charref::Str;
@@ -25,10 +26,10 @@ impl Clone for Attr {
     }
 }
 
-/// Whether an attribute of this name is there, and how many names were compared with it.
+/// Whether an attribute of this name is there, and with how many names it was compared: all up to the first equal one.
 pub(crate) fn search(attrs: &[Attr], name: &Str) -> (bool, usize)
     ensures found { result.0 ≡ has_name name.now attrs.now }
-    ensures count { result.1 ≤ length attrs.now }
+    ensures count { result.1 ≡ comparisons name.now attrs.now }
 {
     let mut compared = 0;
     for attr in attrs {

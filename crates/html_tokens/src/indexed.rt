@@ -1,7 +1,7 @@
 // The attributes of a tag that is being read.
-ghost use Rattle.html_tokens.specs.Places.{few};
+ghost use Rattle.html_tokens.specs.Places.{comparisons, few};
 ghost use Rattle.html_tokens.specs.Tag.{has_name};
-ghost use Rattle.std.specs.Prelude.{◌≡◌, ◌≤◌, ◌∷◌, [], ◌++◌, length, take, OnErr, OnOk};
+ghost use Rattle.std.specs.Prelude.{◌≡◌, ◌≤◌, ◌+◌, ◌∷◌, [], ◌++◌, length, take, true, false, OnErr, OnOk};
 
 use crate::attributes::{Attr, Attrs, search};
 use html_charref::Str;
@@ -24,13 +24,13 @@ pub struct IndexedAttrs {
 impl Model for IndexedAttrs {
     ghost use Rattle.std.specs.Prelude.{List};
     ghost use Rattle.html_tokens.specs.declared.attributes.Attr.{Attr};
-    ghost use Rattle.html_tokens.specs.Places.{AreFound};
+    ghost use Rattle.html_tokens.specs.Places.{AreFirst, AreFound};
 
     ghost Value = { List Attr };
 
     ghost view = { λ a. a.attrs };
 
-    ghost invariant = { λ a. AreFound a.attrs a.places };
+    ghost invariant = { λ a. AreFound a.attrs a.places × AreFirst a.attrs a.places };
 }
 
 /// The first few attributes.
@@ -44,10 +44,12 @@ fn first_few(attrs: &[Attr]) -> &[Attr]
     }
 }
 
-/// Whether an attribute of this name is there, and with how many names it was compared; it may be the one at this place.
+/// Whether an attribute of this name is there, and with how many names it is compared: all up to the first equal one, which
+/// can stand at this place alone.
 fn search_at(attrs: &[Attr], place: usize, name: &Str) -> (bool, usize)
+    requires first { has_name name.now attrs.now ≡ true → comparisons name.now attrs.now ≡ place + 1 }
     ensures found { result.0 ≡ has_name name.now attrs.now }
-    ensures count { result.1 ≤ length attrs.now }
+    ensures count { result.1 ≡ comparisons name.now attrs.now }
 {
     if let Some(attr) = attrs.get(place) {
         if attr.name == *name {
@@ -68,8 +70,9 @@ impl IndexedAttrs {
         }
     }
 
-    /// Adds an attribute at the end, or leaves the list as it was.
+    /// Adds an attribute of a new name at the end, or leaves the list as it was.
     pub(crate) fn push(&mut self, attr: Attr) -> Result<(), AllocError>
+        requires new { has_name attr.name self.old ≡ false }
         ensures ok { OnOk result (self.new ≡ self.old ++ attr ∷ []) }
         ensures err { OnErr result (self.new ≡ self.old) }
     {
@@ -84,10 +87,11 @@ impl IndexedAttrs {
         Ok(())
     }
 
-    /// Whether an attribute of this name is there, and with how many names it was compared: all up to the first equal one.
+    /// Whether an attribute of this name is there, and with how many names it is compared: all up to the first equal one.
     pub(crate) fn search(&self, name: &Str) -> (bool, usize)
         ensures found { result.0 ≡ has_name name.now self.now }
-        ensures count { result.1 ≤ length self.now }
+        ensures count { result.1 ≡ comparisons name.now self.now }
+        ensures few { result.1 ≤ length self.now }
     {
         let attrs = self.attrs.as_slice();
         let (found, compared) = search(first_few(attrs), name);

@@ -6,6 +6,7 @@ mod comment;
 mod copied;
 mod doctype;
 mod doctype_faults;
+mod fault_list;
 mod fault_name;
 mod faults;
 mod indexed;

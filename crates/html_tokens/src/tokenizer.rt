@@ -1,5 +1,6 @@
 // The tokenizer.
-ghost use Rattle.std.specs.Prelude.{◌≡◌, ◌↔◌, ℕ, ◌≤◌, ◌+◌, ◌*◌, ◌^◌, ◌<◌, ◌||◌, List, [], ◌++◌, ◌∷◌, true, false, cond, Option, option_map, Ok, Err, length, MatchOption, IfOk, IfErr, OnOk, OnErr, IfSome, IfNone};
+ghost use Rattle.std.specs.Prelude.{◌≡◌, ◌↔◌, ℕ, ◌≤◌, ◌+◌, ◌*◌, ◌^◌, ◌<◌, ◌-◌, ◌||◌, min, List, [], ◌++◌, ◌∷◌, true, false, cond, Option, option_map, Ok, Err, length, MatchOption, IfOk, IfErr, OnOk, OnErr, IfSome, IfNone};
+ghost use Rattle.std.specs.List.Sorted.{IsNonDecreasingBy};
 ghost use Rattle.std.specs.Str.{chars};
 ghost use Rattle.html_tokens.specs.Bounds.{IsBounded, IsWithin};
 ghost use Rattle.html_tokens.specs.Runs.{plain_tokens};
@@ -38,8 +39,12 @@ pub enum TokenError {
 
 impl<'a> Tokenizer<'a> {
     ghost use Rattle.html_tokens.specs.Stream.{Run, Start, gave, fed, ended, IsPrompt, tokens_of};
-    ghost use Rattle.html_tokens.specs.Given.{Fed, Awaits, fed_len, is_stopped, is_finished, told, plain_next, steps_taken, IsStart, run_from};
+    ghost use Rattle.html_tokens.specs.Given.{Fed, Awaits, fed_len, is_stopped, is_finished, told, plain_next, steps_taken, visits_made, comparisons_made, IsStart, run_from};
     ghost use Rattle.html_tokens.specs.Runs.{gave_all};
+    ghost use Rattle.html_tokens.specs.Marks.{front};
+    ghost use Rattle.html_tokens.specs.Script.{before_end, IsScriptEnd};
+    ghost use Rattle.html_tokens.specs.declared.token.Region.{Region};
+    ghost use Rattle.html_tokens.specs.declared.token.TextMode.{TextMode};
     ghost use Rattle.html_tokens.specs.Cost.{AreCosted};
     ghost use Rattle.html_tokens.specs.declared.token.Token.{Token};
 
@@ -210,9 +215,12 @@ impl<'a> Tokenizer<'a> {
         }
     }
 
-    /// Tells how the text after the start tag just given is read.
+    /// Tells how the text after the start tag just given is read. Script text ends by the first marks of its regions.
     #[tactic(auto, using(crate::proofs::StreamLemmas::unsaid, crate::proofs::StreamLemmas::said), unfolding(crate::specs::Given::Fed, crate::specs::Given::Awaits, crate::specs::Given::fed_len, crate::specs::Given::is_stopped, crate::specs::Given::is_finished))]
     pub fn switch(&mut self, mode: TextMode)
+        ensures script { (name : Option (List ℕ)) (text : List ℕ) (end : Option ℕ) → IsScriptEnd Region.Plain name text end
+            → front TextMode.Script Region.Plain name text ≡ before_end end text }
+        ensures ends { (name : Option (List ℕ)) (text : List ℕ) → (end : Option ℕ) × IsScriptEnd Region.Plain name text end }
         ensures awaited { (run : Run) (token : Token) → IsStart token.kind → Awaits self.old run token → Fed self.new (gave run token (Option.Some mode)) }
         ensures stopped { is_stopped self.new ≡ is_stopped self.old }
         ensures finished { is_finished self.new ≡ is_finished self.old }
@@ -225,6 +233,7 @@ impl<'a> Tokenizer<'a> {
     #[tactic(auto, using(crate::proofs::StreamLemmas::unsaid, crate::proofs::StreamLemmas::said), unfolding(crate::specs::Given::Fed, crate::specs::Given::Awaits, crate::specs::Given::fed_len, crate::specs::Given::is_stopped, crate::specs::Given::is_finished, crate::specs::Given::told))]
     pub fn errors(&self) -> &[Fault]
         ensures list { result.now ≡ told self.now }
+        ensures ordered { IsNonDecreasingBy (λ x. x.place) result.now }
         ensures bound { length result.now ≤ 11 * (fed_len self.now + 2) }
         ensures count { (run : Run) → Fed self.now run → fed_len self.now ≡ length run.text }
     {
@@ -232,9 +241,14 @@ impl<'a> Tokenizer<'a> {
     }
 
     /// The steps so far: one for each code point taken, and one for each comparison of two attribute names.
-    #[tactic(auto, using(crate::proofs::StreamLemmas::unsaid, crate::proofs::StreamLemmas::said), unfolding(crate::specs::Given::Fed, crate::specs::Given::Awaits, crate::specs::Given::fed_len, crate::specs::Given::is_stopped, crate::specs::Given::is_finished, crate::specs::Given::told, crate::specs::Given::steps_taken))]
+    #[tactic(auto, using(crate::proofs::StreamLemmas::unsaid, crate::proofs::StreamLemmas::said), unfolding(crate::specs::Given::Fed, crate::specs::Given::Awaits, crate::specs::Given::fed_len, crate::specs::Given::is_stopped, crate::specs::Given::is_finished, crate::specs::Given::told, crate::specs::Given::steps_taken, crate::specs::Given::visits_made, crate::specs::Given::comparisons_made))]
     pub fn steps(&self) -> u128
         ensures count { result ≡ steps_taken self.now }
+        ensures sum { result ≡ min (comparisons_made self.now + visits_made self.now) (2 ^ 128 - 1) }
+        ensures visits { visits_made self.now ≤ 8 * (fed_len self.now + 2) }
+        // Once all tokens were given, each code point has been taken.
+        ensures all { (run : Run) → Fed self.now run → run.finished ≡ true → tokens_of run.text run.switches run.start ≡ run.given → length run.text ≤ result }
+        ensures comparisons { comparisons_made self.now ≤ (fed_len self.now + 2) * (fed_len self.now + 2) }
         ensures bound { result ≤ 8 * (fed_len self.now + 2) + (fed_len self.now + 2) * (fed_len self.now + 2) }
     {
         self.faults

@@ -8,6 +8,6 @@ returns-clause-steps c =
     let t = c.args.self.now in (
       (λ more switch switches h. rw (c.token.ensures, c.requires.state)
           (char_given t.table.now c.args.region _ t.mode t.last_name t.place _ _ _ _ _ more switch switches c.take-found.ensures.items (c.requires.text more h) (c.in-Some.ensures more h) c.text_char-c.ensures refl)),
-      record { count = omega (arith, shorter _ _ _ c.take-found.ensures.items); finished = c.take-found.ensures.finished; table = refl },
+      record { count = omega (arith, shorter _ _ _ c.take-found.ensures.items); finished = c.take-found.ensures.finished; table = refl; drained = λ _ h. absurd h },
       rw c.token.ensures refl,
     )

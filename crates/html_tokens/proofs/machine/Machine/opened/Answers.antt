@@ -14,7 +14,7 @@ returns-in-Empty-clause-steps c =
     let is = rw c.in-Empty.is at c.requires.found in
     let some = rw c.in-Empty.is at c.requires.some in
     let fit = rw c.in-Empty.is at c.requires.fit in
-    open_more _ _ c.args.region 3 _ c.requires.state (passes_to _ _ 3 _ _ c.pass.ensures) some fit
+    open_more _ _ c.args.region 3 _ c.requires.state (passes_to _ _ 3 _ _ c.pass.ensures) some fit (λ e. e)
     (λ more switches h. empty_passed _ begins.Markup c.args.region _ _ _ 3 _ more switches (c.requires.markup more h) refl (rw (is more h) refl) some fit)
 
 pub returns-in-Comment-clause-steps : goal.returns-in-Comment-clause-steps
@@ -22,7 +22,7 @@ returns-in-Comment-clause-steps c =
     let is = rw c.in-Comment.is at c.requires.found in
     let some = rw c.in-Comment.is at c.requires.some in
     let fit = rw c.in-Comment.is at c.requires.fit in
-    open_more _ _ c.args.region 4 _ c.requires.state c.begin_comment.ensures some fit
+    open_more _ _ c.args.region 4 _ c.requires.state c.begin_comment.ensures some fit (λ e. e)
     (λ more switches h. comment_begins _ c.args.region _ Declared 4 _ _ _ more switches (c.requires.markup more h) (rw (is more h) refl) some fit)
 
 pub returns-in-Bogus-clause-steps : goal.returns-in-Bogus-clause-steps
@@ -31,7 +31,7 @@ returns-in-Bogus-clause-steps c =
     let some = rw c.in-Bogus.is at c.requires.some in
     let fit = rw c.in-Bogus.is at c.requires.fit in
     let k = c.in-Bogus.opened in
-    open_more _ _ c.args.region k _ c.requires.state c.begin_comment-in-Bogus.ensures some fit
+    open_more _ _ c.args.region k _ c.requires.state c.begin_comment-in-Bogus.ensures some fit (λ e. e)
     (λ more switches h. comment_begins _ c.args.region _ Bogus k _ _ _ more switches (c.requires.markup more h) (rw (is more h) refl) some fit)
 
 pub returns-in-ShortComment-clause-steps : goal.returns-in-ShortComment-clause-steps

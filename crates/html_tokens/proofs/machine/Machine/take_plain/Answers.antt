@@ -4,7 +4,7 @@ use Rattle.html_tokens.specs.declared.machine.Machine.{Machine}
 use Rattle.html_tokens.specs.declared.machine.State.TheVariants.{Text}
 use Rattle.html_tokens.specs.declared.token.Region.TheVariants.{Plain}
 use Rattle.html_tokens.proofs.Cuts.{shorter}
-use Rattle.html_tokens.proofs.StepLemmas.{passes_count}
+use Rattle.html_tokens.proofs.StepLemmas.{passes_length}
 use Rattle.html_tokens.proofs.BoundLemmas.{plain_bounded, run_bounded}
 use Rattle.html_tokens.proofs.RunLemmas.{HasTaken, taken_none, taken_more, taken_run, passes_one}
 use Rattle.html_tokens.proofs.machine.Machine.take_plain.Goals as goal
@@ -18,7 +18,7 @@ taking-init c =
     record {
       taken = rw e.text (taken_run n now now new c.args.out.now.items c.args.out.now.items (taken_none now c.args.out.now.items c.requires.state) e.fit e.plain e.passes);
       mode = refl;
-      count = (passes_count now new n _ e.passes e.fit).count;
+      count = passes_length now new n _ e.passes e.fit;
       finished = e.passes.finished;
       bounded = λ b. run_bounded now new n c.args.faults.now c.requires.state e.passes b;
     }
@@ -37,7 +37,7 @@ taking-preserved c =
     let new = c.take_clean-in-Some.new.self in
     let n = c.in_ok-take_clean-2.field-0 in
     let e = c.in_ok-take_clean-2.ensures in
-    let whole = (passes_count mid new n _ e.passes e.fit).count in
+    let whole = passes_length mid new n _ e.passes e.fit in
     record {
       taken = rw e.text (taken_run n start mid new c.args.out.now.items c.push.new.self.items pushed e.fit e.plain e.passes);
       mode = refl;

@@ -1,0 +1,11 @@
+use Rattle.std.proofs.Common.{arith}
+use Rattle.html_tokens.specs.Given.{Fed}
+use Rattle.html_tokens.proofs.StreamLemmas.{all_passed}
+use Rattle.html_tokens.proofs.tokenizer.Tokenizer.steps.Goals as goal
+
+pub returns-clause-all : goal.returns-clause-all
+unfolding Fed
+returns-clause-all c = λ run fed f all.
+    let passed = all_passed _ run fed f all in
+    let room = c.args.self.now.in_range in
+    omega (arith, passed, room, c.saturating_add.ensures)

@@ -1,0 +1,129 @@
+// Plain text, a code point or a run at a time.
+ghost use Rattle.std.specs.Prelude.{◌≡◌, ◌≤◌, ◌+◌, ◌^◌, ◌<◌, [], ◌++◌, length, MatchOption, cond, IfOk, OnErr, OnOk, IfSome, IfNone};
+ghost use Rattle.html_tokens.specs.Fed.{Passes};
+ghost use Rattle.html_tokens.specs.Tokens.{token};
+ghost use Rattle.html_tokens.specs.Bounds.{IsBounded, IsWithin};
+ghost use Rattle.std.specs.Prelude.{take};
+ghost use Rattle.html_tokens.specs.Copied.{AllPass};
+ghost use Rattle.html_tokens.specs.Runs.{is_plain, is_text, plain_front, plain_tokens, gave_all};
+ghost use Rattle.html_tokens.specs.Stream.{Run, IsAt, gave, answered};
+ghost use Rattle.html_tokens.specs.declared.token.TextMode.{TextMode};
+ghost use Rattle.std.specs.Prelude.{Option};
+
+use super::{Machine, State};
+use crate::faults::Faults;
+use crate::token::{Region, TokenKind};
+use std::alloc::AllocError;
+
+impl<'a> Machine<'a> {
+    /// Whether plain text may come next.
+    fn is_text(&self) -> bool
+        ensures { result ≡ is_text self.now.state }
+    {
+        match self.state {
+            State::Text(Region::Plain) => true,
+            State::Text(Region::Escaped | Region::Double)
+            | State::Number(_)
+            | State::Second(..)
+            | State::Comment(_)
+            | State::Doctype(_)
+            | State::Tag(_)
+            | State::Ended => false,
+        }
+    }
+
+    /// Takes a code point of plain text, where one comes next.
+    pub(crate) fn next_char(&mut self, faults: &mut Faults) -> Option<char>
+        requires room { self.old.place + length self.old.input.queue.items < 2 ^ 64 }
+        ensures given { IfSome result (λ c. (run : Run) → IsAt self.old run → (switch : Option TextMode) → IsAt (answered (token (TokenKind.Char c) self.old.place (self.old.place + 1)) switch self.new) (gave run (token (TokenKind.Char c) self.old.place (self.old.place + 1)) switch)) }
+        ensures count { IfSome result (λ c. self.new.place ≡ self.old.place + 1) }
+        ensures none { IfNone result (self.new ≡ self.old) }
+        ensures room { self.new.place + length self.new.input.queue.items ≡ self.old.place + length self.old.input.queue.items }
+        ensures finished { self.new.input.finished ≡ self.old.input.finished }
+        ensures bounded { IsBounded self.old faults.old → IsBounded self.new faults.new }
+    {
+        if !self.is_text() {
+            return None;
+        }
+        let mode = self.mode;
+        let c = self.input.take_plain(mode)?;
+        faults.text_char(c, self.place);
+        self.place += 1;
+        Some(c)
+    }
+
+    /// Appends the plain text that comes next, as far as it was fed; the place where it begins, where there is some.
+    pub(crate) fn next_run(
+        &mut self,
+        faults: &mut Faults,
+        out: &mut Vec<char>,
+    ) -> Result<Option<u64>, AllocError>
+        requires room { self.old.place + length self.old.input.queue.items < 2 ^ 64 }
+        ensures refused { OnErr result (out.new.items ≡ out.old.items) }
+        ensures text { OnOk result (out.new.items ≡ out.old.items ++ cond (is_text self.old.state) (plain_front self.old.mode self.old.input.queue.items) []) }
+        ensures place { IfOk result (λ found. MatchOption found (cond (is_text self.old.state) (plain_front self.old.mode self.old.input.queue.items) [] ≡ []) (λ place. place ≡ self.old.place)) }
+        ensures given { OnOk result ((run : Run) → IsAt self.old run → IsAt self.new (gave_all run (plain_tokens self.old.place (cond (is_text self.old.state) (plain_front self.old.mode self.old.input.queue.items) [])))) }
+        ensures room { self.new.place + length self.new.input.queue.items ≤ self.old.place + length self.old.input.queue.items }
+        ensures finished { self.new.input.finished ≡ self.old.input.finished }
+        ensures bounded { IsBounded self.old faults.old → OnOk result (IsBounded self.new faults.new) }
+        ensures within { IsBounded self.old faults.old → OnErr result (IsWithin self.new.place faults.new) }
+    {
+        if !self.is_text() {
+            return Ok(None);
+        }
+        let start = self.place;
+        let kept = out.len();
+        if let Err(error) = self.take_plain(faults, out) {
+            out.truncate(kept);
+            return Err(error);
+        }
+        Ok(if self.place == start {
+            None
+        } else {
+            Some(start)
+        })
+    }
+
+    /// Appends the plain text at the front of the rest; where that is refused, some of it.
+    fn take_plain(&mut self, faults: &mut Faults, out: &mut Vec<char>) -> Result<(), AllocError>
+        requires state { self.old.state ≡ State.Text Region.Plain }
+        requires room { self.old.place + length self.old.input.queue.items < 2 ^ 64 }
+        ensures kept { OnErr result (take (length out.old.items) out.new.items ≡ out.old.items) }
+        ensures text { OnOk result (out.new.items ≡ out.old.items ++ plain_front self.old.mode self.old.input.queue.items) }
+        ensures place { OnOk result (self.new.place ≡ self.old.place + length (plain_front self.old.mode self.old.input.queue.items)) }
+        ensures given { OnOk result ((run : Run) → IsAt self.old run → IsAt self.new (gave_all run (plain_tokens self.old.place (plain_front self.old.mode self.old.input.queue.items)))) }
+        ensures room { self.new.place + length self.new.input.queue.items ≤ self.old.place + length self.old.input.queue.items }
+        ensures finished { self.new.input.finished ≡ self.old.input.finished }
+        ensures bounded { IsBounded self.old faults.old → OnOk result (IsBounded self.new faults.new) }
+        ensures within { IsBounded self.old faults.old → OnErr result (IsWithin self.new.place faults.new) }
+    {
+        let mode = self.mode;
+        self.take_clean(faults, out)?;
+        'taking: while let Some(c) = self.input.take_plain(mode) {
+            faults.text_char(c, self.place);
+            self.place += 1;
+            out.push(c)?;
+            self.take_clean(faults, out)?;
+        }
+        faults.check()
+    }
+
+    /// Appends a front of the rest that is plain text, where no error waits for it, and answers its length.
+    fn take_clean(&mut self, faults: &Faults, out: &mut Vec<char>) -> Result<usize, AllocError>
+        requires room { self.old.place + length self.old.input.queue.items < 2 ^ 64 }
+        ensures fit { IfOk result (λ n. n ≤ length self.old.input.queue.items) }
+        ensures plain { IfOk result (λ n. (mode : TextMode) → AllPass (is_plain mode) (take n self.old.input.queue.items)) }
+        ensures text { IfOk result (λ n. out.new.items ≡ out.old.items ++ take n self.old.input.queue.items) }
+        ensures passes { IfOk result (λ n. Passes self.old n self.old.state self.new) }
+        ensures err { OnErr result (self.new ≡ self.old) }
+        ensures kept { OnErr result (out.new.items ≡ out.old.items) }
+    {
+        if !faults.is_quiet() {
+            return Ok(0);
+        }
+        let len = self.input.clean_len();
+        out.extend_from_slice(&self.input.queue.unread()[..len])?;
+        self.pass(len);
+        Ok(len)
+    }
+}
