@@ -2,6 +2,7 @@
 use Rattle.std.proofs.Common.{ℕ, suc, ◌+◌, ◌-◌, ◌*◌, ◌^◌, ◌≤◌, ◌≡◌, ◌∙◌, arith, min, true, false, List, [], ◌∷◌, length, map, Option, None, refl, sym, ap, subst, length-append}
 use Rattle.std.proofs.lemmas.List.{length-map}
 use Rattle.std.proofs.Math.Nat.{min-le_left, mul_comm, mul-le-mul_left}
+use Rattle.std.specs.List.Sorted.{IsNonDecreasingBy}
 use Rattle.std.specs.Prelude.{nat_lt, cond, Bool}
 use Rattle.html_arena.specs.Budget.{AreWithin}
 use Rattle.html_arena.specs.Forest.{Forest}
@@ -11,7 +12,7 @@ use Rattle.html_arena.specs.declared.arena.Limits.{Limits}
 use Rattle.html_input.specs.Decode.{code_points, decode}
 use Rattle.html_input.specs.Fed.{Fed as Decodes}
 use Rattle.html_input.specs.declared.decoder.Decoder.{Decoder}
-use Rattle.html_ledger.specs.Errors.{AreBetween}
+use Rattle.html_ledger.specs.Errors.{AreBetween as AreRising}
 use Rattle.html_ledger.specs.declared.fate.Fate.{Fate}
 use Rattle.html_ledger.specs.declared.setting.Setting.{Setting}
 use Rattle.html_ledger.specs.declared.setting.Setting.TheVariants.{Document}
@@ -19,7 +20,8 @@ use Rattle.html_page.specs.Label.{Label}
 use Rattle.html_page.specs.PageTokens.{page_kinds}
 use Rattle.html_page.specs.Plain.{IsPlainPage}
 use Rattle.html_page.specs.Shows.{Shows}
-use Rattle.html_tokens.specs.Given.{Fed, fed_len, steps_taken}
+use Rattle.html_tokens.specs.Cost.{AreCosted}
+use Rattle.html_tokens.specs.Given.{Fed, fed_len, steps_taken, told as told_by}
 use Rattle.html_tokens.specs.Stream.{Run, Start as TextStart, tokens_of}
 use Rattle.html_tokens.specs.Tokens.{tokens_after}
 use Rattle.html_tokens.specs.declared.faults.Fault.{Fault}
@@ -46,6 +48,7 @@ use Rattle.html_parser.proofs.Naming.{kinds-named, named-tree}
 use Rattle.html_parser.proofs.Costs.{costs, kinds-length, run-costed}
 use Rattle.html_parser.proofs.Counts.{decode_few}
 use Rattle.html_parser.proofs.Ends.{ends_at_eof}
+use Rattle.html_parser.proofs.Ordering.{in_order}
 
 -- HOW MANY ERRORS
 
@@ -68,7 +71,7 @@ faults-length (f ∷ fs) places =
     = length-map (front_below f.place places) construction_fault in
     omega (arith, rest, front, parts-length f.place places, length-append (map construction_fault (front_below f.place places)) (told_fault f ∷ fault_list fs (rest_from f.place places)))
 
-between-length : (low : ℕ) (es : List ℕ) (n : ℕ) → AreBetween low es n → low + length es ≤ n
+between-length : (low : ℕ) (es : List ℕ) (n : ℕ) → AreRising low es n → low + length es ≤ n
 between-length low [] n a = omega (arith, a)
 between-length low (e ∷ es) n (from, rest) = omega (arith, from, between-length (e + 1) es n rest)
 
@@ -94,9 +97,12 @@ pub record Ended (d : Decoder) (t : Tokenizer) (b : BuilderState) (starts : List
   pub own_is : own ≡ steps_taken t
   pub arena_steps : arena.steps ≡ b.page.tree.steps
   pub bounds : (s : Setting) (l : Option Limits) (tokens : List TokenKind) → Handed s l tokens b → (m : ℕ) → CostAtMost m tokens → IsBounded m arena
+  pub told_is : told ≡ told_by t
+  pub told_ordered : IsNonDecreasingBy (λ f. f.place) told
   pub told_few : length told ≤ 11 * (fed_len t + 2)
   pub fed : (run : Run) → Fed t run → fed_len t ≡ length run.text
   pub errors_are : errors ≡ fault_list told (places_of starts numbers)
+  pub own_least : (run : Run) → Fed t run → run.finished ≡ true → tokens_of run.text run.switches run.start ≡ run.given → length run.text ≤ own
   pub own_few : own ≤ 8 * (fed_len t + 2) + (fed_len t + 2) * (fed_len t + 2)
   pub steps_are : steps ≡ min (own + arena.steps) (2 ^ 128 - 1)
 
@@ -155,6 +161,21 @@ made start bytes run d t b starts told numbers fates arena errors n own steps e 
     let table : IsTable start.rows = ap-table run.start (text_start start) w.begun (table-of t run w.tokenized) in
     record {
       tokens_are = tokens;
+      cost = subst (λ m. AreCosted m run.given) (ap length text) costed;
+      ordered = in_order (length run.text) run.given told numbers errors costed (subst (AreRising 0 numbers) all outcome.told.rising) e.told_ordered faults;
+      least_own = subst (λ x. length x ≤ own) text (e.own_least run w.tokenized w.finished w.all);
+      told = record {
+        tokenizer = t;
+        run = run;
+        fed = w.tokenized;
+        start_is = w.begun;
+        text_is = text;
+        switches_are = switched;
+        finished = w.finished;
+        all = w.all;
+        errors_are = sym e.told_is;
+        steps_are = sym e.own_is;
+      };
       plain = λ document core p page h written.
           let handed : Handed Document start.limits (kinds run.given) b = subst (λ s. Handed s start.limits (kinds run.given) b) document.setting_is w.handed in
           let same : kinds run.given ≡ page_kinds page = text-kinds start.rows p page (decode bytes) run.given fates table core h written
@@ -200,6 +221,7 @@ made start bytes run d t b starts told numbers fates arena errors n own steps e 
 pub whole : (start : Start) (p : Stages) (bytes : List ℕ) → (e : IsEnded start p bytes) → IsWhole start bytes e.run p.decoder p.tokenizer p.builder p.kept.starts
 whole start p bytes e = record {
   begun = e.is_run.begun;
+  finished = e.is_run.ended;
   decoded = e.is_run.decoded;
   tokenized = e.is_run.tokenized;
   handed = e.is_run.handed;

@@ -18,6 +18,7 @@ use Rattle.html_parser.specs.declared.made.Made.{Made}
 -- tree construction has taken them; these are the places where they begin.
 pub record IsWhole (start : Start) (bytes : List ℕ) (run : Run) (d : Decoder) (t : Tokenizer) (b : BuilderState) (starts : List ℕ) : Type 0 where
   pub begun : run.start ≡ text_start start
+  pub finished : run.finished ≡ true
   pub decoded : Decodes (most_input start) true d bytes run.text
   pub tokenized : Tokenizes t run
   pub handed : Handed start.setting start.limits (kinds run.given) b

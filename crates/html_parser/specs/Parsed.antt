@@ -1,7 +1,10 @@
 -- What parsing answers.
 use Rattle.std.specs.Prelude.{◌≡◌, ℕ, ◌≤◌, ◌+◌, ◌-◌, ◌*◌, ◌^◌, min, false, List, [], ◌∷◌, length, Some}
 use Rattle.std.specs.List.{sum_by}
+use Rattle.std.specs.List.Sorted.{IsNonDecreasingBy}
 use Rattle.html_input.specs.Decode.{decode, code_points}
+use Rattle.html_tokens.specs.Cost.{AreCosted}
+use Rattle.html_tokens.specs.Given.{IsTold}
 use Rattle.html_tokens.specs.Stream.{tokens_of}
 use Rattle.html_tokens.specs.declared.token.Token.{Token}
 use Rattle.html_tokens.specs.declared.faults.Fault.{Fault}
@@ -65,6 +68,8 @@ pub record Headline (start : Start) (bytes : List ℕ) (tokens : List Token) (fa
   pub within : n ≤ most_input start
   -- the tokens are those of the text of these bytes, and no others
   pub tokens_are : AreTokensOf start (decode bytes) tokens fates
+  -- their spans are in order and disjoint, and they hold no more code points than these
+  pub cost : AreCosted (length (decode bytes)) tokens
   -- the tree is well formed, each token has its one fate, which it may have, and each node has what its token has
   pub numbers : List ℕ
   pub outcome : IsOutcome start.setting (kinds tokens) fates numbers t
@@ -80,11 +85,15 @@ pub record Headline (start : Start) (bytes : List ℕ) (tokens : List Token) (fa
   -- it keeps to the limits, where there are any
   pub kept : AreWithin start.limits (length t.labels) t.held
   pub kept_steps : (l : Limits) → start.limits ≡ Some l → steps ≤ l.steps
-  -- the steps are those of the tokenizer and those of tree construction
+  -- the steps are those of the tokenizer, at least one for each code point of the text, and those of tree construction
   pub steps_are : AreSteps n t steps
-  -- the errors are the tokenizer's, and at most one of tree construction for each token
+  pub least_own : length (decode bytes) ≤ steps_are.own
+  -- the errors are the tokenizer's, and at most one of tree construction for each token; their places never fall
   pub faults : AreFaults tokens numbers errors
+  pub ordered : IsNonDecreasingBy (λ f. f.place) errors
   pub few_errors : length errors ≤ 12 * (n + 2)
+  -- the tokenizer's errors and steps are those of one that was fed the text, read by these switches, and gave all its tokens
+  pub told : IsTold (text_start start) (decode bytes) (switches_by (kinds tokens) fates) faults.told steps_are.own
   -- of what the serializer writes: no element has an attribute with an empty name, and all that is held was counted
   pub names : HasNames t
   pub weighs : sum_by weight t.labels ≤ most_held n

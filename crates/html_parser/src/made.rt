@@ -3,8 +3,8 @@
 ghost use Rattle.std.specs.Prelude.{◌≡◌, ◌≤◌, ◌+◌, ◌-◌, ◌*◌, ◌^◌, ℕ, List, true, IfOk, length, min};
 ghost use Rattle.html_input.specs.Decode.{code_points, decode};
 ghost use Rattle.html_input.specs.Fed.{Fed as Decodes};
-ghost use Rattle.html_tokens.specs.Given.{fed_len, steps_taken};
-ghost use Rattle.html_tokens.specs.Stream.{Run};
+ghost use Rattle.html_tokens.specs.Given.{Fed as Tokenizes, fed_len, steps_taken};
+ghost use Rattle.html_tokens.specs.Stream.{Run, tokens_of};
 ghost use Rattle.html_parser.specs.Made.{IsMade, IsWhole};
 ghost use Rattle.html_parser.specs.Start.{Start};
 
@@ -64,6 +64,8 @@ fn count(decoder: &Decoder) -> u64
 /// The steps of the tokenizer and of tree construction, up to the greatest number.
 fn all_steps(tokenizer: &Tokenizer<'_>, arena: &Arena) -> u128
     ensures sum { result ≡ min (steps_taken tokenizer.now + arena.now.steps) (2 ^ 128 - 1) }
+    ensures least { (run : Run) → Tokenizes tokenizer.now run → run.finished ≡ true → tokens_of run.text run.switches run.start ≡ run.given
+        → length run.text ≤ steps_taken tokenizer.now }
     ensures few { steps_taken tokenizer.now ≤ 8 * (fed_len tokenizer.now + 2) + (fed_len tokenizer.now + 2) * (fed_len tokenizer.now + 2) }
 {
     tokenizer.steps().saturating_add(arena.meter().steps)

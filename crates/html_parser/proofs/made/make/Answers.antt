@@ -22,9 +22,12 @@ returns c =
       own_is = refl;
       arena_steps = c.finish-arena.ensures.steps;
       bounds = c.finish-arena.ensures.bounds;
+      told_is = c.errors.ensures.list;
+      told_ordered = c.errors.ensures.ordered;
       told_few = c.errors.ensures.bound;
       fed = c.errors.ensures.count;
       errors_are = c.in_ok-errors.ensures.list;
+      own_least = c.all_steps-steps.ensures.least;
       own_few = c.all_steps-steps.ensures.few;
       steps_are = c.all_steps-steps.ensures.sum;
     } in
