@@ -1,5 +1,5 @@
 -- Elements that hold text alone, as tokens come.
-use Rattle.std.proofs.Common.{◌≡◌, ℕ, zero, suc, ◌+◌, ◌<◌, ◌≤◌, ◌⊎◌, inl, inr, Bool, true, false, ◌||◌, cond, if◌then◌else◌, List, [], ◌∷◌, ◌++◌, length, length-append, Option, Some, None, refl, sym, ◌∙◌, ap, subst, arith}
+use Rattle.std.proofs.Common.{◌≡◌, ℕ, ◌+◌, ◌<◌, ◌≤◌, ◌⊎◌, inl, inr, Bool, true, false, ◌||◌, cond, if◌then◌else◌, List, [], ◌∷◌, ◌++◌, length, length-append, Some, None, refl, sym, ◌∙◌, ap, subst, arith}
 use Rattle.std.proofs.lemmas.Bool.{false≢true}
 use Rattle.std.proofs.lemmas.List.{append_assoc, append-nil, append_cancel_left}
 use Rattle.html_names.specs.declared.tag.Tag.{Tag}
@@ -10,7 +10,7 @@ use Rattle.html_arena.specs.declared.data.NodeData.{NodeData}
 use Rattle.html_arena.specs.declared.data.NodeData.TheVariants as node
 use Rattle.html_arena.specs.Data.{IsElement, tag_in}
 use Rattle.html_arena.specs.Siblings.{has}
-use Rattle.html_arena.specs.Tree.{Tree, children_of, label_of, named, tag_at}
+use Rattle.html_arena.specs.Tree.{Tree, label_of, named, tag_at}
 use Rattle.html_open.specs.Reopening.{HoldsNoElement}
 use Rattle.html_open.proofs.Keeps.{cases_eqb, eqb-self}
 use Rattle.html_tokens.specs.declared.token.TextMode.TheVariants.{Rcdata, Rawtext, Script, Plaintext}
@@ -19,7 +19,6 @@ use Rattle.html_ledger.specs.declared.fate.Fate.{Fate}
 use Rattle.html_ledger.specs.declared.fate.Fate.TheVariants.{Made, Merged, Text, Dropped, Ended}
 use Rattle.html_ledger.specs.declared.symbol.Symbol.{Symbol}
 use Rattle.html_ledger.specs.declared.symbol.Symbol.TheVariants.{Start, End, Char, Comment, Doctype, Eof}
-use Rattle.html_ledger.specs.Entries.{Fed}
 use Rattle.html_ledger.specs.Symbols.{chars_of, symbol_of}
 use Rattle.html_tree.specs.Since.{IsClosed, Since}
 use Rattle.html_tree.specs.States.{State as Open}

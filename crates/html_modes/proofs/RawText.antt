@@ -1,5 +1,5 @@
 -- Elements that hold text alone: how they begin, and how their text goes on.
-use Rattle.std.proofs.Common.{◌≡◌, ◌≢◌, ℕ, zero, suc, ◌+◌, ◌-◌, ◌<◌, ◌&&◌, ◌⊎◌, inl, inr, Bool, true, false, cond, List, [], ◌∷◌, ◌++◌, append_assoc, length, length-append, get_or, set, map, IsTrue, Option, Some, None, refl, sym, ◌∙◌, ap, subst, arith}
+use Rattle.std.proofs.Common.{◌≡◌, ◌≢◌, ℕ, zero, suc, ◌+◌, ◌-◌, ◌<◌, ◌&&◌, ◌⊎◌, inl, inr, Bool, true, false, cond, List, [], ◌∷◌, ◌++◌, length, length-append, get_or, set, map, IsTrue, Some, None, refl, sym, ◌∙◌, ap, subst, arith}
 use Rattle.std.proofs.lemmas.Bool.{false≢true}
 use Rattle.std.proofs.lemmas.List.{append-nil, get_or-set_other, get_or-set_same, get_or_append_left, length-set}
 use Rattle.std.proofs.Math.Seq.{get_or-append_seam}
@@ -12,7 +12,6 @@ use Rattle.html_arena.specs.declared.data.NewNode.TheVariants as new
 use Rattle.html_arena.specs.declared.data.NodeData.{NodeData}
 use Rattle.html_arena.specs.declared.data.NodeData.TheVariants as node
 use Rattle.html_arena.specs.declared.data.Origin.{Origin}
-use Rattle.html_arena.specs.declared.data.Origin.TheVariants.{Token}
 use Rattle.html_arena.specs.Data.{contents_in, is_text as is_text_node, tag_in, with_run}
 use Rattle.html_arena.specs.Make.{label_for}
 use Rattle.html_arena.specs.Siblings.{Distinct, has, last_of}

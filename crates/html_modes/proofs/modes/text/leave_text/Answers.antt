@@ -1,4 +1,4 @@
-use Rattle.std.proofs.Common.{◌<◌, length, ap, subst, sym, ◌∙◌}
+use Rattle.std.proofs.Common.{◌<◌, length, ap, subst, ◌∙◌}
 use Rattle.html_tree.proofs.OpenTags.{length-tags}
 use Rattle.html_tree.specs.States.{State as Open}
 use Rattle.html_construction.specs.States.{State}

@@ -1,4 +1,3 @@
-use Rattle.std.proofs.Common.{length}
 use Rattle.html_modes.proofs.RawText.{opened-text}
 use Rattle.html_modes.proofs.modes.text.text_start_at.Goals as goal
 
