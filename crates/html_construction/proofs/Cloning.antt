@@ -181,33 +181,33 @@ module _ (s : Tag) (foster : Bool) where
   round-multiplies : (o p : Open) → IsApart o → Round s foster o p → Multiplies 1 o.tree.labels p.tree.labels
   round-multiplies o p w r =
       subst (λ (ls : List NodeData). Multiplies 1 o.tree.labels ls) (sym r.labels_are)
-      (multiplied o.tree (r.cs ++ r.f ∷ []) distinct (λ i x y h k p q. w.1 i x y (listed x h) (listed y k) p q))
+      (multiplied o.tree (r.cloned_elements ++ r.formatting_element ∷ []) distinct (λ i x y h k p q. w.1 i x y (listed x h) (listed y k) p q))
     where
-      above-a : Distinct (r.f ∷ (r.inner ++ (r.g ∷ r.upper)))
-      above-a = (distinct-right r.lower (r.a ∷ r.f ∷ (r.inner ++ (r.g ∷ r.upper))) (subst Distinct r.stack_was w.0)).1
+      above-a : Distinct (r.formatting_element ∷ (r.inner ++ (r.furthest_block ∷ r.upper)))
+      above-a = (distinct-right r.lower (r.common_ancestor ∷ r.formatting_element ∷ (r.inner ++ (r.furthest_block ∷ r.upper))) (subst Distinct r.stack_was w.0)).1
 
       inner-once : Distinct r.inner
-      inner-once = distinct-left r.inner (r.g ∷ r.upper) above-a.1
+      inner-once = distinct-left r.inner (r.furthest_block ∷ r.upper) above-a.1
 
-      is-inner : (x : ℕ) → has x r.cs ≡ true → (has x r.inner ≡ true) × (has_node x o.list ≡ true)
-      is-inner x h = originals-in (λ y. has_node y o.list) r.inner x (subst (λ (xs : List ℕ). has x xs ≡ true) r.cs_are h)
+      is-inner : (x : ℕ) → has x r.cloned_elements ≡ true → (has x r.inner ≡ true) × (has_node x o.list ≡ true)
+      is-inner x h = originals-in (λ y. has_node y o.list) r.inner x (subst (λ (xs : List ℕ). has x xs ≡ true) r.cloned_are h)
 
-      no-f : has r.f r.cs ≡ false
-      no-f = elim (cases_bool (has r.f r.cs)) [
-        | inl e ↦ absurd (false≢true (sym above-a.0 ∙ has-left r.f r.inner (r.g ∷ r.upper) (is-inner r.f e).0))
+      no-f : has r.formatting_element r.cloned_elements ≡ false
+      no-f = elim (cases_bool (has r.formatting_element r.cloned_elements)) [
+        | inl e ↦ absurd (false≢true (sym above-a.0 ∙ has-left r.formatting_element r.inner (r.furthest_block ∷ r.upper) (is-inner r.formatting_element e).0))
         | inr e ↦ e
       ]
 
-      distinct : Distinct (r.cs ++ r.f ∷ [])
+      distinct : Distinct (r.cloned_elements ++ r.formatting_element ∷ [])
       distinct =
-          Distinct-insert r.f r.cs [] (subst Distinct (sym (append-nil r.cs)) (subst Distinct (sym r.cs_are) (originals-distinct (λ y. has_node y o.list) r.inner inner-once)))
-          (subst (λ (xs : List ℕ). has r.f xs ≡ false) (sym (append-nil r.cs)) no-f)
+          Distinct-insert r.formatting_element r.cloned_elements [] (subst Distinct (sym (append-nil r.cloned_elements)) (subst Distinct (sym r.cloned_are) (originals-distinct (λ y. has_node y o.list) r.inner inner-once)))
+          (subst (λ (xs : List ℕ). has r.formatting_element xs ≡ false) (sym (append-nil r.cloned_elements)) no-f)
 
-      listed : (x : ℕ) → has x (r.cs ++ r.f ∷ []) ≡ true → has_node x o.list ≡ true
-      listed x h = elim (has-either x r.cs (r.f ∷ []) h) [
+      listed : (x : ℕ) → has x (r.cloned_elements ++ r.formatting_element ∷ []) ≡ true → has_node x o.list ≡ true
+      listed x h = elim (has-either x r.cloned_elements (r.formatting_element ∷ []) h) [
         | inl k ↦ (is-inner x k).1
-        | inr k ↦ elim (has-head x r.f [] k) [
-          | inl e ↦ subst (λ (y : ℕ). has_node y o.list ≡ true) (sym e) (last_named-in o.tree s o.list r.f r.formatting)
+        | inr k ↦ elim (has-head x r.formatting_element [] k) [
+          | inl e ↦ subst (λ (y : ℕ). has_node y o.list ≡ true) (sym e) (last_named-in o.tree s o.list r.formatting_element r.formatting)
           | inr e ↦ absurd (false≢true e)
         ]
       ]

@@ -121,13 +121,13 @@ module _ (t : Tag) (foster : Bool) (o : AnyOpen) (xs : List ℕ) (x : ℕ) (s : 
   -- nothing stands after it
   no-round : has_node x o.list ≡ true → (p : AnyOpen) → Round t foster o p → ⊥
   no-round h p r =
-      let f-is : r.f ≡ x = (let k : Some r.f ≡ Some x = sym r.formatting ∙ is-last h in cc) in
-      let m = length-append r.inner (r.g ∷ r.upper) in
-      let l = last-split (r.inner ++ (r.g ∷ r.upper)) (omega (arith, m)) in
-      let split : xs ++ x ∷ [] ≡ (r.lower ++ (r.a ∷ r.f ∷ l.0)) ++ l.1 ∷ [] =
-      sym s ∙ r.stack_was ∙ ap (λ v. r.lower ++ (r.a ∷ r.f ∷ v)) l.2 ∙ sym (append_assoc r.lower (r.a ∷ r.f ∷ l.0) (l.1 ∷ [])) in
-      let e = snoc-same xs (r.lower ++ (r.a ∷ r.f ∷ l.0)) x l.1 split in
-      let before : has x xs ≡ true = subst (λ v. has v xs ≡ true) f-is (ap (has r.f) e.0 ∙ in-middle r.f r.lower r.a l.0) in
+      let f-is : r.formatting_element ≡ x = (let k : Some r.formatting_element ≡ Some x = sym r.formatting ∙ is-last h in cc) in
+      let m = length-append r.inner (r.furthest_block ∷ r.upper) in
+      let l = last-split (r.inner ++ (r.furthest_block ∷ r.upper)) (omega (arith, m)) in
+      let split : xs ++ x ∷ [] ≡ (r.lower ++ (r.common_ancestor ∷ r.formatting_element ∷ l.0)) ++ l.1 ∷ [] =
+      sym s ∙ r.stack_was ∙ ap (λ v. r.lower ++ (r.common_ancestor ∷ r.formatting_element ∷ v)) l.2 ∙ sym (append_assoc r.lower (r.common_ancestor ∷ r.formatting_element ∷ l.0) (l.1 ∷ [])) in
+      let e = snoc-same xs (r.lower ++ (r.common_ancestor ∷ r.formatting_element ∷ l.0)) x l.1 split in
+      let before : has x xs ≡ true = subst (λ v. has v xs ≡ true) f-is (ap (has r.formatting_element) e.0 ∙ in-middle r.formatting_element r.lower r.common_ancestor l.0) in
       distinct-cross xs (x ∷ []) (subst Distinct s d) x x before (rw (eqb-self x) refl) refl
     where
       in-middle : (f : ℕ) (lower : List ℕ) (b : ℕ) (ts : List ℕ) → has f (lower ++ (b ∷ f ∷ ts)) ≡ true
@@ -141,7 +141,7 @@ module _ (t : Tag) (foster : Bool) (o : AnyOpen) (xs : List ℕ) (x : ℕ) (s : 
 
   ends-so : has_node x o.list ≡ true → (end : AdoptEnd) (p : AnyOpen) → Ends t end o p → (end ≡ Done) × IsPopped x xs o p
   ends-so h _ p (closes _ _ c) =
-      let f-is : c.f ≡ x = (let k : Some c.f ≡ Some x = sym c.formatting ∙ is-last h in cc) in (
+      let f-is : c.formatting_element ≡ x = (let k : Some c.formatting_element ≡ Some x = sym c.formatting ∙ is-last h in cc) in (
         refl,
         record {
           stack_is = c.stack_is ∙ ap (λ v. below (eqb v) o.stack) f-is ∙ ap (below (eqb x)) s ∙ (below-push (eqb x) xs x ∙ ap (λ b. cond b xs (below (eqb x) xs)) (eqb-self x));
@@ -150,10 +150,10 @@ module _ (t : Tag) (foster : Bool) (o : AnyOpen) (xs : List ℕ) (x : ℕ) (s : 
         },
       )
   ends-so h _ p (forgets _ _ c) =
-      let f-is : c.f ≡ x = (let k : Some c.f ≡ Some x = sym c.formatting ∙ is-last h in cc) in
+      let f-is : c.formatting_element ≡ x = (let k : Some c.formatting_element ≡ Some x = sym c.formatting ∙ is-last h in cc) in
       absurd (let k : has x o.stack ≡ false = subst (λ v. has v o.stack ≡ false) f-is c.off_stack in let l : has x o.stack ≡ true = ap (has x) s ∙ has-last x xs in let m : true ≡ false = sym l ∙ k in cc)
   ends-so h _ p (out_of_scope _ _ c) =
-      let f-is : c.f ≡ x = (let k : Some c.f ≡ Some x = sym c.formatting ∙ is-last h in cc) in
+      let f-is : c.formatting_element ≡ x = (let k : Some c.formatting_element ≡ Some x = sym c.formatting ∙ is-last h in cc) in
       absurd (let k : element_in_scope o.tree x o.stack ≡ false = subst (λ v. element_in_scope o.tree v o.stack ≡ false) f-is c.not_in_scope in let m : true ≡ false = sym scope-top ∙ k in cc)
   ends-so h _ p (no_entry _ _ c) = absurd (let k : Some x ≡ None = sym (is-last h) ∙ c.none in cc)
 

@@ -101,15 +101,15 @@ module _ (s : Tag) (foster : Bool) (o p : Open) (r : Round s foster o p) (opened
   n : ℕ
   n = length o.tree.labels
 
-  f-listed : has_node r.f o.list ≡ true
-  f-listed = last_named-in o.tree s o.list r.f r.formatting
+  f-listed : has_node r.formatting_element o.list ≡ true
+  f-listed = last_named-in o.tree s o.list r.formatting_element r.formatting
 
   pub round-made : MadeClones o p.tree
   round-made = record {
-    elements = r.cs ++ r.f ∷ [];
-    listed = λ x h. elim (has-either x r.cs (r.f ∷ []) h) [
-      | inl q ↦ (originals-in (λ y. has_node y o.list) r.inner x (subst (λ (v : List ℕ). has x v ≡ true) r.cs_are q)).1
-      | inr q ↦ elim (has-head x r.f [] q) [
+    elements = r.cloned_elements ++ r.formatting_element ∷ [];
+    listed = λ x h. elim (has-either x r.cloned_elements (r.formatting_element ∷ []) h) [
+      | inl q ↦ (originals-in (λ y. has_node y o.list) r.inner x (subst (λ (v : List ℕ). has x v ≡ true) r.cloned_are q)).1
+      | inr q ↦ elim (has-head x r.formatting_element [] q) [
         | inl e ↦ subst (λ (y : ℕ). has_node y o.list ≡ true) (sym e) f-listed
         | inr e ↦ absurd (let k = e in cc)
       ]
@@ -117,46 +117,46 @@ module _ (s : Tag) (foster : Bool) (o p : Open) (r : Round s foster o p) (opened
     labels_are = r.labels_are;
   }
 
-  pub label-new : (x : ℕ) → length o.tree.labels ≤ x → x ≤ length o.tree.labels + length r.cs
-      → label_of p.tree x ≡ cloned (label_of o.tree (get_or (r.cs ++ r.f ∷ []) (x - length o.tree.labels) 0))
+  pub label-new : (x : ℕ) → length o.tree.labels ≤ x → x ≤ length o.tree.labels + length r.cloned_elements
+      → label_of p.tree x ≡ cloned (label_of o.tree (get_or (r.cloned_elements ++ r.formatting_element ∷ []) (x - length o.tree.labels) 0))
   label-new x a b =
-      let e = length-append r.cs (r.f ∷ []) in
-      ap (λ (ls : List NodeData). label_in ls x) r.labels_are ∙ get-right o.tree.labels (map (λ y. cloned (label_of o.tree y)) (r.cs ++ r.f ∷ [])) x Document a
-      ∙ get-map (λ y. cloned (label_of o.tree y)) (r.cs ++ r.f ∷ []) (x - length o.tree.labels) 0 Document (omega (arith, e))
+      let e = length-append r.cloned_elements (r.formatting_element ∷ []) in
+      ap (λ (ls : List NodeData). label_in ls x) r.labels_are ∙ get-right o.tree.labels (map (λ y. cloned (label_of o.tree y)) (r.cloned_elements ++ r.formatting_element ∷ [])) x Document a
+      ∙ get-map (λ y. cloned (label_of o.tree y)) (r.cloned_elements ++ r.formatting_element ∷ []) (x - length o.tree.labels) 0 Document (omega (arith, e))
 
-  label-last : label_of p.tree r.k ≡ cloned (label_of o.tree r.f)
+  label-last : label_of p.tree r.new_element ≡ cloned (label_of o.tree r.formatting_element)
   label-last =
-      let e = r.k_is in
-      label-new r.k (omega (arith, e)) (omega (arith, e))
+      let e = r.new_element_is in
+      label-new r.new_element (omega (arith, e)) (omega (arith, e))
       ∙ ap (λ (y : ℕ). cloned (label_of o.tree y))
-      (get-right r.cs (r.f ∷ []) (r.k - length o.tree.labels) 0 (omega (arith, e)) ∙ ap (λ (i : ℕ). get_or (r.f ∷ []) i 0) (let z : (r.k - length o.tree.labels) - length r.cs ≡ 0 = omega (arith, e) in z))
+      (get-right r.cloned_elements (r.formatting_element ∷ []) (r.new_element - length o.tree.labels) 0 (omega (arith, e)) ∙ ap (λ (i : ℕ). get_or (r.formatting_element ∷ []) i 0) (let z : (r.new_element - length o.tree.labels) - length r.cloned_elements ≡ 0 = omega (arith, e) in z))
 
-  label-clone : (y : ℕ) → has y r.cs ≡ true → label_of p.tree (clone_number (length o.tree.labels) r.cs y) ≡ cloned (label_of o.tree y)
+  label-clone : (y : ℕ) → has y r.cloned_elements ≡ true → label_of p.tree (clone_number (length o.tree.labels) r.cloned_elements y) ≡ cloned (label_of o.tree y)
   label-clone y h =
-      let a = clone-low (length o.tree.labels) r.cs y in
-      let b = clone-high (length o.tree.labels) r.cs y h in
-      label-new (clone_number (length o.tree.labels) r.cs y) a (omega (arith, b))
+      let a = clone-low (length o.tree.labels) r.cloned_elements y in
+      let b = clone-high (length o.tree.labels) r.cloned_elements y h in
+      label-new (clone_number (length o.tree.labels) r.cloned_elements y) a (omega (arith, b))
       ∙ ap (λ (z : ℕ). cloned (label_of o.tree z))
-      (get_or_append_left r.cs (r.f ∷ []) 0 (clone_number (length o.tree.labels) r.cs y - length o.tree.labels) (omega (arith, a, b)) ∙ clone-back (length o.tree.labels) r.cs y h)
+      (get_or_append_left r.cloned_elements (r.formatting_element ∷ []) 0 (clone_number (length o.tree.labels) r.cloned_elements y - length o.tree.labels) (omega (arith, a, b)) ∙ clone-back (length o.tree.labels) r.cloned_elements y h)
 
   abbrev From : ℕ → Type 0
   From x = (y : ℕ) × (has_node y o.list ≡ true) × (cloned (label_of p.tree x) ≡ cloned (label_of o.tree y))
 
-  from-f : (x : ℕ) → x ≡ r.k → From x
-  from-f x e = (r.f, f-listed, ap (λ (z : ℕ). cloned (label_of p.tree z)) e ∙ ap cloned label-last ∙ cloned-again (label_of o.tree r.f))
+  from-f : (x : ℕ) → x ≡ r.new_element → From x
+  from-f x e = (r.formatting_element, f-listed, ap (λ (z : ℕ). cloned (label_of p.tree z)) e ∙ ap cloned label-last ∙ cloned-again (label_of o.tree r.formatting_element))
 
   pub round-entries : (x : ℕ) → has_node x p.list ≡ true → (y : ℕ) × (has_node y o.list ≡ true) × (cloned (label_of p.tree x) ≡ cloned (label_of o.tree y))
   round-entries x h =
-      let m = sym (ap (has x) (ap nodes_of r.list_is ∙ relisted-nodes r.f (λ y. not (has y r.inner)) r.cs (length o.tree.labels) r.k o.list)) ∙ h in
-      let q = flat-has (heirs r.f (λ y. not (has y r.inner)) r.cs (length o.tree.labels) r.k) (nodes_of o.list) x m in
+      let m = sym (ap (has x) (ap nodes_of r.list_is ∙ relisted-nodes r.formatting_element (λ y. not (has y r.inner)) r.cloned_elements (length o.tree.labels) r.new_element o.list)) ∙ h in
+      let q = flat-has (heirs r.formatting_element (λ y. not (has y r.inner)) r.cloned_elements (length o.tree.labels) r.new_element) (nodes_of o.list) x m in
       heir q.0 q.1 q.2
     where
-      only : (zs : List ℕ) → has x (alone zs r.k) ≡ true → x ≡ r.k
-      only [] e = elim (has-head x r.k [] e) [ inl z ↦ z | inr z ↦ absurd (let u = z in cc) ]
+      only : (zs : List ℕ) → has x (alone zs r.new_element) ≡ true → x ≡ r.new_element
+      only [] e = elim (has-head x r.new_element [] e) [ inl z ↦ z | inr z ↦ absurd (let u = z in cc) ]
       only (z ∷ zs) e = absurd (let u = e in cc)
 
-      near : (b : Bool) → has x (cond b (r.k ∷ []) []) ≡ true → x ≡ r.k
-      near true e = elim (has-head x r.k [] e) [ inl z ↦ z | inr z ↦ absurd (let u = z in cc) ]
+      near : (b : Bool) → has x (cond b (r.new_element ∷ []) []) ≡ true → x ≡ r.new_element
+      near true e = elim (has-head x r.new_element [] e) [ inl z ↦ z | inr z ↦ absurd (let u = z in cc) ]
       near false e = absurd (let u = e in cc)
 
       own : (y : ℕ) → has_node y o.list ≡ true → x ≡ y → From x
@@ -166,73 +166,73 @@ module _ (s : Tag) (foster : Bool) (o p : Open) (r : Round s foster o p) (opened
       stays y l true e = elim (has-head x y [] e) [ inl z ↦ own y l z | inr z ↦ absurd (let u = z in cc) ]
       stays y l false e = absurd (let u = e in cc)
 
-      heir : (y : ℕ) → has_node y o.list ≡ true → has x (heirs r.f (λ z. not (has z r.inner)) r.cs (length o.tree.labels) r.k y) ≡ true → From x
-      heir y l e = elim (cases_eqb y r.f) [
-        | inl q ↦ from-f x (only r.cs (rw q.0 at e))
-        | inr q ↦ elim (cases_bool (has y r.cs)) [
-          | inl c ↦ elim (has-head x (clone_number (length o.tree.labels) r.cs y) (after_nearest r.cs y r.k) (rw (q.0, c) at e)) [
+      heir : (y : ℕ) → has_node y o.list ≡ true → has x (heirs r.formatting_element (λ z. not (has z r.inner)) r.cloned_elements (length o.tree.labels) r.new_element y) ≡ true → From x
+      heir y l e = elim (cases_eqb y r.formatting_element) [
+        | inl q ↦ from-f x (only r.cloned_elements (rw q.0 at e))
+        | inr q ↦ elim (cases_bool (has y r.cloned_elements)) [
+          | inl c ↦ elim (has-head x (clone_number (length o.tree.labels) r.cloned_elements y) (after_nearest r.cloned_elements y r.new_element) (rw (q.0, c) at e)) [
             | inl z ↦ (y, l, ap (λ (v : ℕ). cloned (label_of p.tree v)) z ∙ ap cloned (label-clone y c) ∙ cloned-again (label_of o.tree y))
-            | inr z ↦ from-f x (near (is_in y (first_of r.cs)) z)
+            | inr z ↦ from-f x (near (is_in y (first_of r.cloned_elements)) z)
           ]
           | inr c ↦ stays y l (not (has y r.inner)) (rw (q.0, c) at e)
         ]
       ]
 
   abbrev tail : List ℕ
-  tail = r.f ∷ (r.inner ++ (r.g ∷ r.upper))
+  tail = r.formatting_element ∷ (r.inner ++ (r.furthest_block ∷ r.upper))
 
-  was : (x : ℕ) → has x (r.lower ++ (r.a ∷ tail)) ≡ true → has x o.stack ≡ true
+  was : (x : ℕ) → has x (r.lower ++ (r.common_ancestor ∷ tail)) ≡ true → has x o.stack ≡ true
   was x h = subst (λ (v : List ℕ). has x v ≡ true) (sym r.stack_was) h
 
-  pub g-there : has r.g o.stack ≡ true
-  g-there = was r.g (has-right r.g r.lower (r.a ∷ tail) (has-more r.g r.a tail (has-more r.g r.f (r.inner ++ (r.g ∷ r.upper)) (has-right r.g r.inner (r.g ∷ r.upper) (has-first r.g r.upper)))))
+  pub g-there : has r.furthest_block o.stack ≡ true
+  g-there = was r.furthest_block (has-right r.furthest_block r.lower (r.common_ancestor ∷ tail) (has-more r.furthest_block r.common_ancestor tail (has-more r.furthest_block r.formatting_element (r.inner ++ (r.furthest_block ∷ r.upper)) (has-right r.furthest_block r.inner (r.furthest_block ∷ r.upper) (has-first r.furthest_block r.upper)))))
 
-  a-there : has r.a o.stack ≡ true
-  a-there = was r.a (has-right r.a r.lower (r.a ∷ tail) (has-first r.a tail))
+  a-there : has r.common_ancestor o.stack ≡ true
+  a-there = was r.common_ancestor (has-right r.common_ancestor r.lower (r.common_ancestor ∷ tail) (has-first r.common_ancestor tail))
 
   pub round-stack : (x : ℕ) → x < length o.tree.labels → has x p.stack ≡ true → has x o.stack ≡ true
-  round-stack x b h = elim (has-either x r.lower (r.a ∷ (clones_down (length o.tree.labels) (length r.cs) ++ (r.g ∷ (r.k ∷ r.upper)))) (subst (λ (v : List ℕ). has x v ≡ true) r.stack_is h)) [
-    | inl q ↦ was x (has-left x r.lower (r.a ∷ tail) q)
-    | inr q ↦ elim (has-head x r.a (clones_down (length o.tree.labels) (length r.cs) ++ (r.g ∷ (r.k ∷ r.upper))) q) [
+  round-stack x b h = elim (has-either x r.lower (r.common_ancestor ∷ (clones_down (length o.tree.labels) (length r.cloned_elements) ++ (r.furthest_block ∷ (r.new_element ∷ r.upper)))) (subst (λ (v : List ℕ). has x v ≡ true) r.stack_is h)) [
+    | inl q ↦ was x (has-left x r.lower (r.common_ancestor ∷ tail) q)
+    | inr q ↦ elim (has-head x r.common_ancestor (clones_down (length o.tree.labels) (length r.cloned_elements) ++ (r.furthest_block ∷ (r.new_element ∷ r.upper))) q) [
       | inl e ↦ subst (λ (z : ℕ). has z o.stack ≡ true) (sym e) a-there
-      | inr e ↦ elim (has-either x (clones_down (length o.tree.labels) (length r.cs)) (r.g ∷ (r.k ∷ r.upper)) e) [
-        | inl z ↦ absurd (low x b (sym (has-down (length o.tree.labels) (length r.cs) x) ∙ z))
-        | inr z ↦ elim (has-head x r.g (r.k ∷ r.upper) z) [
+      | inr e ↦ elim (has-either x (clones_down (length o.tree.labels) (length r.cloned_elements)) (r.furthest_block ∷ (r.new_element ∷ r.upper)) e) [
+        | inl z ↦ absurd (low x b (sym (has-down (length o.tree.labels) (length r.cloned_elements) x) ∙ z))
+        | inr z ↦ elim (has-head x r.furthest_block (r.new_element ∷ r.upper) z) [
           | inl u ↦ subst (λ (v : ℕ). has v o.stack ≡ true) (sym u) g-there
-          | inr u ↦ elim (has-head x r.k r.upper u) [
-            | inl v ↦ absurd (let i = r.k_is in let j : x ≡ r.k = v in omega (arith, i, j, b))
-            | inr v ↦ was x (has-right x r.lower (r.a ∷ tail) (has-more x r.a tail (has-more x r.f (r.inner ++ (r.g ∷ r.upper)) (has-right x r.inner (r.g ∷ r.upper) (has-more x r.g r.upper v)))))
+          | inr u ↦ elim (has-head x r.new_element r.upper u) [
+            | inl v ↦ absurd (let i = r.new_element_is in let j : x ≡ r.new_element = v in omega (arith, i, j, b))
+            | inr v ↦ was x (has-right x r.lower (r.common_ancestor ∷ tail) (has-more x r.common_ancestor tail (has-more x r.formatting_element (r.inner ++ (r.furthest_block ∷ r.upper)) (has-right x r.inner (r.furthest_block ∷ r.upper) (has-more x r.furthest_block r.upper v)))))
           ]
         ]
       ]
     ]
   ]
     where
-      low : (x : ℕ) → x < length o.tree.labels → (nat_le (length o.tree.labels) x && nat_lt x (length o.tree.labels + length r.cs)) ≡ true → ⊥
-      low x b e = (let z = short (length o.tree.labels) x x (length o.tree.labels + length r.cs) b in let y : true ≡ false = sym e ∙ z in cc)
+      low : (x : ℕ) → x < length o.tree.labels → (nat_le (length o.tree.labels) x && nat_lt x (length o.tree.labels + length r.cloned_elements)) ≡ true → ⊥
+      low x b e = (let z = short (length o.tree.labels) x x (length o.tree.labels + length r.cloned_elements) b in let y : true ≡ false = sym e ∙ z in cc)
 
   pub round-closed : WellFormed o.tree → CanPlace o.tree o.stack → KeepsClosed o p.tree
   round-closed w can = λ x el off none.
       let b = element-in o.tree x el in
-      let i = r.k_is in
-      let ng : x ≢ r.g = λ q. (let z : has x o.stack ≡ true = subst (λ (v : ℕ). has v o.stack ≡ true) (sym q) g-there in let y : true ≡ false = sym z ∙ off in cc) in
-      let nk : x ≢ r.k = λ q. (let q' : x ≡ r.k = q in omega (arith, i, q', b)) in
-      let out : has r.g (children_of o.tree x) ≡ false = elim (cases_bool (has r.g (children_of o.tree x))) [ inl h ↦ absurd (none r.g h (opened.elements r.g g-there)) | inr h ↦ h ] in
+      let i = r.new_element_is in
+      let ng : x ≢ r.furthest_block = λ q. (let z : has x o.stack ≡ true = subst (λ (v : ℕ). has v o.stack ≡ true) (sym q) g-there in let y : true ≡ false = sym z ∙ off in cc) in
+      let nk : x ≢ r.new_element = λ q. (let q' : x ≡ r.new_element = q in omega (arith, i, q', b)) in
+      let out : has r.furthest_block (children_of o.tree x) ≡ false = elim (cases_bool (has r.furthest_block (children_of o.tree x))) [ inl h ↦ absurd (none r.furthest_block h (opened.elements r.furthest_block g-there)) | inr h ↦ h ] in
       r.children_are x
-      ∙ ap (with_put o.tree (place_at o.tree o.stack r.a foster) (chain_top r.g (length o.tree.labels) r.k) x)
-      (plain x (short (length o.tree.labels) x x r.k b) (eqb-apart x r.g ng) (eqb-apart x r.k nk) ∙ without-none r.g (children_of o.tree x) out)
-      ∙ elsewhere (place_at o.tree o.stack r.a foster) x (children_of o.tree x)
-      (not-parent o.tree o.stack w (place_at o.tree o.stack r.a foster) x (place-at-by o.tree o.stack w r.a a-there foster can) opened.elements el off none)
+      ∙ ap (with_put o.tree (place_at o.tree o.stack r.common_ancestor foster) (chain_top r.furthest_block (length o.tree.labels) r.new_element) x)
+      (plain x (short (length o.tree.labels) x x r.new_element b) (eqb-apart x r.furthest_block ng) (eqb-apart x r.new_element nk) ∙ without-none r.furthest_block (children_of o.tree x) out)
+      ∙ elsewhere (place_at o.tree o.stack r.common_ancestor foster) x (children_of o.tree x)
+      (not-parent o.tree o.stack w (place_at o.tree o.stack r.common_ancestor foster) x (place-at-by o.tree o.stack w r.common_ancestor a-there foster can) opened.elements el off none)
     where
-      plain : (x : ℕ) → (nat_le (length o.tree.labels) x && nat_lt x r.k) ≡ false → eqb x r.g ≡ false → eqb x r.k ≡ false
-          → chained o.tree r.g (length o.tree.labels) r.k x ≡ without r.g (children_of o.tree x)
+      plain : (x : ℕ) → (nat_le (length o.tree.labels) x && nat_lt x r.new_element) ≡ false → eqb x r.furthest_block ≡ false → eqb x r.new_element ≡ false
+          → chained o.tree r.furthest_block (length o.tree.labels) r.new_element x ≡ without r.furthest_block (children_of o.tree x)
       plain x a b c = rw (a, b, c) refl
 
-      elsewhere : (q : Place) (x : ℕ) (ys : List ℕ) → parent_at o.tree q ≢ Some x → with_put o.tree q (chain_top r.g (length o.tree.labels) r.k) x ys ≡ ys
+      elsewhere : (q : Place) (x : ℕ) (ys : List ℕ) → parent_at o.tree q ≢ Some x → with_put o.tree q (chain_top r.furthest_block (length o.tree.labels) r.new_element) x ys ≡ ys
       elsewhere (Last l) x ys ne = rw (eqb-apart x l (λ e. ne (ap Some (sym e)))) refl
       elsewhere (Before l) x ys ne = by (parent_of o.tree l) ne
         where
-          by : (u : Option ℕ) → u ≢ Some x → cond (is_in x u) (put_before (chain_top r.g (length o.tree.labels) r.k) l ys) ys ≡ ys
+          by : (u : Option ℕ) → u ≢ Some x → cond (is_in x u) (put_before (chain_top r.furthest_block (length o.tree.labels) r.new_element) l ys) ys ≡ ys
           by None k = refl
           by (Some v) k = rw (eqb-apart x v (λ e. k (ap Some (sym e)))) refl
 

@@ -23,10 +23,10 @@ use Rattle.html_open.specs.Placing.{place_at}
 pub round-grown : (s : Tag) (foster : Bool) (o p : Open) → Round s foster o p → length p.tree.labels ≤ length o.tree.labels + 4
 round-grown s foster o p r =
     let a = ap length r.labels_are in
-    let b = length-append o.tree.labels (map (λ x. cloned (label_of o.tree x)) (r.cs ++ r.f ∷ [])) in
-    let c = length-map (r.cs ++ r.f ∷ []) (λ x. cloned (label_of o.tree x)) in
-    let d = length-append r.cs (r.f ∷ []) in
-    let e = ap length r.cs_are in
+    let b = length-append o.tree.labels (map (λ x. cloned (label_of o.tree x)) (r.cloned_elements ++ r.formatting_element ∷ [])) in
+    let c = length-map (r.cloned_elements ++ r.formatting_element ∷ []) (λ x. cloned (label_of o.tree x)) in
+    let d = length-append r.cloned_elements (r.formatting_element ∷ []) in
+    let e = ap length r.cloned_are in
     let f = originals-few (λ x. has_node x o.list) r.inner in
     omega (arith, a, b, c, d, e, f)
 
@@ -35,24 +35,24 @@ module _ (s : Tag) (foster : Bool) (stack : List ℕ) (list : List Entry) (t : T
   pub round-rebase : (q : Open) → Round s foster (open_at stack list (stepped t n)) q → Round s foster (open_at stack list t) q
   round-rebase q r = record {
     lower = r.lower;
-    a = r.a;
-    f = r.f;
+    common_ancestor = r.common_ancestor;
+    formatting_element = r.formatting_element;
     inner = r.inner;
-    g = r.g;
+    furthest_block = r.furthest_block;
     upper = r.upper;
     stack_was = r.stack_was;
     formatting = r.formatting;
     in_scope = r.in_scope;
     none_between = r.none_between;
-    g_special = r.g_special;
-    cs = r.cs;
-    cs_are = r.cs_are;
-    k = r.k;
-    k_is = r.k_is;
+    block_special = r.block_special;
+    cloned_elements = r.cloned_elements;
+    cloned_are = r.cloned_are;
+    new_element = r.new_element;
+    new_element_is = r.new_element_is;
     stack_is = r.stack_is;
     list_is = r.list_is;
     labels_are = r.labels_are;
-    children_are = λ x. r.children_are x ∙ put-stepped t n (place_at t stack r.a foster) (chain_top r.g (length t.labels) r.k) x (chained t r.g (length t.labels) r.k x);
+    children_are = λ x. r.children_are x ∙ put-stepped t n (place_at t stack r.common_ancestor foster) (chain_top r.furthest_block (length t.labels) r.new_element) x (chained t r.furthest_block (length t.labels) r.new_element x);
     limits_are = r.limits_are;
     well_formed = r.well_formed;
     is_open = r.is_open;
@@ -60,7 +60,7 @@ module _ (s : Tag) (foster : Bool) (stack : List ℕ) (list : List Entry) (t : T
 
   pub closed-rebase : (q : Open) → Closed s (open_at stack list (stepped t n)) q → Closed s (open_at stack list t) q
   closed-rebase q r = record {
-    f = r.f;
+    formatting_element = r.formatting_element;
     formatting = r.formatting;
     on_stack = r.on_stack;
     in_scope = r.in_scope;
@@ -74,11 +74,11 @@ module _ (s : Tag) (foster : Bool) (stack : List ℕ) (list : List Entry) (t : T
   ends-rebase _ _ _ e (closes o q k) = closes (open_at stack list t) q (closed-rebase q (subst (λ v. Closed s v q) e k))
   ends-rebase _ _ _ e (forgets o q k) =
       let r = subst (λ v. Forgotten s v q) e k in
-      forgets (open_at stack list t) q (record { f = r.f; formatting = r.formatting; off_stack = r.off_stack; stack_is = r.stack_is; list_is = r.list_is; tree_is = r.tree_is })
+      forgets (open_at stack list t) q (record { formatting_element = r.formatting_element; formatting = r.formatting; off_stack = r.off_stack; stack_is = r.stack_is; list_is = r.list_is; tree_is = r.tree_is })
   ends-rebase _ _ _ e (out_of_scope o q k) =
       let r = subst (λ v. OutOfScope s v q) e k in
       out_of_scope (open_at stack list t) q (record {
-        f = r.f;
+        formatting_element = r.formatting_element;
         formatting = r.formatting;
         on_stack = r.on_stack;
         not_in_scope = r.not_in_scope;

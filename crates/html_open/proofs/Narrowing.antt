@@ -84,21 +84,21 @@ without-most p xs = elim (cases_bool (list_any p xs)) [
 
 module _ (s : Tag) (foster : Bool) where
   round-no-longer : (o p : Open) → IsOpen o → Round s foster o p → length p.list ≤ length o.list
-  round-no-longer o p h r = (let e = ap length r.list_is in let b = by r.cs r.cs_are in omega (arith, e, b))
+  round-no-longer o p h r = (let e = ap length r.list_is in let b = by r.cloned_elements r.cloned_are in omega (arith, e, b))
     where
-      f-once : has r.f r.inner ≡ false
+      f-once : has r.formatting_element r.inner ≡ false
       f-once =
-          let a : Distinct (r.lower ++ (r.a ∷ r.f ∷ (r.inner ++ (r.g ∷ r.upper)))) = subst Distinct r.stack_was h.stack_once in
-          let b = (Distinct-remove r.a r.lower (r.f ∷ (r.inner ++ (r.g ∷ r.upper))) a).0 in
-          let c = (Distinct-remove r.f r.lower (r.inner ++ (r.g ∷ r.upper)) b).1 in
-          not-left r.f r.inner (r.g ∷ r.upper) (not-right r.f r.lower (r.inner ++ (r.g ∷ r.upper)) c)
+          let a : Distinct (r.lower ++ (r.common_ancestor ∷ r.formatting_element ∷ (r.inner ++ (r.furthest_block ∷ r.upper)))) = subst Distinct r.stack_was h.stack_once in
+          let b = (Distinct-remove r.common_ancestor r.lower (r.formatting_element ∷ (r.inner ++ (r.furthest_block ∷ r.upper))) a).0 in
+          let c = (Distinct-remove r.formatting_element r.lower (r.inner ++ (r.furthest_block ∷ r.upper)) b).1 in
+          not-left r.formatting_element r.inner (r.furthest_block ∷ r.upper) (not-right r.formatting_element r.lower (r.inner ++ (r.furthest_block ∷ r.upper)) c)
 
-      by : (cs : List ℕ) → cs ≡ originals (λ x. has_node x o.list) r.inner → length (flat_map (relisted r.f (λ x. not (has x r.inner)) cs (length o.tree.labels) r.k) o.list) ≤ length o.list
-      by [] e = relisted-same-length r.f (λ x. not (has x r.inner)) [] (length o.tree.labels) r.k o.list (λ x m. refl)
+      by : (cs : List ℕ) → cs ≡ originals (λ x. has_node x o.list) r.inner → length (flat_map (relisted r.formatting_element (λ x. not (has x r.inner)) cs (length o.tree.labels) r.new_element) o.list) ≤ length o.list
+      by [] e = relisted-same-length r.formatting_element (λ x. not (has x r.inner)) [] (length o.tree.labels) r.new_element o.list (λ x m. refl)
       by (x ∷ cs) e =
-          no-longer r.f (λ y. not (has y r.inner)) x cs (length o.tree.labels) r.k o.list h.list_once (last_named-in o.tree s o.list r.f r.formatting)
+          no-longer r.formatting_element (λ y. not (has y r.inner)) x cs (length o.tree.labels) r.new_element o.list h.list_once (last_named-in o.tree s o.list r.formatting_element r.formatting)
           (λ q. (let i = (originals-in (λ y. has_node y o.list) r.inner x (subst (λ (v : List ℕ). has x v ≡ true) e (rw (eqb-self x) refl))).0 in
-          let j : has r.f r.inner ≡ true = subst (λ z. has z r.inner ≡ true) (sym q) i in false≢true (sym f-once ∙ j)))
+          let j : has r.formatting_element r.inner ≡ true = subst (λ z. has z r.inner ≡ true) (sym q) i in false≢true (sym f-once ∙ j)))
 
   rounds-narrow : (n : ℕ) (o p : Open) → IsOpen o → Rounds s foster n o p → (length p.stack ≤ length o.stack) × (length p.list ≤ length o.list) × IsOpen p
   rounds-narrow _ _ _ h (no_round o) = (omega arith, omega arith, h)
@@ -112,8 +112,8 @@ module _ (s : Tag) (foster : Bool) where
 
   ends-narrow : (end : AdoptEnd) (o p : Open) → Ends s end o p → (length p.stack ≤ length o.stack) × (length p.list ≤ length o.list)
   ends-narrow _ _ _ (closes o p k) =
-      ((let a = ap length k.stack_is in let b = below-most (eqb k.f) o.stack in omega (arith, a, b)), (let a = ap length k.list_is in let b = without-most (is_node k.f) o.list in omega (arith, a, b)))
-  ends-narrow _ _ _ (forgets o p k) = ((let a = ap length k.stack_is in omega (arith, a)), (let a = ap length k.list_is in let b = without-most (is_node k.f) o.list in omega (arith, a, b)))
+      ((let a = ap length k.stack_is in let b = below-most (eqb k.formatting_element) o.stack in omega (arith, a, b)), (let a = ap length k.list_is in let b = without-most (is_node k.formatting_element) o.list in omega (arith, a, b)))
+  ends-narrow _ _ _ (forgets o p k) = ((let a = ap length k.stack_is in omega (arith, a)), (let a = ap length k.list_is in let b = without-most (is_node k.formatting_element) o.list in omega (arith, a, b)))
   ends-narrow _ _ _ (out_of_scope o p k) = ((let a = ap length k.unchanged.stack_is in omega (arith, a)), (let a = ap length k.unchanged.list_is in omega (arith, a)))
   ends-narrow _ _ _ (no_entry o p k) = ((let a = ap length k.unchanged.stack_is in omega (arith, a)), (let a = ap length k.unchanged.list_is in omega (arith, a)))
 

@@ -1,5 +1,5 @@
 -- An adoption has one outcome.
-use Rattle.std.proofs.Common.{◌≡◌, ◌≢◌, ℕ, zero, suc, ◌+◌, ◌<◌, Bool, true, false, cond, eqb, not, List, [], ◌∷◌, ◌++◌, length, map, get_or, Option, Some, None, ◌⊎◌, inl, inr, refl, sym, ◌∙◌, ap, subst, append_assoc, arith}
+use Rattle.std.proofs.Common.{◌≡◌, ℕ, zero, suc, ◌+◌, ◌<◌, Bool, true, false, cond, eqb, not, List, [], ◌∷◌, ◌++◌, length, map, get_or, Option, Some, None, ◌⊎◌, inl, inr, refl, sym, ◌∙◌, ap, subst, append_assoc, arith}
 use Rattle.std.proofs.lemmas.Bool.{false≢true}
 use Rattle.std.specs.List.{flat_map, list_any}
 use Rattle.html_names.specs.declared.tag.Tag.{Tag}
@@ -105,62 +105,62 @@ module _ (s : Tag) (foster : Bool) (o p q : Open) (h : IsOpen o) (r : Round s fo
   abbrev n : ℕ
   n = length o.tree.labels
 
-  same-f : r'.f ≡ r.f
-  same-f = (let k : Some r'.f ≡ Some r.f = sym r'.formatting ∙ r.formatting in cc)
+  same-f : r'.formatting_element ≡ r.formatting_element
+  same-f = (let k : Some r'.formatting_element ≡ Some r.formatting_element = sym r'.formatting ∙ r.formatting in cc)
 
-  halves : ((r.lower ++ r.a ∷ []) ≡ (r'.lower ++ r'.a ∷ [])) × ((r.inner ++ (r.g ∷ r.upper)) ≡ (r'.inner ++ (r'.g ∷ r'.upper)))
+  halves : ((r.lower ++ r.common_ancestor ∷ []) ≡ (r'.lower ++ r'.common_ancestor ∷ [])) × ((r.inner ++ (r.furthest_block ∷ r.upper)) ≡ (r'.inner ++ (r'.furthest_block ∷ r'.upper)))
   halves =
-      let a : o.stack ≡ (r.lower ++ r.a ∷ []) ++ r.f ∷ (r.inner ++ (r.g ∷ r.upper)) = r.stack_was ∙ sym (append_assoc r.lower (r.a ∷ []) (r.f ∷ (r.inner ++ (r.g ∷ r.upper)))) in
-      let b : o.stack ≡ (r'.lower ++ r'.a ∷ []) ++ r.f ∷ (r'.inner ++ (r'.g ∷ r'.upper)) =
-      r'.stack_was ∙ sym (append_assoc r'.lower (r'.a ∷ []) (r'.f ∷ (r'.inner ++ (r'.g ∷ r'.upper)))) ∙ ap (λ v. (r'.lower ++ r'.a ∷ []) ++ v ∷ (r'.inner ++ (r'.g ∷ r'.upper))) same-f in
-      split-one r.f (r.lower ++ r.a ∷ []) (r.inner ++ (r.g ∷ r.upper)) (r'.lower ++ r'.a ∷ []) (r'.inner ++ (r'.g ∷ r'.upper)) (subst Distinct a h.stack_once) (sym a ∙ b)
+      let a : o.stack ≡ (r.lower ++ r.common_ancestor ∷ []) ++ r.formatting_element ∷ (r.inner ++ (r.furthest_block ∷ r.upper)) = r.stack_was ∙ sym (append_assoc r.lower (r.common_ancestor ∷ []) (r.formatting_element ∷ (r.inner ++ (r.furthest_block ∷ r.upper)))) in
+      let b : o.stack ≡ (r'.lower ++ r'.common_ancestor ∷ []) ++ r.formatting_element ∷ (r'.inner ++ (r'.furthest_block ∷ r'.upper)) =
+      r'.stack_was ∙ sym (append_assoc r'.lower (r'.common_ancestor ∷ []) (r'.formatting_element ∷ (r'.inner ++ (r'.furthest_block ∷ r'.upper)))) ∙ ap (λ v. (r'.lower ++ r'.common_ancestor ∷ []) ++ v ∷ (r'.inner ++ (r'.furthest_block ∷ r'.upper))) same-f in
+      split-one r.formatting_element (r.lower ++ r.common_ancestor ∷ []) (r.inner ++ (r.furthest_block ∷ r.upper)) (r'.lower ++ r'.common_ancestor ∷ []) (r'.inner ++ (r'.furthest_block ∷ r'.upper)) (subst Distinct a h.stack_once) (sym a ∙ b)
 
-  lows : (r.lower ≡ r'.lower) × (r.a ≡ r'.a)
-  lows = last-one r.a r'.a r.lower r'.lower halves.0
+  lows : (r.lower ≡ r'.lower) × (r.common_ancestor ≡ r'.common_ancestor)
+  lows = last-one r.common_ancestor r'.common_ancestor r.lower r'.lower halves.0
 
-  highs : IsOneFirst r.inner r'.inner r.g r'.g r.upper r'.upper
-  highs = first-one (special o.tree) r.g r'.g r.inner r.upper r'.inner r'.upper r.none_between r.g_special r'.none_between r'.g_special halves.1
+  highs : IsOneFirst r.inner r'.inner r.furthest_block r'.furthest_block r.upper r'.upper
+  highs = first-one (special o.tree) r.furthest_block r'.furthest_block r.inner r.upper r'.inner r'.upper r.none_between r.block_special r'.none_between r'.block_special halves.1
 
-  same-cs : r.cs ≡ r'.cs
-  same-cs = r.cs_are ∙ ap (originals (λ x. has_node x o.list)) highs.before ∙ sym r'.cs_are
+  same-cs : r.cloned_elements ≡ r'.cloned_elements
+  same-cs = r.cloned_are ∙ ap (originals (λ x. has_node x o.list)) highs.before ∙ sym r'.cloned_are
 
-  same-k : r.k ≡ r'.k
-  same-k = r.k_is ∙ ap (λ (v : List ℕ). n + length v) same-cs ∙ sym r'.k_is
+  same-k : r.new_element ≡ r'.new_element
+  same-k = r.new_element_is ∙ ap (λ (v : List ℕ). n + length v) same-cs ∙ sym r'.new_element_is
 
   stacks : q.stack ≡ p.stack
   stacks =
       r'.stack_is
       ∙ sym (r.stack_is
-      ∙ ap (λ v. v ++ (r.a ∷ (clones_down n (length r.cs) ++ (r.g ∷ r.k ∷ r.upper)))) lows.0
-      ∙ ap (λ v. r'.lower ++ (v ∷ (clones_down n (length r.cs) ++ (r.g ∷ r.k ∷ r.upper)))) lows.1
-      ∙ ap (λ v. r'.lower ++ (r'.a ∷ (clones_down n (length v) ++ (r.g ∷ r.k ∷ r.upper)))) same-cs
-      ∙ ap (λ v. r'.lower ++ (r'.a ∷ (clones_down n (length r'.cs) ++ (v ∷ r.k ∷ r.upper)))) highs.here
-      ∙ ap (λ v. r'.lower ++ (r'.a ∷ (clones_down n (length r'.cs) ++ (r'.g ∷ v ∷ r.upper)))) same-k
-      ∙ ap (λ v. r'.lower ++ (r'.a ∷ (clones_down n (length r'.cs) ++ (r'.g ∷ r'.k ∷ v)))) highs.after)
+      ∙ ap (λ v. v ++ (r.common_ancestor ∷ (clones_down n (length r.cloned_elements) ++ (r.furthest_block ∷ r.new_element ∷ r.upper)))) lows.0
+      ∙ ap (λ v. r'.lower ++ (v ∷ (clones_down n (length r.cloned_elements) ++ (r.furthest_block ∷ r.new_element ∷ r.upper)))) lows.1
+      ∙ ap (λ v. r'.lower ++ (r'.common_ancestor ∷ (clones_down n (length v) ++ (r.furthest_block ∷ r.new_element ∷ r.upper)))) same-cs
+      ∙ ap (λ v. r'.lower ++ (r'.common_ancestor ∷ (clones_down n (length r'.cloned_elements) ++ (v ∷ r.new_element ∷ r.upper)))) highs.here
+      ∙ ap (λ v. r'.lower ++ (r'.common_ancestor ∷ (clones_down n (length r'.cloned_elements) ++ (r'.furthest_block ∷ v ∷ r.upper)))) same-k
+      ∙ ap (λ v. r'.lower ++ (r'.common_ancestor ∷ (clones_down n (length r'.cloned_elements) ++ (r'.furthest_block ∷ r'.new_element ∷ v)))) highs.after)
 
   lists : q.list ≡ p.list
   lists =
       r'.list_is
       ∙ sym (r.list_is
-      ∙ ap (λ v. flat_map (relisted v (λ x. not (has x r.inner)) r.cs n r.k) o.list) (sym same-f)
-      ∙ ap (λ (v : List ℕ). flat_map (relisted r'.f (λ x. not (has x v)) r.cs n r.k) o.list) highs.before
-      ∙ ap (λ v. flat_map (relisted r'.f (λ x. not (has x r'.inner)) v n r.k) o.list) same-cs
-      ∙ ap (λ v. flat_map (relisted r'.f (λ x. not (has x r'.inner)) r'.cs n v) o.list) same-k)
+      ∙ ap (λ v. flat_map (relisted v (λ x. not (has x r.inner)) r.cloned_elements n r.new_element) o.list) (sym same-f)
+      ∙ ap (λ (v : List ℕ). flat_map (relisted r'.formatting_element (λ x. not (has x v)) r.cloned_elements n r.new_element) o.list) highs.before
+      ∙ ap (λ v. flat_map (relisted r'.formatting_element (λ x. not (has x r'.inner)) v n r.new_element) o.list) same-cs
+      ∙ ap (λ v. flat_map (relisted r'.formatting_element (λ x. not (has x r'.inner)) r'.cloned_elements n v) o.list) same-k)
 
   labels : q.tree.labels ≡ p.tree.labels
   labels =
       r'.labels_are
       ∙ sym (r.labels_are
-      ∙ ap (λ v. o.tree.labels ++ map (λ x. cloned (label_of o.tree x)) (v ++ r.f ∷ [])) same-cs
-      ∙ ap (λ v. o.tree.labels ++ map (λ x. cloned (label_of o.tree x)) (r'.cs ++ v ∷ [])) (sym same-f))
+      ∙ ap (λ v. o.tree.labels ++ map (λ x. cloned (label_of o.tree x)) (v ++ r.formatting_element ∷ [])) same-cs
+      ∙ ap (λ v. o.tree.labels ++ map (λ x. cloned (label_of o.tree x)) (r'.cloned_elements ++ v ∷ [])) (sym same-f))
 
   children : (x : ℕ) → children_of q.tree x ≡ children_of p.tree x
   children x =
       r'.children_are x
       ∙ sym (r.children_are x
-      ∙ ap (λ v. with_put o.tree (place_at o.tree o.stack v foster) (chain_top r.g n r.k) x (chained o.tree r.g n r.k x)) lows.1
-      ∙ ap (λ v. with_put o.tree (place_at o.tree o.stack r'.a foster) (chain_top v n r.k) x (chained o.tree v n r.k x)) highs.here
-      ∙ ap (λ v. with_put o.tree (place_at o.tree o.stack r'.a foster) (chain_top r'.g n v) x (chained o.tree r'.g n v x)) same-k)
+      ∙ ap (λ v. with_put o.tree (place_at o.tree o.stack v foster) (chain_top r.furthest_block n r.new_element) x (chained o.tree r.furthest_block n r.new_element x)) lows.1
+      ∙ ap (λ v. with_put o.tree (place_at o.tree o.stack r'.common_ancestor foster) (chain_top v n r.new_element) x (chained o.tree v n r.new_element x)) highs.here
+      ∙ ap (λ v. with_put o.tree (place_at o.tree o.stack r'.common_ancestor foster) (chain_top r'.furthest_block n v) x (chained o.tree r'.furthest_block n v x)) same-k)
 
   pub round-one : IsAlike p q
   round-one =
@@ -192,24 +192,24 @@ round-other : (s : Tag) (foster : Bool) (stack : List ℕ) (list : List Entry) (
     → Round s foster (open_at stack list t) q
 round-other s foster stack list t ms a b q r = record {
   lower = r.lower;
-  a = r.a;
-  f = r.f;
+  common_ancestor = r.common_ancestor;
+  formatting_element = r.formatting_element;
   inner = r.inner;
-  g = r.g;
+  furthest_block = r.furthest_block;
   upper = r.upper;
   stack_was = r.stack_was;
   formatting = r.formatting;
   in_scope = r.in_scope;
   none_between = r.none_between;
-  g_special = r.g_special;
-  cs = r.cs;
-  cs_are = r.cs_are;
-  k = r.k;
-  k_is = r.k_is;
+  block_special = r.block_special;
+  cloned_elements = r.cloned_elements;
+  cloned_are = r.cloned_are;
+  new_element = r.new_element;
+  new_element_is = r.new_element_is;
   stack_is = r.stack_is;
   list_is = r.list_is;
   labels_are = r.labels_are;
-  children_are = λ x. r.children_are x ∙ put-other t ms a b (place_at t stack r.a foster) (chain_top r.g (length t.labels) r.k) x (chained t r.g (length t.labels) r.k x);
+  children_are = λ x. r.children_are x ∙ put-other t ms a b (place_at t stack r.common_ancestor foster) (chain_top r.furthest_block (length t.labels) r.new_element) x (chained t r.furthest_block (length t.labels) r.new_element x);
   limits_are = r.limits_are;
   well_formed = r.well_formed;
   is_open = r.is_open;
@@ -264,43 +264,43 @@ any-middle p (x ∷ xs) ys g h = (let r = any-middle p xs ys g h in elim (cases_
 
 module _ (s : Tag) (foster : Bool) (o p : Open) (h : IsOpen o) (r : Round s foster o p) where
   abbrev front : List ℕ
-  front = r.lower ++ r.a ∷ []
+  front = r.lower ++ r.common_ancestor ∷ []
 
   abbrev back : List ℕ
-  back = r.inner ++ (r.g ∷ r.upper)
+  back = r.inner ++ (r.furthest_block ∷ r.upper)
 
-  parted : o.stack ≡ front ++ r.f ∷ back
-  parted = r.stack_was ∙ sym (append_assoc r.lower (r.a ∷ []) (r.f ∷ back))
+  parted : o.stack ≡ front ++ r.formatting_element ∷ back
+  parted = r.stack_was ∙ sym (append_assoc r.lower (r.common_ancestor ∷ []) (r.formatting_element ∷ back))
 
-  on-stack : has r.f o.stack ≡ true
-  on-stack = ap (has r.f) parted ∙ has-right r.f front (r.f ∷ back) (has-first r.f back)
+  on-stack : has r.formatting_element o.stack ≡ true
+  on-stack = ap (has r.formatting_element) parted ∙ has-right r.formatting_element front (r.formatting_element ∷ back) (has-first r.formatting_element back)
 
-  blocked : list_any (special o.tree) (above (eqb r.f) o.stack) ≡ true
+  blocked : list_any (special o.tree) (above (eqb r.formatting_element) o.stack) ≡ true
   blocked =
-      let d = (Distinct-remove r.f front back (subst Distinct parted h.stack_once)).1 in
-      ap (λ v. list_any (special o.tree) (above (eqb r.f) v)) parted ∙ ap (list_any (special o.tree)) (above-of r.f front back (not-right r.f front back d)) ∙ any-middle (special o.tree) r.inner r.upper r.g r.g_special
+      let d = (Distinct-remove r.formatting_element front back (subst Distinct parted h.stack_once)).1 in
+      ap (λ v. list_any (special o.tree) (above (eqb r.formatting_element) v)) parted ∙ ap (list_any (special o.tree)) (above-of r.formatting_element front back (not-right r.formatting_element front back d)) ∙ any-middle (special o.tree) r.inner r.upper r.furthest_block r.block_special
 
   no-end : (end : AdoptEnd) (x q : Open) → x ≡ o → Ends s end x q → ⊥
   no-end _ _ _ e (closes x q k) =
-      let f = same k.f (sym (ap (λ (v : Open). last_named v.tree s v.list) e) ∙ k.formatting) in
-      false≢true (sym k.no_special ∙ ap (λ (v : Open). list_any (special v.tree) (above (eqb k.f) v.stack)) e ∙ ap (λ v. list_any (special o.tree) (above (eqb v) o.stack)) f ∙ blocked)
+      let f = same k.formatting_element (sym (ap (λ (v : Open). last_named v.tree s v.list) e) ∙ k.formatting) in
+      false≢true (sym k.no_special ∙ ap (λ (v : Open). list_any (special v.tree) (above (eqb k.formatting_element) v.stack)) e ∙ ap (λ v. list_any (special o.tree) (above (eqb v) o.stack)) f ∙ blocked)
     where
-      same : (f : ℕ) → last_named o.tree s o.list ≡ Some f → f ≡ r.f
-      same f i = (let j : Some f ≡ Some r.f = sym i ∙ r.formatting in cc)
+      same : (f : ℕ) → last_named o.tree s o.list ≡ Some f → f ≡ r.formatting_element
+      same f i = (let j : Some f ≡ Some r.formatting_element = sym i ∙ r.formatting in cc)
   no-end _ _ _ e (forgets x q k) =
-      let f = same k.f (sym (ap (λ (v : Open). last_named v.tree s v.list) e) ∙ k.formatting) in
-      false≢true (sym k.off_stack ∙ ap (λ (v : Open). has k.f v.stack) e ∙ ap (λ v. has v o.stack) f ∙ on-stack)
+      let f = same k.formatting_element (sym (ap (λ (v : Open). last_named v.tree s v.list) e) ∙ k.formatting) in
+      false≢true (sym k.off_stack ∙ ap (λ (v : Open). has k.formatting_element v.stack) e ∙ ap (λ v. has v o.stack) f ∙ on-stack)
     where
-      same : (f : ℕ) → last_named o.tree s o.list ≡ Some f → f ≡ r.f
-      same f i = (let j : Some f ≡ Some r.f = sym i ∙ r.formatting in cc)
+      same : (f : ℕ) → last_named o.tree s o.list ≡ Some f → f ≡ r.formatting_element
+      same f i = (let j : Some f ≡ Some r.formatting_element = sym i ∙ r.formatting in cc)
   no-end _ _ _ e (out_of_scope x q k) =
-      let f = same k.f (sym (ap (λ (v : Open). last_named v.tree s v.list) e) ∙ k.formatting) in
-      false≢true (sym k.not_in_scope ∙ ap (λ (v : Open). element_in_scope v.tree k.f v.stack) e ∙ ap (λ v. element_in_scope o.tree v o.stack) f ∙ r.in_scope)
+      let f = same k.formatting_element (sym (ap (λ (v : Open). last_named v.tree s v.list) e) ∙ k.formatting) in
+      false≢true (sym k.not_in_scope ∙ ap (λ (v : Open). element_in_scope v.tree k.formatting_element v.stack) e ∙ ap (λ v. element_in_scope o.tree v o.stack) f ∙ r.in_scope)
     where
-      same : (f : ℕ) → last_named o.tree s o.list ≡ Some f → f ≡ r.f
-      same f i = (let j : Some f ≡ Some r.f = sym i ∙ r.formatting in cc)
+      same : (f : ℕ) → last_named o.tree s o.list ≡ Some f → f ≡ r.formatting_element
+      same f i = (let j : Some f ≡ Some r.formatting_element = sym i ∙ r.formatting in cc)
   no-end _ _ _ e (no_entry x q k) =
-      let j : None ≡ Some r.f = sym k.none ∙ ap (λ (v : Open). last_named v.tree s v.list) e ∙ r.formatting in absurd cc
+      let j : None ≡ Some r.formatting_element = sym k.none ∙ ap (λ (v : Open). last_named v.tree s v.list) e ∙ r.formatting in absurd cc
 
 -- how it ends, by the entry of the name
 abbrev end_by : Option ℕ → AdoptEnd

@@ -235,8 +235,8 @@ module _ (nodes : List ℕ) (entries : List Entry) (t : Tree) (at b : ℕ) (w : 
             pub regrouped : (new : List ℕ) (list : List Entry) → new ≡ X ++ (clones_down n (length cs) ++ (g ∷ (k ∷ upper))) → list ≡ flat_map (relisted f (marked u2 InList) cs n k) entries
                 → IsRegrouped at b target (open_at nodes entries t) (open_at new list v)
             regrouped new list e q = record {
-              cs = cs;
-              cs_are = cs-listed;
+              cloned_elements = cs;
+              cloned_are = cs-listed;
               stack_is = e;
               list_is = q ∙ list-is;
               labels_are = h.nodes.labels_are ∙ readied.labels_are;

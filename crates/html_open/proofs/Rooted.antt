@@ -71,17 +71,17 @@ module _ (at b : ℕ) (target : Place) (o p : Open) (r : IsRegrouped at b target
   n = length o.tree.labels
 
   abbrev k : ℕ
-  k = length o.tree.labels + length r.cs
+  k = length o.tree.labels + length r.cloned_elements
 
   abbrev g : ℕ
   g = get_or o.stack b 0
 
-  made-length : length p.tree.labels ≡ length o.tree.labels + length r.cs + 1
+  made-length : length p.tree.labels ≡ length o.tree.labels + length r.cloned_elements + 1
   made-length =
       let a = ap length r.labels_are in
-      let b = length-append o.tree.labels (map (λ x. cloned (label_of o.tree x)) (r.cs ++ get_or o.stack at 0 ∷ [])) in
-      let c = length-map (r.cs ++ get_or o.stack at 0 ∷ []) (λ x. cloned (label_of o.tree x)) in
-      let d = length-append r.cs (get_or o.stack at 0 ∷ []) in
+      let b = length-append o.tree.labels (map (λ x. cloned (label_of o.tree x)) (r.cloned_elements ++ get_or o.stack at 0 ∷ [])) in
+      let c = length-map (r.cloned_elements ++ get_or o.stack at 0 ∷ []) (λ x. cloned (label_of o.tree x)) in
+      let d = length-append r.cloned_elements (get_or o.stack at 0 ∷ []) in
       omega (arith, a, b, c, d)
 
   differ : (y m : ℕ) → y < m + 1 → y ≢ m → y < m
@@ -117,7 +117,7 @@ module _ (at b : ℕ) (target : Place) (o p : Open) (r : IsRegrouped at b target
             | inr u ↦ absurd (
                 let v = made-length in
                 let ge = ge-of x (length o.tree.labels) u in
-                let lt : x < length o.tree.labels + length r.cs = differ x (length o.tree.labels + length r.cs) (omega (arith, v, l)) m in
+                let lt : x < length o.tree.labels + length r.cloned_elements = differ x (length o.tree.labels + length r.cloned_elements) (omega (arith, v, l)) m in
                 let w : (nat_le n x && nat_lt x k) ≡ true = rw (le-true n x ge, lt-true x k lt) refl in
                 cc)
           ]
@@ -146,7 +146,7 @@ module _ (at b : ℕ) (target : Place) (o p : Open) (r : IsRegrouped at b target
       not-g = elim (cases_eqb x g) [ inl q ↦ absurd (differs q.1) | inr q ↦ q.0 ]
 
       not-k : eqb x k ≡ false
-      not-k = elim (cases_eqb x k) [ inl q ↦ absurd (let z : x ≡ length o.tree.labels + length r.cs = q.1 in omega arith) | inr q ↦ q.0 ]
+      not-k = elim (cases_eqb x k) [ inl q ↦ absurd (let z : x ≡ length o.tree.labels + length r.cloned_elements = q.1 in omega arith) | inr q ↦ q.0 ]
 
       not-top : eqb x (chain_top g n k) ≡ false
       not-top = elim (cases_eqb n k) [
@@ -155,7 +155,7 @@ module _ (at b : ℕ) (target : Place) (o p : Open) (r : IsRegrouped at b target
       ]
         where
           high : n ≢ k → x ≡ k - 1 → ⊥
-          high u v = absurd (let a : (length o.tree.labels) ≢ length o.tree.labels + length r.cs = u in let b : x ≡ (length o.tree.labels + length r.cs) - 1 = v in omega arith)
+          high u v = absurd (let a : (length o.tree.labels) ≢ length o.tree.labels + length r.cloned_elements = u in let b : x ≡ (length o.tree.labels + length r.cloned_elements) - 1 = v in omega arith)
 
       not-child : has x (children_of o.tree g) ≡ false
       not-child = elim (cases_bool (has x (children_of o.tree g))) [
@@ -172,7 +172,7 @@ first-split [] a ys zs = refl
 first-split (x ∷ xs) a ys zs = refl
 
 pub round-first : (s : Tag) (foster : Bool) (o p : Open) → Round s foster o p → first_of p.stack ≡ first_of o.stack
-round-first s foster o p r = ap first_of r.stack_is ∙ first-split r.lower r.a _ _ ∙ sym (ap first_of r.stack_was)
+round-first s foster o p r = ap first_of r.stack_is ∙ first-split r.lower r.common_ancestor _ _ ∙ sym (ap first_of r.stack_was)
 
 first-below : (f : ℕ) (xs : List ℕ) → has f xs ≡ true → ((x : ℕ) → first_of xs ≡ Some x → x ≢ f) → first_of (below (eqb f) xs) ≡ first_of xs
 first-below f [] h k = refl
@@ -184,7 +184,7 @@ first-below f (y ∷ ys) h k = elim (cases_eqb f y) [
 pub ends-first : (s : Tag) (end : AdoptEnd) (o p : Open) → Ends s end o p → IsFirstFree o.stack o.list → first_of p.stack ≡ first_of o.stack
 ends-first s _ _ _ (closes o p k) free =
     ap first_of k.stack_is
-    ∙ first-below k.f o.stack k.on_stack (λ x e q. (let a = last_named-in o.tree s o.list k.f k.formatting in let b = free x e in let c : has_node k.f o.list ≡ false = subst (λ (v : ℕ). has_node v o.list ≡ false) q b in cc))
+    ∙ first-below k.formatting_element o.stack k.on_stack (λ x e q. (let a = last_named-in o.tree s o.list k.formatting_element k.formatting in let b = free x e in let c : has_node k.formatting_element o.list ≡ false = subst (λ (v : ℕ). has_node v o.list ≡ false) q b in cc))
 ends-first s _ _ _ (forgets o p k) free = ap first_of k.stack_is
 ends-first s _ _ _ (out_of_scope o p k) free = ap first_of k.unchanged.stack_is
 ends-first s _ _ _ (no_entry o p k) free = ap first_of k.unchanged.stack_is
@@ -221,8 +221,8 @@ fewer-free f x es h = elim (cases_bool (has_node x (without_node f es))) [
 ]
 
 ends-unlisted : (s : Tag) (end : AdoptEnd) (o p : Open) → Ends s end o p → (x : ℕ) → has_node x o.list ≡ false → has_node x p.list ≡ false
-ends-unlisted s _ _ _ (closes o p k) x h = subst (λ (v : List Entry). has_node x v ≡ false) (sym k.list_is) (fewer-free k.f x o.list h)
-ends-unlisted s _ _ _ (forgets o p k) x h = subst (λ (v : List Entry). has_node x v ≡ false) (sym k.list_is) (fewer-free k.f x o.list h)
+ends-unlisted s _ _ _ (closes o p k) x h = subst (λ (v : List Entry). has_node x v ≡ false) (sym k.list_is) (fewer-free k.formatting_element x o.list h)
+ends-unlisted s _ _ _ (forgets o p k) x h = subst (λ (v : List Entry). has_node x v ≡ false) (sym k.list_is) (fewer-free k.formatting_element x o.list h)
 ends-unlisted s _ _ _ (out_of_scope o p k) x h = subst (λ (v : List Entry). has_node x v ≡ false) (sym k.unchanged.list_is) h
 ends-unlisted s _ _ _ (no_entry o p k) x h = subst (λ (v : List Entry). has_node x v ≡ false) (sym k.unchanged.list_is) h
 

@@ -148,28 +148,28 @@ module _ (stack : List ℕ) (entries : List Entry) (t : Tree) (at b : ℕ) (w : 
       → Round s foster (open_at stack entries t) new
   round-is new i target e r well h = record {
     lower = take (at - 1) stack;
-    a = a;
-    f = f;
+    common_ancestor = a;
+    formatting_element = f;
     inner = inner;
-    g = g;
+    furthest_block = g;
     upper = upper;
     stack_was = split-is ∙ ap (λ v. v ++ Z) (front-is stack at b lt within pos) ∙ append_assoc (take (at - 1) stack) (a ∷ []) Z;
     formatting = blk.formatting.entry;
     in_scope = blk.formatting.in_scope;
     none_between = sym (ap (list_any (special t)) (between stack at b lt within)) ∙ blk.block.none_before;
-    g_special = blk.block.passes;
-    cs = r.cs;
-    cs_are = r.cs_are;
-    k = length t.labels + length r.cs;
-    k_is = refl;
+    block_special = blk.block.passes;
+    cloned_elements = r.cloned_elements;
+    cloned_are = r.cloned_are;
+    new_element = length t.labels + length r.cloned_elements;
+    new_element_is = refl;
     stack_is =
-        r.stack_is ∙ ap (λ v. v ++ (clones_down (length t.labels) (length r.cs) ++ (g ∷ (length t.labels + length r.cs) ∷ upper))) (front-is stack at b lt within pos)
-        ∙ append_assoc (take (at - 1) stack) (a ∷ []) (clones_down (length t.labels) (length r.cs) ++ (g ∷ (length t.labels + length r.cs) ∷ upper));
+        r.stack_is ∙ ap (λ v. v ++ (clones_down (length t.labels) (length r.cloned_elements) ++ (g ∷ (length t.labels + length r.cloned_elements) ∷ upper))) (front-is stack at b lt within pos)
+        ∙ append_assoc (take (at - 1) stack) (a ∷ []) (clones_down (length t.labels) (length r.cloned_elements) ++ (g ∷ (length t.labels + length r.cloned_elements) ∷ upper));
     list_is = r.list_is;
     labels_are = r.labels_are;
     children_are = λ x.
-        r.children_are x ∙ put-stepped t i target (chain_top g (length t.labels) (length t.labels + length r.cs)) x (chained t g (length t.labels) (length t.labels + length r.cs) x)
-        ∙ ap (λ (p : Place). with_put t p (chain_top g (length t.labels) (length t.labels + length r.cs)) x (chained t g (length t.labels) (length t.labels + length r.cs) x)) e;
+        r.children_are x ∙ put-stepped t i target (chain_top g (length t.labels) (length t.labels + length r.cloned_elements)) x (chained t g (length t.labels) (length t.labels + length r.cloned_elements) x)
+        ∙ ap (λ (p : Place). with_put t p (chain_top g (length t.labels) (length t.labels + length r.cloned_elements)) x (chained t g (length t.labels) (length t.labels + length r.cloned_elements) x)) e;
     limits_are = r.limits_are;
     well_formed = well;
     is_open = h;

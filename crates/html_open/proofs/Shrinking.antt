@@ -23,12 +23,12 @@ pub round-shorter : (s : Tag) (foster : Bool) (o p : Open) → Round s foster o 
 round-shorter s foster o p r =
     let a = ap length r.stack_was in
     let b = ap length r.stack_is in
-    let c = length-append r.lower (r.a ∷ r.f ∷ (r.inner ++ (r.g ∷ r.upper))) in
-    let d = length-append r.inner (r.g ∷ r.upper) in
-    let e = length-append r.lower (r.a ∷ (clones_down (length o.tree.labels) (length r.cs) ++ (r.g ∷ r.k ∷ r.upper))) in
-    let f = length-append (clones_down (length o.tree.labels) (length r.cs)) (r.g ∷ r.k ∷ r.upper) in
-    let g = down-length (length o.tree.labels) (length r.cs) in
-    let h = ap length r.cs_are in
+    let c = length-append r.lower (r.common_ancestor ∷ r.formatting_element ∷ (r.inner ++ (r.furthest_block ∷ r.upper))) in
+    let d = length-append r.inner (r.furthest_block ∷ r.upper) in
+    let e = length-append r.lower (r.common_ancestor ∷ (clones_down (length o.tree.labels) (length r.cloned_elements) ++ (r.furthest_block ∷ r.new_element ∷ r.upper))) in
+    let f = length-append (clones_down (length o.tree.labels) (length r.cloned_elements)) (r.furthest_block ∷ r.new_element ∷ r.upper) in
+    let g = down-length (length o.tree.labels) (length r.cloned_elements) in
+    let h = ap length r.cloned_are in
     let i = originals-less (λ x. has_node x o.list) r.inner in
     omega (arith, a, b, c, d, e, f, g, h, i)
 
@@ -106,7 +106,7 @@ module _ (f : ℕ) (stays : ℕ → Bool) (cs : List ℕ) (n k : ℕ) where
 pub round-listed : (s : Tag) (foster : Bool) (o p : Open) → IsOpen o → Round s foster o p → length p.list ≤ length o.list + 1
 round-listed s foster o p h r =
     let a = ap length r.list_is in
-    let b = relisted-length r.f (λ x. not (has x r.inner)) r.cs (length o.tree.labels) r.k o.list h.list_once in
+    let b = relisted-length r.formatting_element (λ x. not (has x r.inner)) r.cloned_elements (length o.tree.labels) r.new_element o.list h.list_once in
     omega (arith, a, b)
 
 -- as many times a number

@@ -165,21 +165,21 @@ pub survives-ends : (s : Tag) (end : AdoptEnd) (o p : Open) → IsOpen o → End
 survives-ends s _ _ _ h (closes o p k) =
     let e = ap (λ (t : Tree). t.labels) k.tree_is in
     let sp = special o.tree in
-    let B = below (eqb k.f) o.stack in
-    let A = above (eqb k.f) o.stack in
-    let r = split-last (eqb k.f) o.stack (any-has k.f o.stack ∙ k.on_stack) in
-    let q : r.0 ≡ k.f = sym (eqb-true k.f r.0 r.2) in
+    let B = below (eqb k.formatting_element) o.stack in
+    let A = above (eqb k.formatting_element) o.stack in
+    let r = split-last (eqb k.formatting_element) o.stack (any-has k.formatting_element o.stack ∙ k.on_stack) in
+    let q : r.0 ≡ k.formatting_element = sym (eqb-true k.formatting_element r.0 r.2) in
     let gone : filter sp (r.0 ∷ A) ≡ [] = filter-none sp (r.0 ∷ A) (λ x m. elim (has-head x r.0 A m) [
-      | inl z ↦ ap sp (z ∙ q) ∙ listed-plain o h k.f (last_named-in o.tree s o.list k.f k.formatting)
+      | inl z ↦ ap sp (z ∙ q) ∙ listed-plain o h k.formatting_element (last_named-in o.tree s o.list k.formatting_element k.formatting)
       | inr z ↦ any-none sp A k.no_special x z
     ]) in
     record {
       no_fewer = (let n = ap length e in omega (arith, n));
       special_are = ap (filter (special p.tree)) k.stack_is ∙ special-as o.tree p.tree B e
           ∙ sym (ap (filter sp) r.1 ∙ filter-append sp B (r.0 ∷ A) ∙ ap (λ v. filter sp B ++ v) gone ∙ nil (filter sp B));
-      markers_are = ap (filter is_marker) k.list_is ∙ markers-without k.f o.list;
-      on_stack = λ x b m. below-in (eqb k.f) o.stack x (sym (ap (has x) k.stack_is) ∙ m);
-      in_list = λ x b m. without-node (is_node k.f) o.list x (sym (ap (has_node x) k.list_is) ∙ m);
+      markers_are = ap (filter is_marker) k.list_is ∙ markers-without k.formatting_element o.list;
+      on_stack = λ x b m. below-in (eqb k.formatting_element) o.stack x (sym (ap (has x) k.stack_is) ∙ m);
+      in_list = λ x b m. without-node (is_node k.formatting_element) o.list x (sym (ap (has_node x) k.list_is) ∙ m);
     }
   where
     nil : (v : List ℕ) → v ++ [] ≡ v
@@ -190,9 +190,9 @@ survives-ends s _ _ _ h (forgets o p k) =
     record {
       no_fewer = (let n = ap length e in omega (arith, n));
       special_are = ap (filter (special p.tree)) k.stack_is ∙ special-as o.tree p.tree o.stack e;
-      markers_are = ap (filter is_marker) k.list_is ∙ markers-without k.f o.list;
+      markers_are = ap (filter is_marker) k.list_is ∙ markers-without k.formatting_element o.list;
       on_stack = λ x b m. sym (ap (has x) k.stack_is) ∙ m;
-      in_list = λ x b m. without-node (is_node k.f) o.list x (sym (ap (has_node x) k.list_is) ∙ m);
+      in_list = λ x b m. without-node (is_node k.formatting_element) o.list x (sym (ap (has_node x) k.list_is) ∙ m);
     }
 survives-ends s _ _ _ h (out_of_scope o p k) = survives-same o p (ap (λ (t : Tree). t.labels) k.unchanged.tree_is) k.unchanged.stack_is k.unchanged.list_is
 survives-ends s _ _ _ h (no_entry o p k) = survives-same o p (ap (λ (t : Tree). t.labels) k.unchanged.tree_is) k.unchanged.stack_is k.unchanged.list_is
@@ -202,35 +202,35 @@ module _ (s : Tag) (foster : Bool) (o p : Open) (r : Round s foster o p) (opened
   made-all : (x : ℕ) → x < length o.tree.labels → special p.tree x ≡ special o.tree x
   made-all x b = ap (λ (d : NodeData). is_special (tag_in d)) (label-kept o p.tree (round-made s foster o p r opened) x b)
 
-  f-listed : has_node r.f o.list ≡ true
-  f-listed = last_named-in o.tree s o.list r.f r.formatting
+  f-listed : has_node r.formatting_element o.list ≡ true
+  f-listed = last_named-in o.tree s o.list r.formatting_element r.formatting
 
   -- the elements that are cloned are in the list
-  cloned-listed : (x : ℕ) → has x (r.cs ++ r.f ∷ []) ≡ true → has_node x o.list ≡ true
-  cloned-listed x h = elim (has-either x r.cs (r.f ∷ []) h) [
-    | inl q ↦ (originals-in (λ y. has_node y o.list) r.inner x (subst (λ (v : List ℕ). has x v ≡ true) r.cs_are q)).1
-    | inr q ↦ elim (has-head x r.f [] q) [
+  cloned-listed : (x : ℕ) → has x (r.cloned_elements ++ r.formatting_element ∷ []) ≡ true → has_node x o.list ≡ true
+  cloned-listed x h = elim (has-either x r.cloned_elements (r.formatting_element ∷ []) h) [
+    | inl q ↦ (originals-in (λ y. has_node y o.list) r.inner x (subst (λ (v : List ℕ). has x v ≡ true) r.cloned_are q)).1
+    | inr q ↦ elim (has-head x r.formatting_element [] q) [
       | inl e ↦ subst (λ (y : ℕ). has_node y o.list ≡ true) (sym e) f-listed
       | inr e ↦ absurd (let k = e in cc)
     ]
   ]
 
-  clone-plain : (x : ℕ) → length o.tree.labels ≤ x → x ≤ length o.tree.labels + length r.cs → special p.tree x ≡ false
+  clone-plain : (x : ℕ) → length o.tree.labels ≤ x → x ≤ length o.tree.labels + length r.cloned_elements → special p.tree x ≡ false
   clone-plain x a b =
-      let e = length-append r.cs (r.f ∷ []) in
-      let y = get_or (r.cs ++ r.f ∷ []) (x - length o.tree.labels) 0 in
+      let e = length-append r.cloned_elements (r.formatting_element ∷ []) in
+      let y = get_or (r.cloned_elements ++ r.formatting_element ∷ []) (x - length o.tree.labels) 0 in
       ap (λ (d : NodeData). is_special (tag_in d)) (label-new s foster o p r opened x a b) ∙ ap is_special (cloned-tag (label_of o.tree y))
-      ∙ listed-plain o opened y (cloned-listed y (has-get (r.cs ++ r.f ∷ []) (x - length o.tree.labels) (omega (arith, e, a, b))))
+      ∙ listed-plain o opened y (cloned-listed y (has-get (r.cloned_elements ++ r.formatting_element ∷ []) (x - length o.tree.labels) (omega (arith, e, a, b))))
 
-  k-plain : special p.tree r.k ≡ false
-  k-plain = (let e = r.k_is in clone-plain r.k (omega (arith, e)) (omega (arith, e)))
+  k-plain : special p.tree r.new_element ≡ false
+  k-plain = (let e = r.new_element_is in clone-plain r.new_element (omega (arith, e)) (omega (arith, e)))
 
-  down-plain : (x : ℕ) → has x (clones_down (length o.tree.labels) (length r.cs)) ≡ true → special p.tree x ≡ false
+  down-plain : (x : ℕ) → has x (clones_down (length o.tree.labels) (length r.cloned_elements)) ≡ true → special p.tree x ≡ false
   down-plain x h =
-      let e = sym (has-down (length o.tree.labels) (length r.cs) x) ∙ h in
-      let a = within (nat_le (length o.tree.labels) x) (nat_lt x (length o.tree.labels + length r.cs)) e in
+      let e = sym (has-down (length o.tree.labels) (length r.cloned_elements) x) ∙ h in
+      let a = within (nat_le (length o.tree.labels) x) (nat_lt x (length o.tree.labels + length r.cloned_elements)) e in
       let l = ge-low x (length o.tree.labels) a.0 in
-      let u = lt-of x (length o.tree.labels + length r.cs) a.1 in
+      let u = lt-of x (length o.tree.labels + length r.cloned_elements) a.1 in
       clone-plain x l (omega (arith, u))
     where
       within : (a b : Bool) → (a && b) ≡ true → (a ≡ true) × (b ≡ true)
@@ -240,29 +240,29 @@ module _ (s : Tag) (foster : Bool) (o p : Open) (r : Round s foster o p) (opened
       ge-low : (x n : ℕ) → nat_le n x ≡ true → n ≤ x
       ge-low x n e = le-of n x e
 
-  was : (x : ℕ) → has x (r.lower ++ (r.a ∷ (r.f ∷ (r.inner ++ (r.g ∷ r.upper))))) ≡ true → x < length o.tree.labels
+  was : (x : ℕ) → has x (r.lower ++ (r.common_ancestor ∷ (r.formatting_element ∷ (r.inner ++ (r.furthest_block ∷ r.upper))))) ≡ true → x < length o.tree.labels
   was x h = opened.stack_in x (subst (λ (v : List ℕ). has x v ≡ true) (sym r.stack_was) h)
 
   abbrev rest : List ℕ
-  rest = r.f ∷ (r.inner ++ (r.g ∷ r.upper))
+  rest = r.formatting_element ∷ (r.inner ++ (r.furthest_block ∷ r.upper))
 
   lower-in : (x : ℕ) → has x r.lower ≡ true → special p.tree x ≡ special o.tree x
-  lower-in x h = made-all x (was x (has-left x r.lower (r.a ∷ rest) h))
+  lower-in x h = made-all x (was x (has-left x r.lower (r.common_ancestor ∷ rest) h))
 
-  a-in : (x : ℕ) → has x (r.a ∷ []) ≡ true → special p.tree x ≡ special o.tree x
-  a-in x h = elim (has-head x r.a [] h) [
-    | inl e ↦ made-all x (was x (has-right x r.lower (r.a ∷ rest) (subst (λ (v : ℕ). has v (r.a ∷ rest) ≡ true) (sym e) (has-first r.a rest))))
+  a-in : (x : ℕ) → has x (r.common_ancestor ∷ []) ≡ true → special p.tree x ≡ special o.tree x
+  a-in x h = elim (has-head x r.common_ancestor [] h) [
+    | inl e ↦ made-all x (was x (has-right x r.lower (r.common_ancestor ∷ rest) (subst (λ (v : ℕ). has v (r.common_ancestor ∷ rest) ≡ true) (sym e) (has-first r.common_ancestor rest))))
     | inr e ↦ absurd (let k = e in cc)
   ]
 
-  g-upper : (x : ℕ) → has x (r.g ∷ r.upper) ≡ true → special p.tree x ≡ special o.tree x
-  g-upper x h = made-all x (was x (has-right x r.lower (r.a ∷ rest) (has-more x r.a rest (has-more x r.f (r.inner ++ (r.g ∷ r.upper)) (has-right x r.inner (r.g ∷ r.upper) h)))))
+  g-upper : (x : ℕ) → has x (r.furthest_block ∷ r.upper) ≡ true → special p.tree x ≡ special o.tree x
+  g-upper x h = made-all x (was x (has-right x r.lower (r.common_ancestor ∷ rest) (has-more x r.common_ancestor rest (has-more x r.formatting_element (r.inner ++ (r.furthest_block ∷ r.upper)) (has-right x r.inner (r.furthest_block ∷ r.upper) h)))))
 
-  g-in : (x : ℕ) → has x (r.g ∷ []) ≡ true → special p.tree x ≡ special o.tree x
-  g-in x h = g-upper x (has-left x (r.g ∷ []) r.upper h)
+  g-in : (x : ℕ) → has x (r.furthest_block ∷ []) ≡ true → special p.tree x ≡ special o.tree x
+  g-in x h = g-upper x (has-left x (r.furthest_block ∷ []) r.upper h)
 
   upper-in : (x : ℕ) → has x r.upper ≡ true → special p.tree x ≡ special o.tree x
-  upper-in x h = g-upper x (has-more x r.g r.upper h)
+  upper-in x h = g-upper x (has-more x r.furthest_block r.upper h)
 
   one-none : (q : ℕ → Bool) (x : ℕ) → q x ≡ false → filter q (x ∷ []) ≡ []
   one-none q x h = rw h refl
@@ -270,44 +270,44 @@ module _ (s : Tag) (foster : Bool) (o p : Open) (r : Round s foster o p) (opened
   special-round : filter (special p.tree) p.stack ≡ filter (special o.tree) o.stack
   special-round =
       ap (filter (special p.tree)) r.stack_is
-      ∙ six (special p.tree) r.lower (r.a ∷ []) (clones_down (length o.tree.labels) (length r.cs)) (r.g ∷ []) (r.k ∷ []) r.upper
-      (filter (special o.tree) r.lower) (filter (special o.tree) (r.a ∷ [])) [] (filter (special o.tree) (r.g ∷ [])) [] (filter (special o.tree) r.upper)
-      (filter-same (special p.tree) (special o.tree) r.lower lower-in) (filter-same (special p.tree) (special o.tree) (r.a ∷ []) a-in)
-      (filter-none (special p.tree) (clones_down (length o.tree.labels) (length r.cs)) down-plain) (filter-same (special p.tree) (special o.tree) (r.g ∷ []) g-in)
-      (one-none (special p.tree) r.k k-plain) (filter-same (special p.tree) (special o.tree) r.upper upper-in)
+      ∙ six (special p.tree) r.lower (r.common_ancestor ∷ []) (clones_down (length o.tree.labels) (length r.cloned_elements)) (r.furthest_block ∷ []) (r.new_element ∷ []) r.upper
+      (filter (special o.tree) r.lower) (filter (special o.tree) (r.common_ancestor ∷ [])) [] (filter (special o.tree) (r.furthest_block ∷ [])) [] (filter (special o.tree) r.upper)
+      (filter-same (special p.tree) (special o.tree) r.lower lower-in) (filter-same (special p.tree) (special o.tree) (r.common_ancestor ∷ []) a-in)
+      (filter-none (special p.tree) (clones_down (length o.tree.labels) (length r.cloned_elements)) down-plain) (filter-same (special p.tree) (special o.tree) (r.furthest_block ∷ []) g-in)
+      (one-none (special p.tree) r.new_element k-plain) (filter-same (special p.tree) (special o.tree) r.upper upper-in)
       ∙ sym (ap (filter (special o.tree)) r.stack_was
-      ∙ six (special o.tree) r.lower (r.a ∷ []) (r.f ∷ []) r.inner (r.g ∷ []) r.upper
-      (filter (special o.tree) r.lower) (filter (special o.tree) (r.a ∷ [])) [] [] (filter (special o.tree) (r.g ∷ [])) (filter (special o.tree) r.upper)
-      refl refl (one-none (special o.tree) r.f (listed-plain o opened r.f f-listed)) (filter-none (special o.tree) r.inner (any-none (special o.tree) r.inner r.none_between)) refl refl)
+      ∙ six (special o.tree) r.lower (r.common_ancestor ∷ []) (r.formatting_element ∷ []) r.inner (r.furthest_block ∷ []) r.upper
+      (filter (special o.tree) r.lower) (filter (special o.tree) (r.common_ancestor ∷ [])) [] [] (filter (special o.tree) (r.furthest_block ∷ [])) (filter (special o.tree) r.upper)
+      refl refl (one-none (special o.tree) r.formatting_element (listed-plain o opened r.formatting_element f-listed)) (filter-none (special o.tree) r.inner (any-none (special o.tree) r.inner r.none_between)) refl refl)
 
   round-list : (x : ℕ) → x < length o.tree.labels → has_node x p.list ≡ true → has_node x o.list ≡ true
   round-list x b h =
-      let m = sym (ap (has x) (ap nodes_of r.list_is ∙ relisted-nodes r.f (λ y. not (has y r.inner)) r.cs (length o.tree.labels) r.k o.list)) ∙ h in
-      let q = flat-has (heirs r.f (λ y. not (has y r.inner)) r.cs (length o.tree.labels) r.k) (nodes_of o.list) x m in
+      let m = sym (ap (has x) (ap nodes_of r.list_is ∙ relisted-nodes r.formatting_element (λ y. not (has y r.inner)) r.cloned_elements (length o.tree.labels) r.new_element o.list)) ∙ h in
+      let q = flat-has (heirs r.formatting_element (λ y. not (has y r.inner)) r.cloned_elements (length o.tree.labels) r.new_element) (nodes_of o.list) x m in
       heir q.0 q.1 q.2
     where
-      late : x ≡ r.k → ⊥
-      late e = absurd (let i = r.k_is in let j : x ≡ r.k = e in omega (arith, i, j, b))
+      late : x ≡ r.new_element → ⊥
+      late e = absurd (let i = r.new_element_is in let j : x ≡ r.new_element = e in omega (arith, i, j, b))
 
-      only : (zs : List ℕ) → has x (alone zs r.k) ≡ true → ⊥
-      only [] e = elim (has-head x r.k [] e) [ inl z ↦ late z | inr z ↦ absurd (let u = z in cc) ]
+      only : (zs : List ℕ) → has x (alone zs r.new_element) ≡ true → ⊥
+      only [] e = elim (has-head x r.new_element [] e) [ inl z ↦ late z | inr z ↦ absurd (let u = z in cc) ]
       only (z ∷ zs) e = absurd (let u = e in cc)
 
-      near : (c : Bool) → has x (cond c (r.k ∷ []) []) ≡ true → ⊥
-      near true e = elim (has-head x r.k [] e) [ inl z ↦ late z | inr z ↦ absurd (let u = z in cc) ]
+      near : (c : Bool) → has x (cond c (r.new_element ∷ []) []) ≡ true → ⊥
+      near true e = elim (has-head x r.new_element [] e) [ inl z ↦ late z | inr z ↦ absurd (let u = z in cc) ]
       near false e = absurd (let u = e in cc)
 
       stays : (y : ℕ) → has_node y o.list ≡ true → (c : Bool) → has x (cond c (y ∷ []) []) ≡ true → has_node x o.list ≡ true
       stays y l true e = elim (has-head x y [] e) [ inl z ↦ subst (λ (v : ℕ). has_node v o.list ≡ true) (sym z) l | inr z ↦ absurd (let u = z in cc) ]
       stays y l false e = absurd (let u = e in cc)
 
-      heir : (y : ℕ) → has_node y o.list ≡ true → has x (heirs r.f (λ z. not (has z r.inner)) r.cs (length o.tree.labels) r.k y) ≡ true → has_node x o.list ≡ true
-      heir y l e = elim (cases_eqb y r.f) [
-        | inl q ↦ absurd (only r.cs (rw q.0 at e))
-        | inr q ↦ elim (cases_bool (has y r.cs)) [
-          | inl c ↦ elim (has-head x (clone_number (length o.tree.labels) r.cs y) (after_nearest r.cs y r.k) (rw (q.0, c) at e)) [
-            | inl z ↦ absurd (let low = clone-low (length o.tree.labels) r.cs y in let i : x ≡ clone_number (length o.tree.labels) r.cs y = z in omega (arith, low, i, b))
-            | inr z ↦ absurd (near (is_in y (first_of r.cs)) z)
+      heir : (y : ℕ) → has_node y o.list ≡ true → has x (heirs r.formatting_element (λ z. not (has z r.inner)) r.cloned_elements (length o.tree.labels) r.new_element y) ≡ true → has_node x o.list ≡ true
+      heir y l e = elim (cases_eqb y r.formatting_element) [
+        | inl q ↦ absurd (only r.cloned_elements (rw q.0 at e))
+        | inr q ↦ elim (cases_bool (has y r.cloned_elements)) [
+          | inl c ↦ elim (has-head x (clone_number (length o.tree.labels) r.cloned_elements y) (after_nearest r.cloned_elements y r.new_element) (rw (q.0, c) at e)) [
+            | inl z ↦ absurd (let low = clone-low (length o.tree.labels) r.cloned_elements y in let i : x ≡ clone_number (length o.tree.labels) r.cloned_elements y = z in omega (arith, low, i, b))
+            | inr z ↦ absurd (near (is_in y (first_of r.cloned_elements)) z)
           ]
           | inr c ↦ stays y l (not (has y r.inner)) (rw (q.0, c) at e)
         ]
@@ -317,7 +317,7 @@ module _ (s : Tag) (foster : Bool) (o p : Open) (r : Round s foster o p) (opened
   survives-round = record {
     no_fewer = labels-longer o p.tree (round-made s foster o p r opened);
     special_are = special-round;
-    markers_are = ap (filter is_marker) r.list_is ∙ markers-relisted r.f (λ y. not (has y r.inner)) r.cs (length o.tree.labels) r.k o.list;
+    markers_are = ap (filter is_marker) r.list_is ∙ markers-relisted r.formatting_element (λ y. not (has y r.inner)) r.cloned_elements (length o.tree.labels) r.new_element o.list;
     on_stack = round-stack s foster o p r opened;
     in_list = round-list;
   }

@@ -1,5 +1,5 @@
 -- What is put at a place for the current node is put into no template (4.12.3).
-use Rattle.std.proofs.Common.{◌≡◌, ℕ, ◌+◌, ◌<◌, ◌≤◌, nat_lt, Bool, true, false, ◌||◌, List, [], ◌∷◌, length, get_or, is_some, Option, Some, None, inl, inr, refl, sym, ◌∙◌, ap, subst, arith}
+use Rattle.std.proofs.Common.{◌≡◌, ℕ, ◌+◌, ◌<◌, ◌≤◌, nat_lt, Bool, true, false, List, [], ◌∷◌, length, get_or, is_some, Option, Some, None, inl, inr, refl, sym, ◌∙◌, ap, subst, arith}
 use Rattle.std.specs.List.{list_any}
 use Rattle.std.proofs.lemmas.Bool.{false≢true}
 use Rattle.html_names.specs.declared.tag.Tag.TheVariants as tag
@@ -11,7 +11,7 @@ use Rattle.html_arena.specs.Data.{host_in, label_in, tag_in}
 use Rattle.html_arena.specs.Siblings.{first_of, last_of}
 use Rattle.html_arena.specs.Tree.{Tree, WellFormed, contents_at, label_of, parent_of, tag_at}
 use Rattle.html_open.specs.declared.places.Place.{Place}
-use Rattle.html_open.specs.declared.places.Place.TheVariants.{Last, Before}
+use Rattle.html_open.specs.declared.places.Place.TheVariants.{Last}
 use Rattle.html_open.specs.Lists.{above, below, last_where}
 use Rattle.html_open.specs.Placing.{AreTemplatesEmpty, CanPlace, by_table, fostered, fosters, get, inside, outside_table, parent_at, place_at, place_of, table, target_of, template}
 use Rattle.html_open.specs.Reopenings.{IsInserted}

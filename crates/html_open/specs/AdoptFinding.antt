@@ -1,4 +1,4 @@
--- What the adoption agency looks for (13.2.6.4.7): the formatting element, and the first special element after it.
+-- What the adoption agency looks for (13.2.6.4.7): the formatting element, and the furthest block, which is the first special element after it.
 use Rattle.std.specs.Prelude.{◌≡◌, ℕ, ◌+◌, ◌<◌, Bool, true, false, eqb, List, length, drop, take, slice_index, Option, Some, None}
 use Rattle.std.specs.List.{list_any}
 use Rattle.html_names.specs.declared.tag.Tag.{Tag}
@@ -32,39 +32,39 @@ abbrev pub IsFirstIndex : (ℕ → Bool) → List ℕ → ℕ → Option ℕ →
 IsFirstIndex p xs from None = list_any p (drop from xs) ≡ false
 IsFirstIndex p xs from (Some at) = IsFirstFrom p xs from at
 
--- the formatting element f stands on the stack in scope, at an index
-pub record IsFormatting (s : Tag) (o : Open) (f at : ℕ) : Type 0 where
-  pub entry : last_named o.tree s o.list ≡ Some f
-  pub on_stack : has f o.stack ≡ true
-  pub index_is : last_index (eqb f) o.stack ≡ Some at
+-- the formatting element stands on the stack in scope, at an index
+pub record IsFormatting (subject : Tag) (o : Open) (formatting_element at : ℕ) : Type 0 where
+  pub entry : last_named o.tree subject o.list ≡ Some formatting_element
+  pub on_stack : has formatting_element o.stack ≡ true
+  pub index_is : last_index (eqb formatting_element) o.stack ≡ Some at
   pub within : at < length o.stack
-  pub element_is : slice_index o.stack at ≡ f
-  pub in_scope : element_in_scope o.tree f o.stack ≡ true
+  pub element_is : slice_index o.stack at ≡ formatting_element
+  pub in_scope : element_in_scope o.tree formatting_element o.stack ≡ true
 
--- no special element stands after it
-pub record IsPlain (s : Tag) (o : Open) (f at : ℕ) : Type 0 where
-  pub formatting : IsFormatting s o f at
-  pub no_special : list_any (special o.tree) (above (eqb f) o.stack) ≡ false
+-- no special element stands after it: there is no furthest block
+pub record IsPlain (subject : Tag) (o : Open) (formatting_element at : ℕ) : Type 0 where
+  pub formatting : IsFormatting subject o formatting_element at
+  pub no_special : list_any (special o.tree) (above (eqb formatting_element) o.stack) ≡ false
 
--- the first special element after it stands at another index
-pub record IsBlock (s : Tag) (o : Open) (at block_at : ℕ) : Type 0 where
-  pub formatting : IsFormatting s o (slice_index o.stack at) at
+-- the furthest block, the first special element after it, stands at another index
+pub record IsBlock (subject : Tag) (o : Open) (at block_at : ℕ) : Type 0 where
+  pub formatting : IsFormatting subject o (slice_index o.stack at) at
   pub block : IsFirstFrom (special o.tree) o.stack (at + 1) block_at
 
--- f is on the stack and not in scope
-pub record IsOutOfScope (s : Tag) (o : Open) (f : ℕ) : Type 0 where
-  pub entry : last_named o.tree s o.list ≡ Some f
-  pub on_stack : has f o.stack ≡ true
-  pub not_in_scope : element_in_scope o.tree f o.stack ≡ false
+-- the formatting element is on the stack and not in scope
+pub record IsOutOfScope (subject : Tag) (o : Open) (formatting_element : ℕ) : Type 0 where
+  pub entry : last_named o.tree subject o.list ≡ Some formatting_element
+  pub on_stack : has formatting_element o.stack ≡ true
+  pub not_in_scope : element_in_scope o.tree formatting_element o.stack ≡ false
 
--- f is not on the stack
-pub record IsOffStack (s : Tag) (o : Open) (f : ℕ) : Type 0 where
-  pub entry : last_named o.tree s o.list ≡ Some f
-  pub off_stack : has f o.stack ≡ false
+-- the formatting element is not on the stack
+pub record IsOffStack (subject : Tag) (o : Open) (formatting_element : ℕ) : Type 0 where
+  pub entry : last_named o.tree subject o.list ≡ Some formatting_element
+  pub off_stack : has formatting_element o.stack ≡ false
 
 abbrev pub IsFound : Tag → Open → Found → Type 0
-IsFound s o found.NoEntry = last_named o.tree s o.list ≡ None
-IsFound s o (found.OffStack f) = IsOffStack s o f
-IsFound s o found.OutOfScope = (f : ℕ) × IsOutOfScope s o f
-IsFound s o (found.Plain f at) = IsPlain s o f at
-IsFound s o (found.Block at block_at) = IsBlock s o at block_at
+IsFound subject o found.NoEntry = last_named o.tree subject o.list ≡ None
+IsFound subject o (found.OffStack formatting_element) = IsOffStack subject o formatting_element
+IsFound subject o found.OutOfScope = (formatting_element : ℕ) × IsOutOfScope subject o formatting_element
+IsFound subject o (found.NoFurthestBlock formatting_element at) = IsPlain subject o formatting_element at
+IsFound subject o (found.FurthestBlock at block_at) = IsBlock subject o at block_at

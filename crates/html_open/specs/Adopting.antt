@@ -20,21 +20,22 @@ use Rattle.html_open.specs.Marking.{IsSameTree}
 use Rattle.html_open.specs.Opened.{IsOpen, Open}
 use Rattle.html_open.specs.Placing.{place_at}
 
--- no special element stands after the formatting element f: the stack ends before it, and it is out of the list
-pub record Closed (s : Tag) (old new : Open) : Type 0 where
-  pub f : ℕ
-  pub formatting : last_named old.tree s old.list ≡ Some f
-  pub on_stack : has f old.stack ≡ true
-  pub in_scope : element_in_scope old.tree f old.stack ≡ true
-  pub no_special : list_any (special old.tree) (above (eqb f) old.stack) ≡ false
-  pub stack_is : new.stack ≡ below (eqb f) old.stack
-  pub list_is : new.list ≡ without_node f old.list
+-- there is no furthest block: the stack ends before the formatting element, and that is out of the list
+pub record Closed (subject : Tag) (old new : Open) : Type 0 where
+  pub formatting_element : ℕ
+  pub formatting : last_named old.tree subject old.list ≡ Some formatting_element
+  pub on_stack : has formatting_element old.stack ≡ true
+  pub in_scope : element_in_scope old.tree formatting_element old.stack ≡ true
+  pub no_special : list_any (special old.tree) (above (eqb formatting_element) old.stack) ≡ false
+  pub stack_is : new.stack ≡ below (eqb formatting_element) old.stack
+  pub list_is : new.list ≡ without_node formatting_element old.list
   pub tree_is : IsSameTree old.tree new.tree
 
 abbrev pub last_three : {X : Type 0} → List X → List X
 last_three xs = drop (length xs - 3) xs
 
--- the elements that are cloned: of the last three between f and g those in the list, the nearest to g first
+-- the elements that are cloned: of the last three between the formatting element and the furthest block those in the list, the nearest to
+-- the furthest block first
 abbrev pub originals : (ℕ → Bool) → List ℕ → List ℕ
 originals listed inner = reverse (filter listed (last_three inner))
 
@@ -48,52 +49,55 @@ abbrev pub clones_down : ℕ → ℕ → List ℕ
 clones_down n zero = []
 clones_down n (suc c) = (n + c) ∷ clones_down n c
 
--- the formatting element's clone k, where no other is cloned
+-- the new element, which is the formatting element's clone, where no other is cloned
 abbrev pub alone : List ℕ → ℕ → List ℕ
-alone [] k = k ∷ []
-alone (y ∷ ys) k = []
+alone [] new_element = new_element ∷ []
+alone (y ∷ ys) new_element = []
 
--- the formatting element's clone k, where x is the element nearest to g that is cloned
+-- the new element, where x is the element nearest to the furthest block that is cloned
 abbrev pub after_nearest : List ℕ → ℕ → ℕ → List ℕ
-after_nearest cs x k = cond (is_in x (first_of cs)) (k ∷ []) []
+after_nearest cloned_elements x new_element = cond (is_in x (first_of cloned_elements)) (new_element ∷ []) []
 
--- what stands in the list for an element x: f goes, and its clone k stands just after the clone nearest to g, or in f's place where no
--- other element is cloned; an element that is cloned stays as its clone, and any other where it passes the test
+-- What stands in the list for an element x: the formatting element goes, and the new element stands at the bookmark, just after the clone
+-- nearest to the furthest block, or in the formatting element's place where no other element is cloned. An element that is cloned stays as
+-- its clone, the first of which is n, and any other where it passes the test.
 abbrev pub heirs : ℕ → (ℕ → Bool) → List ℕ → ℕ → ℕ → ℕ → List ℕ
-heirs f stays cs n k x =
-    cond (eqb x f) (alone cs k)
-    (cond (has x cs) (clone_number n cs x ∷ after_nearest cs x k)
+heirs formatting_element stays cloned_elements n new_element x =
+    cond (eqb x formatting_element) (alone cloned_elements new_element)
+    (cond (has x cloned_elements) (clone_number n cloned_elements x ∷ after_nearest cloned_elements x new_element)
     (cond (stays x) (x ∷ []) []))
 
 -- the same of an entry
 abbrev pub relisted : ℕ → (ℕ → Bool) → List ℕ → ℕ → ℕ → Entry → List Entry
-relisted f stays cs n k Marker = Marker ∷ []
-relisted f stays cs n k (Node x) = map Node (heirs f stays cs n k x)
+relisted formatting_element stays cloned_elements n new_element Marker = Marker ∷ []
+relisted formatting_element stays cloned_elements n new_element (Node x) = map Node (heirs formatting_element stays cloned_elements n new_element x)
 
--- a special element g stands after the formatting element f: it goes with what it holds into clones of the elements between them
-pub record Round (s : Tag) (foster : Bool) (old new : Open) : Type 0 where
-  -- the stack, f in it with a before it, and g the first special element after f
+-- The furthest block is the first special element after the formatting element: it goes with what it holds into clones of the elements
+-- between them, and the topmost of these to the place for the common ancestor.
+pub record Round (subject : Tag) (foster : Bool) (old new : Open) : Type 0 where
+  -- the stack: the common ancestor stands just before the formatting element
   pub lower : List ℕ
-  pub a : ℕ
-  pub f : ℕ
+  pub common_ancestor : ℕ
+  pub formatting_element : ℕ
   pub inner : List ℕ
-  pub g : ℕ
+  pub furthest_block : ℕ
   pub upper : List ℕ
-  pub stack_was : old.stack ≡ lower ++ (a ∷ f ∷ (inner ++ (g ∷ upper)))
-  pub formatting : last_named old.tree s old.list ≡ Some f
-  pub in_scope : element_in_scope old.tree f old.stack ≡ true
+  pub stack_was : old.stack ≡ lower ++ (common_ancestor ∷ formatting_element ∷ (inner ++ (furthest_block ∷ upper)))
+  pub formatting : last_named old.tree subject old.list ≡ Some formatting_element
+  pub in_scope : element_in_scope old.tree formatting_element old.stack ≡ true
   pub none_between : list_any (special old.tree) inner ≡ false
-  pub g_special : special old.tree g ≡ true
-  -- the elements that are cloned; their clones are the next nodes, and k is the one after them
-  pub cs : List ℕ
-  pub cs_are : cs ≡ originals (λ x. has_node x old.list) inner
-  pub k : ℕ
-  pub k_is : k ≡ length old.tree.labels + length cs
-  pub stack_is : new.stack ≡ lower ++ (a ∷ (clones_down (length old.tree.labels) (length cs) ++ (g ∷ k ∷ upper)))
-  pub list_is : new.list ≡ flat_map (relisted f (λ x. not (has x inner)) cs (length old.tree.labels) k) old.list
-  pub labels_are : new.tree.labels ≡ old.tree.labels ++ map (λ x. cloned (label_of old.tree x)) (cs ++ f ∷ [])
+  pub block_special : special old.tree furthest_block ≡ true
+  -- the elements that are cloned; their clones are the next nodes, and the formatting element's is the one after them
+  pub cloned_elements : List ℕ
+  pub cloned_are : cloned_elements ≡ originals (λ x. has_node x old.list) inner
+  pub new_element : ℕ
+  pub new_element_is : new_element ≡ length old.tree.labels + length cloned_elements
+  pub stack_is : new.stack ≡ lower ++ (common_ancestor ∷ (clones_down (length old.tree.labels) (length cloned_elements) ++ (furthest_block ∷ new_element ∷ upper)))
+  pub list_is : new.list ≡ flat_map (relisted formatting_element (λ x. not (has x inner)) cloned_elements (length old.tree.labels) new_element) old.list
+  pub labels_are : new.tree.labels ≡ old.tree.labels ++ map (λ x. cloned (label_of old.tree x)) (cloned_elements ++ formatting_element ∷ [])
   pub children_are : (x : ℕ) → children_of new.tree x
-      ≡ with_put old.tree (place_at old.tree old.stack a foster) (chain_top g (length old.tree.labels) k) x (chained old.tree g (length old.tree.labels) k x)
+      ≡ with_put old.tree (place_at old.tree old.stack common_ancestor foster) (chain_top furthest_block (length old.tree.labels) new_element) x
+      (chained old.tree furthest_block (length old.tree.labels) new_element x)
   pub limits_are : new.tree.limits ≡ old.tree.limits
   -- what is left is a tree, with what is true between calls: the lists of children tell the parents
   pub well_formed : WellFormed new.tree
@@ -101,15 +105,15 @@ pub record Round (s : Tag) (foster : Bool) (old new : Open) : Type 0 where
 
 -- the same for the elements at two indices of the stack, and what is put at a place
 pub record IsRegrouped (at b : ℕ) (target : Place) (old new : Open) : Type 0 where
-  pub cs : List ℕ
-  pub cs_are : cs ≡ originals (λ x. has_node x old.list) (take (b - (at + 1)) (drop (at + 1) old.stack))
-  pub stack_is : new.stack ≡ take at old.stack ++ (clones_down (length old.tree.labels) (length cs) ++ (slice_index old.stack b ∷ (length old.tree.labels + length cs) ∷ drop (b + 1) old.stack))
-  pub list_is : new.list ≡ flat_map (relisted (slice_index old.stack at) (λ x. not (has x (take (b - (at + 1)) (drop (at + 1) old.stack)))) cs (length old.tree.labels) (length old.tree.labels + length cs)) old.list
-  pub labels_are : new.tree.labels ≡ old.tree.labels ++ map (λ x. cloned (label_of old.tree x)) (cs ++ slice_index old.stack at ∷ [])
+  pub cloned_elements : List ℕ
+  pub cloned_are : cloned_elements ≡ originals (λ x. has_node x old.list) (take (b - (at + 1)) (drop (at + 1) old.stack))
+  pub stack_is : new.stack ≡ take at old.stack ++ (clones_down (length old.tree.labels) (length cloned_elements) ++ (slice_index old.stack b ∷ (length old.tree.labels + length cloned_elements) ∷ drop (b + 1) old.stack))
+  pub list_is : new.list ≡ flat_map (relisted (slice_index old.stack at) (λ x. not (has x (take (b - (at + 1)) (drop (at + 1) old.stack)))) cloned_elements (length old.tree.labels) (length old.tree.labels + length cloned_elements)) old.list
+  pub labels_are : new.tree.labels ≡ old.tree.labels ++ map (λ x. cloned (label_of old.tree x)) (cloned_elements ++ slice_index old.stack at ∷ [])
   pub parents_are : (x : ℕ) → parent_of new.tree x
-      ≡ hung_parent old.tree (slice_index old.stack b) (length old.tree.labels) (length old.tree.labels + length cs) target x
+      ≡ hung_parent old.tree (slice_index old.stack b) (length old.tree.labels) (length old.tree.labels + length cloned_elements) target x
   pub children_are : (x : ℕ) → children_of new.tree x
-      ≡ with_put old.tree target (chain_top (slice_index old.stack b) (length old.tree.labels) (length old.tree.labels + length cs)) x (chained old.tree (slice_index old.stack b) (length old.tree.labels) (length old.tree.labels + length cs) x)
+      ≡ with_put old.tree target (chain_top (slice_index old.stack b) (length old.tree.labels) (length old.tree.labels + length cloned_elements)) x (chained old.tree (slice_index old.stack b) (length old.tree.labels) (length old.tree.labels + length cloned_elements) x)
   pub limits_are : new.tree.limits ≡ old.tree.limits
 
 -- x has its parent and its tag, and is no more in the list than it was
@@ -135,64 +139,64 @@ pub record IsUnchanged (old new : Open) : Type 0 where
   pub list_is : new.list ≡ old.list
   pub tree_is : IsSameTree old.tree new.tree
 
--- f is off the stack: its entry goes
-pub record Forgotten (s : Tag) (old new : Open) : Type 0 where
-  pub f : ℕ
-  pub formatting : last_named old.tree s old.list ≡ Some f
-  pub off_stack : has f old.stack ≡ false
+-- the formatting element is off the stack: its entry goes
+pub record Forgotten (subject : Tag) (old new : Open) : Type 0 where
+  pub formatting_element : ℕ
+  pub formatting : last_named old.tree subject old.list ≡ Some formatting_element
+  pub off_stack : has formatting_element old.stack ≡ false
   pub stack_is : new.stack ≡ old.stack
-  pub list_is : new.list ≡ without_node f old.list
+  pub list_is : new.list ≡ without_node formatting_element old.list
   pub tree_is : IsSameTree old.tree new.tree
 
--- f is on the stack and not in scope: nothing changes
-pub record OutOfScope (s : Tag) (old new : Open) : Type 0 where
-  pub f : ℕ
-  pub formatting : last_named old.tree s old.list ≡ Some f
-  pub on_stack : has f old.stack ≡ true
-  pub not_in_scope : element_in_scope old.tree f old.stack ≡ false
+-- the formatting element is on the stack and not in scope: nothing changes
+pub record OutOfScope (subject : Tag) (old new : Open) : Type 0 where
+  pub formatting_element : ℕ
+  pub formatting : last_named old.tree subject old.list ≡ Some formatting_element
+  pub on_stack : has formatting_element old.stack ≡ true
+  pub not_in_scope : element_in_scope old.tree formatting_element old.stack ≡ false
   pub unchanged : IsUnchanged old new
 
 -- there is no such entry
-pub record NoEntry (s : Tag) (old new : Open) : Type 0 where
-  pub none : last_named old.tree s old.list ≡ None
+pub record NoEntry (subject : Tag) (old new : Open) : Type 0 where
+  pub none : last_named old.tree subject old.list ≡ None
   pub unchanged : IsUnchanged old new
 
 -- the current node has the name and is not in the list: it is popped
-pub record Popped (s : Tag) (old new : Open) : Type 0 where
+pub record Popped (subject : Tag) (old new : Open) : Type 0 where
   pub current : ℕ
   pub stack_was : old.stack ≡ new.stack ++ current ∷ []
-  pub is_named : named old.tree s current ≡ true
+  pub is_named : named old.tree subject current ≡ true
   pub not_listed : has_node current old.list ≡ false
   pub list_is : new.list ≡ old.list
   pub tree_is : IsSameTree old.tree new.tree
 
 -- the current node is popped at once
 abbrev pub pops_at_once : Tag → Open → Option ℕ → Bool
-pops_at_once s o None = false
-pops_at_once s o (Some x) = named o.tree s x && not (has_node x o.list)
+pops_at_once subject o None = false
+pops_at_once subject o (Some x) = named o.tree subject x && not (has_node x o.list)
 
 -- n rounds, one after another
-pub data Rounds (s : Tag) (foster : Bool) : ℕ → Open → Open → Type 0 where
-  no_round : (o : Open) → Rounds s foster zero o o
-  one_more : (n : ℕ) (o p q : Open) → Rounds s foster n o p → Round s foster p q → Rounds s foster (suc n) o q
+pub data Rounds (subject : Tag) (foster : Bool) : ℕ → Open → Open → Type 0 where
+  no_round : (o : Open) → Rounds subject foster zero o o
+  one_more : (n : ℕ) (o p q : Open) → Rounds subject foster n o p → Round subject foster p q → Rounds subject foster (suc n) o q
 
 -- how fewer than eight rounds end
-pub data Ends (s : Tag) : AdoptEnd → Open → Open → Type 0 where
-  closes : (o p : Open) → Closed s o p → Ends s Done o p
-  forgets : (o p : Open) → Forgotten s o p → Ends s Done o p
-  out_of_scope : (o p : Open) → OutOfScope s o p → Ends s Done o p
-  no_entry : (o p : Open) → NoEntry s o p → Ends s OtherEndTag o p
+pub data Ends (subject : Tag) : AdoptEnd → Open → Open → Type 0 where
+  closes : (o p : Open) → Closed subject o p → Ends subject Done o p
+  forgets : (o p : Open) → Forgotten subject o p → Ends subject Done o p
+  out_of_scope : (o p : Open) → OutOfScope subject o p → Ends subject Done o p
+  no_entry : (o p : Open) → NoEntry subject o p → Ends subject OtherEndTag o p
 
 -- one round, or an end
 abbrev pub IsTurn : Tag → Bool → Option AdoptEnd → Open → Open → Type 0
-IsTurn s foster None o p = Round s foster o p
-IsTurn s foster (Some end) o p = Ends s end o p
+IsTurn subject foster None o p = Round subject foster o p
+IsTurn subject foster (Some end) o p = Ends subject end o p
 
-pub data Adopted (s : Tag) (foster : Bool) : AdoptEnd → Open → Open → Type 0 where
-  popped : (o p : Open) → Popped s o p → Adopted s foster Done o p
-  eight : (o p : Open) → pops_at_once s o (last_of o.stack) ≡ false → Rounds s foster 8 o p → Adopted s foster Done o p
-  fewer : (end : AdoptEnd) (n : ℕ) (o p q : Open) → pops_at_once s o (last_of o.stack) ≡ false → n < 8 → Rounds s foster n o p → Ends s end p q
-      → Adopted s foster end o q
+pub data Adopted (subject : Tag) (foster : Bool) : AdoptEnd → Open → Open → Type 0 where
+  popped : (o p : Open) → Popped subject o p → Adopted subject foster Done o p
+  eight : (o p : Open) → pops_at_once subject o (last_of o.stack) ≡ false → Rounds subject foster 8 o p → Adopted subject foster Done o p
+  fewer : (end : AdoptEnd) (n : ℕ) (o p q : Open) → pops_at_once subject o (last_of o.stack) ≡ false → n < 8 → Rounds subject foster n o p → Ends subject end p q
+      → Adopted subject foster end o q
 
 -- The special elements of the stack are the same, in order, and so are the markers of the list. What else stands on the stack or in the
 -- list stood there before, or is new.
@@ -208,19 +212,19 @@ abbrev pub round_originals : Open → ℕ → ℕ → List ℕ
 round_originals o at b = originals (λ x. has_node x o.list) (take (b - (at + 1)) (drop (at + 1) o.stack)) ++ slice_index o.stack at ∷ []
 
 -- a round was begun and could not be ended: the stack and the list are as they were
-pub record IsStopped (s : Tag) (old new : Open) (e : OpenError) : Type 0 where
+pub record IsStopped (subject : Tag) (old new : Open) (e : OpenError) : Type 0 where
   pub at : ℕ
   pub b : ℕ
-  pub block : IsBlock s old at b
+  pub block : IsBlock subject old at b
   pub stack_is : new.stack ≡ old.stack
   pub list_is : new.list ≡ old.list
   pub cut : IsCut old.tree new.tree (round_originals old at b) e
 
 -- why an adoption was refused, and what it left: less than eight rounds were done, and the next could not be ended
-pub record IsRefusal (s : Tag) (foster : Bool) (old new : Open) (e : OpenError) : Type 0 where
-  pub not_popped : pops_at_once s old (last_of old.stack) ≡ false
+pub record IsRefusal (subject : Tag) (foster : Bool) (old new : Open) (e : OpenError) : Type 0 where
+  pub not_popped : pops_at_once subject old (last_of old.stack) ≡ false
   pub n : ℕ
   pub few : n < 8
   pub p : Open
-  pub rounds : Rounds s foster n old p
-  pub stopped : IsStopped s p new e
+  pub rounds : Rounds subject foster n old p
+  pub stopped : IsStopped subject p new e

@@ -40,8 +40,9 @@ pub enum AdoptEnd {
     OtherEndTag,
 }
 
-/// Follows an end tag of a formatting name: the elements that are open inside the formatting element are closed, or, where a special
-/// element stands among them, cloned into it. A current node of the name that is not in the list is popped, and no more.
+/// Runs the adoption agency algorithm for an end tag of a formatting name, the subject: the elements that are open inside the formatting
+/// element are closed, or, where there is a furthest block among them, cloned into it. A current node of the name that is not in the list
+/// is popped, and no more.
 ///
 /// At most 32 nodes are made, each a clone of an element in the list. A refusal stops the round under way after some of its clones, which
 /// then stand alone: `NodeBudget` and `HeldBudget` where the next clone would pass that limit, `OutOfMemory` where memory was refused,
@@ -124,11 +125,11 @@ fn turn(
             Ok(Some(AdoptEnd::Done))
         }
         Found::OutOfScope => Ok(Some(AdoptEnd::Done)),
-        Found::Plain { node, at } => {
+        Found::NoFurthestBlock { node, at } => {
             close(stack, list, arena, node, at);
             Ok(Some(AdoptEnd::Done))
         }
-        Found::Block { at, block_at } => {
+        Found::FurthestBlock { at, block_at } => {
             round(stack, list, arena, at, block_at, foster)?;
             Ok(None)
         }

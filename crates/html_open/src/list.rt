@@ -46,8 +46,8 @@ impl FormattingList {
         }
     }
 
-    /// Adds a formatting element; where three entries after the last marker have its name and its set of attributes, the earliest of
-    /// them goes. One step, one for each entry from the last back to the marker, the product of the numbers of attributes for each of
+    /// Pushes onto the list of active formatting elements, by the Noah's Ark clause: where three entries after the last marker have the
+    /// element's name and its set of attributes, the earliest of them goes. One step, one for each entry from the last back to the marker, the product of the numbers of attributes for each of
     /// these that has its name, and, where one goes, one for it and one for each entry that is shifted.
     pub fn push(&mut self, arena: &mut Arena, node: NodeId) -> Result<(), OpenError>
         requires nodes_in { AreNodes arena.old (nodes_of self.old) }

@@ -15,8 +15,8 @@ use crate::stack::OpenStack;
 use html_arena::{Arena, NodeId};
 use html_names::Tag;
 
-/// The place for a node whose target is the current node, or the one given; with `foster`, a node for a table or a part of one that
-/// takes no content goes elsewhere. One step, and where it goes elsewhere one for each element from the current node down to the last table.
+/// The appropriate place for inserting a node whose target is the current node, or the one given; with `foster`, a node for a table or a
+/// part of one that takes no content goes elsewhere: foster parenting. One step, and where it goes elsewhere one for each element from the current node down to the last table.
 pub fn place(stack: &OpenStack, arena: &mut Arena, target: Option<NodeId>, foster: bool) -> Place
     requires nodes_in { AreNodes arena.old stack.now }
     requires target_in { IsTarget arena.old target }

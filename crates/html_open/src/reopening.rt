@@ -32,7 +32,8 @@ impl FormattingList {
     ghost use Rattle.html_open.specs.Reopening.{ClonedFirst, IsCause, KeepsClosed, Reopened, ReopenedFirst, clones_of, closed, reopen_steps};
     ghost use Rattle.html_open.specs.Rooting.{KeepsParents};
 
-    /// Opens anew the elements of the entries after the last one that is a marker or on the stack: for each, in order, a clone is put at
+    /// Reconstructs the active formatting elements: those of the entries after the last one that is a marker or on the stack are opened
+    /// anew. For each, in order, a clone is put at
     /// the place for the current node and pushed onto the stack, and takes its entry's place.
     ///
     /// Two steps for each of these entries, and one or two for the one at which the search ends; for each clone the steps of its place,

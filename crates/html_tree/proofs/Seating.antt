@@ -290,64 +290,64 @@ module _ (s : Tag) (foster : Bool) (o p : Open) (i : IsOpen o) (r : Round s fost
   new-formatting : (x : ℕ) → length o.tree.labels ≤ x → has x p.stack ≡ true → is_formatting (tag_at p.tree x) ≡ true
   new-formatting x b c = clone-tag o.stack p.stack o.list p.list o.tree p.tree 0 None None None made i r.is_open.stack_in x b (r.is_open.stack_in x c)
 
-  in-old : (x : ℕ) → has x (r.lower ++ (r.a ∷ r.f ∷ (r.inner ++ (r.g ∷ r.upper)))) ≡ true → has x o.stack ≡ true
+  in-old : (x : ℕ) → has x (r.lower ++ (r.common_ancestor ∷ r.formatting_element ∷ (r.inner ++ (r.furthest_block ∷ r.upper)))) ≡ true → has x o.stack ≡ true
   in-old x b = subst (λ v. has x v ≡ true) (sym r.stack_was) b
 
-  in-new : (x : ℕ) → has x (r.lower ++ (r.a ∷ (clones_down (length o.tree.labels) (length r.cs) ++ (r.g ∷ r.k ∷ r.upper)))) ≡ true → has x p.stack ≡ true
+  in-new : (x : ℕ) → has x (r.lower ++ (r.common_ancestor ∷ (clones_down (length o.tree.labels) (length r.cloned_elements) ++ (r.furthest_block ∷ r.new_element ∷ r.upper)))) ≡ true → has x p.stack ≡ true
   in-new x b = subst (λ v. has x v ≡ true) (sym r.stack_is) b
 
-  f-formatting : is_formatting (tag_at o.tree r.f) ≡ true
-  f-formatting = i.formatting r.f (named-member o.tree s o.list (Some r.f) (sym r.formatting))
+  f-formatting : is_formatting (tag_at o.tree r.formatting_element) ≡ true
+  f-formatting = i.formatting r.formatting_element (named-member o.tree s o.list (Some r.formatting_element) (sym r.formatting))
 
-  down-plain : (x : ℕ) → has x (clones_down (length o.tree.labels) (length r.cs)) ≡ true → is_part (tag_at p.tree x) ≡ false
-  down-plain x b = formatting-plain (tag_at p.tree x) (new-formatting x (down-later (length o.tree.labels) (length r.cs) x b)
-      (in-new x (in-right x r.lower (r.a ∷ (clones_down (length o.tree.labels) (length r.cs) ++ (r.g ∷ r.k ∷ r.upper))) (in-later x r.a (clones_down (length o.tree.labels) (length r.cs) ++ (r.g ∷ r.k ∷ r.upper)) (in-left x (clones_down (length o.tree.labels) (length r.cs)) (r.g ∷ r.k ∷ r.upper) b)))))
+  down-plain : (x : ℕ) → has x (clones_down (length o.tree.labels) (length r.cloned_elements)) ≡ true → is_part (tag_at p.tree x) ≡ false
+  down-plain x b = formatting-plain (tag_at p.tree x) (new-formatting x (down-later (length o.tree.labels) (length r.cloned_elements) x b)
+      (in-new x (in-right x r.lower (r.common_ancestor ∷ (clones_down (length o.tree.labels) (length r.cloned_elements) ++ (r.furthest_block ∷ r.new_element ∷ r.upper))) (in-later x r.common_ancestor (clones_down (length o.tree.labels) (length r.cloned_elements) ++ (r.furthest_block ∷ r.new_element ∷ r.upper)) (in-left x (clones_down (length o.tree.labels) (length r.cloned_elements)) (r.furthest_block ∷ r.new_element ∷ r.upper) b)))))
 
-  k-plain : is_part (tag_at p.tree r.k) ≡ false
-  k-plain = formatting-plain (tag_at p.tree r.k) (new-formatting r.k (let e = r.k_is in omega (arith, e))
-      (in-new r.k (in-right r.k r.lower (r.a ∷ (clones_down (length o.tree.labels) (length r.cs) ++ (r.g ∷ r.k ∷ r.upper))) (in-later r.k r.a (clones_down (length o.tree.labels) (length r.cs) ++ (r.g ∷ r.k ∷ r.upper)) (in-right r.k (clones_down (length o.tree.labels) (length r.cs)) (r.g ∷ r.k ∷ r.upper) (in-later r.k r.g (r.k ∷ r.upper) (in-first r.k r.upper)))))))
+  k-plain : is_part (tag_at p.tree r.new_element) ≡ false
+  k-plain = formatting-plain (tag_at p.tree r.new_element) (new-formatting r.new_element (let e = r.new_element_is in omega (arith, e))
+      (in-new r.new_element (in-right r.new_element r.lower (r.common_ancestor ∷ (clones_down (length o.tree.labels) (length r.cloned_elements) ++ (r.furthest_block ∷ r.new_element ∷ r.upper))) (in-later r.new_element r.common_ancestor (clones_down (length o.tree.labels) (length r.cloned_elements) ++ (r.furthest_block ∷ r.new_element ∷ r.upper)) (in-right r.new_element (clones_down (length o.tree.labels) (length r.cloned_elements)) (r.furthest_block ∷ r.new_element ∷ r.upper) (in-later r.new_element r.furthest_block (r.new_element ∷ r.upper) (in-first r.new_element r.upper)))))))
 
   -- what stands from f to before g carries no part
-  carries-none : (x : ℕ) → has x (r.f ∷ r.inner) ≡ true → carries_part (tag_at p.tree x) ≡ false
-  carries-none x b = ap carries_part (old-tag x (in-old x (in-right x r.lower (r.a ∷ r.f ∷ (r.inner ++ (r.g ∷ r.upper))) (in-later x r.a (r.f ∷ (r.inner ++ (r.g ∷ r.upper))) (in-left x (r.f ∷ r.inner) (r.g ∷ r.upper) b))))) ∙ elim (cases_eqb x r.f) [
+  carries-none : (x : ℕ) → has x (r.formatting_element ∷ r.inner) ≡ true → carries_part (tag_at p.tree x) ≡ false
+  carries-none x b = ap carries_part (old-tag x (in-old x (in-right x r.lower (r.common_ancestor ∷ r.formatting_element ∷ (r.inner ++ (r.furthest_block ∷ r.upper))) (in-later x r.common_ancestor (r.formatting_element ∷ (r.inner ++ (r.furthest_block ∷ r.upper))) (in-left x (r.formatting_element ∷ r.inner) (r.furthest_block ∷ r.upper) b))))) ∙ elim (cases_eqb x r.formatting_element) [
     | inl q ↦ formatting-carries (tag_at o.tree x) (subst (λ v. is_formatting (tag_at o.tree v) ≡ true) (sym q.1) f-formatting)
     | inr q ↦ plain-carries (tag_at o.tree x) (any-none (special o.tree) r.inner r.none_between x (sym (ap (λ c. cond c true (has x r.inner)) q.0) ∙ b))
   ]
 
-  pub g-in : has r.g o.stack ≡ true
-  g-in = in-old r.g (in-right r.g r.lower (r.a ∷ r.f ∷ (r.inner ++ (r.g ∷ r.upper))) (in-later r.g r.a (r.f ∷ (r.inner ++ (r.g ∷ r.upper))) (in-later r.g r.f (r.inner ++ (r.g ∷ r.upper)) (in-right r.g r.inner (r.g ∷ r.upper) (in-first r.g r.upper)))))
+  pub g-in : has r.furthest_block o.stack ≡ true
+  g-in = in-old r.furthest_block (in-right r.furthest_block r.lower (r.common_ancestor ∷ r.formatting_element ∷ (r.inner ++ (r.furthest_block ∷ r.upper))) (in-later r.furthest_block r.common_ancestor (r.formatting_element ∷ (r.inner ++ (r.furthest_block ∷ r.upper))) (in-later r.furthest_block r.formatting_element (r.inner ++ (r.furthest_block ∷ r.upper)) (in-right r.furthest_block r.inner (r.furthest_block ∷ r.upper) (in-first r.furthest_block r.upper)))))
 
-  pub g-no-end : ends_default_scope (tag_at o.tree r.g) ≡ false
+  pub g-no-end : ends_default_scope (tag_at o.tree r.furthest_block) ≡ false
   g-no-end =
-      let e : o.stack ≡ (r.lower ++ r.a ∷ []) ++ r.f ∷ (r.inner ++ (r.g ∷ r.upper)) = r.stack_was ∙ sym (append_assoc r.lower (r.a ∷ []) (r.f ∷ (r.inner ++ (r.g ∷ r.upper)))) in
-      any-none (ends o.tree scope.Default) (r.inner ++ (r.g ∷ r.upper))
-      (in-scope o.tree r.f (r.lower ++ r.a ∷ []) (r.inner ++ (r.g ∷ r.upper)) (subst Distinct e i.stack_once) (subst (λ v. element_in_scope o.tree r.f v ≡ true) e r.in_scope))
-      r.g (in-right r.g r.inner (r.g ∷ r.upper) (in-first r.g r.upper))
+      let e : o.stack ≡ (r.lower ++ r.common_ancestor ∷ []) ++ r.formatting_element ∷ (r.inner ++ (r.furthest_block ∷ r.upper)) = r.stack_was ∙ sym (append_assoc r.lower (r.common_ancestor ∷ []) (r.formatting_element ∷ (r.inner ++ (r.furthest_block ∷ r.upper)))) in
+      any-none (ends o.tree scope.Default) (r.inner ++ (r.furthest_block ∷ r.upper))
+      (in-scope o.tree r.formatting_element (r.lower ++ r.common_ancestor ∷ []) (r.inner ++ (r.furthest_block ∷ r.upper)) (subst Distinct e i.stack_once) (subst (λ v. element_in_scope o.tree r.formatting_element v ≡ true) e r.in_scope))
+      r.furthest_block (in-right r.furthest_block r.inner (r.furthest_block ∷ r.upper) (in-first r.furthest_block r.upper))
 
-  up : AreSeated (tags_down o.tree o.stack) → Up p.tree (r.lower ++ (r.a ∷ r.f ∷ (r.inner ++ (r.g ∷ r.upper))))
-  up h = up-same o.tree p.tree (r.lower ++ (r.a ∷ r.f ∷ (r.inner ++ (r.g ∷ r.upper)))) (λ x b. old-tag x (in-old x b)) (up-of o.tree (r.lower ++ (r.a ∷ r.f ∷ (r.inner ++ (r.g ∷ r.upper)))) (subst (λ v. AreSeated (tags_down o.tree v)) r.stack_was h))
+  up : AreSeated (tags_down o.tree o.stack) → Up p.tree (r.lower ++ (r.common_ancestor ∷ r.formatting_element ∷ (r.inner ++ (r.furthest_block ∷ r.upper))))
+  up h = up-same o.tree p.tree (r.lower ++ (r.common_ancestor ∷ r.formatting_element ∷ (r.inner ++ (r.furthest_block ∷ r.upper)))) (λ x b. old-tag x (in-old x b)) (up-of o.tree (r.lower ++ (r.common_ancestor ∷ r.formatting_element ∷ (r.inner ++ (r.furthest_block ∷ r.upper)))) (subst (λ v. AreSeated (tags_down o.tree v)) r.stack_was h))
 
-  from-f : AreSeated (tags_down o.tree o.stack) → Up p.tree (r.f ∷ (r.inner ++ (r.g ∷ r.upper)))
-  from-f h = (up-tail p.tree r.lower (r.a ∷ r.f ∷ (r.inner ++ (r.g ∷ r.upper))) (up h)).1
+  from-f : AreSeated (tags_down o.tree o.stack) → Up p.tree (r.formatting_element ∷ (r.inner ++ (r.furthest_block ∷ r.upper)))
+  from-f h = (up-tail p.tree r.lower (r.common_ancestor ∷ r.formatting_element ∷ (r.inner ++ (r.furthest_block ∷ r.upper))) (up h)).1
 
   -- g is no part, and carries none
-  pub g-plain : AreSeated (tags_down o.tree o.stack) → is_part (tag_at p.tree r.g) ≡ false
-  g-plain h = up-under p.tree r.f r.inner r.g r.upper (from-f h) carries-none
+  pub g-plain : AreSeated (tags_down o.tree o.stack) → is_part (tag_at p.tree r.furthest_block) ≡ false
+  g-plain h = up-under p.tree r.formatting_element r.inner r.furthest_block r.upper (from-f h) carries-none
 
-  pub g-carries : AreSeated (tags_down o.tree o.stack) → carries_part (tag_at p.tree r.g) ≡ false
-  g-carries h = elim (cases_bool (carries_part (tag_at p.tree r.g))) [
-    | inl c ↦ absurd (false≢true (sym g-no-end ∙ (ap ends_default_scope (sym (old-tag r.g g-in)) ∙ carrier-ends (tag_at p.tree r.g) c (g-plain h))))
+  pub g-carries : AreSeated (tags_down o.tree o.stack) → carries_part (tag_at p.tree r.furthest_block) ≡ false
+  g-carries h = elim (cases_bool (carries_part (tag_at p.tree r.furthest_block))) [
+    | inl c ↦ absurd (false≢true (sym g-no-end ∙ (ap ends_default_scope (sym (old-tag r.furthest_block g-in)) ∙ carrier-ends (tag_at p.tree r.furthest_block) c (g-plain h))))
     | inr c ↦ c
   ]
 
   round-seated : AreSeated (tags_down o.tree o.stack) → AreSeated (tags_down p.tree p.stack)
   round-seated h =
-      let from-g : Up p.tree (r.g ∷ r.upper) = up-tail p.tree r.inner (r.g ∷ r.upper) (from-f h).1 in
-      let from-k = up-instead p.tree r.g r.k r.upper from-g (g-carries h) in
-      let from-a = up-plain p.tree r.a (clones_down (length o.tree.labels) (length r.cs)) r.g (r.k ∷ r.upper) down-plain (g-plain h) (plain-sits (tag_at p.tree r.k) (tag_at p.tree r.g) k-plain, from-k) in
+      let from-g : Up p.tree (r.furthest_block ∷ r.upper) = up-tail p.tree r.inner (r.furthest_block ∷ r.upper) (from-f h).1 in
+      let from-k = up-instead p.tree r.furthest_block r.new_element r.upper from-g (g-carries h) in
+      let from-a = up-plain p.tree r.common_ancestor (clones_down (length o.tree.labels) (length r.cloned_elements)) r.furthest_block (r.new_element ∷ r.upper) down-plain (g-plain h) (plain-sits (tag_at p.tree r.new_element) (tag_at p.tree r.furthest_block) k-plain, from-k) in
       subst (λ v. AreSeated (tags_down p.tree v)) (sym r.stack_is)
-      (of-up p.tree (r.lower ++ (r.a ∷ (clones_down (length o.tree.labels) (length r.cs) ++ (r.g ∷ r.k ∷ r.upper))))
-      (up-join p.tree r.lower r.a (clones_down (length o.tree.labels) (length r.cs) ++ (r.g ∷ r.k ∷ r.upper)) (up-front p.tree r.lower r.a (r.f ∷ (r.inner ++ (r.g ∷ r.upper))) (up h)) from-a))
+      (of-up p.tree (r.lower ++ (r.common_ancestor ∷ (clones_down (length o.tree.labels) (length r.cloned_elements) ++ (r.furthest_block ∷ r.new_element ∷ r.upper))))
+      (up-join p.tree r.lower r.common_ancestor (clones_down (length o.tree.labels) (length r.cloned_elements) ++ (r.furthest_block ∷ r.new_element ∷ r.upper)) (up-front p.tree r.lower r.common_ancestor (r.formatting_element ∷ (r.inner ++ (r.furthest_block ∷ r.upper))) (up h)) from-a))
 
 -- rounds, and how they end
 pub rounds-open : (s : Tag) (foster : Bool) (n : ℕ) (o p : Open) → IsOpen o → Rounds s foster n o p → IsOpen p
@@ -367,9 +367,9 @@ seated-before o p ys e l h =
 
 ends-seated : (s : Tag) (end : AdoptEnd) (o p : Open) → Ends s end o p → AreSeated (tags_down o.tree o.stack) → AreSeated (tags_down p.tree p.stack)
 ends-seated s end o p (closes a b k) h =
-    (let i : list_any (eqb k.f) a.stack ≡ true = any-has k.f a.stack ∙ k.on_stack in
-    let q = split-last (eqb k.f) a.stack i in
-    seated-before a b (q.0 ∷ above (eqb k.f) a.stack) (q.1 ∙ ap (λ v. v ++ q.0 ∷ above (eqb k.f) a.stack) (sym k.stack_is)) (ap (λ (v : Tree). v.labels) k.tree_is) h)
+    (let i : list_any (eqb k.formatting_element) a.stack ≡ true = any-has k.formatting_element a.stack ∙ k.on_stack in
+    let q = split-last (eqb k.formatting_element) a.stack i in
+    seated-before a b (q.0 ∷ above (eqb k.formatting_element) a.stack) (q.1 ∙ ap (λ v. v ++ q.0 ∷ above (eqb k.formatting_element) a.stack) (sym k.stack_is)) (ap (λ (v : Tree). v.labels) k.tree_is) h)
 ends-seated s end o p (forgets a b k) h = seated-as a b k.stack_is (ap (λ (v : Tree). v.labels) k.tree_is) h
 ends-seated s end o p (out_of_scope a b k) h = seated-as a b k.unchanged.stack_is (ap (λ (v : Tree). v.labels) k.unchanged.tree_is) h
 ends-seated s end o p (no_entry a b k) h = seated-as a b k.unchanged.stack_is (ap (λ (v : Tree). v.labels) k.unchanged.tree_is) h

@@ -430,8 +430,8 @@ module _ (s : Tag) (foster : Bool) (o p : Open) (i : IsOpen o) (r : Round s fost
   clone-empty : (x : ℕ) → (length o.tree.labels) ≤ x → x < length p.tree.labels → template p.tree x ≡ false
   clone-empty x a b = elim (cases_bool (template p.tree x)) [ inl e ↦ absurd (no-template p.tree x (clone-is x a b) e) | inr e ↦ e ]
 
-  g-old : r.g < (length o.tree.labels)
-  g-old = i.stack_in r.g (g-in s foster o p i r)
+  g-old : r.furthest_block < (length o.tree.labels)
+  g-old = i.stack_in r.furthest_block (g-in s foster o p i r)
 
   plain-fits : (x q : ℕ) → template p.tree q ≡ false → is_part (tag_at p.tree x) ≡ false → Fits p.tree x q
   plain-fits x q a b = (a, λ e. absurd (false≢true (sym b ∙ e)))
@@ -445,37 +445,37 @@ module _ (s : Tag) (foster : Bool) (o p : Open) (i : IsOpen o) (r : Round s fost
         λ k. ap (is_seat (tag_at p.tree x) q) b ∙ (ap (λ d. is_seat (tag_in d) q (label_of o.tree q)) a ∙ h.parts x q e (ap (λ d. is_part (tag_in d)) (sym a) ∙ k)),
       )
 
-  g-empty : template p.tree r.g ≡ false
-  g-empty = elim (cases_bool (template p.tree r.g)) [
-    | inl e ↦ absurd (false≢true (sym (g-no-end s foster o p i r) ∙ ap (λ d. ends_default_scope (tag_in d)) (sym (kept r.g g-old)) ∙ ap ends_default_scope (same-tag (tag_at p.tree r.g) tag.Template e)))
+  g-empty : template p.tree r.furthest_block ≡ false
+  g-empty = elim (cases_bool (template p.tree r.furthest_block)) [
+    | inl e ↦ absurd (false≢true (sym (g-no-end s foster o p i r) ∙ ap (λ d. ends_default_scope (tag_in d)) (sym (kept r.furthest_block g-old)) ∙ ap ends_default_scope (same-tag (tag_at p.tree r.furthest_block) tag.Template e)))
     | inr e ↦ e
   ]
 
   -- what g holds is no part
-  child-plain : (x : ℕ) → parent_of o.tree x ≡ Some r.g → is_part (tag_at p.tree x) ≡ false
+  child-plain : (x : ℕ) → parent_of o.tree x ≡ Some r.furthest_block → is_part (tag_at p.tree x) ≡ false
   child-plain x e = elim (cases_bool (is_part (tag_at p.tree x))) [
     | inl k ↦
-        let a = kept x (w.child_in r.g x (w.parent_has_child r.g x e)) in
+        let a = kept x (w.child_in r.furthest_block x (w.parent_has_child r.furthest_block x e)) in
         let part : is_part (tag_at o.tree x) ≡ true = ap (λ d. is_part (tag_in d)) (sym a) ∙ k in
-        let carry = sym (seat-element (tag_at o.tree x) r.g (label_of o.tree r.g) (i.elements r.g (g-in s foster o p i r))) ∙ h.parts x r.g e part in
-        let none : carries_part (tag_at o.tree r.g) ≡ false = ap (λ d. carries_part (tag_in d)) (sym (kept r.g g-old)) ∙ g-carries s foster o p i r h.open_elements in
-        absurd (false≢true (sym (not-part (tag_at o.tree x) (tag_at o.tree r.g) (carry-sits (tag_at o.tree x) r.g (tag_at o.tree r.g) carry) none) ∙ part))
+        let carry = sym (seat-element (tag_at o.tree x) r.furthest_block (label_of o.tree r.furthest_block) (i.elements r.furthest_block (g-in s foster o p i r))) ∙ h.parts x r.furthest_block e part in
+        let none : carries_part (tag_at o.tree r.furthest_block) ≡ false = ap (λ d. carries_part (tag_in d)) (sym (kept r.furthest_block g-old)) ∙ g-carries s foster o p i r h.open_elements in
+        absurd (false≢true (sym (not-part (tag_at o.tree x) (tag_at o.tree r.furthest_block) (carry-sits (tag_at o.tree x) r.furthest_block (tag_at o.tree r.furthest_block) carry) none) ∙ part))
     | inr k ↦ k
   ]
 
-  g-free : is_part (tag_at p.tree r.g) ≡ false
+  g-free : is_part (tag_at p.tree r.furthest_block) ≡ false
   g-free = g-plain s foster o p i r h.open_elements
 
-  longer : length p.tree.labels ≡ (length o.tree.labels) + (length r.cs + 1)
-  longer = ap length r.labels_are ∙ length-append o.tree.labels (map (λ x. cloned (label_of o.tree x)) (r.cs ++ r.f ∷ [])) ∙ ap (λ v. (length o.tree.labels) + v) (length_map (r.cs ++ r.f ∷ []) (λ x. cloned (label_of o.tree x)) ∙ length-append r.cs (r.f ∷ []))
+  longer : length p.tree.labels ≡ (length o.tree.labels) + (length r.cloned_elements + 1)
+  longer = ap length r.labels_are ∙ length-append o.tree.labels (map (λ x. cloned (label_of o.tree x)) (r.cloned_elements ++ r.formatting_element ∷ [])) ∙ ap (λ v. (length o.tree.labels) + v) (length_map (r.cloned_elements ++ r.formatting_element ∷ []) (λ x. cloned (label_of o.tree x)) ∙ length-append r.cloned_elements (r.formatting_element ∷ []))
 
-  k-last : ((length o.tree.labels) ≤ r.k) × (r.k < length p.tree.labels)
-  k-last = (let a = r.k_is in let b = longer in (omega (arith, a), omega (arith, a, b)))
+  k-last : ((length o.tree.labels) ≤ r.new_element) × (r.new_element < length p.tree.labels)
+  k-last = (let a = r.new_element_is in let b = longer in (omega (arith, a), omega (arith, a, b)))
 
-  top-plain : is_part (tag_at p.tree (chain_top r.g (length o.tree.labels) r.k)) ≡ false
-  top-plain = elim (cases_eqb (length o.tree.labels) r.k) [
+  top-plain : is_part (tag_at p.tree (chain_top r.furthest_block (length o.tree.labels) r.new_element)) ≡ false
+  top-plain = elim (cases_eqb (length o.tree.labels) r.new_element) [
     | inl e ↦ rw e.0 g-free
-    | inr e ↦ rw e.0 (clone-plain (r.k - 1) (let a = k-last.0 in let b = apart (length o.tree.labels) r.k e.0 in omega (arith, a, b)) (let a = k-last.1 in omega (arith, a)))
+    | inr e ↦ rw e.0 (clone-plain (r.new_element - 1) (let a = k-last.0 in let b = apart (length o.tree.labels) r.new_element e.0 in omega (arith, a, b)) (let a = k-last.1 in omega (arith, a)))
   ]
     where
       apart : (x y : ℕ) → eqb x y ≡ false → (x < y) ⊎ (y < x)
@@ -485,19 +485,19 @@ module _ (s : Tag) (foster : Bool) (o p : Open) (i : IsOpen o) (r : Round s fost
       ]
 
   -- the chain's top is where adoption puts it
-  top-fits : (q : ℕ) → q < length p.tree.labels → parent_at o.tree (place_on o.tree o.stack r.a foster) ≡ Some q → Fits p.tree (chain_top r.g (length o.tree.labels) r.k) q
-  top-fits q b e = plain-fits (chain_top r.g (length o.tree.labels) r.k) q (elim (cases_bool (nat_lt q (length o.tree.labels))) [
-    | inl a ↦ ap (λ d. is_same (tag_in d) tag.Template) (kept q (lt-of q (length o.tree.labels) a)) ∙ at-free o.tree w h.templates o.stack c r.a foster q e
+  top-fits : (q : ℕ) → q < length p.tree.labels → parent_at o.tree (place_on o.tree o.stack r.common_ancestor foster) ≡ Some q → Fits p.tree (chain_top r.furthest_block (length o.tree.labels) r.new_element) q
+  top-fits q b e = plain-fits (chain_top r.furthest_block (length o.tree.labels) r.new_element) q (elim (cases_bool (nat_lt q (length o.tree.labels))) [
+    | inl a ↦ ap (λ d. is_same (tag_in d) tag.Template) (kept q (lt-of q (length o.tree.labels) a)) ∙ at-free o.tree w h.templates o.stack c r.common_ancestor foster q e
     | inr a ↦ clone-empty q (ge-of q (length o.tree.labels) a) b
   ]) top-plain
 
-  chain-fits : (x q : ℕ) → q < length p.tree.labels → has x (chained o.tree r.g (length o.tree.labels) r.k q) ≡ true → Fits p.tree x q
-  chain-fits x q b e = elim (cases_bool (nat_le (length o.tree.labels) q && nat_lt q r.k)) [
+  chain-fits : (x q : ℕ) → q < length p.tree.labels → has x (chained o.tree r.furthest_block (length o.tree.labels) r.new_element q) ≡ true → Fits p.tree x q
+  chain-fits x q b e = elim (cases_bool (nat_le (length o.tree.labels) q && nat_lt q r.new_element)) [
     | inl a ↦
-        let z = both (nat_le (length o.tree.labels) q) (nat_lt q r.k) a in
+        let z = both (nat_le (length o.tree.labels) q) (nat_lt q r.new_element) a in
         let low = le-of (length o.tree.labels) q z.0 in
         plain-fits x q (clone-empty q low b) (elim (cases_eqb q (length o.tree.labels)) [
-          | inl f ↦ (let k : has x (r.g ∷ []) ≡ true = rw (a, f.0) at e in subst (λ v. is_part (tag_at p.tree v) ≡ false) (sym (has-one x r.g k)) g-free)
+          | inl f ↦ (let k : has x (r.furthest_block ∷ []) ≡ true = rw (a, f.0) at e in subst (λ v. is_part (tag_at p.tree v) ≡ false) (sym (has-one x r.furthest_block k)) g-free)
           | inr f ↦
               let k : has x ((q - 1) ∷ []) ≡ true = rw (a, f.0) at e in
               subst (λ v. is_part (tag_at p.tree v) ≡ false) (sym (has-one x (q - 1) k))
@@ -506,28 +506,28 @@ module _ (s : Tag) (foster : Bool) (o p : Open) (i : IsOpen o) (r : Round s fost
                 | inr l ↦ elim l [ inl m ↦ absurd (false≢true (sym f.0 ∙ subst (λ v. eqb v (length o.tree.labels) ≡ true) m (eqb-self (length o.tree.labels)))) | inr m ↦ absurd (omega (arith, m, low)) ]
               ]) (omega (arith, b)))
         ])
-    | inr a ↦ (let k : has x (wrapped_children o.tree r.g r.k q) ≡ true = rw a at e in wrapped-fits x q b k)
+    | inr a ↦ (let k : has x (wrapped_children o.tree r.furthest_block r.new_element q) ≡ true = rw a at e in wrapped-fits x q b k)
   ]
     where
-      wrapped-fits : (x q : ℕ) → q < length p.tree.labels → has x (wrapped_children o.tree r.g r.k q) ≡ true → Fits p.tree x q
-      wrapped-fits x q b e = elim (cases_eqb q r.g) [
+      wrapped-fits : (x q : ℕ) → q < length p.tree.labels → has x (wrapped_children o.tree r.furthest_block r.new_element q) ≡ true → Fits p.tree x q
+      wrapped-fits x q b e = elim (cases_eqb q r.furthest_block) [
         | inl f ↦
-            let k : has x (r.k ∷ []) ≡ true = rw f.0 at e in
+            let k : has x (r.new_element ∷ []) ≡ true = rw f.0 at e in
             plain-fits x q (subst (λ v. template p.tree v ≡ false) (sym f.1) g-empty)
-            (subst (λ v. is_part (tag_at p.tree v) ≡ false) (sym (has-one x r.k k)) (clone-plain r.k k-last.0 k-last.1))
-        | inr f ↦ elim (cases_eqb q r.k) [
+            (subst (λ v. is_part (tag_at p.tree v) ≡ false) (sym (has-one x r.new_element k)) (clone-plain r.new_element k-last.0 k-last.1))
+        | inr f ↦ elim (cases_eqb q r.new_element) [
           | inl g ↦
-              let k : has x (children_of o.tree r.g) ≡ true = rw (f.0, g.0) at e in
-              plain-fits x q (subst (λ v. template p.tree v ≡ false) (sym g.1) (clone-empty r.k k-last.0 k-last.1)) (child-plain x (w.child_has_parent r.g x k))
-          | inr g ↦ (let k : has x (without r.g (children_of o.tree q)) ≡ true = rw (f.0, g.0) at e in old-fits x q (w.child_has_parent q x (has-without x r.g (children_of o.tree q) k)))
+              let k : has x (children_of o.tree r.furthest_block) ≡ true = rw (f.0, g.0) at e in
+              plain-fits x q (subst (λ v. template p.tree v ≡ false) (sym g.1) (clone-empty r.new_element k-last.0 k-last.1)) (child-plain x (w.child_has_parent r.furthest_block x k))
+          | inr g ↦ (let k : has x (without r.furthest_block (children_of o.tree q)) ≡ true = rw (f.0, g.0) at e in old-fits x q (w.child_has_parent q x (has-without x r.furthest_block (children_of o.tree q) k)))
         ]
       ]
 
   fits : (x q : ℕ) → parent_of p.tree x ≡ Some q → Fits p.tree x q
   fits x q e =
       let b = r.well_formed.parent_in q x e in
-      let k : has x (with_put o.tree (place_on o.tree o.stack r.a foster) (chain_top r.g (length o.tree.labels) r.k) q (chained o.tree r.g (length o.tree.labels) r.k q)) ≡ true = subst (λ v. has x v ≡ true) (r.children_are q) (r.well_formed.parent_has_child q x e) in
-      elim (in-put o.tree (place_on o.tree o.stack r.a foster) (chain_top r.g (length o.tree.labels) r.k) q x (chained o.tree r.g (length o.tree.labels) r.k q) k) [
+      let k : has x (with_put o.tree (place_on o.tree o.stack r.common_ancestor foster) (chain_top r.furthest_block (length o.tree.labels) r.new_element) q (chained o.tree r.furthest_block (length o.tree.labels) r.new_element q)) ≡ true = subst (λ v. has x v ≡ true) (r.children_are q) (r.well_formed.parent_has_child q x e) in
+      elim (in-put o.tree (place_on o.tree o.stack r.common_ancestor foster) (chain_top r.furthest_block (length o.tree.labels) r.new_element) q x (chained o.tree r.furthest_block (length o.tree.labels) r.new_element q) k) [
         | inl a ↦ chain-fits x q b a
         | inr a ↦ subst (λ v. Fits p.tree v q) (sym a.0) (top-fits q b a.1)
       ]
@@ -571,10 +571,10 @@ round-stands s foster o p r k z = record {
   is_open = r.is_open;
   well_formed = r.well_formed;
   first = λ x e.
-      let f : first_of o.stack ≡ Some x = ap first_of r.stack_was ∙ (same-first r.lower r.a _ _ ∙ (sym (ap first_of r.stack_is) ∙ e)) in
+      let f : first_of o.stack ≡ Some x = ap first_of r.stack_was ∙ (same-first r.lower r.common_ancestor _ _ ∙ (sym (ap first_of r.stack_is) ∙ e)) in
       ap (λ d. is_same (tag_in d) tag.Html) (label-kept o p.tree (round-clones s foster o p k.is_open r) x (k.is_open.stack_in x (first-in o.stack x f))) ∙ k.first x f;
   seats = round-seats s foster o p k.is_open r k.well_formed
-      (subst (CanPlace o.tree) (sym r.stack_was) (html-place o.tree r.lower r.a _ (subst (BeginsHtml o.tree) r.stack_was k.first))) k.seats z;
+      (subst (CanPlace o.tree) (sym r.stack_was) (html-place o.tree r.lower r.common_ancestor _ (subst (BeginsHtml o.tree) r.stack_was k.first))) k.seats z;
 }
 
 rounds-stand : (s : Tag) (foster : Bool) (n : ℕ) (o p : Open) → Rounds s foster n o p → Stands o → Stands p

@@ -35,7 +35,7 @@ same-early n o p e h = subst (Early n) (sym (ap (λ (v : Tree). v.labels) e)) h
 
 rounds-early : (n : ℕ) (s : Tag) (foster : Bool) (k : ℕ) (o p : Open) → Rounds s foster k o p → Early n o.tree.labels → Early n p.tree.labels
 rounds-early n s foster _ _ _ (no_round o) h = h
-rounds-early n s foster _ _ _ (one_more k o p q rs r) h = with-clones n p.tree q.tree.labels (r.cs ++ r.f ∷ []) r.labels_are (rounds-early n s foster k o p rs h)
+rounds-early n s foster _ _ _ (one_more k o p q rs r) h = with-clones n p.tree q.tree.labels (r.cloned_elements ++ r.formatting_element ∷ []) r.labels_are (rounds-early n s foster k o p rs h)
 
 ends-early : (n : ℕ) (s : Tag) (end : AdoptEnd) (o p : Open) → Ends s end o p → Early n o.tree.labels → Early n p.tree.labels
 ends-early n s _ _ _ (closes o p r) h = same-early n o.tree p.tree r.tree_is h

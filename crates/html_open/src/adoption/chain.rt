@@ -10,7 +10,7 @@ ghost use Rattle.html_open.specs.Placing.{IsPlace, way_up};
 use crate::places::{Place, put};
 use html_arena::{Arena, NodeId};
 
-/// Hangs the special element `block` into a chain of the clones from `first` to before `clone`, each the parent of the one before it;
+/// Hangs the furthest block, `block`, into a chain of the clones from `first` to before `clone`, each the parent of the one before it;
 /// the top of the chain goes to `place`. The children of `block` go to `clone`, which becomes its one child.
 pub(crate) fn hang(arena: &mut Arena, block: NodeId, first: usize, clone: NodeId, place: Place)
     requires block_below { block < first }

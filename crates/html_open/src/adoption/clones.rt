@@ -13,7 +13,7 @@ use crate::error::OpenError;
 use html_arena::{Arena, Mark, NewNode, NodeId};
 use std::marker::Model;
 
-/// How many of the elements between the formatting element and the special one may be cloned.
+/// How many of the elements between the formatting element and the furthest block may be cloned.
 const MOST_CLONED: usize = 3;
 
 /// Elements to be cloned, kept without memory of their own.
@@ -58,7 +58,7 @@ impl Originals {
     }
 }
 
-/// Of the last three of the elements between the formatting element and the special one those in the list, the last first.
+/// Of the last three of the elements between the formatting element and the furthest block those in the list, the last first.
 pub(crate) fn elements_to_clone(inner: &[NodeId], arena: &Arena) -> Originals
     requires { AreNodes arena.now inner.now }
     ensures { result ≡ originals (marked arena.now InList) inner.now }

@@ -1,4 +1,4 @@
-// What a round of the adoption agency finds: the formatting element, and the special element after it.
+// What a round of the adoption agency finds: the formatting element, and the furthest block, the first special element after it.
 ghost use Rattle.std.specs.Prelude.{◌≡◌, ℕ, ◌+◌, ◌*◌, ◌<◌, ◌≤◌, drop, eqb, length};
 ghost use Rattle.std.specs.List.{list_any};
 ghost use Rattle.html_names.specs.declared.sets.Scope.TheVariants.{Default};
@@ -22,13 +22,13 @@ pub(crate) enum Found {
     OffStack(NodeId),
     /// It is on the stack, and not in scope.
     OutOfScope,
-    /// No special element stands after it, which stands at an index of the stack.
-    Plain { node: NodeId, at: usize },
-    /// The index of the element on the stack, and that of the first special element after it.
-    Block { at: usize, block_at: usize },
+    /// There is no furthest block: no special element stands after it, which stands at an index of the stack.
+    NoFurthestBlock { node: NodeId, at: usize },
+    /// The index of the element on the stack, and that of the furthest block, the first special element after it.
+    FurthestBlock { at: usize, block_at: usize },
 }
 
-/// Finds the formatting element of a round, and the first special element after it. Steps: those of `last_named`, one for the test of
+/// Finds the formatting element of a round, and the furthest block, the first special element after it. Steps: those of `last_named`, one for the test of
 /// presence, those of `index_of`, and one for each element looked at from the formatting element on.
 pub(crate) fn find(stack: &OpenStack, list: &FormattingList, arena: &mut Arena, name: Tag) -> Found
     requires open { IsOpen (open_at stack.now list.now arena.old) }
@@ -52,8 +52,8 @@ pub(crate) fn find(stack: &OpenStack, list: &FormattingList, arena: &mut Arena, 
         return Found::OutOfScope;
     }
     match first_special(nodes, arena, at + 1) {
-        Some(block_at) => Found::Block { at, block_at },
-        None => Found::Plain { node, at },
+        Some(block_at) => Found::FurthestBlock { at, block_at },
+        None => Found::NoFurthestBlock { node, at },
     }
 }
 

@@ -19,7 +19,7 @@ use std::alloc::{AllocError, Global};
 pub(crate) struct Plan<'a> {
     /// The formatting element.
     pub(crate) formatting: NodeId,
-    /// The elements that are cloned, the nearest to the special element first.
+    /// The elements that are cloned, the nearest to the furthest block first.
     pub(crate) originals: &'a [NodeId],
     /// The number of the first of their clones, which follow one another.
     pub(crate) first: usize,
@@ -27,8 +27,8 @@ pub(crate) struct Plan<'a> {
     pub(crate) clone: NodeId,
 }
 
-/// The stack after a round: the clones stand in place of the elements from the formatting one to the special one, and the formatting
-/// element's clone after that.
+/// The stack after a round: the clones stand in place of the elements from the formatting element to the furthest block, and the new
+/// element, the formatting element's clone, after that.
 pub(crate) fn restacked(
     alloc: Global,
     nodes: &[NodeId],
@@ -93,7 +93,8 @@ pub(crate) fn with_room(alloc: Global, entries: &[Entry]) -> Result<Vec<Entry>, 
     Ok(list)
 }
 
-/// The list after a round, by the marks of the elements that stay, in a list that is empty and has room.
+/// The list after a round, by the marks of the elements that stay, in a list that is empty and has room: the new element stands at the
+/// bookmark, just after the clone nearest to the furthest block, or in the formatting element's place.
 pub(crate) fn relisted(list: &mut Vec<Entry>, entries: &[Entry], arena: &Arena, plan: &Plan<'_>)
     requires nodes_in { AreNodes arena.now (nodes_of entries.now) }
     requires clones { plan.now.first + length plan.now.originals.now < 2 ^ 64 }

@@ -30,7 +30,7 @@ struct Regrouped {
     entries: Vec<Entry>,
 }
 
-/// One round, for a formatting element at an index of the stack, and the first special element after it at another.
+/// One round, for a formatting element at an index of the stack, behind the common ancestor, and the furthest block at another.
 pub(crate) fn round(
     stack: &mut OpenStack,
     list: &mut FormattingList,
@@ -67,7 +67,7 @@ pub(crate) fn round(
     Ok(())
 }
 
-/// Clones the elements of a round, and moves the special element with what it holds into the clones, which go to a place.
+/// Clones the elements of a round, and moves the furthest block with what it holds into the clones, which go to a place.
 fn regroup(
     alloc: Global,
     nodes: &[NodeId],

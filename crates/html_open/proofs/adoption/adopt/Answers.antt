@@ -55,10 +55,10 @@ rounding-preserved c =
       grown = omega (arith, g, h);
       shorter = (let a = round-shorter c.args.name c.args.foster (open_at c.rounding.stack c.rounding.list c.rounding.arena) (open_at c.turn-turned.new.stack c.turn-turned.new.list c.turn-turned.new.arena) r in let b = c.rounding.invariant.shorter in omega (arith, a, b));
       listed = (let a = round-listed c.args.name c.args.foster (open_at c.rounding.stack c.rounding.list c.rounding.arena) (open_at c.turn-turned.new.stack c.turn-turned.new.list c.turn-turned.new.arena) c.rounding.invariant.opened r in let b = c.rounding.invariant.listed in omega (arith, a, b));
-      counted = (let up = ap length r.labels_are in let ap2 = length-append c.rounding.arena.labels (map (λ x. cloned (label_of c.rounding.arena x)) (r.cs ++ r.f ∷ [])) in counted-round c.rounding._index (c.rounding._index + 1) c.pop_unlisted.new.arena.steps c.rounding.arena.steps c.turn-turned.new.arena.steps (length c.pop_unlisted.new.arena.labels) (length c.rounding.arena.labels) (length c.turn-turned.new.arena.labels) (length c.rounding.stack) (length c.rounding.list) (length c.pop_unlisted.new.stack) (length c.args.list.now) (omega arith) c.rounding-test.true (labels-longer (open_at c.pop_unlisted.new.stack c.args.list.now c.pop_unlisted.new.arena) c.rounding.arena c.rounding.invariant.descends.made) (omega (arith, up, ap2)) c.rounding.invariant.shorter c.rounding.invariant.listed c.rounding.invariant.counted c.turn-turned.ensures.steps);
+      counted = (let up = ap length r.labels_are in let ap2 = length-append c.rounding.arena.labels (map (λ x. cloned (label_of c.rounding.arena x)) (r.cloned_elements ++ r.formatting_element ∷ [])) in counted-round c.rounding._index (c.rounding._index + 1) c.pop_unlisted.new.arena.steps c.rounding.arena.steps c.turn-turned.new.arena.steps (length c.pop_unlisted.new.arena.labels) (length c.rounding.arena.labels) (length c.turn-turned.new.arena.labels) (length c.rounding.stack) (length c.rounding.list) (length c.pop_unlisted.new.stack) (length c.args.list.now) (omega arith) c.rounding-test.true (labels-longer (open_at c.pop_unlisted.new.stack c.args.list.now c.pop_unlisted.new.arena) c.rounding.arena c.rounding.invariant.descends.made) (omega (arith, up, ap2)) c.rounding.invariant.shorter c.rounding.invariant.listed c.rounding.invariant.counted c.turn-turned.ensures.steps);
       first = round-first c.args.name c.args.foster (open_at c.rounding.stack c.rounding.list c.rounding.arena) (open_at c.turn-turned.new.stack c.turn-turned.new.list c.turn-turned.new.arena) r ∙ c.rounding.invariant.first;
       roots = roots-then (open_at c.pop_unlisted.new.stack c.args.list.now c.pop_unlisted.new.arena) (open_at c.rounding.stack c.rounding.list c.rounding.arena) c.turn-turned.new.arena c.rounding.invariant.descends c.rounding.invariant.first c.rounding.invariant.opened.stack_once (labels-longer (open_at c.pop_unlisted.new.stack c.args.list.now c.pop_unlisted.new.arena) c.rounding.arena c.rounding.invariant.descends.made) c.rounding.invariant.roots c.in_ok-end.ensures.roots;
-      paid = (let up = ap length r.labels_are in let ap2 = length-append c.rounding.arena.labels (map (λ x. cloned (label_of c.rounding.arena x)) (r.cs ++ r.f ∷ [])) in paid-then (open_at c.pop_unlisted.new.stack c.args.list.now c.pop_unlisted.new.arena) (open_at c.rounding.stack c.rounding.list c.rounding.arena) (open_at c.turn-turned.new.stack c.turn-turned.new.list c.turn-turned.new.arena) c.pop_unlisted.ensures.kept (labels-longer (open_at c.pop_unlisted.new.stack c.args.list.now c.pop_unlisted.new.arena) c.rounding.arena c.rounding.invariant.descends.made) (omega (arith, up, ap2)) c.rounding.invariant.paid c.in_ok-end.ensures.paid);
+      paid = (let up = ap length r.labels_are in let ap2 = length-append c.rounding.arena.labels (map (λ x. cloned (label_of c.rounding.arena x)) (r.cloned_elements ++ r.formatting_element ∷ [])) in paid-then (open_at c.pop_unlisted.new.stack c.args.list.now c.pop_unlisted.new.arena) (open_at c.rounding.stack c.rounding.list c.rounding.arena) (open_at c.turn-turned.new.stack c.turn-turned.new.list c.turn-turned.new.arena) c.pop_unlisted.ensures.kept (labels-longer (open_at c.pop_unlisted.new.stack c.args.list.now c.pop_unlisted.new.arena) c.rounding.arena c.rounding.invariant.descends.made) (omega (arith, up, ap2)) c.rounding.invariant.paid c.in_ok-end.ensures.paid);
     }
 
 pub returns-clause-adopted : goal.returns-clause-adopted

@@ -30,7 +30,7 @@ remove-requires-clause-node_in c =
 
 pub returns-clause-closed : goal.returns-clause-closed
 returns-clause-closed c = λ s p. record {
-  f = c.args.node;
+  formatting_element = c.args.node;
   formatting = p.formatting.entry;
   on_stack = p.formatting.on_stack;
   in_scope = p.formatting.in_scope;

@@ -37,7 +37,7 @@ pub close-requires-clause-open : goal.close-requires-clause-open
 close-requires-clause-open c = (subst (λ (t : Tree). IsOpen (open_at c.args.stack.now c.args.list.now t)) (sym c.find.ensures.tree) (open-stepped c.args.stack.now c.args.list.now c.args.arena.now c.find.new.arena.steps c.requires.«open»))
 
 pub close-requires-clause-plain : goal.close-requires-clause-plain
-close-requires-clause-plain c = (c.args.name, (subst (λ (t : Tree). IsPlain c.args.name (open_at c.args.stack.now c.args.list.now t) c.in-Plain.node c.in-Plain.at) (sym c.find.ensures.tree) (plain-stepped c.args.name c.args.stack.now c.args.list.now c.args.arena.now c.find.new.arena.steps c.in-Plain.node c.in-Plain.at c.in-Plain.ensures.found)))
+close-requires-clause-plain c = (c.args.name, (subst (λ (t : Tree). IsPlain c.args.name (open_at c.args.stack.now c.args.list.now t) c.in-NoFurthestBlock.node c.in-NoFurthestBlock.at) (sym c.find.ensures.tree) (plain-stepped c.args.name c.args.stack.now c.args.list.now c.args.arena.now c.find.new.arena.steps c.in-NoFurthestBlock.node c.in-NoFurthestBlock.at c.in-NoFurthestBlock.ensures.found)))
 
 pub round-requires-clause-open : goal.round-requires-clause-open
 round-requires-clause-open c = (subst (λ (t : Tree). IsOpen (open_at c.args.stack.now c.args.list.now t)) (sym c.find.ensures.tree) (open-stepped c.args.stack.now c.args.list.now c.args.arena.now c.find.new.arena.steps c.requires.«open»))
@@ -46,10 +46,10 @@ pub round-requires-clause-can_place : goal.round-requires-clause-can_place
 round-requires-clause-can_place c = subst (λ (t : Tree). CanPlace t c.args.stack.now) (sym c.find.ensures.tree) (can-place-stepped c.args.arena.now c.find.new.arena.steps c.args.stack.now c.requires.can_place)
 
 pub round-requires-clause-inside : goal.round-requires-clause-inside
-round-requires-clause-inside c = not-first c.args.name c.args.stack.now c.args.list.now c.args.arena.now c.in-Block.at c.in-Block.block_at c.in-Block.ensures.found c.requires.first_free
+round-requires-clause-inside c = not-first c.args.name c.args.stack.now c.args.list.now c.args.arena.now c.in-FurthestBlock.at c.in-FurthestBlock.block_at c.in-FurthestBlock.ensures.found c.requires.first_free
 
 pub round-requires-clause-block : goal.round-requires-clause-block
-round-requires-clause-block c = (c.args.name, (subst (λ (t : Tree). IsBlock c.args.name (open_at c.args.stack.now c.args.list.now t) c.in-Block.at c.in-Block.block_at) (sym c.find.ensures.tree) (block-stepped c.args.name c.args.stack.now c.args.list.now c.args.arena.now c.find.new.arena.steps c.in-Block.at c.in-Block.block_at c.in-Block.ensures.found)))
+round-requires-clause-block c = (c.args.name, (subst (λ (t : Tree). IsBlock c.args.name (open_at c.args.stack.now c.args.list.now t) c.in-FurthestBlock.at c.in-FurthestBlock.block_at) (sym c.find.ensures.tree) (block-stepped c.args.name c.args.stack.now c.args.list.now c.args.arena.now c.find.new.arena.steps c.in-FurthestBlock.at c.in-FurthestBlock.block_at c.in-FurthestBlock.ensures.found)))
 
 pub returns-in-NoEntry-clause-turned : goal.returns-in-NoEntry-clause-turned
 returns-in-NoEntry-clause-turned c = no_entry _ _ (record { none = c.in-NoEntry.ensures.found; unchanged = record { stack_is = refl; list_is = refl; tree_is = ap bare c.find.ensures.tree } })
@@ -59,7 +59,7 @@ returns-in-NoEntry-clause-kept c = (subst (λ (t : Tree). IsOpen (open_at c.args
 
 pub returns-in-OffStack-clause-turned : goal.returns-in-OffStack-clause-turned
 returns-in-OffStack-clause-turned c = forgets _ _ (record {
-  f = c.in-OffStack.node;
+  formatting_element = c.in-OffStack.node;
   formatting = c.in-OffStack.ensures.found.entry;
   off_stack = c.in-OffStack.ensures.found.off_stack;
   stack_is = refl;
@@ -74,7 +74,7 @@ pub returns-in-OutOfScope-clause-turned : goal.returns-in-OutOfScope-clause-turn
 returns-in-OutOfScope-clause-turned c =
     let k = c.in-OutOfScope.ensures.found in
     out_of_scope _ _ (record {
-      f = k.0;
+      formatting_element = k.0;
       formatting = k.1.entry;
       on_stack = k.1.on_stack;
       not_in_scope = k.1.not_in_scope;
@@ -84,30 +84,30 @@ returns-in-OutOfScope-clause-turned c =
 pub returns-in-OutOfScope-clause-kept : goal.returns-in-OutOfScope-clause-kept
 returns-in-OutOfScope-clause-kept c = (subst (λ (t : Tree). IsOpen (open_at c.args.stack.now c.args.list.now t)) (sym c.find.ensures.tree) (open-stepped c.args.stack.now c.args.list.now c.args.arena.now c.find.new.arena.steps c.requires.«open»))
 
-pub returns-in-Plain-clause-turned : goal.returns-in-Plain-clause-turned
-returns-in-Plain-clause-turned c =
+pub returns-in-NoFurthestBlock-clause-turned : goal.returns-in-NoFurthestBlock-clause-turned
+returns-in-NoFurthestBlock-clause-turned c =
     let q = open_at c.close.new.stack c.close.new.list c.close.new.arena in
     closes _ _ (closed-rebase c.args.name c.args.foster c.args.stack.now c.args.list.now c.args.arena.now c.find.new.arena.steps (open_at c.close.new.stack c.close.new.list c.close.new.arena)
     (subst (λ (t : Tree). Closed c.args.name (open_at c.args.stack.now c.args.list.now t) (open_at c.close.new.stack c.close.new.list c.close.new.arena)) c.find.ensures.tree
-    (c.close.ensures.closed c.args.name (subst (λ (t : Tree). IsPlain c.args.name (open_at c.args.stack.now c.args.list.now t) c.in-Plain.node c.in-Plain.at) (sym c.find.ensures.tree) (plain-stepped c.args.name c.args.stack.now c.args.list.now c.args.arena.now c.find.new.arena.steps c.in-Plain.node c.in-Plain.at c.in-Plain.ensures.found)))))
+    (c.close.ensures.closed c.args.name (subst (λ (t : Tree). IsPlain c.args.name (open_at c.args.stack.now c.args.list.now t) c.in-NoFurthestBlock.node c.in-NoFurthestBlock.at) (sym c.find.ensures.tree) (plain-stepped c.args.name c.args.stack.now c.args.list.now c.args.arena.now c.find.new.arena.steps c.in-NoFurthestBlock.node c.in-NoFurthestBlock.at c.in-NoFurthestBlock.ensures.found)))))
 
-pub returns-in_ok-round-in-Block-clause-turned : goal.returns-in_ok-round-in-Block-clause-turned
-returns-in_ok-round-in-Block-clause-turned c =
+pub returns-in_ok-round-in-FurthestBlock-clause-turned : goal.returns-in_ok-round-in-FurthestBlock-clause-turned
+returns-in_ok-round-in-FurthestBlock-clause-turned c =
     round-rebase c.args.name c.args.foster c.args.stack.now c.args.list.now c.args.arena.now c.find.new.arena.steps (open_at c.round.new.stack c.round.new.list c.round.new.arena)
     (subst (λ (t : Tree). Round c.args.name c.args.foster (open_at c.args.stack.now c.args.list.now t) (open_at c.round.new.stack c.round.new.list c.round.new.arena)) c.find.ensures.tree
-    (c.in_ok-round-in-Block.ensures.round c.args.name (subst (λ (t : Tree). IsBlock c.args.name (open_at c.args.stack.now c.args.list.now t) c.in-Block.at c.in-Block.block_at) (sym c.find.ensures.tree) (block-stepped c.args.name c.args.stack.now c.args.list.now c.args.arena.now c.find.new.arena.steps c.in-Block.at c.in-Block.block_at c.in-Block.ensures.found))))
+    (c.in_ok-round-in-FurthestBlock.ensures.round c.args.name (subst (λ (t : Tree). IsBlock c.args.name (open_at c.args.stack.now c.args.list.now t) c.in-FurthestBlock.at c.in-FurthestBlock.block_at) (sym c.find.ensures.tree) (block-stepped c.args.name c.args.stack.now c.args.list.now c.args.arena.now c.find.new.arena.steps c.in-FurthestBlock.at c.in-FurthestBlock.block_at c.in-FurthestBlock.ensures.found))))
 
-pub returns-in_err-round-in-Block-clause-stopped : goal.returns-in_err-round-in-Block-clause-stopped
-returns-in_err-round-in-Block-clause-stopped c =
+pub returns-in_err-round-in-FurthestBlock-clause-stopped : goal.returns-in_err-round-in-FurthestBlock-clause-stopped
+returns-in_err-round-in-FurthestBlock-clause-stopped c =
     let p = err_from_is_err_and c.from_residual.result c.from_residual.ensures.1 in
-    let d = subst (λ (t : Tree). IsCut t c.round.new.arena (round_originals (open_at c.args.stack.now c.args.list.now t) c.in-Block.at c.in-Block.block_at) c.in_err-round-in-Block.field-0.0) c.find.ensures.tree c.in_err-round-in-Block.ensures.cut in
+    let d = subst (λ (t : Tree). IsCut t c.round.new.arena (round_originals (open_at c.args.stack.now c.args.list.now t) c.in-FurthestBlock.at c.in-FurthestBlock.block_at) c.in_err-round-in-FurthestBlock.field-0.0) c.find.ensures.tree c.in_err-round-in-FurthestBlock.ensures.cut in
     rw p.1 (subst (λ (e : OpenError). IsStopped c.args.name (open_at c.args.stack.now c.args.list.now c.args.arena.now) (open_at c.round.new.stack c.round.new.list c.round.new.arena) e) (sym p.2) (record {
-      at = c.in-Block.at;
-      b = c.in-Block.block_at;
-      block = c.in-Block.ensures.found;
-      stack_is = c.in_err-round-in-Block.ensures.same_stack;
-      list_is = c.in_err-round-in-Block.ensures.same_list;
-      cut = cut-rebase c.args.arena.now c.find.new.arena.steps c.round.new.arena (round_originals (open_at c.args.stack.now c.args.list.now c.args.arena.now) c.in-Block.at c.in-Block.block_at) c.in_err-round-in-Block.field-0.0 d;
+      at = c.in-FurthestBlock.at;
+      b = c.in-FurthestBlock.block_at;
+      block = c.in-FurthestBlock.ensures.found;
+      stack_is = c.in_err-round-in-FurthestBlock.ensures.same_stack;
+      list_is = c.in_err-round-in-FurthestBlock.ensures.same_list;
+      cut = cut-rebase c.args.arena.now c.find.new.arena.steps c.round.new.arena (round_originals (open_at c.args.stack.now c.args.list.now c.args.arena.now) c.in-FurthestBlock.at c.in-FurthestBlock.block_at) c.in_err-round-in-FurthestBlock.field-0.0 d;
     }))
 
 pub returns-in-OffStack-clause-steps : goal.returns-in-OffStack-clause-steps
@@ -118,17 +118,17 @@ returns-in-OffStack-clause-steps c =
     (counted-charge c.find.new.arena.steps c.remove.new.arena.steps (removal_steps (is_node c.in-OffStack.node) c.args.list.now) (ap (λ (t : Tree). t.steps) c.remove.ensures.tree)))
     (omega (arith, r)) (ap (λ (t : Tree). length t.labels) c.remove.ensures.tree ∙ ap (λ (t : Tree). length t.labels) c.find.ensures.tree)
 
-pub returns-in-Plain-clause-steps : goal.returns-in-Plain-clause-steps
-returns-in-Plain-clause-steps c =
+pub returns-in-NoFurthestBlock-clause-steps : goal.returns-in-NoFurthestBlock-clause-steps
+returns-in-NoFurthestBlock-clause-steps c =
     turn-counted c.args.arena.now.steps c.find.new.arena.steps c.close.new.arena.steps (length c.args.arena.now.labels) (length c.close.new.arena.labels) (length c.args.stack.now) (length c.args.list.now) (length c.args.stack.now + 2 * length c.args.list.now) c.find.ensures.steps c.close.ensures.steps
-    (omega arith) (ap (λ (t : Tree). length t.labels) (c.close.ensures.closed c.args.name (subst (λ (t : Tree). IsPlain c.args.name (open_at c.args.stack.now c.args.list.now t) c.in-Plain.node c.in-Plain.at) (sym c.find.ensures.tree) (plain-stepped c.args.name c.args.stack.now c.args.list.now c.args.arena.now c.find.new.arena.steps c.in-Plain.node c.in-Plain.at c.in-Plain.ensures.found))).tree_is ∙ ap (λ (t : Tree). length t.labels) c.find.ensures.tree)
+    (omega arith) (ap (λ (t : Tree). length t.labels) (c.close.ensures.closed c.args.name (subst (λ (t : Tree). IsPlain c.args.name (open_at c.args.stack.now c.args.list.now t) c.in-NoFurthestBlock.node c.in-NoFurthestBlock.at) (sym c.find.ensures.tree) (plain-stepped c.args.name c.args.stack.now c.args.list.now c.args.arena.now c.find.new.arena.steps c.in-NoFurthestBlock.node c.in-NoFurthestBlock.at c.in-NoFurthestBlock.ensures.found))).tree_is ∙ ap (λ (t : Tree). length t.labels) c.find.ensures.tree)
 
-pub returns-in_ok-round-in-Block-clause-steps : goal.returns-in_ok-round-in-Block-clause-steps
-returns-in_ok-round-in-Block-clause-steps c =
+pub returns-in_ok-round-in-FurthestBlock-clause-steps : goal.returns-in_ok-round-in-FurthestBlock-clause-steps
+returns-in_ok-round-in-FurthestBlock-clause-steps c =
     turn-round c.args.arena.now.steps c.find.new.arena.steps c.round.new.arena.steps (length c.find.new.arena.labels) (length c.args.arena.now.labels) (length c.round.new.arena.labels) (length c.args.stack.now) (length c.args.list.now) c.find.ensures.steps (ap (λ (t : Tree). length t.labels) c.find.ensures.tree) c.round.ensures.steps
 
-pub returns-in_err-round-in-Block-clause-steps : goal.returns-in_err-round-in-Block-clause-steps
-returns-in_err-round-in-Block-clause-steps c =
+pub returns-in_err-round-in-FurthestBlock-clause-steps : goal.returns-in_err-round-in-FurthestBlock-clause-steps
+returns-in_err-round-in-FurthestBlock-clause-steps c =
     turn-round c.args.arena.now.steps c.find.new.arena.steps c.round.new.arena.steps (length c.find.new.arena.labels) (length c.args.arena.now.labels) (length c.round.new.arena.labels) (length c.args.stack.now) (length c.args.list.now) c.find.ensures.steps (ap (λ (t : Tree). length t.labels) c.find.ensures.tree) c.round.ensures.steps
 
 pub returns-in-NoEntry-clause-paid : goal.returns-in-NoEntry-clause-paid
@@ -142,13 +142,13 @@ returns-in-OffStack-clause-paid c =
     paid-later c.args.stack.now c.args.list.now c.args.arena.now c.find.new.arena (open_at c.args.stack.now c.remove.new.self c.remove.new.arena) c.find.ensures.tree c.find.ensures.steps.least
     (paid-removed c.args.stack.now c.args.list.now c.remove.new.self c.find.new.arena c.remove.new.arena c.in-OffStack.node (subst (λ (t : Tree). IsOpen (open_at c.args.stack.now c.args.list.now t)) (sym c.find.ensures.tree) (open-stepped c.args.stack.now c.args.list.now c.args.arena.now c.find.new.arena.steps c.requires.«open»)) c.remove.ensures.list (ap (λ (t : Tree). length t.labels) c.remove.ensures.tree) (ap (λ (t : Tree). t.steps) c.remove.ensures.tree))
 
-pub returns-in-Plain-clause-paid : goal.returns-in-Plain-clause-paid
-returns-in-Plain-clause-paid c =
+pub returns-in-NoFurthestBlock-clause-paid : goal.returns-in-NoFurthestBlock-clause-paid
+returns-in-NoFurthestBlock-clause-paid c =
     paid-later c.args.stack.now c.args.list.now c.args.arena.now c.find.new.arena (open_at c.close.new.stack c.close.new.list c.close.new.arena) c.find.ensures.tree c.find.ensures.steps.least c.close.ensures.paid
 
-pub returns-in_ok-round-in-Block-clause-paid : goal.returns-in_ok-round-in-Block-clause-paid
-returns-in_ok-round-in-Block-clause-paid c =
-    paid-later c.args.stack.now c.args.list.now c.args.arena.now c.find.new.arena (open_at c.round.new.stack c.round.new.list c.round.new.arena) c.find.ensures.tree c.find.ensures.steps.least c.in_ok-round-in-Block.ensures.paid
+pub returns-in_ok-round-in-FurthestBlock-clause-paid : goal.returns-in_ok-round-in-FurthestBlock-clause-paid
+returns-in_ok-round-in-FurthestBlock-clause-paid c =
+    paid-later c.args.stack.now c.args.list.now c.args.arena.now c.find.new.arena (open_at c.round.new.stack c.round.new.list c.round.new.arena) c.find.ensures.tree c.find.ensures.steps.least c.in_ok-round-in-FurthestBlock.ensures.paid
 
 pub returns-in-NoEntry-clause-roots : goal.returns-in-NoEntry-clause-roots
 returns-in-NoEntry-clause-roots c = ends-roots c.args.name OtherEndTag (open_at c.args.stack.now c.args.list.now c.args.arena.now) (open_at c.args.stack.now c.args.list.now c.find.new.arena) (returns-in-NoEntry-clause-turned c)
@@ -159,9 +159,9 @@ returns-in-OutOfScope-clause-roots c = ends-roots c.args.name Done (open_at c.ar
 pub returns-in-OffStack-clause-roots : goal.returns-in-OffStack-clause-roots
 returns-in-OffStack-clause-roots c = ends-roots c.args.name Done (open_at c.args.stack.now c.args.list.now c.args.arena.now) (open_at c.args.stack.now c.remove.new.self c.remove.new.arena) (returns-in-OffStack-clause-turned c)
 
-pub returns-in-Plain-clause-roots : goal.returns-in-Plain-clause-roots
-returns-in-Plain-clause-roots c = ends-roots c.args.name Done (open_at c.args.stack.now c.args.list.now c.args.arena.now) (open_at c.close.new.stack c.close.new.list c.close.new.arena) (returns-in-Plain-clause-turned c)
+pub returns-in-NoFurthestBlock-clause-roots : goal.returns-in-NoFurthestBlock-clause-roots
+returns-in-NoFurthestBlock-clause-roots c = ends-roots c.args.name Done (open_at c.args.stack.now c.args.list.now c.args.arena.now) (open_at c.close.new.stack c.close.new.list c.close.new.arena) (returns-in-NoFurthestBlock-clause-turned c)
 
-pub returns-in_ok-round-in-Block-clause-roots : goal.returns-in_ok-round-in-Block-clause-roots
-returns-in_ok-round-in-Block-clause-roots c =
-    roots-rebase c.args.stack.now c.args.stack.now c.args.list.now c.args.arena.now c.find.new.arena c.round.new.arena refl c.find.ensures.tree c.in_ok-round-in-Block.ensures.roots
+pub returns-in_ok-round-in-FurthestBlock-clause-roots : goal.returns-in_ok-round-in-FurthestBlock-clause-roots
+returns-in_ok-round-in-FurthestBlock-clause-roots c =
+    roots-rebase c.args.stack.now c.args.stack.now c.args.list.now c.args.arena.now c.find.new.arena c.round.new.arena refl c.find.ensures.tree c.in_ok-round-in-FurthestBlock.ensures.roots

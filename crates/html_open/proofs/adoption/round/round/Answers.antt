@@ -72,13 +72,13 @@ pub returns-clause-kept : goal.returns-clause-kept
 returns-clause-kept c = subst (λ (v : List ℕ). IsOpen (open_at v c.in_ok-regrouped.regrouped.entries.items c.regroup.new.arena)) (sym c.replace.ensures) c.in_ok-regrouped.ensures.kept
 
 pub returns-clause-can_place : goal.returns-clause-can_place
-returns-clause-can_place c = can-place-kept c.args.arena.now c.regroup.new.arena c.place-target.new.arena.steps c.args.list.now c.in_ok-regrouped.regrouped.entries.items c.args.stack.now c.replace.new.self (clones_down (length c.place-target.new.arena.labels) (length c.in_ok-regrouped.ensures.regrouped.cs) ++ (get_or c.as_slice-nodes.result.now c.args.block_at 0 ∷ (length c.place-target.new.arena.labels + length c.in_ok-regrouped.ensures.regrouped.cs) ∷ drop (c.args.block_at + 1) c.as_slice-nodes.result.now)) c.args.at c.requires.inside (at-below c.args.stack.now c.args.list.now c.args.arena.now c.args.at c.args.block_at c.forest.ensures.well_formed c.requires.«open» c.requires.block.0 c.requires.block.1 c.requires.inside c.args.foster)
-    (c.replace.ensures ∙ c.in_ok-regrouped.ensures.regrouped.stack_is ∙ ap (λ (v : List ℕ). take c.args.at v ++ (clones_down (length c.place-target.new.arena.labels) (length c.in_ok-regrouped.ensures.regrouped.cs) ++ (get_or c.as_slice-nodes.result.now c.args.block_at 0 ∷ (length c.place-target.new.arena.labels + length c.in_ok-regrouped.ensures.regrouped.cs) ∷ drop (c.args.block_at + 1) c.as_slice-nodes.result.now))) c.as_slice-nodes.ensures)
+returns-clause-can_place c = can-place-kept c.args.arena.now c.regroup.new.arena c.place-target.new.arena.steps c.args.list.now c.in_ok-regrouped.regrouped.entries.items c.args.stack.now c.replace.new.self (clones_down (length c.place-target.new.arena.labels) (length c.in_ok-regrouped.ensures.regrouped.cloned_elements) ++ (get_or c.as_slice-nodes.result.now c.args.block_at 0 ∷ (length c.place-target.new.arena.labels + length c.in_ok-regrouped.ensures.regrouped.cloned_elements) ∷ drop (c.args.block_at + 1) c.as_slice-nodes.result.now)) c.args.at c.requires.inside (at-below c.args.stack.now c.args.list.now c.args.arena.now c.args.at c.args.block_at c.forest.ensures.well_formed c.requires.«open» c.requires.block.0 c.requires.block.1 c.requires.inside c.args.foster)
+    (c.replace.ensures ∙ c.in_ok-regrouped.ensures.regrouped.stack_is ∙ ap (λ (v : List ℕ). take c.args.at v ++ (clones_down (length c.place-target.new.arena.labels) (length c.in_ok-regrouped.ensures.regrouped.cloned_elements) ++ (get_or c.as_slice-nodes.result.now c.args.block_at 0 ∷ (length c.place-target.new.arena.labels + length c.in_ok-regrouped.ensures.regrouped.cloned_elements) ∷ drop (c.args.block_at + 1) c.as_slice-nodes.result.now))) c.as_slice-nodes.ensures)
     (λ x h. subst (λ (t : Tree). IsKept t c.regroup.new.arena c.args.list.now c.in_ok-regrouped.regrouped.entries.items x) (steps-then c.args.arena.now c.charge.new.self c.place-target.new.arena (c.charge.ensures ∙ sym (ap (λ (v : Tree). stepped c.args.arena.now v.steps) c.charge.ensures)) (c.place-target.ensures.steps ∙ sym (ap (λ (v : Tree). stepped c.charge.new.self v.steps) c.place-target.ensures.steps))) (subst (λ (v : List Entry). IsKept c.place-target.new.arena c.regroup.new.arena v c.in_ok-regrouped.regrouped.entries.items x) (c.as_slice-entries.ensures.value ∙ c.list.view_is) (c.in_ok-regrouped.ensures.front x (subst (λ (v : List ℕ). has x (take c.args.at v) ≡ true) (sym c.as_slice-nodes.ensures) h)))) c.requires.can_place
 
 pub returns-clause-first_free : goal.returns-clause-first_free
-returns-clause-first_free c = first-free-kept (stepped c.args.arena.now c.place-target.new.arena.steps) c.regroup.new.arena c.args.list.now c.in_ok-regrouped.regrouped.entries.items c.args.stack.now c.replace.new.self (clones_down (length c.place-target.new.arena.labels) (length c.in_ok-regrouped.ensures.regrouped.cs) ++ (get_or c.as_slice-nodes.result.now c.args.block_at 0 ∷ (length c.place-target.new.arena.labels + length c.in_ok-regrouped.ensures.regrouped.cs) ∷ drop (c.args.block_at + 1) c.as_slice-nodes.result.now)) c.args.at c.requires.inside (at-below c.args.stack.now c.args.list.now c.args.arena.now c.args.at c.args.block_at c.forest.ensures.well_formed c.requires.«open» c.requires.block.0 c.requires.block.1 c.requires.inside c.args.foster)
-    (c.replace.ensures ∙ c.in_ok-regrouped.ensures.regrouped.stack_is ∙ ap (λ (v : List ℕ). take c.args.at v ++ (clones_down (length c.place-target.new.arena.labels) (length c.in_ok-regrouped.ensures.regrouped.cs) ++ (get_or c.as_slice-nodes.result.now c.args.block_at 0 ∷ (length c.place-target.new.arena.labels + length c.in_ok-regrouped.ensures.regrouped.cs) ∷ drop (c.args.block_at + 1) c.as_slice-nodes.result.now))) c.as_slice-nodes.ensures)
+returns-clause-first_free c = first-free-kept (stepped c.args.arena.now c.place-target.new.arena.steps) c.regroup.new.arena c.args.list.now c.in_ok-regrouped.regrouped.entries.items c.args.stack.now c.replace.new.self (clones_down (length c.place-target.new.arena.labels) (length c.in_ok-regrouped.ensures.regrouped.cloned_elements) ++ (get_or c.as_slice-nodes.result.now c.args.block_at 0 ∷ (length c.place-target.new.arena.labels + length c.in_ok-regrouped.ensures.regrouped.cloned_elements) ∷ drop (c.args.block_at + 1) c.as_slice-nodes.result.now)) c.args.at c.requires.inside (at-below c.args.stack.now c.args.list.now c.args.arena.now c.args.at c.args.block_at c.forest.ensures.well_formed c.requires.«open» c.requires.block.0 c.requires.block.1 c.requires.inside c.args.foster)
+    (c.replace.ensures ∙ c.in_ok-regrouped.ensures.regrouped.stack_is ∙ ap (λ (v : List ℕ). take c.args.at v ++ (clones_down (length c.place-target.new.arena.labels) (length c.in_ok-regrouped.ensures.regrouped.cloned_elements) ++ (get_or c.as_slice-nodes.result.now c.args.block_at 0 ∷ (length c.place-target.new.arena.labels + length c.in_ok-regrouped.ensures.regrouped.cloned_elements) ∷ drop (c.args.block_at + 1) c.as_slice-nodes.result.now))) c.as_slice-nodes.ensures)
     (λ x h. subst (λ (t : Tree). IsKept t c.regroup.new.arena c.args.list.now c.in_ok-regrouped.regrouped.entries.items x) (steps-then c.args.arena.now c.charge.new.self c.place-target.new.arena (c.charge.ensures ∙ sym (ap (λ (v : Tree). stepped c.args.arena.now v.steps) c.charge.ensures)) (c.place-target.ensures.steps ∙ sym (ap (λ (v : Tree). stepped c.charge.new.self v.steps) c.place-target.ensures.steps))) (subst (λ (v : List Entry). IsKept c.place-target.new.arena c.regroup.new.arena v c.in_ok-regrouped.regrouped.entries.items x) (c.as_slice-entries.ensures.value ∙ c.list.view_is) (c.in_ok-regrouped.ensures.front x (subst (λ (v : List ℕ). has x (take c.args.at v) ≡ true) (sym c.as_slice-nodes.ensures) h))))
 
 pub returns-in_err-regrouped-clause-cut : goal.returns-in_err-regrouped-clause-cut
@@ -116,8 +116,8 @@ returns-clause-paid c =
     let n1 = ap (λ (t : Tree). length t.labels) c.charge.ensures in
     let n2 = ap (λ (t : Tree). length t.labels) c.place-target.ensures.steps in
     let k1 = ap (λ (t : Tree). t.steps) c.charge.ensures in
-    paid-round c.args.stack.now c.replace.new.self (clones_down (length c.place-target.new.arena.labels) (length c.in_ok-regrouped.ensures.regrouped.cs) ++ (get_or c.as_slice-nodes.result.now c.args.block_at 0 ∷ (length c.place-target.new.arena.labels + length c.in_ok-regrouped.ensures.regrouped.cs) ∷ drop (c.args.block_at + 1) c.as_slice-nodes.result.now)) c.args.list.now c.in_ok-regrouped.regrouped.entries.items c.args.arena.now c.regroup.new.arena c.args.at (length c.place-target.new.arena.labels) c.charge.new.self.steps c.place-target.new.arena.steps (place_steps c.charge.new.self c.args.stack.now (Some c.index-nodes-at.result) c.args.foster) c.requires.«open»
-    (c.replace.ensures ∙ c.in_ok-regrouped.ensures.regrouped.stack_is ∙ ap (λ (v : List ℕ). take c.args.at v ++ (clones_down (length c.place-target.new.arena.labels) (length c.in_ok-regrouped.ensures.regrouped.cs) ++ (get_or c.as_slice-nodes.result.now c.args.block_at 0 ∷ (length c.place-target.new.arena.labels + length c.in_ok-regrouped.ensures.regrouped.cs) ∷ drop (c.args.block_at + 1) c.as_slice-nodes.result.now))) c.as_slice-nodes.ensures)
+    paid-round c.args.stack.now c.replace.new.self (clones_down (length c.place-target.new.arena.labels) (length c.in_ok-regrouped.ensures.regrouped.cloned_elements) ++ (get_or c.as_slice-nodes.result.now c.args.block_at 0 ∷ (length c.place-target.new.arena.labels + length c.in_ok-regrouped.ensures.regrouped.cloned_elements) ∷ drop (c.args.block_at + 1) c.as_slice-nodes.result.now)) c.args.list.now c.in_ok-regrouped.regrouped.entries.items c.args.arena.now c.regroup.new.arena c.args.at (length c.place-target.new.arena.labels) c.charge.new.self.steps c.place-target.new.arena.steps (place_steps c.charge.new.self c.args.stack.now (Some c.index-nodes-at.result) c.args.foster) c.requires.«open»
+    (c.replace.ensures ∙ c.in_ok-regrouped.ensures.regrouped.stack_is ∙ ap (λ (v : List ℕ). take c.args.at v ++ (clones_down (length c.place-target.new.arena.labels) (length c.in_ok-regrouped.ensures.regrouped.cloned_elements) ++ (get_or c.as_slice-nodes.result.now c.args.block_at 0 ∷ (length c.place-target.new.arena.labels + length c.in_ok-regrouped.ensures.regrouped.cloned_elements) ∷ drop (c.args.block_at + 1) c.as_slice-nodes.result.now))) c.as_slice-nodes.ensures)
     (omega (arith, e1, e2, k1)) (ap (λ (t : Tree). t.steps) c.place-target.ensures.steps) (omega (arith, n1, n2)) c.regroup.ensures.steps.least
 
 pub returns-clause-roots : goal.returns-clause-roots
