@@ -22,7 +22,7 @@ use Rattle.html_tree.proofs.Inserted.{element-origin, made-labels}
 use Rattle.html_construction.specs.Built.{IsRooted}
 use Rattle.html_construction.specs.Origins.{HasOrigin, HasRoot}
 use Rattle.html_construction.proofs.Accounting.{Told, told-alone, told-none}
-use Rattle.html_construction.proofs.Building.{made-limits}
+use Rattle.html_tree.proofs.Texted.{made-limits}
 
 abbrev root : NewNode
 root = new.Element (name_of tag.Html) [] Implied

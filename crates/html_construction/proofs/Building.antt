@@ -16,7 +16,6 @@ use Rattle.html_tree.specs.States.{State as Tree}
 use Rattle.html_tree.specs.Inserting.{with_new}
 use Rattle.html_tree.specs.Listing.{HasCloned}
 use Rattle.html_tree.specs.Texts.{place_here, text_before, tree_or_new, with_text_node}
-use Rattle.html_tree.proofs.Texted.{put-limits}
 use Rattle.html_tree.specs.Since.{IsContents, Keeps as TreeKeeps, Since, essence}
 use Rattle.html_ledger.specs.declared.symbol.Symbol.TheVariants.{Char}
 use Rattle.html_ledger.specs.Symbols.{symbol_of, chars_of as symbol_chars}
@@ -162,22 +161,3 @@ as-detached a b x o e = record {
   labels_are = ap (λ (t : Nodes). t.labels) e ∙ detached-labels a.tree x o ∙ sym (append-nil a.tree.labels);
   limits_are = ap (λ (t : Nodes). t.limits) e ∙ detached-limits a.tree x o;
 }
-
--- a new node keeps the limits
-pub made-limits : (t : Nodes) (d : NewNode) → (made t d).limits ≡ t.limits
-made-limits t d = by (has_contents d) refl
-  where
-    by : (b : Bool) → has_contents d ≡ b → (made t d).limits ≡ t.limits
-    by true h = rw h refl
-    by false h = rw h refl
-
-pub new-limits : (t : Nodes) (at : Place) (d : NewNode) → (with_new t at d).limits ≡ t.limits
-new-limits t at d = put-limits (made t d) at (length t.labels) ∙ made-limits t d
-
--- and so does text
-pub text-limits : (a : Tree) (foster : Bool) → (with_text_node a foster).limits ≡ a.tree.limits
-text-limits a foster = by (text_before a.tree (place_here a foster))
-  where
-    by : (o : Option ℕ) → (tree_or_new a.tree (place_here a foster) o).limits ≡ a.tree.limits
-    by None = new-limits a.tree (place_here a foster) Text
-    by (Some x) = refl

@@ -32,6 +32,7 @@ use Rattle.html_arena.specs.declared.arena.Limits.{Limits}
 use Rattle.html_ledger.specs.declared.setting.Setting.TheVariants as setting
 use Rattle.html_construction.specs.Origins.{HasRoot, is_made_alone}
 use Rattle.html_construction.proofs.Beginning.{document-root, document-rooted, document-told, fragment-limits, fragment-root, fragment-rooted, fragment-told}
+use Rattle.html_tree.proofs.Texted.{new-limits}
 use Rattle.html_construction.specs.Built.{BeginsWith, Handed, IsBuilt, IsRooted, nothing_of, Keeps, Releases, Takes, TakesRun, chars_of, since_tree, symbols, with_tokens}
 use Rattle.html_construction.specs.Modes.{is_reset}
 use Rattle.html_construction.specs.UnderWay.{IsUnderWay}
@@ -47,7 +48,7 @@ use Rattle.html_tree.specs.Texts.{text_node, with_text}
 use Rattle.html_construction.specs.Tokens.{attrs_of, data_of, element_name, name_id, public_id, system_id}
 use Rattle.html_construction.proofs.Accounting.{IsNext, Told, fed-most, fed-none, fed-same, next-comment, next-doctype, next-element, told-besides, told-clones, told-implied, told-kept, told-merged, told-next, told-released, told-text}
 use Rattle.html_construction.proofs.Weighing.{same-tag, group-weighs, weight-le, weight-less, weight_of-formatting}
-use Rattle.html_construction.proofs.Building.{Since-same, new-limits, root-keeps, rooted-keeps, since-keeps, symbols-append, symbols-chars, symbols-push}
+use Rattle.html_construction.proofs.Building.{Since-same, root-keeps, rooted-keeps, since-keeps, symbols-append, symbols-chars, symbols-push}
 
 -- both of two tests
 both : (a b : Bool) → (a && b) ≡ true → (a ≡ true) × (b ≡ true)

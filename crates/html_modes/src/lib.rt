@@ -9,7 +9,7 @@
 //! | 13.2.6.4.4 | in head | `modes/head.rt`, `modes/template.rt` | `in_head` |
 //! | 13.2.6.4.5 | in head noscript | `modes/head.rt` | `in_head_noscript` |
 //! | 13.2.6.4.6 | after head | `modes/head.rt` | `after_head` |
-//! | 13.2.6.4.7 | in body | `modes/body_start.rt`, `modes/body_end.rt`, `modes/formatting.rt` | `in_body` |
+//! | 13.2.6.4.7 | in body | `modes/body.rt`, `modes/body_start.rt`, `modes/body_phrase.rt`, `modes/body_text.rt`, `modes/body_end.rt`, `modes/formatting.rt` | `in_body` |
 //! | 13.2.6.4.8 | text | `modes/text.rt` | `text` |
 //! | 13.2.6.4.9 | in table | `modes/table.rt` | `in_table` |
 //! | 13.2.6.4.10 | in table text | `modes/table_text.rt` | `in_table_text` |

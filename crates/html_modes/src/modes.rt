@@ -2,8 +2,11 @@
 // construction, and each other.
 
 pub(crate) mod after;
+pub(crate) mod body;
 pub(crate) mod body_end;
+pub(crate) mod body_phrase;
 pub(crate) mod body_start;
+pub(crate) mod body_text;
 pub(crate) mod cell;
 pub(crate) mod formatting;
 pub(crate) mod frameset;

@@ -13,7 +13,7 @@ ghost use Rattle.html_modes.specs.RawText.{Adds, AddsBy, Ends, EndsBy, Opens, Op
 
 use crate::guards::{is_astray, is_table_text, is_unfounded};
 use crate::modes::after::{after_after_body, after_body};
-use crate::modes::body_start::in_body;
+use crate::modes::body::in_body;
 use crate::modes::cell::in_cell;
 use crate::modes::frameset::{after_after_frameset, after_frameset, in_frameset};
 use crate::modes::head::{after_head, in_head, in_head_noscript};

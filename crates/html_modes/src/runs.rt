@@ -13,7 +13,7 @@ ghost use Rattle.html_modes.specs.RawText.{AddsText};
 ghost use Rattle.html_construction.specs.Weights.{weight};
 
 use crate::guards::{is_text, takes_run};
-use crate::modes::body_start::body_run;
+use crate::modes::body::body_run;
 use crate::process::take;
 use html_construction::{Construction, Refusal};
 use html_ledger::Symbol;

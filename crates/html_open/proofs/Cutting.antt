@@ -18,7 +18,7 @@ use Rattle.html_open.proofs.Clones.{cloned-label}
 use Rattle.html_open.proofs.Rounds.{stepped}
 
 -- the budget looks at the labels
-budget-is : (t u : Tree) (done : List ℕ) (c : ℕ) → c < length t.labels → AreCloned t u done → u.held ≡ capped (sum_by weight u.labels)
+pub budget-is : (t u : Tree) (done : List ℕ) (c : ℕ) → c < length t.labels → AreCloned t u done → u.held ≡ capped (sum_by weight u.labels)
     → budget u 1 (made_weight u (CloneOf c)) ≡ clone_budget t done c
 budget-is t u done c b h held =
     ap (λ (k : ℕ). budget_of u.limits (length u.labels + 1) (more k (capped (weight (cloned (label_of u c)))))) held
@@ -41,6 +41,7 @@ cut-at t u v xs done rest c e q b h held k s = record {
   same_marks = λ m x. ap (λ (w : Tree). marked w m x) s ∙ h.same_marks m x;
   same_parents = λ x. ap (λ (w : Tree). parent_of w x) s ∙ h.same_parents x;
   same_children = λ x. ap (λ (w : Tree). children_of w x) s ∙ h.same_children x;
+  limits_are = ap (λ (w : Tree). w.limits) s ∙ h.limits_are;
   lacking = lacking-is t u done rest c e b h held k;
 }
 
@@ -61,6 +62,7 @@ cut-next t u v xs i c e l q b h held k s = record {
   same_marks = λ m x. ap (λ (w : Tree). marked w m x) s ∙ h.same_marks m x;
   same_parents = λ x. ap (λ (w : Tree). parent_of w x) s ∙ h.same_parents x;
   same_children = λ x. ap (λ (w : Tree). children_of w x) s ∙ h.same_children x;
+  limits_are = ap (λ (w : Tree). w.limits) s ∙ h.limits_are;
   lacking = lacking-is t u (take i xs) (drop (suc i) xs) c e b h held k;
 }
 
@@ -79,6 +81,7 @@ cut-before t v xs ys e k = record {
   same_marks = k.same_marks;
   same_parents = k.same_parents;
   same_children = k.same_children;
+  limits_are = k.limits_are;
   lacking = lacking-next t k.done k.rest (k.rest ++ ys) k.next e k.lacking;
 }
 
@@ -92,6 +95,7 @@ cut-all t u v xs e q h s = record {
   same_marks = λ m x. ap (λ (w : Tree). marked w m x) s ∙ h.same_marks m x;
   same_parents = λ x. ap (λ (w : Tree). parent_of w x) s ∙ h.same_parents x;
   same_children = λ x. ap (λ (w : Tree). children_of w x) s ∙ h.same_children x;
+  limits_are = ap (λ (w : Tree). w.limits) s ∙ h.limits_are;
   lacking = subst (IsLacking t xs []) (sym q) tt;
 }
 
@@ -123,5 +127,6 @@ cut-rebase t n v xs e k = record {
   same_marks = k.same_marks;
   same_parents = k.same_parents;
   same_children = k.same_children;
+  limits_are = k.limits_are;
   lacking = lacking-rebase t n k.done k.rest e k.lacking;
 }

@@ -1,4 +1,5 @@
 pub mod Lists
+pub mod Limits
 pub mod Keeps
 pub mod Popping
 pub mod Naming

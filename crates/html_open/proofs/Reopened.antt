@@ -5,10 +5,11 @@ use Rattle.std.proofs.lemmas.List.{append-nil, length-map, length-set, length-ta
 use Rattle.std.specs.List.{list_any, range_with_len}
 use Rattle.html_arena.specs.declared.arena.ArenaError.{ArenaError}
 use Rattle.html_arena.specs.declared.arena.ArenaError.TheVariants as arena
+use Rattle.html_arena.specs.declared.arena.Limits.{Limits}
 use Rattle.html_arena.specs.declared.data.NodeData.TheVariants.{Document}
 use Rattle.html_arena.specs.declared.data.NewNode.TheVariants.{CloneOf}
 use Rattle.html_arena.specs.declared.marks.Mark.TheVariants.{OnStack}
-use Rattle.html_arena.specs.Budget.{budget}
+use Rattle.html_arena.specs.Budget.{budget, budget_of}
 use Rattle.html_arena.specs.Data.{IsElement, cloned, label_in}
 use Rattle.html_arena.specs.Make.{made, made_weight}
 use Rattle.html_arena.specs.Siblings.{first_of, has}
@@ -25,15 +26,16 @@ use Rattle.html_open.specs.Lists.{above, after_index, below, last_index, last_wh
 use Rattle.html_open.specs.Marking.{bare, charged}
 use Rattle.html_open.specs.Opened.{IsMarked, IsOpen, Open, open_at}
 use Rattle.html_open.specs.Placing.{CanPlace, by_table, fosters, outside_table, place_of, place_steps, put, table, target_of, template}
-use Rattle.html_open.specs.Reopening.{IsCause, IsNextClone, ClonedFirst, KeepsClosed, Reopened, ReopenedFirst, clone_steps, clones_of, closed, fresh, reopen_steps, search_steps, stands, with_clone, with_clones}
-use Rattle.html_open.specs.Reopenings.{IsRefused, IsTried, with_reopened}
+use Rattle.html_open.specs.Reopening.{IsCause, IsNextClone, IsPassed, IsTold, ClonedFirst, KeepsClosed, Reopened, ReopenedFirst, clone_steps, clones_of, closed, fresh, reopen_steps, search_steps, stands, with_clone, with_clones}
+use Rattle.html_open.specs.Reopenings.{IsCloneTold, IsRefused, IsTried, with_reopened}
 use Rattle.html_open.specs.Rooting.{KeepsParents}
 use Rattle.html_open.specs.Searches.{open_or_marker}
 use Rattle.html_open.proofs.Clones.{map-append}
 use Rattle.html_open.proofs.Hangs.{ge-of, lt-of}
 use Rattle.html_open.proofs.Inserted.{get-before, get-default}
 use Rattle.html_open.proofs.Keeps.{cases_bool, cases_eqb, eqb-self, has-append, nodes-append, open-charged}
-use Rattle.html_open.proofs.Lists.{after-length, after-up_to, get_or-default}
+use Rattle.html_open.proofs.Limits.{clones-limits}
+use Rattle.html_open.proofs.Lists.{after-length, after-up_to, get_or-default, node-at}
 use Rattle.html_open.proofs.Standing.{element-in}
 
 -- what is the same for the same tree
@@ -362,6 +364,24 @@ cause-is f o i s l t u d x NodeBudget b h k =
 cause-is f o i s l t u d x HeldBudget b h k =
     let r = next-element f o i s l t u d x b h in
     u.causes (Err arena.HeldBudget) (record { done = []; next = x; rest = r.0; elements_are = r.1; answer_is = k })
+
+-- the limits are as they were
+under-way-limits : (f : Bool) (o : Open) (i : ℕ) (s : List ℕ) (l : List Entry) (t : Tree) → UnderWay f o i s l t → t.limits ≡ o.tree.limits
+under-way-limits f o i s l t u = sym (clones-limits t s f u.rest) ∙ ap (λ (v : Tree). v.limits) u.tree_end ∙ clones-limits o.tree o.stack f (closed o)
+
+-- one clone more would pass them: of an element in the list
+module _ (f : Bool) (o : Open) (i : ℕ) (s s' : List ℕ) (l l' : List Entry) (t v : Tree) (u : UnderWay f o i s l t) (d : Entry) (x : ℕ) (b : i < length l) (h : get_or l i d ≡ Node x) (q : l' ≡ l) where
+  passed-by : (cause : ArenaError) → budget_of t.limits (length v.labels + 1) (more v.held (made_weight v (CloneOf x))) ≡ Err cause → IsPassed o.tree.limits (open_at s' l' v) cause
+  passed-by cause k = record {
+    next = x;
+    listed = ap (has_node x) q ∙ node-at l i x d h b;
+    answer_is = ap (λ (m : Option Limits). budget_of m (length v.labels + 1) (more v.held (made_weight v (CloneOf x)))) (sym (under-way-limits f o i s l t u)) ∙ k;
+  }
+
+  pub told-is : (e : OpenError) → IsCloneTold t.limits v x e → IsTold o.tree.limits (open_at s' l' v) e
+  told-is OutOfMemory k = tt
+  told-is NodeBudget k = passed-by arena.NodeBudget k
+  told-is HeldBudget k = passed-by arena.HeldBudget k
 
 -- what one entry more changes
 pub record IsStep (f : Bool) (s s' : List ℕ) (l l' : List Entry) (t t' : Tree) (i x : ℕ) : Type 0 where

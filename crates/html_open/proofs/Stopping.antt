@@ -1,30 +1,39 @@
 -- What a round leaves that could not be ended.
-use Rattle.std.proofs.Common.{◌≡◌, ℕ, zero, suc, ◌+◌, ◌-◌, ◌<◌, ◌≤◌, Bool, true, false, List, [], ◌∷◌, length, length-append, map, take, drop, get_or, inl, inr, sym, ◌∙◌, ap, subst, arith}
+use Rattle.std.proofs.Common.{◌≡◌, ℕ, zero, suc, ◌+◌, ◌-◌, ◌<◌, ◌≤◌, Bool, true, false, List, [], ◌∷◌, ◌++◌, length, Option, length-append, map, take, drop, get_or, inl, inr, sym, ◌∙◌, ap, subst, arith}
 use Rattle.std.proofs.lemmas.List.{get_or_append_left}
+use Rattle.std.specs.List.{sum_by}
 use Rattle.html_names.specs.declared.tag.Tag.{Tag}
 use Rattle.html_names.specs.declared.tag.Tag.TheVariants as tag
 use Rattle.html_names.specs.Tags.{is_same}
+use Rattle.html_arena.specs.declared.arena.ArenaError.{ArenaError}
+use Rattle.html_arena.specs.declared.arena.ArenaError.TheVariants as arena
+use Rattle.html_arena.specs.declared.arena.Limits.{Limits}
+use Rattle.html_arena.specs.declared.data.NewNode.TheVariants.{CloneOf}
 use Rattle.html_arena.specs.declared.data.NodeData.{NodeData}
 use Rattle.html_arena.specs.declared.data.NodeData.TheVariants.{Document}
+use Rattle.html_arena.specs.Budget.{budget_of}
 use Rattle.html_arena.specs.Data.{IsElement, cloned, label_in, origin_in, tag_in}
+use Rattle.html_arena.specs.Make.{made_weight}
 use Rattle.html_arena.specs.Siblings.{first_of, has, last_of}
-use Rattle.html_arena.specs.Tree.{Tree, WellFormed, label_of}
+use Rattle.html_arena.specs.Tree.{Tree, WellFormed, label_of, more}
+use Rattle.html_arena.specs.Weight.{capped, weight}
 use Rattle.html_arena.proofs.Laws.{ancestors-frame}
 use Rattle.html_open.specs.declared.entry.Entry.{Entry}
 use Rattle.html_open.specs.declared.error.OpenError.{OpenError}
+use Rattle.html_open.specs.declared.error.OpenError.TheVariants.{OutOfMemory, NodeBudget, HeldBudget}
 use Rattle.html_open.specs.AdoptFinding.{IsBlock}
 use Rattle.html_open.specs.Adopting.{IsFirstFree, IsRefusal, IsStopped, MadeClones, Rounds, no_round, originals, pops_at_once, round_originals}
-use Rattle.html_open.specs.Cloning.{IsCut}
+use Rattle.html_open.specs.Cloning.{AreCloned, IsCut, IsFull}
 use Rattle.html_open.specs.Entries.{has_node}
 use Rattle.html_open.specs.Opened.{AreNodes, IsOpen, Open, open_at}
 use Rattle.html_open.specs.Placing.{CanPlace}
-use Rattle.html_open.specs.Reopening.{KeepsClosed}
-use Rattle.html_open.proofs.Cutting.{cut-length, cut-rebase}
+use Rattle.html_open.specs.Reopening.{IsPassed, IsTold, KeepsClosed}
+use Rattle.html_open.proofs.Cutting.{budget-is, cut-length, cut-rebase}
 use Rattle.html_open.proofs.Edits.{open-alike, ordered-fewer}
 use Rattle.html_open.proofs.Finding.{last_named-in}
 use Rattle.html_open.proofs.Looping.{rounds-rebase}
 use Rattle.html_open.proofs.Numbering.{originals-few, originals-in}
-use Rattle.html_open.proofs.Ordering.{has-either, has-head, has-left}
+use Rattle.html_open.proofs.Ordering.{has-either, has-head, has-left, has-right}
 use Rattle.html_open.proofs.Rounds.{stepped}
 use Rattle.html_open.proofs.Upwards.{has-first}
 
@@ -137,3 +146,25 @@ module _ (s : Tag) (o q : Open) (e : OpenError) (k : IsStopped s o q e) where
 
   pub stopped-free : IsFirstFree o.stack o.list → IsFirstFree q.stack q.list
   stopped-free f = λ x a. ap (has_node x) k.list_is ∙ f x (sym (ap first_of k.stack_is) ∙ a)
+
+-- what could not be cloned any more would pass the limits
+full-passed : (o q : Open) (cause : ArenaError) (xs done rest : List ℕ) → xs ≡ done ++ rest → ((x : ℕ) → has x xs ≡ true → has_node x o.list ≡ true) → q.list ≡ o.list → IsOpen o → AreCloned o.tree q.tree done
+    → q.tree.held ≡ capped (sum_by weight q.tree.labels) → IsFull o.tree done rest cause → IsPassed o.tree.limits q cause
+full-passed o q cause xs done [] a l e h c held k = absurd k
+full-passed o q cause xs done (x ∷ rest) a l e h c held k =
+    let i : has_node x o.list ≡ true = l x (subst (λ (ys : List ℕ). has x ys ≡ true) (sym a) (has-right x done (x ∷ rest) (has-first x rest))) in
+    record {
+      next = x;
+      listed = ap (has_node x) e ∙ i;
+      answer_is = ap (λ (m : Option Limits). budget_of m (length q.tree.labels + 1) (more q.tree.held (made_weight q.tree (CloneOf x)))) (sym c.limits_are) ∙ budget-is o.tree q.tree done x (h.list_in x i) c held ∙ k;
+    }
+
+cut-cloned : (t v : Tree) (xs : List ℕ) (e : OpenError) → (k : IsCut t v xs e) → AreCloned t v k.done
+cut-cloned t v xs e k = record { labels_are = k.labels_are; same_marks = k.same_marks; same_parents = k.same_parents; same_children = k.same_children; limits_are = k.limits_are }
+
+pub stopped-told : (s : Tag) (o q : Open) (e : OpenError) → IsStopped s o q e → IsOpen o → q.tree.held ≡ capped (sum_by weight q.tree.labels) → IsTold o.tree.limits q e
+stopped-told s o q OutOfMemory k h held = tt
+stopped-told s o q NodeBudget k h held =
+    full-passed o q arena.NodeBudget (round_originals o k.at k.b) k.cut.done k.cut.rest k.cut.all (originals-listed s o k.at k.b k.block) k.list_is h (cut-cloned o.tree q.tree (round_originals o k.at k.b) NodeBudget k.cut) held k.cut.lacking
+stopped-told s o q HeldBudget k h held =
+    full-passed o q arena.HeldBudget (round_originals o k.at k.b) k.cut.done k.cut.rest k.cut.all (originals-listed s o k.at k.b k.block) k.list_is h (cut-cloned o.tree q.tree (round_originals o k.at k.b) HeldBudget k.cut) held k.cut.lacking

@@ -68,6 +68,7 @@ pub record IsCut (old new : Tree) (xs : List ℕ) (e : OpenError) : Type 0 where
   pub same_marks : (m : Mark) (x : ℕ) → marked new m x ≡ marked old m x
   pub same_parents : (x : ℕ) → parent_of new x ≡ parent_of old x
   pub same_children : (x : ℕ) → children_of new x ≡ children_of old x
+  pub limits_are : new.limits ≡ old.limits
   pub lacking : IsLacking old done rest e
 
 -- some of them have been, and the next could not be
@@ -80,4 +81,5 @@ pub record IsCutShort (old new : Tree) (xs : List ℕ) (e : OpenError) : Type 0 
   pub same_marks : (m : Mark) (x : ℕ) → marked new m x ≡ marked old m x
   pub same_parents : (x : ℕ) → parent_of new x ≡ parent_of old x
   pub same_children : (x : ℕ) → children_of new x ≡ children_of old x
+  pub limits_are : new.limits ≡ old.limits
   pub lacking : IsLacking old done (next ∷ rest) e

@@ -1,14 +1,15 @@
 -- One entry that is opened anew: what the parts of reopening do.
-use Rattle.std.specs.Prelude.{◌≡◌, ◌≢◌, ℕ, ◌<◌, Bool, true, false, cond, List, [], ◌∷◌, ◌++◌, length, slice_index_or, Option, Some, None, Ok, Err}
+use Rattle.std.specs.Prelude.{◌≡◌, ◌≢◌, ℕ, ◌+◌, ◌<◌, Bool, true, false, cond, List, [], ◌∷◌, ◌++◌, length, slice_index_or, Option, Some, None, Ok, Err}
 use Rattle.html_arena.specs.declared.arena.ArenaError.TheVariants as arena
+use Rattle.html_arena.specs.declared.arena.Limits.{Limits}
 use Rattle.html_arena.specs.declared.data.NewNode.TheVariants.{CloneOf}
 use Rattle.html_arena.specs.declared.marks.Mark.{Mark}
 use Rattle.html_arena.specs.declared.marks.Mark.TheVariants.{OnStack, InList}
-use Rattle.html_arena.specs.Budget.{budget}
+use Rattle.html_arena.specs.Budget.{budget, budget_of}
 use Rattle.html_arena.specs.Data.{cloned}
 use Rattle.html_arena.specs.Make.{made_weight}
 use Rattle.html_arena.specs.Siblings.{has}
-use Rattle.html_arena.specs.Tree.{Tree, ancestors, children_of, label_of, marked, parent_of, with_marked}
+use Rattle.html_arena.specs.Tree.{Tree, ancestors, children_of, label_of, marked, more, parent_of, with_marked}
 use Rattle.html_open.specs.declared.entry.Entry.{Entry}
 use Rattle.html_open.specs.declared.entry.Entry.TheVariants.{Marker}
 use Rattle.html_open.specs.declared.error.OpenError.{OpenError}
@@ -45,6 +46,12 @@ abbrev pub IsRefused : Tree → ℕ → OpenError → Type 0
 IsRefused t x OutOfMemory = budget t 1 (made_weight t (CloneOf x)) ≡ Ok tt
 IsRefused t x NodeBudget = budget t 1 (made_weight t (CloneOf x)) ≡ Err arena.NodeBudget
 IsRefused t x HeldBudget = budget t 1 (made_weight t (CloneOf x)) ≡ Err arena.HeldBudget
+
+-- where a budget is told, what there is in the end and the clone of x would pass it
+abbrev pub IsCloneTold : Option Limits → Tree → ℕ → OpenError → Type 0
+IsCloneTold limits t x OutOfMemory = Unit {0}
+IsCloneTold limits t x NodeBudget = budget_of limits (length t.labels + 1) (more t.held (made_weight t (CloneOf x))) ≡ Err arena.NodeBudget
+IsCloneTold limits t x HeldBudget = budget_of limits (length t.labels + 1) (more t.held (made_weight t (CloneOf x))) ≡ Err arena.HeldBudget
 
 -- the clone of x is the one node more, or there is none
 pub record IsTried (old new : Tree) (x : ℕ) : Type 0 where

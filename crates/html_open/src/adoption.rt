@@ -11,7 +11,7 @@ ghost use Rattle.html_open.specs.Marking.{IsCounted};
 ghost use Rattle.html_open.specs.Opened.{IsOpen, Open, open_at};
 ghost use Rattle.html_open.specs.Outcome.{IsAlike};
 ghost use Rattle.html_open.specs.Placing.{CanPlace};
-ghost use Rattle.html_open.specs.Reopening.{KeepsClosed};
+ghost use Rattle.html_open.specs.Reopening.{IsTold, KeepsClosed};
 ghost use Rattle.html_open.specs.Rooting.{KeepsRoots};
 
 mod chain;
@@ -76,6 +76,7 @@ pub fn adopt(
     ensures no_more_open { length stack.new ≤ length stack.old }
     ensures no_more_listed { length list.new ≤ length list.old }
     ensures cause { IfErr result (λ e. IsRefusal name foster (open_at stack.old list.old arena.old) (open_at stack.new list.new arena.new) e) }
+    ensures told { IfErr result (λ e. IsTold arena.old.limits (open_at stack.new list.new arena.new) e) }
     ensures steps { IsCounted arena.old.steps arena.new.steps (length arena.new.labels - length arena.old.labels) (8 * length arena.new.labels + 32 * length stack.old + 24 * length list.old + 291) }
     ensures paid { OnOk result (IsPaid (open_at stack.old list.old arena.old) (open_at stack.new list.new arena.new)) }
     ensures well_formed { WellFormed arena.new }

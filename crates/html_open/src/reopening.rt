@@ -11,7 +11,7 @@ ghost use Rattle.html_open.specs.Marking.{charged};
 ghost use Rattle.html_open.specs.Opened.{AreNodes};
 ghost use Rattle.html_open.specs.Placing.{CanPlace, place_of, place_steps};
 ghost use Rattle.html_open.specs.Reopening.{search_steps, with_clone};
-ghost use Rattle.html_open.specs.Reopenings.{IsInserted, IsRefused, IsTried, end_steps_at, with_reopened};
+ghost use Rattle.html_open.specs.Reopenings.{IsCloneTold, IsInserted, IsRefused, IsTried, end_steps_at, with_reopened};
 ghost use Rattle.html_open.specs.Searches.{open_or_marker};
 
 use crate::entry::Entry;
@@ -29,7 +29,7 @@ impl FormattingList {
     ghost use Rattle.html_open.specs.Opened.{IsOpen, open_at};
     ghost use Rattle.html_open.specs.Adopting.{IsFirstFree, MadeClones, Survives};
     ghost use Rattle.html_open.specs.Leaving.{listed_weight};
-    ghost use Rattle.html_open.specs.Reopening.{ClonedFirst, IsCause, KeepsClosed, Reopened, ReopenedFirst, clones_of, closed, reopen_steps};
+    ghost use Rattle.html_open.specs.Reopening.{ClonedFirst, IsCause, IsTold, KeepsClosed, Reopened, ReopenedFirst, clones_of, closed, reopen_steps};
     ghost use Rattle.html_open.specs.Rooting.{KeepsParents};
 
     /// Reconstructs the active formatting elements: those of the entries after the last one that is a marker or on the stack are opened
@@ -68,6 +68,7 @@ impl FormattingList {
         ensures parents { KeepsParents arena.old arena.new }
         ensures well_formed { WellFormed arena.new }
         ensures cause { IfErr result (λ e. IsCause (open_at stack.old self.old arena.old) foster e) }
+        ensures told { IfErr result (λ e. IsTold arena.old.limits (open_at stack.new self.new arena.new) e) }
     {
         arena.forest();
         let start = self.first_closed(arena);
@@ -123,6 +124,7 @@ impl FormattingList {
         ensures closed { KeepsClosed (open_at stack.old self.old arena.old) arena.new }
         ensures parents { KeepsParents arena.old arena.new }
         ensures cause { IfErr result (λ e. IsRefused arena.old node e) }
+        ensures told { IfErr result (λ e. IsCloneTold arena.old.limits arena.new node e) }
     {
         arena.forest();
         let clone = insert_clone(stack, arena, foster, node)?;
@@ -153,6 +155,7 @@ fn insert_clone(
     ensures room { OnOk result (budget arena.old 1 (made_weight arena.old (CloneOf node)) ≡ Ok tt) }
     ensures same { OnErr result (arena.new ≡ charged arena.old (place_steps arena.old stack.now None foster)) }
     ensures cause { IfErr result (λ e. IsRefused arena.old node e) }
+    ensures told { IfErr result (λ e. IsCloneTold arena.old.limits arena.new node e) }
 {
     let place = place(stack, arena, None, foster);
     let clone = arena.make(NewNode::CloneOf(node))?;

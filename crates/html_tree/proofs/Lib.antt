@@ -12,7 +12,6 @@ pub mod Merged
 pub mod Texted
 pub mod Clones
 pub mod Adopted
-pub mod Limited
 pub mod Roots
 pub mod Seating
 pub mod Scoped

@@ -1,13 +1,14 @@
 -- The text at a place.
-use Rattle.std.proofs.Common.{◌≡◌, ℕ, ◌+◌, ◌<◌, Bool, true, List, [], ◌∷◌, ◌++◌, length, Option, Some, None, IfSome, ◌⊎◌, inl, inr, refl, sym, ◌∙◌, ap, subst, arith, length-append}
+use Rattle.std.proofs.Common.{◌≡◌, ℕ, ◌+◌, ◌<◌, Bool, true, false, List, [], ◌∷◌, ◌++◌, length, Option, Some, None, IfSome, ◌⊎◌, inl, inr, refl, sym, ◌∙◌, ap, subst, arith, length-append}
 use Rattle.html_names.specs.Tags.{is_same}
 use Rattle.html_names.specs.declared.tag.Tag.TheVariants as tag
+use Rattle.html_arena.specs.declared.data.NewNode.{NewNode}
 use Rattle.html_arena.specs.declared.data.NewNode.TheVariants as new
 use Rattle.html_arena.specs.declared.data.NodeData.TheVariants as node
 use Rattle.html_arena.specs.declared.data.Origin.TheVariants.{Nothing, Token}
 use Rattle.html_arena.specs.Budget.{budget, budget_of}
 use Rattle.html_arena.specs.Data.{IsElement, tag_in}
-use Rattle.html_arena.specs.Make.{made}
+use Rattle.html_arena.specs.Make.{has_contents, made}
 use Rattle.html_arena.specs.Siblings.{before, has, last_of}
 use Rattle.html_arena.specs.Tree.{Tree, WellFormed, children_of, inserted, label_of, more, parent_of, sibling}
 use Rattle.html_open.specs.declared.entry.Entry.{Entry}
@@ -17,11 +18,12 @@ use Rattle.html_open.specs.declared.places.Place.TheVariants.{Before, Last}
 use Rattle.html_open.specs.Marking.{bare}
 use Rattle.html_open.specs.Placing.{parent_at, place_of, put}
 use Rattle.html_open.proofs.Keeps.{cases_bool}
+use Rattle.html_open.proofs.Limits.{put-limits}
 use Rattle.html_tree.specs.declared.groups.Target.TheVariants as target
-use Rattle.html_tree.specs.Inserting.{IsLack, IsNew, with_new}
+use Rattle.html_tree.specs.Inserting.{IsBudget, IsLack, IsNew, IsPassed, with_new}
 use Rattle.html_tree.specs.Since.{IsClosed}
-use Rattle.html_tree.specs.States.{IsUnderWay, state_of}
-use Rattle.html_tree.specs.Texts.{IsFree, IsTextLack, if_text, text_before, tree_or_new}
+use Rattle.html_tree.specs.States.{IsUnderWay, State, state_of}
+use Rattle.html_tree.specs.Texts.{IsFree, IsTextLack, IsTextPassed, if_text, place_here, text_before, tree_or_new, with_text_node}
 use Rattle.html_tree.proofs.Inserted.{target-free}
 use Rattle.html_tree.proofs.Spelled.{lack-budget}
 
@@ -88,14 +90,6 @@ pub text-own : (m i : ℕ) → Nothing ≡ Token i → i < m
 text-own m i e = absurd (let q : Nothing ≡ Token i = e in cc)
 
 -- the budget of the first code point of a new text
-pub put-limits : (t : Tree) (p : Place) (c : ℕ) → (put t p c).limits ≡ t.limits
-put-limits t (Last q) c = refl
-put-limits t (Before b) c = by (parent_of t b)
-  where
-    by : (o : Option ℕ) → (inserted t c b o).limits ≡ t.limits
-    by None = refl
-    by (Some q) = refl
-
 put-count : (t : Tree) (p : Place) (c : ℕ) → length (put t p c).labels ≡ length t.labels
 put-count t (Last q) c = refl
 put-count t (Before b) c = by (parent_of t b)
@@ -124,3 +118,27 @@ new-budget t p =
 pub text-lack : (t : Tree) (p : Place) (o : Option ℕ) (e : OpenError) → IsLack (budget (tree_or_new t p o) 0 1) e → IsTextLack t o e
 text-lack t p None e h = lack-budget (budget t 1 1) e (subst (λ v. IsLack v e) (new-budget t p) h)
 text-lack t p (Some x) e h = h
+
+-- a new node keeps the limits
+pub made-limits : (t : Tree) (d : NewNode) → (made t d).limits ≡ t.limits
+made-limits t d = by (has_contents d) refl
+  where
+    by : (b : Bool) → has_contents d ≡ b → (made t d).limits ≡ t.limits
+    by true h = rw h refl
+    by false h = rw h refl
+
+pub new-limits : (t : Tree) (at : Place) (d : NewNode) → (with_new t at d).limits ≡ t.limits
+new-limits t at d = put-limits (made t d) at (length t.labels) ∙ made-limits t d
+
+-- and so does text
+pub text-limits : (a : State) (foster : Bool) → (with_text_node a foster).limits ≡ a.tree.limits
+text-limits a foster = by (text_before a.tree (place_here a foster))
+  where
+    by : (o : Option ℕ) → (tree_or_new a.tree (place_here a foster) o).limits ≡ a.tree.limits
+    by None = new-limits a.tree (place_here a foster) new.Text
+    by (Some x) = refl
+
+-- one code point more than what there is with the text would pass them
+pub text-passed : (a m b : State) (foster : Bool) (e : OpenError) → m.tree ≡ with_text_node a foster → IsPassed m b 0 1 e → IsTextPassed a b e
+text-passed a m b foster e q k =
+    inr (subst (λ v. IsBudget (budget_of v (length b.tree.labels + 0) (more b.tree.held 1)) e) (ap (λ (t : Tree). t.limits) q ∙ text-limits a foster) k)

@@ -12,7 +12,7 @@ use Rattle.html_arena.specs.declared.data.NewNode.TheVariants.{Element}
 use Rattle.html_names.specs.Names.{name_of}
 use Rattle.html_arena.specs.declared.data.NodeData.{NodeData}
 use Rattle.html_arena.specs.declared.data.NodeData.TheVariants.{Contents}
-use Rattle.html_arena.specs.Budget.{budget}
+use Rattle.html_arena.specs.Budget.{budget, budget_of}
 use Rattle.html_arena.specs.Make.{has_contents, label_for, made, made_weight, nodes_made}
 use Rattle.html_arena.specs.Tree.{Tree, WellFormed, children_of, label_of, more}
 use Rattle.html_arena.specs.Weight.{weight}
@@ -76,6 +76,14 @@ root_budget t = budget t (nodes_made (Element (name_of tag.Html) [] Implied)) (m
 -- the same of a new node for which memory may have been wanted before
 abbrev pub IsTold : State → NewNode → OpenError → Type 0
 IsTold a new e = IsBudget (budget a.tree (nodes_made new) (made_weight a.tree new)) e
+
+-- where a budget is told, what there is in the end and so many more nodes and held code points would pass the limits
+abbrev pub IsPassed : State → State → ℕ → ℕ → OpenError → Type 0
+IsPassed a b nodes held e = IsBudget (budget_of a.tree.limits (length b.tree.labels + nodes) (more b.tree.held held)) e
+
+-- the same of a new node
+abbrev pub IsNodePassed : State → State → NewNode → OpenError → Type 0
+IsNodePassed a b new e = IsPassed a b (nodes_made new) (made_weight b.tree new) e
 
 -- the token, if there is one, is one from the first number on and before the second
 abbrev pub IsFor : Origin → ℕ → ℕ → Type 0

@@ -1,5 +1,5 @@
 -- Inserting characters (13.2.6.1).
-use Rattle.std.specs.Prelude.{◌≡◌, ℕ, Bool, false, cond, List, length, Option, Some, None}
+use Rattle.std.specs.Prelude.{◌≡◌, ℕ, ◌⊎◌, Bool, false, cond, List, length, Option, Some, None}
 use Rattle.html_arena.specs.declared.data.NewNode.TheVariants.{Text}
 use Rattle.html_arena.specs.Budget.{budget}
 use Rattle.html_arena.specs.Data.{is_text}
@@ -10,7 +10,7 @@ use Rattle.html_open.specs.declared.places.Place.{Place}
 use Rattle.html_open.specs.declared.places.Place.TheVariants.{Before, Last}
 use Rattle.html_open.specs.Marking.{bare}
 use Rattle.html_open.specs.Placing.{place_of}
-use Rattle.html_tree.specs.Inserting.{IsBudget, IsLack, with_new}
+use Rattle.html_tree.specs.Inserting.{IsBudget, IsLack, IsNodePassed, IsPassed, with_new}
 use Rattle.html_open.specs.Reopening.{HoldsNoElement}
 use Rattle.html_tree.specs.Since.{IsClosed}
 use Rattle.html_tree.specs.States.{State}
@@ -61,6 +61,10 @@ IsTextLack t (Some x) e = IsLack (budget t 0 1) e
 
 abbrev pub IsTextRefused : State → Bool → OpenError → Type 0
 IsTextRefused a foster e = IsTextLack a.tree (text_before a.tree (place_here a foster)) e
+
+-- where a budget is told, what there is in the end and one text more, or one code point more, would pass the limits
+abbrev pub IsTextPassed : State → State → OpenError → Type 0
+IsTextPassed a b e = IsNodePassed a b Text e ⊎ IsPassed a b 0 1 e
 
 -- a new text was refused
 abbrev pub IsNewTextLack : Tree → Option ℕ → OpenError → Type 0

@@ -11,7 +11,8 @@ ghost use Rattle.html_modes.specs.Steps.{Falls, Grows, Steps, Worked};
 ghost use Rattle.html_modes.specs.declared.outcome.Outcome.TheVariants.{Done};
 ghost use Rattle.html_modes.specs.RawText.{Opens};
 
-use crate::modes::body_start::{body_char, html_start};
+use crate::modes::body::body_char;
+use crate::modes::body_start::html_start;
 use crate::modes::initial::doctype;
 use crate::outcome::Outcome;
 use html_construction::{Construction, Mode, Refusal};

@@ -12,7 +12,7 @@ ghost use Rattle.html_modes.specs.declared.outcome.Outcome.TheVariants.{Done};
 ghost use Rattle.html_tree.specs.Seats.{is_part};
 ghost use Rattle.html_modes.specs.RawText.{Opens};
 
-use crate::modes::body_start::body_rules;
+use crate::modes::body::body_rules;
 use crate::outcome::Outcome;
 use html_construction::{Construction, Mode, Refusal};
 use html_ledger::{Cause, Symbol};

@@ -12,7 +12,8 @@ ghost use Rattle.html_modes.specs.Ranks.{top_rank};
 ghost use Rattle.html_modes.specs.Guards.{is_droppable};
 ghost use Rattle.html_modes.specs.RawText.{Opens};
 
-use crate::modes::body_start::{body_char, html_start};
+use crate::modes::body::body_char;
+use crate::modes::body_start::html_start;
 use crate::modes::initial::doctype;
 use crate::modes::text::text_start;
 use crate::outcome::Outcome;

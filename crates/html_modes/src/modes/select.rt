@@ -15,7 +15,8 @@ ghost use Rattle.html_ledger.specs.MayDrop.{is_in_select};
 ghost use Rattle.html_modes.specs.Guards.{is_droppable};
 ghost use Rattle.html_modes.specs.RawText.{Opens};
 
-use crate::modes::body_start::{body_rules, html_start};
+use crate::modes::body::body_rules;
+use crate::modes::body_start::html_start;
 use crate::modes::head::head_start;
 use crate::modes::initial::doctype;
 use crate::modes::template::template_end;

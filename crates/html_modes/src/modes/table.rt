@@ -13,7 +13,8 @@ ghost use Rattle.html_modes.specs.declared.outcome.Outcome.TheVariants.{Done};
 ghost use Rattle.html_modes.specs.RawText.{Opens};
 
 use crate::guards::has_form;
-use crate::modes::body_start::{body_rules, is_hidden};
+use crate::modes::body::body_rules;
+use crate::modes::body_phrase::is_hidden;
 use crate::modes::head::head_start;
 use crate::modes::initial::doctype;
 use crate::modes::table_text::foster_char;

@@ -12,7 +12,8 @@ ghost use Rattle.html_modes.specs.Ranks.{rank};
 ghost use Rattle.html_modes.specs.RawText.{Opens};
 
 use crate::guards::is_outside_column_group;
-use crate::modes::body_start::{body_rules, html_start};
+use crate::modes::body::body_rules;
+use crate::modes::body_start::html_start;
 use crate::modes::initial::doctype;
 use crate::modes::template::{template_end, template_start_at};
 use crate::outcome::Outcome;

@@ -10,7 +10,7 @@ ghost use Rattle.html_modes.specs.Fitting.{Fits};
 ghost use Rattle.html_modes.specs.Steps.{Counted, Counts, Falls, Settles, Spends, Steps};
 ghost use Rattle.html_modes.specs.RawText.{Opens};
 
-use crate::modes::body_start::body_char;
+use crate::modes::body::body_char;
 use crate::outcome::Outcome;
 use html_construction::{Construction, Mode, Refusal};
 use html_ledger::{Cause, Symbol, is_space};

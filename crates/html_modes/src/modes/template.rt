@@ -13,7 +13,7 @@ ghost use Rattle.html_modes.specs.Ranks.{rank};
 ghost use Rattle.html_modes.specs.declared.outcome.Outcome.TheVariants.{Done};
 ghost use Rattle.html_modes.specs.RawText.{Opens};
 
-use crate::modes::body_start::body_rules;
+use crate::modes::body::body_rules;
 use crate::modes::head::head_start;
 use crate::outcome::Outcome;
 use html_construction::{Construction, Mode, Refusal};

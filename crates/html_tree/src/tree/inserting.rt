@@ -11,7 +11,7 @@ ghost use Rattle.html_arena.specs.Tree.{tag_at};
 ghost use Rattle.html_arena.specs.Weight.{weight};
 ghost use Rattle.html_open.specs.Entries.{push_steps, pushed};
 ghost use Rattle.html_open.specs.Opened.{CanList, open_at};
-ghost use Rattle.html_tree.specs.Inserting.{CanBeFirst, IsBlank, IsFor, IsRefused, IsTold, with_new, with_open};
+ghost use Rattle.html_tree.specs.Inserting.{CanBeFirst, IsBlank, IsFor, IsNodePassed, IsRefused, IsTold, with_new, with_open};
 ghost use Rattle.html_tree.specs.OpenTags.{HasReopened, open_tags};
 ghost use Rattle.html_tree.specs.Seats.{CanSeat, is_part};
 ghost use Rattle.html_tree.specs.Since.{Grown, Keeps};
@@ -61,6 +61,7 @@ impl OpenTree {
         ensures rest { self.new ≡ record self.old { stack = self.new.stack; tree = self.new.tree; steps = self.new.steps; tokens = self.new.tokens } }
         ensures tokens_most { self.new.tokens ≤ token + 1 }
         ensures cause { IfErr result (λ e. IsRefused self.old (Element name attrs (Token token)) e) }
+        ensures told { IfErr result (λ e. IsNodePassed self.old self.new (Element name attrs (Token token)) e) }
     {
         self.open_new(name, attrs, Origin::Token(token), token as u128 + 1, target)
     }
@@ -94,6 +95,7 @@ impl OpenTree {
         ensures rest { self.new ≡ record self.old { tree = self.new.tree; steps = self.new.steps; tokens = self.new.tokens } }
         ensures tokens_most { self.new.tokens ≤ token + 1 }
         ensures cause { IfErr result (λ e. IsRefused self.old (Element name attrs (Token token)) e) }
+        ensures told { IfErr result (λ e. IsNodePassed self.old self.new (Element name attrs (Token token)) e) }
     {
         self.closed_new(name, attrs, Origin::Token(token), token as u128 + 1, target)
     }
@@ -121,6 +123,7 @@ impl OpenTree {
         ensures rest { self.new ≡ record self.old { stack = self.new.stack; tree = self.new.tree; steps = self.new.steps } }
         ensures tokens { self.new.tokens ≡ self.old.tokens }
         ensures cause { IfErr result (λ e. IsTold self.old (Element (name_of tag) [] Implied) e) }
+        ensures told { IfErr result (λ e. IsNodePassed self.old self.new (Element (name_of tag) [] Implied) e) }
     {
         let attrs = Attrs::new(self.alloc);
         let next = self.tokens;
@@ -148,6 +151,7 @@ impl OpenTree {
         ensures rest { self.new ≡ record self.old { tree = self.new.tree; steps = self.new.steps } }
         ensures tokens { self.new.tokens ≡ self.old.tokens }
         ensures cause { IfErr result (λ e. IsTold self.old (Element (name_of tag) [] Implied) e) }
+        ensures told { IfErr result (λ e. IsNodePassed self.old self.new (Element (name_of tag) [] Implied) e) }
     {
         let attrs = Attrs::new(self.alloc);
         let next = self.tokens;
@@ -180,6 +184,7 @@ impl OpenTree {
         ensures rest { self.new ≡ record self.old { tree = self.new.tree; steps = self.new.steps; tokens = self.new.tokens } }
         ensures tokens_most { self.new.tokens ≤ token + 1 }
         ensures cause { IfErr result (λ e. IsRefused self.old (Comment text token) e) }
+        ensures told { IfErr result (λ e. IsNodePassed self.old self.new (Comment text token) e) }
     {
         let new = NewNode::Comment { text, token };
         let node = put_new(&self.stack, &mut self.arena, self.head, target, new)?;
@@ -213,6 +218,7 @@ impl OpenTree {
         ensures rest { self.new ≡ record self.old { tree = self.new.tree; steps = self.new.steps; tokens = self.new.tokens } }
         ensures tokens_most { self.new.tokens ≤ token + 1 }
         ensures cause { IfErr result (λ e. IsRefused self.old (Doctype name public system token) e) }
+        ensures told { IfErr result (λ e. IsNodePassed self.old self.new (Doctype name public system token) e) }
     {
         let new = NewNode::Doctype {
             name,
@@ -251,6 +257,7 @@ impl OpenTree {
         ensures rest { self.new ≡ record self.old { stack = self.new.stack; tree = self.new.tree; steps = self.new.steps; tokens = self.new.tokens } }
         ensures tokens_most { self.new.tokens ≤ token + 1 }
         ensures cause { IfErr result (λ e. IsTold self.old (Element (name_of tag.Html) attrs (Token token)) e) }
+        ensures told { IfErr result (λ e. IsNodePassed self.old self.new (Element (name_of tag.Html) attrs (Token token)) e) }
     {
         let next = token as u128 + 1;
         self.open_named(
@@ -283,6 +290,7 @@ impl OpenTree {
         ensures rest { self.new ≡ record self.old { stack = self.new.stack; tree = self.new.tree; steps = self.new.steps } }
         ensures tokens { self.new.tokens ≡ self.old.tokens }
         ensures cause { IfErr result (λ e. IsTold self.old (Element (name_of tag.Html) [] Implied) e) }
+        ensures told { IfErr result (λ e. IsNodePassed self.old self.new (Element (name_of tag.Html) [] Implied) e) }
     {
         let attrs = Attrs::new(self.alloc);
         let next = self.tokens;
@@ -320,6 +328,7 @@ impl OpenTree {
         ensures rest { self.new ≡ record self.old { stack = self.new.stack; list = self.new.list; tree = self.new.tree; steps = self.new.steps; tokens = self.new.tokens } }
         ensures tokens_most { self.new.tokens ≤ token + 1 }
         ensures cause { IfErr result (λ e. IsRefused self.old (Element name attrs (Token token)) e) }
+        ensures told { IfErr result (λ e. IsNodePassed self.old self.new (Element name attrs (Token token)) e) }
     {
         let next = token as u128 + 1;
         let target = Target::Current(foster);
@@ -361,6 +370,7 @@ impl OpenTree {
         ensures tokens_least { self.old.tokens ≤ self.new.tokens }
         ensures tokens_most { self.new.tokens ≤ next }
         ensures cause { IfErr result (λ e. IsTold self.old (Element (name_of tag) attrs origin) e) }
+        ensures told { IfErr result (λ e. IsNodePassed self.old self.new (Element (name_of tag) attrs origin) e) }
     {
         let name = Str::of(self.alloc, tag.name())?;
         self.open_new(name, attrs, origin, next, target)
@@ -394,6 +404,7 @@ impl OpenTree {
         ensures tokens_least { self.old.tokens ≤ self.new.tokens }
         ensures tokens_most { self.new.tokens ≤ next }
         ensures cause { IfErr result (λ e. IsTold self.old (Element (name_of tag) attrs origin) e) }
+        ensures told { IfErr result (λ e. IsNodePassed self.old self.new (Element (name_of tag) attrs origin) e) }
     {
         let name = Str::of(self.alloc, tag.name())?;
         self.closed_new(name, attrs, origin, next, target)
@@ -435,6 +446,7 @@ impl OpenTree {
         ensures tokens_least { self.old.tokens ≤ self.new.tokens }
         ensures tokens_most { self.new.tokens ≤ next }
         ensures cause { IfErr result (λ e. IsRefused self.old (Element name attrs origin) e) }
+        ensures told { IfErr result (λ e. IsNodePassed self.old self.new (Element name attrs origin) e) }
     {
         let new = NewNode::Element {
             name,
@@ -475,6 +487,7 @@ impl OpenTree {
         ensures tokens_least { self.old.tokens ≤ self.new.tokens }
         ensures tokens_most { self.new.tokens ≤ next }
         ensures cause { IfErr result (λ e. IsRefused self.old (Element name attrs origin) e) }
+        ensures told { IfErr result (λ e. IsNodePassed self.old self.new (Element name attrs origin) e) }
     {
         let new = NewNode::Element {
             name,

@@ -4,6 +4,7 @@ ghost use Rattle.html_names.specs.Sets.{is_formatting};
 ghost use Rattle.html_open.specs.Entries.{is_marker, last_named, push_steps, pushed, without_node};
 ghost use Rattle.html_open.specs.Opened.{CanList, open_at};
 ghost use Rattle.html_open.specs.Lists.{below};
+ghost use Rattle.html_open.specs.Reopening.{IsTold};
 ghost use Rattle.html_tree.specs.Listing.{HasCloned, IsAdoptRefused, IsAdopted, IsReopenRefused, IsReopened, listed_weight};
 ghost use Rattle.html_tree.specs.OpenTags.{HasReopened, IsLighterBesides, open_tags};
 ghost use Rattle.html_tree.specs.Since.{Grown, Keeps};
@@ -102,6 +103,7 @@ impl OpenTree {
         ensures grown { OnOk result (Grown (length self.old.list) (length self.old.list) 0 (listed_weight self.old) self.old self.new) }
         ensures opened { HasReopened self.old self.new }
         ensures cause { IfErr result (λ e. IsReopenRefused foster self.old e) }
+        ensures told { IfErr result (λ e. IsTold self.old.tree.limits (open_at self.new.stack self.new.list self.new.tree) e) }
     {
         self.arena.forest();
         let reopened = self.list.reopen(&mut self.stack, &mut self.arena, foster);
@@ -125,6 +127,7 @@ impl OpenTree {
         ensures grown { OnOk result (Grown 32 0 0 (32 * listed_weight self.old) self.old self.new) }
         ensures lighter { IsLighterBesides self.old self.new }
         ensures cause { IfErr result (λ e. IsAdoptRefused name foster self.old self.new e) }
+        ensures told { IfErr result (λ e. IsTold self.old.tree.limits (open_at self.new.stack self.new.list self.new.tree) e) }
     {
         self.arena.forest();
         let end = adopt(

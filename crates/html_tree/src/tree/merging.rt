@@ -7,7 +7,7 @@ ghost use Rattle.html_arena.specs.Merge.{lacking};
 ghost use Rattle.html_arena.specs.Weight.{attrs_weight, capped};
 ghost use Rattle.html_arena.specs.Budget.{budget};
 ghost use Rattle.html_open.specs.Marking.{bare};
-ghost use Rattle.html_tree.specs.Inserting.{IsLack};
+ghost use Rattle.html_tree.specs.Inserting.{IsLack, IsPassed};
 ghost use Rattle.html_tree.specs.OpenTags.{open_tags};
 ghost use Rattle.html_tree.specs.Since.{Grown, Keeps};
 
@@ -31,6 +31,7 @@ impl OpenTree {
         ensures rest { self.new ≡ record self.old { tree = self.new.tree; steps = self.new.steps } }
         ensures tokens { self.new.tokens ≡ self.old.tokens }
         ensures cause { IfErr result (λ e. IsLack (budget self.old.tree 0 (capped (attrs_weight (lacking (attrs_in (label_of self.old.tree (slice_index self.old.stack index))) attrs)))) e) }
+        ensures told { IfErr result (λ e. IsPassed self.old self.new 0 (capped (attrs_weight (lacking (attrs_in (label_of self.new.tree (slice_index self.new.stack index))) attrs))) e) }
     {
         kept_by_edits();
         let node = self.stack.at(&mut self.arena, index);

@@ -6,10 +6,10 @@ ghost use Rattle.html_arena.specs.Data.{IsText};
 ghost use Rattle.html_arena.specs.Tree.{label_of, texted_run};
 ghost use Rattle.html_open.specs.Marking.{bare};
 ghost use Rattle.html_arena.specs.declared.data.NewNode.TheVariants.{Text};
-ghost use Rattle.html_tree.specs.Inserting.{IsLack, IsRefused, with_new};
+ghost use Rattle.html_tree.specs.Inserting.{IsLack, IsNodePassed, IsPassed, IsRefused, with_new};
 ghost use Rattle.html_tree.specs.OpenTags.{open_tags};
 ghost use Rattle.html_tree.specs.Since.{Grown, Keeps};
-ghost use Rattle.html_tree.specs.Texts.{IsFree, IsNewTextRefused, IsTextRefused, place_here, text_before, text_node, with_text, with_text_node};
+ghost use Rattle.html_tree.specs.Texts.{IsFree, IsNewTextRefused, IsTextPassed, IsTextRefused, place_here, text_before, text_node, with_text, with_text_node};
 
 use super::OpenTree;
 use crate::groups::Target;
@@ -40,6 +40,7 @@ impl OpenTree {
         ensures rest { self.new ≡ record self.old { tree = self.new.tree; steps = self.new.steps } }
         ensures tokens { self.new.tokens ≡ self.old.tokens }
         ensures cause { IfErr result (λ e. IsTextRefused self.old foster e) }
+        ensures told { IfErr result (λ e. IsTextPassed self.old self.new e) }
     {
         let node = self.text_at(foster)?;
         let count = self.append_to(node, run)?;
@@ -59,6 +60,7 @@ impl OpenTree {
         ensures tags { open_tags self.new ≡ open_tags self.old }
         ensures rest { self.new ≡ record self.old { tree = self.new.tree; steps = self.new.steps } }
         ensures cause { IfErr result (λ e. IsNewTextRefused self.old foster e) }
+        ensures told { IfErr result (λ e. IsNodePassed self.old self.new Text e) }
     {
         match self.text_here(foster) {
             Some(node) => Ok(node),
@@ -96,6 +98,7 @@ impl OpenTree {
         ensures tags { open_tags self.new ≡ open_tags self.old }
         ensures rest { self.new ≡ record self.old { tree = self.new.tree; steps = self.new.steps } }
         ensures cause { IfErr result (λ e. IsRefused self.old Text e) }
+        ensures told { IfErr result (λ e. IsNodePassed self.old self.new Text e) }
     {
         let target = Target::Current(foster);
         let new = NewNode::Text;
@@ -119,6 +122,7 @@ impl OpenTree {
         ensures tags { open_tags self.new ≡ open_tags self.old }
         ensures rest { self.new ≡ record self.old { tree = self.new.tree; steps = self.new.steps } }
         ensures cause { IfErr result (λ e. IsLack (budget self.old.tree 0 1) e) }
+        ensures told { IfErr result (λ e. IsPassed self.old self.new 0 1 e) }
     {
         kept_by_edits();
         let count = self.arena.append_run(node, run)?;

@@ -8,6 +8,8 @@ use Rattle.html_open.specs.declared.adoption.AdoptEnd.{AdoptEnd}
 use Rattle.html_open.specs.Adopting.{IsFirstFree, IsTurn, Rounds, no_round, popped}
 use Rattle.html_open.specs.Opened.{open_at}
 use Rattle.html_open.specs.Placing.{CanPlace}
+use Rattle.html_open.specs.Reopening.{IsTold}
+use Rattle.html_open.proofs.Limits.{rounds-limits}
 use Rattle.html_open.proofs.Costing.{adopted-held}
 use Rattle.html_open.proofs.Narrowing.{adopted-narrow, refused-narrow}
 use Rattle.html_open.proofs.Descending.{closed-more, closed-none, closed-rebased, descends-round, descends-start, ends-closed, ends-made, made-more, made-none, made-rebase}
@@ -15,7 +17,7 @@ use Rattle.std.proofs.lemmas.Result.{err_from_is_err_and}
 use Rattle.html_open.specs.declared.error.OpenError.{OpenError}
 use Rattle.html_open.specs.Adopting.{IsRefusal}
 use Rattle.html_open.proofs.Staying.{survives-ends, survives-popped, survives-rebase, survives-round, survives-start, survives-stopped, survives-then}
-use Rattle.html_open.proofs.Stopping.{refusal-is, stopped-can-place, stopped-closed, stopped-free, stopped-length, stopped-made, stopped-open}
+use Rattle.html_open.proofs.Stopping.{refusal-is, stopped-can-place, stopped-closed, stopped-free, stopped-length, stopped-made, stopped-open, stopped-told}
 use Rattle.html_open.proofs.Leaving.{paid-again, paid-popped, paid-same, paid-then}
 use Rattle.html_open.proofs.Rooted.{ends-can-place, ends-first, ends-free, popped-can-place, popped-first, popped-free, popped-roots, roots-rebase, roots-same, roots-then, round-first}
 use Rattle.html_open.proofs.Shrinking.{counted-end, counted-popped, counted-round, round-listed, round-shorter}
@@ -136,6 +138,16 @@ returns-in_err-end-clause-cause c =
     let p = err_from_is_err_and c.from_residual.result c.from_residual.ensures.1 in
     rw p.1 (subst (λ (e : OpenError). IsRefusal c.args.name c.args.foster (open_at c.args.stack.now c.args.list.now c.args.arena.now) (open_at c.turn-turned.new.stack c.turn-turned.new.list c.turn-turned.new.arena) e) (sym p.2)
     (refusal-is c.args.name c.args.foster c.args.stack.now c.args.list.now c.args.arena.now c.pop_unlisted.new.arena.steps c.rounding._index (open_at c.pop_unlisted.new.stack c.args.list.now c.pop_unlisted.new.arena) (open_at c.rounding.stack c.rounding.list c.rounding.arena) (open_at c.turn-turned.new.stack c.turn-turned.new.list c.turn-turned.new.arena) c.in_err-end.field-0.0 (ap (λ (v : List ℕ). open_at v c.args.list.now c.pop_unlisted.new.arena) (c.pop_unlisted.ensures.same_stack c.if-pop_unlisted.false) ∙ ap (λ (t : Tree). open_at c.args.stack.now c.args.list.now t) (c.pop_unlisted.ensures.same_tree c.if-pop_unlisted.false)) (c.pop_unlisted.ensures.no c.if-pop_unlisted.false) c.rounding-test.true c.rounding.invariant.rounds c.in_err-end.ensures.stopped))
+
+pub returns-in_err-end-clause-told : goal.returns-in_err-end-clause-told
+returns-in_err-end-clause-told c =
+    let p = err_from_is_err_and c.from_residual.result c.from_residual.ensures.1 in
+    let q = open_at c.turn-turned.new.stack c.turn-turned.new.list c.turn-turned.new.arena in
+    let o = open_at c.rounding.stack c.rounding.list c.rounding.arena in
+    let m = open_at c.pop_unlisted.new.stack c.args.list.now c.pop_unlisted.new.arena in
+    let l = rounds-limits c.args.name c.args.foster c.rounding._index m o c.rounding.invariant.rounds ∙ ap (λ (t : Tree). t.limits) (c.pop_unlisted.ensures.same_tree c.if-pop_unlisted.false) in
+    rw p.1 (subst (IsTold c.args.arena.now.limits q) (sym p.2)
+    (subst (λ v. IsTold v q c.in_err-end.field-0.0) l (stopped-told c.args.name o q c.in_err-end.field-0.0 c.in_err-end.ensures.stopped c.rounding.invariant.opened c.forest-in-rounding-2.ensures.held)))
 
 pub returns-clause-steps : goal.returns-clause-steps
 returns-clause-steps c =

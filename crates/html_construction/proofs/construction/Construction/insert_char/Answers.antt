@@ -2,7 +2,7 @@ use Rattle.html_ledger.specs.declared.symbol.Symbol.TheVariants.{Char}
 use Rattle.std.proofs.Common.{ap, ◌∙◌, arith}
 use Rattle.html_ledger.specs.Entries.{Entries, given}
 use Rattle.html_construction.proofs.Kept.{adds, still, taken, told-char}
-use Rattle.html_construction.proofs.Building.{text-limits}
+use Rattle.html_tree.proofs.Texted.{text-limits}
 use Rattle.html_tree.specs.States.{State as Tree}
 use Rattle.html_construction.specs.States.{State}
 use Rattle.html_ledger.specs.declared.fate.Fate.TheVariants.{Text}

@@ -4,7 +4,7 @@ use Rattle.html_ledger.specs.declared.fate.Fate.TheVariants.{Text}
 use Rattle.html_ledger.specs.Flags.{may_text_run}
 use Rattle.html_construction.specs.States.{State}
 use Rattle.html_construction.proofs.Kept.{adds-run, front-run, still, taken-run, told-run-text}
-use Rattle.html_construction.proofs.Building.{text-limits}
+use Rattle.html_tree.proofs.Texted.{text-limits}
 use Rattle.html_tree.specs.States.{State as Tree}
 use Rattle.html_ledger.specs.Entries.{given_run}
 use Rattle.html_construction.proofs.Copying.{copied-text, grown-run}

@@ -4,7 +4,10 @@ use Rattle.html_arena.specs.Data.{is_linkable}
 use Rattle.html_arena.specs.Tree.{label_of, marked}
 use Rattle.std.proofs.Common.{get_or, refl}
 use Rattle.std.proofs.lemmas.Result.{err_from_is_err_and}
-use Rattle.html_open.specs.Cloning.{AreCloned, AreFormatting, HaveEntered}
+use Rattle.html_open.specs.declared.error.OpenError.{OpenError}
+use Rattle.html_open.specs.Adopting.{round_originals}
+use Rattle.html_open.specs.Cloning.{AreCloned, AreFormatting, HaveEntered, IsCut}
+use Rattle.html_open.specs.Opened.{open_at}
 use Rattle.html_open.proofs.Cutting.{cut-all}
 use Rattle.html_open.specs.Hanging.{Hung, StandAlone}
 use Rattle.html_open.proofs.Counting.{grown-regrouped, regroup-counted}
@@ -90,6 +93,13 @@ pub returns-clause-regrouped : goal.returns-clause-regrouped
 returns-clause-regrouped c = regrouped c.args.nodes.now c.args.entries.now c.args.arena.now c.args.at c.args.block_at c.forest.ensures.well_formed c.requires.«open» c.requires.block.0 c.requires.block.1 c.elements_to_clone-originals.result c.elements_to_clone-originals.ensures c.clone_all.new.arena (subst (λ (x : ℕ). AreCloned c.args.arena.now c.clone_all.new.arena (c.elements_to_clone-originals.result ++ x ∷ [])) (index-is c.args.nodes.now c.args.at c.index-nodes-at.result (at-within c.args.nodes.now c.args.entries.now c.args.arena.now c.args.at c.args.block_at c.forest.ensures.well_formed c.requires.«open» c.requires.block.0 c.requires.block.1) c.index-nodes-at.is) (subst (λ (v : List ℕ). AreCloned c.args.arena.now c.clone_all.new.arena (v ++ c.index-nodes-at.result ∷ [])) c.as_slice.ensures c.in_ok-clone.ensures.cloned)) c.leave.new.arena c.leave.ensures.same c.leave.ensures.marks c.enter.new.arena c.enter.ensures.same (subst (HaveEntered c.leave.new.arena c.enter.new.arena (length c.args.arena.now.labels)) (c.len-end.ensures ∙ length-is c.args.nodes.now c.args.entries.now c.args.arena.now c.args.at c.args.block_at c.forest.ensures.well_formed c.requires.«open» c.requires.block.0 c.requires.block.1 c.elements_to_clone-originals.result c.elements_to_clone-originals.ensures c.clone_all.new.arena (subst (λ (x : ℕ). AreCloned c.args.arena.now c.clone_all.new.arena (c.elements_to_clone-originals.result ++ x ∷ [])) (index-is c.args.nodes.now c.args.at c.index-nodes-at.result (at-within c.args.nodes.now c.args.entries.now c.args.arena.now c.args.at c.args.block_at c.forest.ensures.well_formed c.requires.«open» c.requires.block.0 c.requires.block.1) c.index-nodes-at.is) (subst (λ (v : List ℕ). AreCloned c.args.arena.now c.clone_all.new.arena (v ++ c.index-nodes-at.result ∷ [])) c.as_slice.ensures c.in_ok-clone.ensures.cloned))) (subst (λ (x : ℕ). HaveEntered c.leave.new.arena c.enter.new.arena x c.len-end.result) c.len-first.ensures c.enter.ensures.marks)) c.args.target c.requires.place_in c.requires.way_in c.requires.apart c.hang.new.arena (subst (λ (x : ℕ). Hung c.enter.new.arena c.hang.new.arena x (length c.args.arena.now.labels) (length c.args.arena.now.labels + length c.elements_to_clone-originals.result) c.args.target) (index-is c.args.nodes.now c.args.block_at c.index-nodes-block_at.result (within c.args.nodes.now c.args.entries.now c.args.arena.now c.args.at c.args.block_at c.forest.ensures.well_formed c.requires.«open» c.requires.block.0 c.requires.block.1) c.index-nodes-block_at.is) (subst (λ (x : ℕ). Hung c.enter.new.arena c.hang.new.arena c.index-nodes-block_at.result (length c.args.arena.now.labels) x c.args.target) (c.in_ok-clone.ensures.number ∙ ap (λ (v : List ℕ). length c.args.arena.now.labels + length v) c.as_slice.ensures) (subst (λ (x : ℕ). Hung c.enter.new.arena c.hang.new.arena c.index-nodes-block_at.result x c.in_ok-clone.clone c.args.target) c.len-first.ensures c.hang.ensures.hung))) c.in_ok-new_nodes.new_nodes.items c.relisted.new.list.items
     (new-stack c.args.nodes.now c.in_ok-new_nodes.new_nodes.items c.args.at c.args.block_at c.len-first.result c.in_ok-clone.clone (length c.args.arena.now.labels) (length c.elements_to_clone-originals.result) c.len-first.ensures (c.in_ok-clone.ensures.number ∙ ap (λ (v : List ℕ). length c.args.arena.now.labels + length v) c.as_slice.ensures) c.in_ok-new_nodes.ensures)
     (c.relisted.ensures ∙ new-list c.index-nodes-at-2.result (marked c.leave.new.arena InList) c.as_slice-2.result.now c.elements_to_clone-originals.result c.len-first.result c.in_ok-clone.clone (length c.args.arena.now.labels) (length c.args.arena.now.labels + length c.elements_to_clone-originals.result) _ c.args.entries.now (index-is c.args.nodes.now c.args.at c.index-nodes-at-2.result (at-within c.args.nodes.now c.args.entries.now c.args.arena.now c.args.at c.args.block_at c.forest.ensures.well_formed c.requires.«open» c.requires.block.0 c.requires.block.1) c.index-nodes-at-2.is) c.as_slice-2.ensures c.len-first.ensures (c.in_ok-clone.ensures.number ∙ ap (λ (v : List ℕ). length c.args.arena.now.labels + length v) c.as_slice.ensures))
+
+pub returns-in_err-clone-clause-cut : goal.returns-in_err-clone-clause-cut
+returns-in_err-clone-clause-cut c =
+    let p = err_from_is_err_and c.from_residual.result c.from_residual.ensures.1 in
+    rw p.1 (subst (λ (e : OpenError). IsCut c.args.arena.now c.clone_all.new.arena (round_originals (open_at c.args.nodes.now c.args.entries.now c.args.arena.now) c.args.at c.args.block_at) e) (sym p.2)
+    (cut-after c.args.nodes.now c.args.entries.now c.args.arena.now c.args.at c.args.block_at c.forest.ensures.well_formed c.requires.«open» c.requires.block.0 c.requires.block.1 c.elements_to_clone-originals.result c.elements_to_clone-originals.ensures c.as_slice.result.now c.index-nodes-at.result c.clone_all.new.arena c.in_err-clone.field-0.0
+    c.as_slice.ensures (index-is c.args.nodes.now c.args.at c.index-nodes-at.result (at-within c.args.nodes.now c.args.entries.now c.args.arena.now c.args.at c.args.block_at c.forest.ensures.well_formed c.requires.«open» c.requires.block.0 c.requires.block.1) c.index-nodes-at.is) c.in_err-clone.ensures.cut))
 
 pub returns-in_err-new_nodes-clause-cut : goal.returns-in_err-new_nodes-clause-cut
 returns-in_err-new_nodes-clause-cut c =

@@ -3,11 +3,11 @@ use Rattle.std.proofs.lemmas.Result.{err_from_is_err_and}
 use Rattle.html_open.specs.declared.entry.Entry.{Entry}
 use Rattle.html_open.specs.declared.entry.Entry.TheVariants.{Marker, Node}
 use Rattle.html_open.specs.Opened.{open_at}
-use Rattle.html_open.specs.Reopening.{IsCause}
+use Rattle.html_open.specs.Reopening.{IsCause, IsTold}
 use Rattle.html_open.proofs.Bounding.{refused-few, under-way-few}
 use Rattle.html_open.proofs.Costing.{reopened-entries, reopened-held, reopened-nodes, reopened-opened}
 use Rattle.html_open.proofs.Enduring.{reopened-survives}
-use Rattle.html_open.proofs.Reopened.{cause-is, closed-then, entry-is, first-is, free-is, in-order, in-order-tried, labels-are, made-so-far, made-tried, next-absent, no-marker, parents-then, reopened-is, reopening-starts, reopening-step, same-length, so-far, so-far-as, steps-are, way-as}
+use Rattle.html_open.proofs.Reopened.{cause-is, closed-then, entry-is, first-is, free-is, in-order, in-order-tried, labels-are, made-so-far, made-tried, next-absent, no-marker, parents-then, reopened-is, reopening-starts, reopening-step, same-length, so-far, so-far-as, steps-are, told-is, way-as}
 use Rattle.html_open.proofs.list.FormattingList.reopen.Goals.{in-Node+in_ok-reopened, in_default}
 use Rattle.html_open.proofs.list.FormattingList.reopen.Goals as goal
 
@@ -37,6 +37,17 @@ returns-in_err-reopened-clause-cause c =
     (subst (IsCause o c.args.foster) (sym p.2)
     (cause-is c.args.foster o c.reopening.index c.reopening.stack c.reopening.self c.reopening.arena c.reopening.invariant.way Marker c.in-Node.node c.in_err-reopened.field-0.0 b h
     c.in_err-reopened.ensures.cause))
+
+pub returns-in_err-reopened-clause-told : goal.returns-in_err-reopened-clause-told
+returns-in_err-reopened-clause-told c =
+    let p = err_from_is_err_and c.from_residual.result c.from_residual.ensures.1 in
+    let b : c.reopening.index < length c.reopening.self = (let t = c.reopening-test.true in let n = c.reopening.invariant.len_is in omega arith) in
+    let o = open_at c.args.stack.now c.args.self.now c.args.arena.now in
+    let h = entry-is c.self-in-reopening.inside.entries.items c.reopening.self c.reopening.index c.index.result.now (Node c.in-Node.node) c.self-in-reopening.view_is b c.index.ensures c.in-Node.is in
+    rw p.1
+    (subst (IsTold c.args.arena.now.limits (open_at c.reopen_entry-reopened.new.stack c.reopen_entry-reopened.new.self c.reopen_entry-reopened.new.arena)) (sym p.2)
+    (told-is c.args.foster o c.reopening.index c.reopening.stack c.reopen_entry-reopened.new.stack c.reopening.self c.reopen_entry-reopened.new.self c.reopening.arena c.reopen_entry-reopened.new.arena c.reopening.invariant.way Marker c.in-Node.node b h
+    c.in_err-reopened.ensures.same_list c.in_err-reopened.field-0.0 c.in_err-reopened.ensures.told))
 
 pub reopening-preserved : goal.reopening-preserved
 reopening-preserved c =

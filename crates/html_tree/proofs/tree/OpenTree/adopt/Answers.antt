@@ -5,7 +5,7 @@ use Rattle.html_tree.specs.Since.{Grown}
 use Rattle.html_tree.specs.States.{State, state_of}
 use Rattle.html_tree.proofs.Adopted.{adopted-keeps, adopted-under_way, always, first-equal, first-free, if-ok, formatting-plain, on-if-ok}
 use Rattle.html_tree.proofs.Clones.{clones-grown, has-cloned}
-use Rattle.html_tree.proofs.Limited.{adopted-limits}
+use Rattle.html_open.proofs.Limits.{adopted-limits}
 use Rattle.html_tree.proofs.Inserted.{on-ok, under-way-place}
 use Rattle.html_tree.proofs.Spelled.{if-err}
 use Rattle.html_tree.proofs.OpenTags.{adopted-lighter}

@@ -5,7 +5,7 @@ use Rattle.html_arena.specs.Budget.{budget}
 use Rattle.html_arena.specs.Make.{label_for, made_weight, nodes_made}
 use Rattle.html_arena.specs.Tree.{tag_at}
 use Rattle.html_arena.specs.Weight.{weight}
-use Rattle.html_tree.specs.Inserting.{IsTold, with_new}
+use Rattle.html_tree.specs.Inserting.{IsNodePassed, IsTold, with_new}
 use Rattle.html_tree.specs.Seats.{is_part}
 use Rattle.html_tree.specs.Since.{Grown}
 use Rattle.html_tree.specs.Targets.{place_for}
@@ -38,3 +38,7 @@ pub returns-clause-cause : goal.returns-clause-cause
 returns-clause-cause c =
     subst (λ (n : List ℕ). IfErr c.closed_new.result (λ e. IsTold c.args.self.now (Element n c.args.attrs c.args.origin) e)) (name-is c)
     (if-err c.closed_new.result c.closed_new.ensures.cause (λ e. lack-budget (budget c.args.self.now.tree (nodes_made (Element c.in_ok-name.name c.args.attrs c.args.origin)) (made_weight c.args.self.now.tree (Element c.in_ok-name.name c.args.attrs c.args.origin))) e))
+
+pub returns-clause-told : goal.returns-clause-told
+returns-clause-told c =
+    subst (λ (n : List ℕ). IfErr c.closed_new.result (λ e. IsNodePassed c.args.self.now c.closed_new.new.self (Element n c.args.attrs c.args.origin) e)) (name-is c) c.closed_new.ensures.told

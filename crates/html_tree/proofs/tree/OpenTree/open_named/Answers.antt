@@ -5,7 +5,7 @@ use Rattle.html_arena.specs.Budget.{budget}
 use Rattle.html_arena.specs.Make.{label_for, made_weight, nodes_made}
 use Rattle.html_arena.specs.Tree.{tag_at}
 use Rattle.html_arena.specs.Weight.{weight}
-use Rattle.html_tree.specs.Inserting.{CanBeFirst, IsTold, with_new, with_open}
+use Rattle.html_tree.specs.Inserting.{CanBeFirst, IsNodePassed, IsTold, with_new, with_open}
 use Rattle.html_tree.specs.Seats.{CanSeat}
 use Rattle.html_tree.specs.Since.{Grown}
 use Rattle.html_tree.specs.Targets.{place_for}
@@ -50,3 +50,7 @@ pub returns-clause-tags : goal.returns-clause-tags
 returns-clause-tags c =
     subst (λ g. OnOk c.open_new.result (open_tags c.open_new.new.self ≡ g ∷ open_tags c.args.self.now))
     (ap tag_of (name-is c ∙ sym c.name.ensures.value) ∙ c.name.ensures.back) c.open_new.ensures.tags
+
+pub returns-clause-told : goal.returns-clause-told
+returns-clause-told c =
+    subst (λ (n : List ℕ). IfErr c.open_new.result (λ e. IsNodePassed c.args.self.now c.open_new.new.self (Element n c.args.attrs c.args.origin) e)) (name-is c) c.open_new.ensures.told

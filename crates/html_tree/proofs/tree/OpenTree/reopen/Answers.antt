@@ -5,7 +5,7 @@ use Rattle.html_tree.specs.Since.{Grown, Keeps}
 use Rattle.html_tree.specs.States.{State, state_of}
 use Rattle.html_tree.proofs.Adopted.{always, off, parents-linked}
 use Rattle.html_tree.proofs.Clones.{clones-grown, clones-since, clones-under_way, has-cloned}
-use Rattle.html_tree.proofs.Limited.{reopened-limits}
+use Rattle.html_open.proofs.Limits.{reopened-limits}
 use Rattle.html_open.specs.Opened.{open_at}
 use Rattle.html_tree.proofs.Inserted.{on-ok, under-way-place}
 use Rattle.html_tree.proofs.Spelled.{if-err}

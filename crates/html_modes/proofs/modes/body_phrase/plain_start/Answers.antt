@@ -1,5 +1,5 @@
 use Rattle.html_modes.proofs.InBody.{on-ok, reconstructed, turn-open}
-use Rattle.html_modes.proofs.modes.body_start.plain_start.Goals as goal
+use Rattle.html_modes.proofs.modes.body_phrase.plain_start.Goals as goal
 
 pub returns-clause-plain : goal.returns-clause-plain
 returns-clause-plain c = λ f. on-ok c.insert.result c.insert.ensures.rest c.insert.ensures.exact c.insert.ensures.fate (λ r e h n.

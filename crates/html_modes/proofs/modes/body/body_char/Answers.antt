@@ -1,7 +1,7 @@
 use Rattle.std.proofs.Common.{false}
 use Rattle.html_ledger.specs.declared.symbol.Symbol.TheVariants.{Char}
 use Rattle.html_modes.proofs.InBody.{reconstructed, turn-char, turn-flag}
-use Rattle.html_modes.proofs.modes.body_start.body_char.Goals as goal
+use Rattle.html_modes.proofs.modes.body.body_char.Goals as goal
 
 pub returns-then-not-is_space-clause-plain : goal.returns-then-not-is_space-clause-plain
 returns-then-not-is_space-clause-plain c = λ n.

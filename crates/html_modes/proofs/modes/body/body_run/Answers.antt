@@ -1,7 +1,7 @@
 use Rattle.std.proofs.Common.{false, take}
 use Rattle.html_modes.proofs.InBody.{reconstructed}
 use Rattle.html_modes.proofs.TextRuns.{run-flag, turn-run}
-use Rattle.html_modes.proofs.modes.body_start.body_run.Goals as goal
+use Rattle.html_modes.proofs.modes.body.body_run.Goals as goal
 
 pub returns-then-not-are_spaces-clause-plain : goal.returns-then-not-are_spaces-clause-plain
 returns-then-not-are_spaces-clause-plain c = λ p e.

@@ -1,0 +1,179 @@
+// The mode in body (13.2.6.4.7): what a token meets there, its text and its end.
+ghost use Rattle.std.specs.Prelude.{◌≡◌, ◌+◌, ◌<◌, ◌≤◌, [], IfOk, OnOk, IsTrue, length, take};
+ghost use Rattle.html_ledger.specs.Symbols.{symbol_of};
+ghost use Rattle.html_ledger.specs.Flags.{is_free, may_text_run};
+ghost use Rattle.html_construction.specs.Built.{Takes, TakesRun};
+ghost use Rattle.html_construction.specs.Grown.{Grown};
+ghost use Rattle.html_construction.specs.Works.{Works};
+ghost use Rattle.html_construction.specs.Weights.{weight};
+ghost use Rattle.html_modes.specs.Fitting.{Fits, Calls};
+ghost use Rattle.html_modes.specs.Plain.{IsPlainState, IsRunTurn, Turns, TurnsInBody};
+ghost use Rattle.html_modes.specs.Steps.{Falls, Grows, Steps, Worked};
+ghost use Rattle.html_modes.specs.declared.outcome.Outcome.TheVariants.{Done};
+ghost use Rattle.html_modes.specs.RawText.{Opens};
+
+use crate::modes::body_end::{body_end, html_end};
+use crate::modes::body_start::body_start;
+use crate::modes::initial::doctype;
+use crate::modes::template::template_eof;
+use crate::outcome::{Foreign, Outcome};
+use html_construction::{Construction, Mode, Refusal};
+use html_ledger::{Cause, Symbol, is_space};
+use html_names::Tag;
+use html_tokens::TokenKind;
+
+/// The rules for the "in body" insertion mode (13.2.6.4.7).
+#[tactic(auto, using(crate::proofs::Settled::mode_rules, crate::proofs::RawText::open_rules))]
+pub(crate) fn in_body(
+    page: &mut Construction,
+    token: &TokenKind,
+    symbol: Symbol,
+) -> Result<Outcome, Refusal>
+    requires symbol { symbol_of token.now ≡ symbol }
+    requires mode { page.old.mode ≡ Mode.InBody }
+    requires fits { Fits page.old }
+    requires quiet { page.old.ledger.kept ≡ [] }
+    requires free { IsTrue (is_free page.old.ledger.history symbol) }
+    ensures fits { OnOk result (Fits page.new) }
+    ensures takes { IfOk result (λ o. Steps o token.now page.old page.new) }
+    ensures falls { IfOk result (λ o. Falls o symbol page.old page.new) }
+    ensures grows { IfOk result (λ o. Grows o page.old page.new) }
+    ensures works { IfOk result (λ o. Worked o token.now page.old page.new) }
+    ensures plain { IfOk result (λ o. Turns o symbol token.now page.old page.new) }
+    ensures opens { IfOk result (λ o. Opens o symbol page.new) }
+{
+    match symbol {
+        // An end tag whose tag name is "html".
+        Symbol::End(Tag::Html) => {
+            let outcome = html_end(page, token)?;
+            Ok(outcome)
+        }
+        Symbol::Start(_)
+        | Symbol::End(_)
+        | Symbol::Char(_)
+        | Symbol::Comment
+        | Symbol::Doctype
+        | Symbol::Eof => {
+            let outcome = body_rules(page, token, symbol)?;
+            Ok(outcome)
+        }
+    }
+}
+
+/// The rules of the mode in body that other modes share: all but those for the end tag of the root, which no other mode takes from it.
+#[tactic(auto, using(crate::proofs::Settled::body_rules, crate::proofs::RawText::open_rules))]
+pub(crate) fn body_rules(
+    page: &mut Construction,
+    token: &TokenKind,
+    symbol: Symbol,
+) -> Result<Outcome, Refusal>
+    requires symbol { symbol_of token.now ≡ symbol }
+    requires calls { Calls page.old }
+    requires free { IsTrue (is_free page.old.ledger.history symbol) }
+    ensures fits { OnOk result (Fits page.new) }
+    ensures takes { IfOk result (λ o. Steps o token.now page.old page.new) }
+    ensures falls { IfOk result (λ o. Falls o symbol page.old page.new) }
+    ensures grows { IfOk result (λ o. Grows o page.old page.new) }
+    ensures works { IfOk result (λ o. Worked o token.now page.old page.new) }
+    ensures plain { IfOk result (λ o. TurnsInBody o symbol token.now page.old page.new) }
+    ensures opens { IfOk result (λ o. Opens o symbol page.new) }
+{
+    match symbol {
+        // A character token.
+        Symbol::Char(c) => body_char(page, token, c)?,
+        // A comment token: insert a comment.
+        Symbol::Comment => page.insert_comment(token)?,
+        // A DOCTYPE token: ignore the token.
+        Symbol::Doctype => doctype(page, token)?,
+        // A start tag whose tag name is "math", or "svg": foreign content is refused.
+        Symbol::Start(Tag::Math) => return Ok(Outcome::Foreign(Foreign::Math)),
+        Symbol::Start(Tag::Svg) => return Ok(Outcome::Foreign(Foreign::Svg)),
+        // Any other start tag.
+        Symbol::Start(tag) => body_start(page, token, tag)?,
+        // An end tag.
+        Symbol::End(tag) => body_end(page, token, tag)?,
+        // An end-of-file token.
+        Symbol::Eof => {
+            let outcome = body_eof(page, token)?;
+            return Ok(outcome);
+        }
+    }
+    Ok(Outcome::Done)
+}
+
+/// The end of the page.
+#[tactic(auto, using(crate::proofs::Settled::body_rules))]
+fn body_eof(page: &mut Construction, token: &TokenKind) -> Result<Outcome, Refusal>
+    requires symbol { symbol_of token.now ≡ Symbol.Eof }
+    requires calls { Calls page.old }
+    ensures fits { OnOk result (Fits page.new) }
+    ensures takes { IfOk result (λ o. Steps o token.now page.old page.new) }
+    ensures falls { IfOk result (λ o. Falls o (Symbol.Eof) page.old page.new) }
+    ensures grows { IfOk result (λ o. Grows o page.old page.new) }
+    ensures works { IfOk result (λ o. Worked o token.now page.old page.new) }
+    ensures plain { IfOk result (λ o. TurnsInBody o Symbol.Eof token.now page.old page.new) }
+{
+    if page.has_template_mode() {
+        let outcome = template_eof(page, token)?;
+        return Ok(outcome);
+    }
+    page.end(token, Symbol::Eof)?;
+    Ok(Outcome::Done)
+}
+
+/// A code point.
+pub(crate) fn body_char(page: &mut Construction, token: &TokenKind, c: char) -> Result<(), Refusal>
+    requires symbol { symbol_of token.now ≡ Symbol.Char c }
+    requires opened { 0 < length page.old.stack }
+    requires quiet { page.old.ledger.kept ≡ [] }
+    requires listed { length page.old.tree.list ≤ length page.old.ledger.fates }
+    requires free { IsTrue (is_free page.old.ledger.history (Symbol.Char c)) }
+    ensures rest { OnOk result (page.new ≡ record page.old { tree = page.new.tree; ledger = page.new.ledger; stack = page.new.stack; frameset_ok = page.new.frameset_ok }) }
+    ensures takes { OnOk result (Takes token.now page.old page.new) }
+    ensures quiet { OnOk result (page.new.ledger.kept ≡ []) }
+    ensures grown { OnOk result (Grown 1 (length page.old.ledger.fates + 1) 0 1 0 page.old page.new) }
+    ensures works { OnOk result (Works 6 1 6 page.old page.new) }
+    ensures lighter { OnOk result (weight page.new.stack ≤ weight page.old.stack) }
+    ensures opened { OnOk result (0 < length page.new.stack) }
+    ensures plain { OnOk result (TurnsInBody Done (Symbol.Char c) token.now page.old page.new) }
+{
+    if c == '\0' {
+        return page.drop_token(token, Symbol::Char(c), Cause::Null);
+    }
+    page.reconstruct()?;
+    page.insert_char(token, c)?;
+    if !is_space(c) {
+        page.frameset_off();
+    }
+    Ok(())
+}
+
+/// A run of code points without U+0000: the front of it that the limit on held code points takes.
+pub(crate) fn body_run(page: &mut Construction, run: &[char]) -> Result<usize, Refusal>
+    requires opened { 0 < length page.old.stack }
+    requires quiet { page.old.ledger.kept ≡ [] }
+    requires listed { length page.old.tree.list ≤ length page.old.ledger.fates }
+    requires some { 0 < length run.now }
+    requires may { IsTrue (may_text_run page.old.ledger.history run.now) }
+    ensures rest { OnOk result (page.new ≡ record page.old { tree = page.new.tree; ledger = page.new.ledger; stack = page.new.stack; frameset_ok = page.new.frameset_ok }) }
+    ensures takes { IfOk result (λ n. TakesRun (take n run.now) page.old page.new) }
+    ensures quiet { OnOk result (page.new.ledger.kept ≡ []) }
+    ensures count { IfOk result (λ n. (0 < n) × (n ≤ length run.now)) }
+    ensures grown { IfOk result (λ n. Grown n (length page.old.ledger.fates + 1) 0 1 0 page.old page.new) }
+    ensures works { IfOk result (λ n. Works 6 1 (n + 6) page.old page.new) }
+    ensures lighter { OnOk result (weight page.new.stack ≤ weight page.old.stack) }
+    ensures opened { OnOk result (0 < length page.new.stack) }
+    ensures plain { IfOk result (λ n. IsPlainState page.old → page.old.mode ≡ Mode.InBody → IsRunTurn (take n run.now) page.old page.new) }
+{
+    page.reconstruct()?;
+    let count = page.insert_run(run)?;
+    if !are_spaces(&run[..count]) {
+        page.frameset_off();
+    }
+    Ok(count)
+}
+
+/// Whether all of these are white space.
+fn are_spaces(run: &[char]) -> bool {
+    run.iter().all(|c| is_space(*c))
+}
