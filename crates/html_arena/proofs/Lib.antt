@@ -22,4 +22,3 @@ pub mod Template
 pub mod UnderWay
 pub mod Upward
 pub mod Whole
-pub mod Ascii

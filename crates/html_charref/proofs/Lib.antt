@@ -1,4 +1,5 @@
 pub mod Texts
+pub mod Ascii
 pub mod NumberLemmas
 pub mod Names
 pub mod Rows

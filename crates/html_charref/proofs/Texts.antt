@@ -1,5 +1,5 @@
 -- Texts by their bytes and by their code points.
-use Rattle.std.proofs.Common.{◌≡◌, ℕ, Bool, true, false, List, [], ◌∷◌, ◌++◌, refl, sym, ◌∙◌, ap, append-nil, length, ◌==◌, arith}
+use Rattle.std.proofs.Common.{◌≡◌, Result, Ok, Err, OnOk, if◌then◌else◌, is_ok, ℕ, Bool, true, false, List, [], ◌∷◌, ◌++◌, refl, sym, ◌∙◌, ap, append-nil, length, ◌==◌, arith}
 use Rattle.std.specs.Str.{IsUtf8, bytes_eq, chars, encode_utf8_all}
 use Rattle.std.specs.Bool.{Decides}
 use Rattle.std.specs.Char.{encode_utf8, IsScalar}
@@ -13,6 +13,10 @@ chars_one c h = chars_past_char (encode_utf8 c) [] c (IsUtf8-encode c h) (sym (a
 -- one more code point
 pub chars_push : (bytes : List ℕ) (c : ℕ) → IsUtf8 bytes → IsScalar c → chars (bytes ++ encode_utf8 c) ≡ chars bytes ++ c ∷ []
 chars_push bytes c u h = chars-append bytes (encode_utf8 c) u ∙ ap (λ (t : List ℕ). chars bytes ++ t) (chars_one c h)
+
+pub chars_pushed : {E X : Type 0} (r : Result X E) (bytes new : List ℕ) (c : ℕ) → IsUtf8 bytes → IsScalar c → new ≡ (if is_ok r then bytes ++ encode_utf8 c else bytes) → OnOk r (chars new ≡ chars bytes ++ c ∷ [])
+chars_pushed (Ok x) bytes new c u h e = ap chars e ∙ chars_push bytes c u h
+chars_pushed (Err x) bytes new c u h e = tt
 
 -- a text is its code points
 pub same_chars : (xs ys : List ℕ) → IsUtf8 xs → IsUtf8 ys → chars xs ≡ chars ys → xs ≡ ys

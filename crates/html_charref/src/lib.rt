@@ -4,6 +4,8 @@
 mod number;
 mod ranges;
 mod read;
+mod run;
+mod short;
 mod table;
 mod text;
 mod walk;

@@ -120,23 +120,23 @@ fn read_row(key: String, value: &Value) -> Result<Row, EntityError>
     ensures { result ≡ row_of (string_bytes key) (view value.now) }
 {
     if !is_row_name(key.as_bytes()) {
-        return Err(EntityError::Name(Str(key)));
+        return Err(EntityError::Name(Str::from_string(key)));
     }
     let Some(items) = value.get("codepoints").and_then(Value::as_array) else {
-        return Err(EntityError::Shape(Str(key)));
+        return Err(EntityError::Shape(Str::from_string(key)));
     };
     let Some(characters) = value.get("characters").and_then(Value::as_str) else {
-        return Err(EntityError::Shape(Str(key)));
+        return Err(EntityError::Shape(Str::from_string(key)));
     };
     if !are_numbers(items) {
-        return Err(EntityError::Shape(Str(key)));
+        return Err(EntityError::Shape(Str::from_string(key)));
     }
     match read_text(items, characters) {
         Some(text) => Ok(Row {
             name: Name::new(key),
             text,
         }),
-        None => Err(EntityError::Text(Str(key))),
+        None => Err(EntityError::Text(Str::from_string(key))),
     }
 }
 
@@ -220,7 +220,7 @@ impl EntityTable {
         let value = Value::from_slice(alloc, bytes)?;
         match into_members(value) {
             Some(members) => read_rows(alloc, members),
-            None => Err(EntityError::Shape(Str(String::new(alloc)))),
+            None => Err(EntityError::Shape(Str::new(alloc))),
         }
     }
 

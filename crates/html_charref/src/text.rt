@@ -1,22 +1,35 @@
 // A text that contracts see as its list of code points.
-ghost use Rattle.std.specs.Prelude.{◌≡◌, ◌↔◌, ◌∷◌, [], ◌++◌, IfOk, IsTrue, OnErr, OnOk, length};
-ghost use Rattle.std.specs.Str.{chars, encode_utf8_all};
+ghost use Rattle.std.specs.Prelude.{◌≡◌, ◌↔◌, ◌∷◌, [], ◌++◌, IfOk, IsTrue, OnErr, OnOk, false, length, string_bytes, true};
+ghost use Rattle.std.specs.Str.{IsUtf8, chars, encode_utf8_all};
+ghost use Rattle.html_charref.specs.Texts.{IsLong, code_points};
 
+use crate::run::extend;
+use crate::short::Short;
 use std::alloc::{AllocError, Global};
 use std::fmt;
 use std::marker::Model;
 
-/// A text in UTF-8, seen as the list of its code points.
+/// A text in UTF-8, seen as the list of its code points. A short one of ASCII takes no memory of its own.
 #[derive(Drop)]
-pub struct Str(pub String);
+pub struct Str {
+    alloc: Global,
+    kept: Kept,
+}
+
+/// Where a text is kept.
+#[derive(Drop)]
+pub(crate) enum Kept {
+    Short(Short),
+    Long(String),
+}
 
 impl Model for Str {
-    ghost use Rattle.std.specs.Prelude.{List, ℕ, string_bytes};
-    ghost use Rattle.std.specs.Str.{chars};
+    ghost use Rattle.std.specs.Prelude.{List, ℕ};
+    ghost use Rattle.html_charref.specs.Texts.{code_points};
 
     ghost Value = { List ℕ };
 
-    ghost view = { λ s. chars (string_bytes s.0) };
+    ghost view = { λ s. code_points s.kept };
 }
 
 impl Str {
@@ -24,14 +37,31 @@ impl Str {
     pub fn new(alloc: Global) -> Str
         ensures { result ≡ [] }
     {
-        Str(String::new(alloc))
+        Str {
+            alloc,
+            kept: Kept::Short(Short::new()),
+        }
     }
 
     /// A copy of a text.
     pub fn of(alloc: Global, text: &str) -> Result<Str, AllocError>
         ensures { IfOk result (λ copy. copy ≡ chars text.now) }
     {
-        Ok(Str(String::from_str(alloc, text)?))
+        let kept = match Short::of(text) {
+            Some(short) => Kept::Short(short),
+            None => Kept::Long(String::from_str(alloc, text)?),
+        };
+        Ok(Str { alloc, kept })
+    }
+
+    /// The text of a `String`, which takes no more memory.
+    pub fn from_string(text: String) -> Str
+        ensures { result ≡ chars (string_bytes text) }
+    {
+        Str {
+            alloc: *text.allocator(),
+            kept: Kept::Long(text),
+        }
     }
 
     /// Adds a code point at the end, or leaves the text as it was.
@@ -39,7 +69,19 @@ impl Str {
         ensures ok { OnOk result (self.new ≡ self.old ++ c ∷ []) }
         ensures err { OnErr result (self.new ≡ self.old) }
     {
-        self.0.push(c)?;
+        self.push_run(&[c])
+    }
+
+    /// Adds a run of code points at the end, or leaves the text as it was.
+    pub fn push_run(&mut self, run: &[char]) -> Result<(), AllocError>
+        ensures ok { OnOk result (self.new ≡ self.old ++ run.now) }
+        ensures err { OnErr result (self.new ≡ self.old) }
+    {
+        if self.kept.push_short(run) {
+            return Ok(());
+        }
+        self.kept.lengthen(self.alloc, run.len())?;
+        self.kept.push_long(run)?;
         Ok(())
     }
 
@@ -47,14 +89,17 @@ impl Str {
     pub fn len(&self) -> usize
         ensures { result ≡ length self.now }
     {
-        char_count(self.0.as_str())
+        match &self.kept {
+            Kept::Short(short) => short.len(),
+            Kept::Long(text) => char_count(text.as_str()),
+        }
     }
 
     /// Whether there is no code point.
     pub fn is_empty(&self) -> bool
         ensures { IsTrue result ↔ (self.now ≡ []) }
     {
-        self.0.as_str().is_empty()
+        self.kept.as_str().is_empty()
     }
 
     /// The text itself.
@@ -62,7 +107,55 @@ impl Str {
         ensures bytes { result.now ≡ encode_utf8_all self.now }
         ensures code_points { chars result.now ≡ self.now }
     {
-        self.0.as_str()
+        self.kept.as_str()
+    }
+}
+
+impl Kept {
+    /// The text itself.
+    fn as_str(&self) -> &str
+        ensures code_points { chars result.now ≡ code_points self.now }
+        ensures utf8 { IsUtf8 result.now }
+    {
+        match self {
+            Kept::Short(short) => short.as_str(),
+            Kept::Long(text) => text.as_str(),
+        }
+    }
+
+    /// Adds a run of code points at the end of a short text, if it stays short: whether it was added.
+    fn push_short(&mut self, run: &[char]) -> bool
+        ensures yes { result ≡ true → code_points self.new ≡ code_points self.old ++ run.now }
+        ensures no { result ≡ false → code_points self.new ≡ code_points self.old }
+    {
+        match self {
+            Kept::Short(short) => short.push_run(run),
+            Kept::Long(_) => false,
+        }
+    }
+
+    /// Gives a short text memory of its own, with room for so many bytes more.
+    fn lengthen(&mut self, alloc: Global, more: usize) -> Result<(), AllocError>
+        ensures long { OnOk result (IsLong self.new) }
+        ensures same { code_points self.new ≡ code_points self.old }
+    {
+        if let Kept::Short(short) = self {
+            let text = short.lengthened(alloc, more)?;
+            *self = Kept::Long(text);
+        }
+        Ok(())
+    }
+
+    /// Adds a run of code points at the end of a long text, or leaves it as it was.
+    fn push_long(&mut self, run: &[char]) -> Result<(), AllocError>
+        requires { IsLong self.old }
+        ensures ok { OnOk result (code_points self.new ≡ code_points self.old ++ run.now) }
+        ensures err { OnErr result (code_points self.new ≡ code_points self.old) }
+    {
+        match self {
+            Kept::Short(_) => Ok(()),
+            Kept::Long(text) => extend(text, run),
+        }
     }
 }
 
@@ -70,7 +163,26 @@ impl Str {
 fn char_count(text: &str) -> usize
     ensures { result ≡ length (chars text.now) }
 {
-    text.chars().count()
+    if text.is_ascii() {
+        text.len()
+    } else {
+        text.chars().count()
+    }
+}
+
+impl Clone for Kept {
+    ghost use Rattle.html_charref.specs.Texts.{code_points};
+
+    ghost is_clone = { λ kept copy. code_points copy ≡ code_points kept };
+
+    fn clone(&self) -> Result<Kept, AllocError>
+        ensures cases { IfOk result (λ copy. code_points copy ≡ code_points self.now) }
+    {
+        match self {
+            Kept::Short(short) => Ok(Kept::Short(short.copy())),
+            Kept::Long(text) => Ok(Kept::Long(text.clone()?)),
+        }
+    }
 }
 
 impl Clone for Str {
@@ -79,7 +191,11 @@ impl Clone for Str {
     fn clone(&self) -> Result<Str, AllocError>
         ensures cases { IfOk result (λ copy. copy ≡ self.now) }
     {
-        Ok(Str(self.0.clone()?))
+        let kept = self.kept.clone()?;
+        Ok(Str {
+            alloc: self.alloc,
+            kept,
+        })
     }
 }
 
@@ -96,7 +212,7 @@ impl PartialEq for Str {
         ensures value { result ≡ pointwise ◌==◌ self.now other.now }
         ensures equal { IsTrue result ↔ (self.now ≡ other.now) }
     {
-        self.0.as_str() == other.0.as_str()
+        self.kept.as_str() == other.kept.as_str()
     }
 }
 
@@ -113,12 +229,12 @@ impl fmt::Display for Str {
     ghost output = { λ s. Some (encode_utf8_all s) };
 
     fn fmt<W: fmt::Write>(&self, f: &mut fmt::Formatter<W>) -> fmt::Result {
-        self.0.fmt(f)
+        self.as_str().fmt(f)
     }
 }
 
 impl fmt::Debug for Str {
     fn fmt<W: fmt::Write>(&self, f: &mut fmt::Formatter<W>) -> fmt::Result {
-        self.0.fmt(f)
+        self.as_str().fmt(f)
     }
 }

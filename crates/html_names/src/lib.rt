@@ -2,6 +2,7 @@
 #![tactic(auto)]
 
 mod groups;
+mod guess;
 mod names;
 mod sets;
 mod tag;

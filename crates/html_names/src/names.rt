@@ -3,6 +3,7 @@ ghost use Rattle.std.specs.Prelude.{◌≡◌, true};
 ghost use Rattle.std.specs.Str.{chars};
 ghost use Rattle.html_names.specs.Names.{is_known, look_up, name_of, tag_of, rows_1, rows_2, rows_3, rows_4, rows_5, rows_6, rows_7, rows_8, rows_9, rows_10};
 
+use crate::guess::guess;
 use crate::tag::Tag;
 
 impl Tag {
@@ -12,7 +13,19 @@ impl Tag {
         ensures code_points { result ≡ tag_of (chars name.now) }
         ensures named { is_known result ≡ true → name.now ≡ name_of result }
     {
+        let guessed = guess(name.as_bytes());
+        if guessed.has_name(name) {
+            return guessed;
+        }
         of_known_length(name)
+    }
+
+    /// Whether a name is this tag's.
+    #[tactic(auto, unfolding(crate::specs::Names::tag_of))]
+    fn has_name(self, name: &str) -> bool
+        ensures { result ≡ true → tag_of name.now ≡ self }
+    {
+        self.name() == name
     }
 
     /// The name of the tag; empty for `Other`.

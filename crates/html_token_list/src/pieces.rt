@@ -71,40 +71,7 @@ fn add_run(text: &mut Str, run: &[char]) -> Result<(), AllocError>
     ensures added { OnOk result (text.new ≡ text.old ++ run.now) }
     ensures refused { OnErr result (text.new ≡ text.old) }
 {
-    extend(&mut text.0, run)
-}
-
-/// Adds a run of code points at the end, for which memory is reserved once.
-fn extend(text: &mut String, run: &[char]) -> Result<(), AllocError>
-    ensures added { OnOk result (chars (string_bytes text.new) ≡ chars (string_bytes text.old) ++ run.now) }
-    ensures refused { OnErr result (string_bytes text.new ≡ string_bytes text.old) }
-{
-    text.reserve(bytes_of(run))?;
-    'adding: for c in run {
-        push_within(text, *c)?;
-    }
-    Ok(())
-}
-
-/// Adds a code point at the end; fails only where the text has no capacity for it.
-fn push_within(text: &mut String, c: char) -> Result<(), AllocError>
-    ensures added { OnOk result (chars (string_bytes text.new) ≡ chars (string_bytes text.old) ++ c ∷ []) }
-    ensures len { OnOk result (string_len text.new ≡ string_len text.old + len_utf8 c) }
-    ensures capacity { string_capacity text.old ≤ string_capacity text.new }
-    ensures full { OnErr result (string_capacity text.old < string_len text.old + len_utf8 c) }
-{
-    text.push(c)
-}
-
-/// The length in UTF-8 of a run of code points.
-fn bytes_of(run: &[char]) -> usize
-    ensures value { result ≡ sum_by len_utf8 run.now }
-{
-    let mut bytes = 0;
-    'adding: for c in run {
-        bytes += c.len_utf8();
-    }
-    bytes
+    text.push_run(run)
 }
 
 /// Puts the last stretch behind the pieces, unless it is empty.

@@ -68,9 +68,6 @@ impl Copied {
 pub(crate) fn push_all(text: &mut Str, run: &[char]) -> Result<(), AllocError>
     ensures ok { OnOk result (text.new ≡ text.old ++ run.now) }
 {
-    text.0.reserve(run.len())?;
-    for c in run {
-        text.push(*c)?;
-    }
+    text.push_run(run)?;
     Ok(())
 }

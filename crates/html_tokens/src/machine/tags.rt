@@ -129,7 +129,7 @@ impl<'a> Machine<'a> {
                     let kind = TokenKind::End { name: draft.name };
                     return Ok(Progress::Given(token(kind, draft.start, self.place)));
                 }
-                self.last_name = Some(Name::of(self.alloc, draft.name.0.as_str())?);
+                self.last_name = Some(Name::of(self.alloc, draft.name.as_str())?);
                 let kind = TokenKind::Start {
                     name: draft.name,
                     attrs: draft.attrs.into_attrs(),

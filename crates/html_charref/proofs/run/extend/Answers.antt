@@ -2,8 +2,8 @@ use Rattle.std.proofs.Common.{◌≡◌, length, string_bytes, take, ◌∙◌, 
 use Rattle.std.proofs.lemmas.List.{append-nil, take_rest}
 use Rattle.std.proofs.lemmas.Str.{IsCharBoundary-from_take, IsUtf8-string_bytes}
 use Rattle.std.specs.Str.{IsUtf8, chars}
-use Rattle.html_arena.proofs.Ascii.{copied-more, copied-within, front-kept, take-self}
-use Rattle.html_arena.proofs.data.extend.Goals as goal
+use Rattle.html_charref.proofs.Ascii.{copied-more, copied-within, front-kept, take-self}
+use Rattle.html_charref.proofs.run.extend.Goals as goal
 
 pub copying-init : goal.copying-init
 copying-init c =

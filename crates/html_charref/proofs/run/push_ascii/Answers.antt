@@ -1,7 +1,7 @@
 use Rattle.std.proofs.Common.{◌≡◌, ◌++◌, List, ℕ, string_bytes, if◌then◌else◌, is_ok, subst}
 use Rattle.std.proofs.lemmas.Str.{IsUtf8-from_ascii, IsUtf8-string_bytes}
-use Rattle.html_arena.proofs.Ascii.{chars-ascii}
-use Rattle.html_arena.proofs.data.push_ascii.Goals as goal
+use Rattle.html_charref.proofs.Ascii.{chars-ascii}
+use Rattle.html_charref.proofs.run.push_ascii.Goals as goal
 
 pub from_utf8_unchecked-requires : goal.from_utf8_unchecked-requires
 from_utf8_unchecked-requires c = IsUtf8-from_ascii c.args.ascii.now c.requires

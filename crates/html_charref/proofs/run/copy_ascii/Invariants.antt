@@ -1,6 +1,6 @@
 use Rattle.std.proofs.Common.{◌≡◌, ◌≤◌, ◌-◌, length, take}
 use Rattle.std.specs.Str.{IsAscii}
-use Rattle.html_arena.proofs.data.copy_ascii.Given as goal
+use Rattle.html_charref.proofs.run.copy_ascii.Given as goal
 
 abbrev pub invariant-copying : goal.invariant-copying
 invariant-copying l = record {

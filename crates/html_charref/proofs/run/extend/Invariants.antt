@@ -1,6 +1,6 @@
 use Rattle.std.proofs.Common.{◌≡◌, ◌≤◌, ◌-◌, ◌++◌, length, string_bytes, take}
 use Rattle.std.specs.Str.{chars}
-use Rattle.html_arena.proofs.data.extend.Given as goal
+use Rattle.html_charref.proofs.run.extend.Given as goal
 
 abbrev pub invariant-copying : goal.invariant-copying
 invariant-copying l = record {

@@ -1,0 +1,117 @@
+// Short texts of ASCII, which stand in a value of a fixed size.
+ghost use Rattle.std.specs.Prelude.{◌≡◌, ◌+◌, ◌≤◌, ◌++◌, [], IfOk, IfSome, length, string_bytes, take, true, false};
+ghost use Rattle.std.specs.Str.{IsAscii, chars};
+
+use crate::run::{is_all_ascii, narrow};
+use std::alloc::{AllocError, Global};
+use std::marker::Model;
+
+/// The greatest length of a short text.
+const MOST: usize = 30;
+
+/// A text of ASCII, no longer than `MOST`: the first `len` of the bytes.
+#[derive(Drop)]
+pub(crate) struct Short {
+    len: u8,
+    bytes: [u8; MOST],
+}
+
+impl Model for Short {
+    ghost use Rattle.std.specs.Prelude.{List, ℕ, ◌≤◌, take};
+    ghost use Rattle.std.specs.Str.{IsAscii};
+
+    ghost Value = { List ℕ };
+
+    ghost view = { λ s. take s.len s.bytes };
+
+    ghost invariant = { λ s. (s.len ≤ 30) × IsAscii (take s.len s.bytes) };
+}
+
+impl Short {
+    /// The empty text.
+    pub(crate) fn new() -> Short
+        ensures { result ≡ [] }
+    {
+        Short {
+            len: 0,
+            bytes: [0; MOST],
+        }
+    }
+
+    /// A copy of a text, if it is short and ASCII.
+    pub(crate) fn of(text: &str) -> Option<Short>
+        ensures { IfSome result (λ short. short ≡ chars text.now) }
+    {
+        if text.len() > MOST || !text.is_ascii() {
+            return None;
+        }
+        let mut bytes = [0; MOST];
+        copy_front(text.as_bytes(), &mut bytes);
+        Some(Short {
+            len: text.len() as u8,
+            bytes,
+        })
+    }
+
+    /// The same text again.
+    pub(crate) fn copy(&self) -> Short
+        ensures { result ≡ self.now }
+    {
+        Short {
+            len: self.len,
+            bytes: self.bytes,
+        }
+    }
+
+    /// The number of bytes, and of code points.
+    pub(crate) fn len(&self) -> usize
+        ensures { result ≡ length self.now }
+    {
+        self.len as usize
+    }
+
+    /// The text itself.
+    pub(crate) fn as_str(&self) -> &str
+        ensures value { result.now ≡ self.now }
+        ensures ascii { IsAscii self.now }
+    {
+        let bytes = &self.bytes[..self.len as usize];
+        unsafe { std::str::from_utf8_unchecked(bytes) }
+    }
+
+    /// The same text in memory of its own, with room for so many bytes more.
+    pub(crate) fn lengthened(&self, alloc: Global, more: usize) -> Result<String, AllocError>
+        ensures { IfOk result (λ text. chars (string_bytes text) ≡ self.now) }
+    {
+        let mut text = String::new(alloc);
+        let room = more.saturating_add(self.len());
+        text.reserve(room)?;
+        text.push_str(self.as_str())?;
+        Ok(text)
+    }
+
+    /// Adds a run of code points at the end, if there is room for it and it is ASCII: whether it was added.
+    pub(crate) fn push_run(&mut self, run: &[char]) -> bool
+        ensures yes { result ≡ true → self.new ≡ self.old ++ run.now }
+        ensures no { result ≡ false → self.new ≡ self.old }
+    {
+        let len = self.len as usize;
+        if run.len() > MOST - len || !is_all_ascii(run) {
+            return false;
+        }
+        narrow(run, &mut self.bytes, len);
+        self.len = (len + run.len()) as u8;
+        true
+    }
+}
+
+/// Copies bytes to the front of a block.
+fn copy_front(bytes: &[u8], block: &mut [u8])
+    requires { length bytes.now ≤ length block.old }
+    ensures same_len { length block.new ≡ length block.old }
+    ensures copied { take (length bytes.now) block.new ≡ bytes.now }
+{
+    for index in 0..bytes.len() {
+        block[index] = bytes[index];
+    }
+}
