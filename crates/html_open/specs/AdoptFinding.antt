@@ -63,8 +63,8 @@ pub record IsOffStack (subject : Tag) (o : Open) (formatting_element : ℕ) : Ty
   pub off_stack : has formatting_element o.stack ≡ false
 
 abbrev pub IsFound : Tag → Open → Found → Type 0
-IsFound subject o found.NoEntry = last_named o.tree subject o.list ≡ None
-IsFound subject o (found.OffStack formatting_element) = IsOffStack subject o formatting_element
-IsFound subject o found.OutOfScope = (formatting_element : ℕ) × IsOutOfScope subject o formatting_element
-IsFound subject o (found.NoFurthestBlock formatting_element at) = IsPlain subject o formatting_element at
-IsFound subject o (found.FurthestBlock at block_at) = IsBlock subject o at block_at
+IsFound name o found.NoEntry = last_named o.tree name o.list ≡ None
+IsFound name o (found.OffStack formatting_element) = IsOffStack name o formatting_element
+IsFound name o found.OutOfScope = (formatting_element : ℕ) × IsOutOfScope name o formatting_element
+IsFound name o (found.NoFurthestBlock formatting_element at) = IsPlain name o formatting_element at
+IsFound name o (found.FurthestBlock at block_at) = IsBlock name o at block_at

@@ -172,8 +172,8 @@ pub record Popped (subject : Tag) (old new : Open) : Type 0 where
 
 -- the current node is popped at once
 abbrev pub pops_at_once : Tag → Open → Option ℕ → Bool
-pops_at_once subject o None = false
-pops_at_once subject o (Some x) = named o.tree subject x && not (has_node x o.list)
+pops_at_once name o None = false
+pops_at_once name o (Some x) = named o.tree name x && not (has_node x o.list)
 
 -- n rounds, one after another
 pub data Rounds (subject : Tag) (foster : Bool) : ℕ → Open → Open → Type 0 where
@@ -189,8 +189,8 @@ pub data Ends (subject : Tag) : AdoptEnd → Open → Open → Type 0 where
 
 -- one round, or an end
 abbrev pub IsTurn : Tag → Bool → Option AdoptEnd → Open → Open → Type 0
-IsTurn subject foster None o p = Round subject foster o p
-IsTurn subject foster (Some end) o p = Ends subject end o p
+IsTurn name foster None o p = Round name foster o p
+IsTurn name foster (Some end) o p = Ends name end o p
 
 pub data Adopted (subject : Tag) (foster : Bool) : AdoptEnd → Open → Open → Type 0 where
   popped : (o p : Open) → Popped subject o p → Adopted subject foster Done o p
