@@ -9,6 +9,7 @@ pub mod Originating
 pub mod Accounting
 pub mod Kept
 pub mod Refusing
+pub mod Telling
 pub mod Results
 pub mod Weighing
 pub mod Working

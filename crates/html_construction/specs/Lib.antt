@@ -6,6 +6,7 @@ pub mod Accounts
 pub mod Built
 pub mod Calls
 pub mod Causes
+pub mod Budgets
 pub mod Copies
 pub mod Grown
 pub mod Modes

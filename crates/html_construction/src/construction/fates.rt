@@ -1,5 +1,5 @@
 // The fates of tokens, which the ledger keeps. Each call gives the next token its one fate, and asks that none is kept without one.
-ghost use Rattle.std.specs.Prelude.{◌≡◌, ◌+◌, ◌≤◌, ◌∷◌, [], ◌++◌, IfOk, IfSome, IsTrue, OnErr, OnOk, None, true, length};
+ghost use Rattle.std.specs.Prelude.{◌≡◌, ◌+◌, ◌≤◌, ◌∷◌, [], ◌++◌, IfOk, IfSome, IsTrue, OnErr, OnOk, None, true, length, IfErr};
 ghost use Rattle.html_ledger.specs.Symbols.{symbol_of};
 ghost use Rattle.html_ledger.specs.Entries.{Takes as LedgerTakes, ended, given, number_of};
 ghost use Rattle.html_ledger.specs.Fated.{is_end};
@@ -7,6 +7,7 @@ ghost use Rattle.html_ledger.specs.Fates.{is_made};
 ghost use Rattle.html_ledger.specs.Flags.{is_free, may_drop, may_make, must_drop};
 ghost use Rattle.html_ledger.specs.declared.symbol.Symbol.TheVariants.{Char};
 ghost use Rattle.html_tokens.specs.declared.token.TokenKind.TheVariants as kind;
+ghost use Rattle.html_construction.specs.Budgets.{RefusesAny};
 ghost use Rattle.html_construction.specs.Built.{Keeps, Releases, Takes, ends_made};
 ghost use Rattle.html_construction.specs.Grown.{Grown};
 ghost use Rattle.html_construction.specs.Works.{Works};
@@ -32,6 +33,7 @@ impl Construction {
         ensures counted { OnOk result (number_of self.new.ledger ≡ number_of self.old.ledger + 1) }
         ensures behind { self.new.tree.tokens ≤ number_of self.old.ledger }
         ensures fate { OnOk result (HasFate symbol (Made (length self.old.tree.tree.labels)) self.old self.new) }
+        ensures memory { IfErr result (λ e. e ≡ Refusal.OutOfMemory) }
     {
         let token = self.ledger.number();
         let node = NodeId::at(self.tree.node_count() as usize);
@@ -55,6 +57,8 @@ impl Construction {
         ensures grown { OnOk result (Grown 1 0 0 0 0 self.old self.new) }
         ensures works { OnOk result (Works 0 0 0 self.old self.new) }
         ensures fate { OnOk result (HasFate symbol (Dropped cause) self.old self.new) }
+        ensures memory { IfErr result (λ e. e ≡ Refusal.OutOfMemory) }
+        ensures refuses { IfErr result (λ e. RefusesAny e self.old self.new) }
     {
         self.ledger.give(symbol, Fate::Dropped(cause))?;
         Ok(())
@@ -71,6 +75,8 @@ impl Construction {
         ensures grown { OnOk result (Grown 1 0 0 0 0 self.old self.new) }
         ensures works { OnOk result (Works 0 0 0 self.old self.new) }
         ensures ended { OnOk result (self.new.ledger ≡ ended self.old.ledger symbol (is_idle self.old)) }
+        ensures memory { IfErr result (λ e. e ≡ Refusal.OutOfMemory) }
+        ensures refuses { IfErr result (λ e. RefusesAny e self.old self.new) }
     {
         let ignored = self.is_idle();
         self.ledger.end(symbol, ignored)?;
@@ -104,6 +110,8 @@ impl Construction {
         ensures grown { OnOk result (Grown 0 0 0 0 0 self.old self.new) }
         ensures works { OnOk result (Works 0 0 0 self.old self.new) }
         ensures kept { OnOk result (self.new.ledger.kept ≡ self.old.ledger.kept ++ c ∷ []) }
+        ensures memory { IfErr result (λ e. e ≡ Refusal.OutOfMemory) }
+        ensures refuses { IfErr result (λ e. RefusesAny e self.old self.new) }
     {
         self.ledger.keep(c)?;
         Ok(())

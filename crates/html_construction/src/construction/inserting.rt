@@ -1,6 +1,6 @@
 // Nodes that are made of tokens, or implied by them. A token gets its fate first, and then its node is made: so no node comes from a token
 // without a fate, also where the node is refused.
-ghost use Rattle.std.specs.Prelude.{◌≡◌, ◌+◌, ◌*◌, ◌<◌, ◌≤◌, ◌∷◌, [], IfOk, IsTrue, OnOk, false, length, true, slice_index, if◌then◌else◌};
+ghost use Rattle.std.specs.Prelude.{◌≡◌, ◌+◌, ◌*◌, ◌<◌, ◌≤◌, ◌∷◌, [], IfOk, IsTrue, OnOk, false, length, true, slice_index, if◌then◌else◌, IfErr};
 ghost use Rattle.html_names.specs.declared.tag.Tag.TheVariants as tag;
 ghost use Rattle.html_names.specs.declared.tag.Tag.TheVariants.{Image};
 ghost use Rattle.html_names.specs.Groups.{is_outermost};
@@ -10,6 +10,7 @@ ghost use Rattle.html_arena.specs.Tree.{named, tag_at, with_merged};
 ghost use Rattle.html_names.specs.Tags.{is_same};
 ghost use Rattle.html_tree.specs.Seats.{CanSeat, has_seat, is_part};
 ghost use Rattle.html_ledger.specs.declared.fate.Cause.TheVariants.{Misplaced};
+ghost use Rattle.html_construction.specs.Budgets.{Refuses, RefusesAny};
 ghost use Rattle.html_construction.specs.Origins.{is_made_alone};
 ghost use Rattle.html_ledger.specs.Symbols.{symbol_of};
 ghost use Rattle.html_ledger.specs.declared.symbol.Symbol.TheVariants.{Comment, Doctype, Start};
@@ -50,6 +51,7 @@ impl Construction {
         ensures works { OnOk result (Works 1 0 0 self.old self.new) }
         ensures exact { OnOk result (IsTree (opened_at (element_of self.old token.now) (Current self.old.fostering) (counting (number_of self.old.ledger + 1) self.old.tree)) self.new) }
         ensures fate { OnOk result (HasFate (Start tag) (Made (length self.old.tree.tree.labels)) self.old self.new) }
+        ensures refuses { IfErr result (λ e. Refuses token.now e self.old self.new) }
     {
         let target = self.here();
         self.insert_at(token, tag, target)
@@ -70,6 +72,7 @@ impl Construction {
         ensures exact { OnOk result (IsTree (opened_at (element_of self.old token.now) target (counting (number_of self.old.ledger + 1) self.old.tree)) self.new) }
         ensures blank { OnOk result (IsBlank (label_for self.old.tree.tree (element_of self.old token.now)) (length self.old.tree.tree.labels) self.new.tree.tree) }
         ensures fate { OnOk result (HasFate (Start tag) (Made (length self.old.tree.tree.labels)) self.old self.new) }
+        ensures refuses { IfErr result (λ e. Refuses token.now e self.old self.new) }
     {
         let _ = self.open_at(token, tag, target)?;
         Ok(())
@@ -97,6 +100,7 @@ impl Construction {
         ensures exact { OnOk result (IsTree (opened_at (element_of self.old token.now) target (counting (number_of self.old.ledger + 1) self.old.tree)) self.new) }
         ensures blank { OnOk result (IsBlank (label_for self.old.tree.tree (element_of self.old token.now)) (length self.old.tree.tree.labels) self.new.tree.tree) }
         ensures fate { OnOk result (HasFate (Start tag) (Made (length self.old.tree.tree.labels)) self.old self.new) }
+        ensures refuses { IfErr result (λ e. Refuses token.now e self.old self.new) }
     {
         let name = copy_name(self.alloc(), token)?;
         let attrs = copy_attrs(self.alloc(), token)?;
@@ -124,6 +128,7 @@ impl Construction {
         ensures fate { OnOk result (HasFate (Start tag) (if has_seat self.old.tree tag then Made (length self.old.tree.tree.labels) else Dropped Misplaced) self.old self.new) }
         ensures exact { OnOk result (has_seat self.old.tree tag ≡ true → IsTree (opened_at (element_of self.old token.now) (Current false) (counting (number_of self.old.ledger + 1) self.old.tree)) self.new) }
         ensures same { OnOk result (has_seat self.old.tree tag ≡ false → IsTree self.old.tree self.new) }
+        ensures refuses { IfErr result (λ e. Refuses token.now e self.old self.new) }
     {
         if self.has_seat(tag) {
             let _ = self.open_at(token, tag, Target::Current(false))?;
@@ -146,6 +151,7 @@ impl Construction {
         ensures works { OnOk result (Works 1 0 0 self.old self.new) }
         ensures exact { OnOk result (IsTree (placed_at (void_of self.old tag token.now) (Current self.old.fostering) (counting (number_of self.old.ledger + 1) self.old.tree)) self.new) }
         ensures fate { OnOk result (HasFate (Start tag) (Made (length self.old.tree.tree.labels)) self.old self.new) }
+        ensures refuses { IfErr result (λ e. Refuses token.now e self.old self.new) }
     {
         let target = self.here();
         self.insert_void_at(token, tag, target)
@@ -169,6 +175,7 @@ impl Construction {
         ensures works { OnOk result (Works 1 0 0 self.old self.new) }
         ensures exact { OnOk result (IsTree (placed_at (void_of self.old tag token.now) target (counting (number_of self.old.ledger + 1) self.old.tree)) self.new) }
         ensures fate { OnOk result (HasFate (Start tag) (Made (length self.old.tree.tree.labels)) self.old self.new) }
+        ensures refuses { IfErr result (λ e. Refuses token.now e self.old self.new) }
     {
         let _ = self.void_at(token, tag, target)?;
         Ok(())
@@ -193,6 +200,7 @@ impl Construction {
         ensures node { IfOk result (λ x. (x < length self.new.tree.tree.labels) × (tag_at self.new.tree.tree x ≡ element_tag tag)) }
         ensures exact { OnOk result (IsTree (placed_at (void_of self.old tag token.now) target (counting (number_of self.old.ledger + 1) self.old.tree)) self.new) }
         ensures fate { OnOk result (HasFate (Start tag) (Made (length self.old.tree.tree.labels)) self.old self.new) }
+        ensures refuses { IfErr result (λ e. Refuses token.now e self.old self.new) }
     {
         let name = copy_element_name(self.alloc(), token, tag)?;
         let attrs = copy_attrs(self.alloc(), token)?;
@@ -216,6 +224,7 @@ impl Construction {
         ensures works { OnOk result (Works 2 0 (length (attrs_of token.now) * span_of self.new) self.old self.new) }
         ensures exact { OnOk result (IsTree (listed_at self.old.fostering (tag_name token.now) (attrs_of token.now) (number_of self.old.ledger) self.old.tree) self.new) }
         ensures fate { OnOk result (HasFate (Start tag) (Made (length self.old.tree.tree.labels)) self.old self.new) }
+        ensures refuses { IfErr result (λ e. Refuses token.now e self.old self.new) }
     {
         let name = copy_name(self.alloc(), token)?;
         let attrs = copy_attrs(self.alloc(), token)?;
@@ -237,6 +246,7 @@ impl Construction {
         ensures works { OnOk result (Works 1 0 0 self.old self.new) }
         ensures exact { OnOk result (IsTree (opened_at (root_of self.old token.now) Document (counting (number_of self.old.ledger + 1) self.old.tree)) self.new) }
         ensures fate { OnOk result (HasFate (Start tag.Html) (Made (length self.old.tree.tree.labels)) self.old self.new) }
+        ensures refuses { IfErr result (λ e. Refuses token.now e self.old self.new) }
     {
         let attrs = copy_attrs(self.alloc(), token)?;
         let number = self.give_made(Symbol::Start(Tag::Html))?;
@@ -257,6 +267,7 @@ impl Construction {
         ensures works { OnOk result (Works 1 0 0 self.old self.new) }
         ensures exact { OnOk result (IsTree (placed_at (comment_of self.old token.now) (Current self.old.fostering) (counting (number_of self.old.ledger + 1) self.old.tree)) self.new) }
         ensures fate { OnOk result (HasFate Comment (Made (length self.old.tree.tree.labels)) self.old self.new) }
+        ensures refuses { IfErr result (λ e. Refuses token.now e self.old self.new) }
     {
         let target = self.here();
         self.insert_comment_at(token, target)
@@ -274,6 +285,7 @@ impl Construction {
         ensures works { OnOk result (Works 1 0 0 self.old self.new) }
         ensures exact { OnOk result (IsTree (placed_at (comment_of self.old token.now) target (counting (number_of self.old.ledger + 1) self.old.tree)) self.new) }
         ensures fate { OnOk result (HasFate Comment (Made (length self.old.tree.tree.labels)) self.old self.new) }
+        ensures refuses { IfErr result (λ e. Refuses token.now e self.old self.new) }
     {
         let text = copy_data(self.alloc(), token)?;
         let number = self.give_made(Symbol::Comment)?;
@@ -294,6 +306,7 @@ impl Construction {
         ensures works { OnOk result (Works 1 0 0 self.old self.new) }
         ensures exact { OnOk result (IsTree (placed_at (doctype_of self.old token.now) Document (counting (number_of self.old.ledger + 1) self.old.tree)) self.new) }
         ensures fate { OnOk result (HasFate Doctype (Made (length self.old.tree.tree.labels)) self.old self.new) }
+        ensures refuses { IfErr result (λ e. Refuses token.now e self.old self.new) }
     {
         let ids = copy_doctype(token)?;
         let number = self.give_made(Symbol::Doctype)?;
@@ -315,6 +328,7 @@ impl Construction {
         ensures works { OnOk result (Works 1 0 (length (attrs_of token.now) * span_of self.new) self.old self.new) }
         ensures exact { OnOk result (IsTree (record self.old.tree { tree = bare (with_merged self.old.tree.tree (slice_index self.old.tree.stack 0) (attrs_of token.now)) }) self.new) }
         ensures fate { OnOk result (HasFate (Start tag.Html) Merged self.old self.new) }
+        ensures refuses { IfErr result (λ e. Refuses token.now e self.old self.new) }
     {
         self.tree.laws();
         self.merge_into(token, Tag::Html, 0)
@@ -333,6 +347,7 @@ impl Construction {
         ensures works { OnOk result (Works 1 0 (length (attrs_of token.now) * span_of self.new) self.old self.new) }
         ensures exact { OnOk result (IsTree (record self.old.tree { tree = bare (with_merged self.old.tree.tree (slice_index self.old.tree.stack 1) (attrs_of token.now)) }) self.new) }
         ensures fate { OnOk result (HasFate (Start tag.Body) Merged self.old self.new) }
+        ensures refuses { IfErr result (λ e. Refuses token.now e self.old self.new) }
     {
         self.merge_into(token, Tag::Body, 1)
     }
@@ -343,6 +358,7 @@ impl Construction {
         requires symbol { symbol_of token.now ≡ Start tag }
         requires outermost { is_outermost tag ≡ true }
         requires index { index < length self.old.stack }
+        requires early { index ≤ 1 }
         requires own { named self.old.tree.tree tag (slice_index self.old.tree.stack index) ≡ true }
         requires quiet { self.old.ledger.kept ≡ [] }
         ensures rest { OnOk result (self.new ≡ record self.old { tree = self.new.tree; ledger = self.new.ledger }) }
@@ -352,6 +368,7 @@ impl Construction {
         ensures works { OnOk result (Works 1 0 (length (attrs_of token.now) * span_of self.new) self.old self.new) }
         ensures exact { OnOk result (IsTree (record self.old.tree { tree = bare (with_merged self.old.tree.tree (slice_index self.old.tree.stack index) (attrs_of token.now)) }) self.new) }
         ensures fate { OnOk result (HasFate (Start tag) Merged self.old self.new) }
+        ensures refuses { IfErr result (λ e. Refuses token.now e self.old self.new) }
     {
         let attrs = copy_attrs(self.alloc(), token)?;
         self.tree.merge(index, attrs)?;
@@ -371,6 +388,7 @@ impl Construction {
         ensures grown { OnOk result (Grown 0 2 0 0 1 self.old self.new) }
         ensures works { OnOk result (Works 1 0 0 self.old self.new) }
         ensures exact { OnOk result (IsTree (opened_at (implied_of tag) (Current self.old.fostering) self.old.tree) self.new) }
+        ensures refuses { IfErr result (λ e. RefusesAny e self.old self.new) }
     {
         let _ = self.open_implied(tag)?;
         Ok(())
@@ -387,6 +405,7 @@ impl Construction {
         ensures works { OnOk result (Works 1 0 0 self.old self.new) }
         ensures node { IfOk result (λ x. (x < length self.new.tree.tree.labels) × (tag_at self.new.tree.tree x ≡ tag)) }
         ensures exact { OnOk result (IsTree (opened_at (implied_of tag) (Current self.old.fostering) self.old.tree) self.new) }
+        ensures refuses { IfErr result (λ e. RefusesAny e self.old self.new) }
     {
         self.tree.laws();
         let node = self.tree.insert_implied(tag, self.registers.fostering)?;
@@ -408,6 +427,7 @@ impl Construction {
         ensures tags { OnOk result (self.new.stack ≡ (if has_seat self.old.tree tag then tag ∷ self.old.stack else self.old.stack)) }
         ensures exact { OnOk result (has_seat self.old.tree tag ≡ true → IsTree (opened_at (implied_of tag) (Current false) self.old.tree) self.new) }
         ensures same { OnOk result (has_seat self.old.tree tag ≡ false → IsTree self.old.tree self.new) }
+        ensures refuses { IfErr result (λ e. RefusesAny e self.old self.new) }
     {
         if self.has_seat(tag) {
             self.open_implied_part(tag)?;
@@ -425,6 +445,7 @@ impl Construction {
         ensures grown { OnOk result (Grown 0 2 0 0 1 self.old self.new) }
         ensures works { OnOk result (Works 1 0 0 self.old self.new) }
         ensures exact { OnOk result (IsTree (opened_at (implied_of tag) (Current false) self.old.tree) self.new) }
+        ensures refuses { IfErr result (λ e. RefusesAny e self.old self.new) }
     {
         self.tree.laws();
         self.tree.insert_implied(tag, false)?;
@@ -441,6 +462,7 @@ impl Construction {
         ensures grown { OnOk result (Grown 0 2 0 0 1 self.old self.new) }
         ensures works { OnOk result (Works 1 0 0 self.old self.new) }
         ensures exact { OnOk result (IsTree (placed_at (implied_of tag) (Current self.old.fostering) self.old.tree) self.new) }
+        ensures refuses { IfErr result (λ e. RefusesAny e self.old self.new) }
     {
         self.tree.laws();
         self.tree
@@ -455,6 +477,7 @@ impl Construction {
         ensures grown { OnOk result (Grown 0 2 0 0 1 self.old self.new) }
         ensures works { OnOk result (Works 1 0 0 self.old self.new) }
         ensures exact { OnOk result (IsTree (opened_at (implied_of tag.Html) Document self.old.tree) self.new) }
+        ensures refuses { IfErr result (λ e. RefusesAny e self.old self.new) }
     {
         self.tree.laws();
         self.tree.insert_implied_root()?;

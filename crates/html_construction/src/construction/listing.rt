@@ -1,7 +1,8 @@
 // The list of active formatting elements (13.2.4.3). No call gives a token its fate.
-ghost use Rattle.std.specs.Prelude.{◌≡◌, ℕ, ◌<◌, ◌≤◌, IfSome, OnOk, length, true, ◌++◌, ◌∷◌, [], IfOk};
+ghost use Rattle.std.specs.Prelude.{◌≡◌, ℕ, ◌<◌, ◌≤◌, IfSome, OnOk, length, true, ◌++◌, ◌∷◌, [], IfOk, IfErr};
 ghost use Rattle.html_names.specs.Sets.{is_formatting};
 ghost use Rattle.html_arena.specs.Tree.{tag_at};
+ghost use Rattle.html_construction.specs.Budgets.{RefusesAny};
 ghost use Rattle.html_construction.specs.Built.{Keeps};
 ghost use Rattle.html_construction.specs.Grown.{Grown};
 ghost use Rattle.html_construction.specs.Works.{Works};
@@ -27,6 +28,8 @@ impl Construction {
         ensures grown { OnOk result (Grown 0 0 1 0 0 self.old self.new) }
         ensures works { OnOk result (Works 0 0 1 self.old self.new) }
         ensures exact { OnOk result (IsTree (record self.old.tree { list = self.old.tree.list ++ Marker ∷ [] }) self.new) }
+        ensures memory { IfErr result (λ e. e ≡ Refusal.OutOfMemory) }
+        ensures refuses { IfErr result (λ e. RefusesAny e self.old self.new) }
     {
         self.tree.add_marker()?;
         Ok(())
@@ -56,6 +59,7 @@ impl Construction {
         ensures opened { OnOk result (0 < length self.new.stack) }
         ensures tags { OnOk result (self.new.stack ≡ open_tags self.new.tree) }
         ensures exact { OnOk result (IsReopened self.old.fostering self.old.tree self.new.tree) }
+        ensures refuses { IfErr result (λ e. RefusesAny e self.old self.new) }
     {
         self.tree.laws();
         self.tree.reopen(self.registers.fostering)?;
@@ -76,6 +80,7 @@ impl Construction {
         ensures tags { OnOk result (self.new.stack ≡ open_tags self.new.tree) }
         ensures tags_stay { OnOk result ((x : ℕ) → x < length self.old.tree.tree.labels → tag_at self.new.tree.tree x ≡ tag_at self.old.tree.tree x) }
         ensures exact { OnOk result (HasEnded tag self.old.fostering self.old.tree self.new.tree) }
+        ensures refuses { IfErr result (λ e. RefusesAny e self.old self.new) }
     {
         match self.adopt(tag)? {
             AdoptEnd::Done => {}
@@ -98,6 +103,7 @@ impl Construction {
         ensures tags { OnOk result (self.new.stack ≡ open_tags self.new.tree) }
         ensures tags_stay { OnOk result ((x : ℕ) → x < length self.old.tree.tree.labels → tag_at self.new.tree.tree x ≡ tag_at self.old.tree.tree x) }
         ensures exact { IfOk result (λ end. IsAdopted tag self.old.fostering end self.old.tree self.new.tree) }
+        ensures refuses { IfErr result (λ e. RefusesAny e self.old self.new) }
     {
         self.tree.laws();
         let end = self.tree.adopt(tag, self.registers.fostering)?;
@@ -114,6 +120,7 @@ impl Construction {
         ensures works { OnOk result (Works 5 8 0 self.old self.new) }
         ensures lighter { OnOk result (weight self.new.stack ≤ weight self.old.stack) }
         ensures opened { OnOk result (0 < length self.new.stack) }
+        ensures refuses { IfErr result (λ e. RefusesAny e self.old self.new) }
     {
         if let Some(link) = self.last_listed(Tag::A) {
             self.end_formatting(Tag::A)?;

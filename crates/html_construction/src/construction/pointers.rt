@@ -1,10 +1,11 @@
 // The element pointers (13.2.4.4), the body that a frameset takes the place of, and how many elements and nodes there were when the rules for a
 // token began.
-ghost use Rattle.std.specs.Prelude.{◌≡◌, ◌+◌, ◌<◌, ◌≤◌, ◌∷◌, [], IfSome, None, OnOk, false, length, slice_index, true, ◌||◌, Some, is_some};
+ghost use Rattle.std.specs.Prelude.{◌≡◌, ◌+◌, ◌<◌, ◌≤◌, ◌∷◌, [], IfSome, None, OnOk, false, length, slice_index, true, ◌||◌, Some, is_some, IfErr};
 ghost use Rattle.html_names.specs.declared.tag.Tag.TheVariants as tag;
 ghost use Rattle.html_arena.specs.Tree.{named, tag_at};
 ghost use Rattle.html_ledger.specs.Symbols.{symbol_of};
 ghost use Rattle.html_ledger.specs.declared.symbol.Symbol.TheVariants.{Start};
+ghost use Rattle.html_construction.specs.Budgets.{Refuses, RefusesAny};
 ghost use Rattle.html_construction.specs.Built.{Keeps, Takes};
 ghost use Rattle.html_construction.specs.Grown.{Grown};
 ghost use Rattle.html_construction.specs.Works.{Works};
@@ -36,6 +37,7 @@ impl Construction {
         ensures works { OnOk result (Works 1 0 0 self.old self.new) }
         ensures exact { OnOk result (IsTree (record (opened_at (element_of self.old token.now) (Current self.old.fostering) (counting (number_of self.old.ledger + 1) self.old.tree)) { head = Some (length self.old.tree.tree.labels) }) self.new) }
         ensures fate { OnOk result (HasFate (Start tag.Head) (Made (length self.old.tree.tree.labels)) self.old self.new) }
+        ensures refuses { IfErr result (λ e. Refuses token.now e self.old self.new) }
     {
         let target = self.here();
         let head = self.open_at(token, Tag::Head, target)?;
@@ -50,6 +52,7 @@ impl Construction {
         ensures keeps { OnOk result (Keeps self.old self.new) }
         ensures grown { OnOk result (Grown 0 2 0 0 1 self.old self.new) }
         ensures works { OnOk result (Works 1 0 0 self.old self.new) }
+        ensures refuses { IfErr result (λ e. RefusesAny e self.old self.new) }
     {
         let head = self.open_implied(Tag::Head)?;
         self.set_head(head);
@@ -92,6 +95,7 @@ impl Construction {
         ensures quiet { OnOk result (self.new.ledger.kept ≡ []) }
         ensures grown { OnOk result (Grown 1 2 0 0 0 self.old self.new) }
         ensures works { OnOk result (Works 1 0 0 self.old self.new) }
+        ensures refuses { IfErr result (λ e. Refuses token.now e self.old self.new) }
     {
         let target = self.here();
         let form = self.open_at(token, Tag::Form, target)?;
@@ -109,6 +113,7 @@ impl Construction {
         ensures quiet { OnOk result (self.new.ledger.kept ≡ []) }
         ensures grown { OnOk result (Grown 1 2 0 0 0 self.old self.new) }
         ensures works { OnOk result (Works 1 0 0 self.old self.new) }
+        ensures refuses { IfErr result (λ e. Refuses token.now e self.old self.new) }
     {
         let target = self.here();
         let form = self.void_at(token, Tag::Form, target)?;

@@ -1,5 +1,6 @@
 // The registers of tree construction (13.2.4). Each call changes the one register of its name, and neither the tree nor the ledger.
 ghost use Rattle.std.specs.Prelude.{IfErr, ◌≡◌, ◌∷◌, [], ◌++◌, OnErr, OnOk, false, is_some, true};
+ghost use Rattle.html_construction.specs.Budgets.{RefusesAny};
 ghost use Rattle.html_construction.specs.Built.{Keeps};
 ghost use Rattle.html_construction.specs.Modes.{is_reset};
 ghost use Rattle.html_tree.specs.declared.groups.Target.TheVariants.{Current};
@@ -115,6 +116,7 @@ impl Construction {
         ensures keeps { OnOk result (Keeps self.old self.new) }
         ensures refused { OnErr result (self.new ≡ self.old) }
         ensures cause { IfErr result (λ e. e ≡ Refusal.OutOfMemory) }
+        ensures refuses { IfErr result (λ e. RefusesAny e self.old self.new) }
     {
         self.registers
             .templates
@@ -135,6 +137,8 @@ impl Construction {
         requires reset { is_reset mode ≡ true }
         ensures rest { OnOk result (self.new ≡ record self.old { templates = self.new.templates }) }
         ensures keeps { OnOk result (Keeps self.old self.new) }
+        ensures memory { IfErr result (λ e. e ≡ Refusal.OutOfMemory) }
+        ensures refuses { IfErr result (λ e. RefusesAny e self.old self.new) }
     {
         self.pop_template_mode();
         self.push_template_mode(mode)?;

@@ -1,8 +1,9 @@
 // Text at the place for the current node (13.2.6.1, insert a character).
-ghost use Rattle.std.specs.Prelude.{◌≡◌, ◌==◌, ◌+◌, ◌<◌, ◌≤◌, [], false, IfOk, IsTrue, OnOk, length, take, ◌∷◌};
+ghost use Rattle.std.specs.Prelude.{◌≡◌, ◌==◌, ◌+◌, ◌<◌, ◌≤◌, [], false, IfOk, IsTrue, OnOk, length, take, ◌∷◌, IfErr};
 ghost use Rattle.html_ledger.specs.Symbols.{symbol_of};
 ghost use Rattle.html_ledger.specs.Flags.{is_free, may_text_run};
 ghost use Rattle.html_ledger.specs.declared.symbol.Symbol.TheVariants.{Char};
+ghost use Rattle.html_construction.specs.Budgets.{RefusesAny};
 ghost use Rattle.html_construction.specs.Built.{Takes, TakesRun};
 ghost use Rattle.html_construction.specs.Grown.{Grown};
 ghost use Rattle.html_construction.specs.Works.{Works};
@@ -31,6 +32,7 @@ impl Construction {
         ensures works { OnOk result (Works 1 0 1 self.old self.new) }
         ensures exact { OnOk result (IsTree (record self.old.tree { tree = with_text self.old.tree self.old.fostering (c ∷ []) }) self.new) }
         ensures fate { OnOk result (HasFate (Char c) (Text (text_node self.old.tree self.old.fostering)) self.old self.new) }
+        ensures refuses { IfErr result (λ e. RefusesAny e self.old self.new) }
     {
         self.tree.laws();
         let run = [c];
@@ -56,6 +58,7 @@ impl Construction {
         ensures works { IfOk result (λ n. Works 1 0 n self.old self.new) }
         ensures exact { IfOk result (λ n. IsTree (record self.old.tree { tree = with_text self.old.tree self.old.fostering (take n run.now) }) self.new) }
         ensures fate { IfOk result (λ n. self.new.ledger ≡ given_run self.old.ledger (take n run.now) (Text (text_node self.old.tree self.old.fostering))) }
+        ensures refuses { IfErr result (λ e. RefusesAny e self.old self.new) }
     {
         self.tree.laws();
         let (node, count) = self.tree.append_run(run, self.registers.fostering)?;

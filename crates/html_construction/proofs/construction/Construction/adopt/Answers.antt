@@ -6,6 +6,7 @@ use Rattle.html_construction.proofs.Working.{works-adopted}
 use Rattle.html_construction.specs.States.{State}
 use Rattle.html_arena.specs.Tree.{tag_at}
 use Rattle.html_tree.proofs.Kept.{same-tag_in, since-self}
+use Rattle.html_construction.proofs.Telling.{handed-on-any, refused-clones}
 use Rattle.html_construction.proofs.construction.Construction.adopt.Goals as goal
 
 pub returns-clause-keeps : goal.returns-clause-keeps
@@ -26,3 +27,8 @@ pub returns-clause-tags_stay : goal.returns-clause-tags_stay
 returns-clause-tags_stay c = λ x b.
     let k = c.in_ok-end.ensures.keeps c.self.inside.tree (since-self c.self.inside.tree) in
     same-tag_in _ _ (k.labels x (subst (λ (n : State). x < length n.tree.tree.labels) (sym c.self.view_is) b)) ∙ ap (λ (n : State). tag_at n.tree.tree x) c.self.view_is
+
+pub returns-in_err-end-clause-refuses : goal.returns-in_err-end-clause-refuses
+returns-in_err-end-clause-refuses c =
+    handed-on-any c.from_residual.result c.args.self.now _ c.in_err-end.field-0.0 c.from_residual.ensures.1
+    (refused-clones c.args.self.now _ c.self.inside.tree c.in_err-end.field-0.0 (ap (λ (x : State). x.tree.tree.limits) c.self.view_is) c.in_err-end.ensures.told)

@@ -9,6 +9,7 @@ use Rattle.html_ledger.specs.declared.fate.Fate.TheVariants.{Text}
 use Rattle.html_construction.proofs.Copying.{copied-text, grown-given}
 use Rattle.html_construction.proofs.Working.{works-text}
 use Rattle.std.proofs.lemmas.Grind.{common_steps}
+use Rattle.html_construction.proofs.Telling.{handed-on-any, refused-text}
 use Rattle.html_construction.proofs.construction.Construction.insert_char.Goals as goal
 
 pub invariant_of-self : goal.invariant_of-self
@@ -26,3 +27,8 @@ pub returns-clause-works : goal.returns-clause-works
 returns-clause-works c =
     works-text 1 c.args.self.now _ _ c.give.new.self c.self.view_is c.laws.ensures.sound c.self.invariant.tokens c.in_ok-node.ensures.keeps (adds _ _ _ (ap (λ (x : Entries). x.fates) c.in_ok-give.ensures.given))
     (let h = c.in_ok-node.ensures.steps in let k = c.in_ok-node.ensures.count.1 in grind (arith, common_steps, h, k))
+
+pub returns-in_err-node-clause-refuses : goal.returns-in_err-node-clause-refuses
+returns-in_err-node-clause-refuses c =
+    handed-on-any c.from_residual.result c.args.self.now _ c.in_err-node.field-0.0 c.from_residual.ensures.1
+    (refused-text c.args.self.now _ c.self.inside.tree c.in_err-node.field-0.0 (ap (λ (x : State). x.tree.tree.limits) c.self.view_is) c.in_err-node.ensures.told)

@@ -6,6 +6,7 @@ use Rattle.html_tree.specs.Targets.{place_for}
 use Rattle.html_arena.specs.declared.data.NewNode.TheVariants as new
 use Rattle.html_construction.proofs.Copying.{copied-comment, grown-made}
 use Rattle.html_construction.proofs.Working.{works-walk-made}
+use Rattle.html_construction.proofs.Telling.{handed-on, limits-made, refused-node}
 use Rattle.html_construction.proofs.construction.Construction.insert_comment_at.Goals as goal
 
 pub insert_comment-requires-clause-token : goal.insert_comment-requires-clause-token
@@ -26,3 +27,9 @@ pub returns-clause-works : goal.returns-clause-works
 returns-clause-works c =
     works-walk-made c.args.self.now _ _ _ c.self.inside.ledger _ _ c.self.view_is c.in_ok-number.ensures.rest c.in_ok-number.ensures.fate
     c.laws.ensures.sound c.self.invariant.tokens c.in_ok-insert_comment.ensures.keeps (adds-none _ _ refl) (let h = c.in_ok-insert_comment.ensures.steps in omega (arith, h))
+
+pub returns-in_err-insert_comment-clause-refuses : goal.returns-in_err-insert_comment-clause-refuses
+returns-in_err-insert_comment-clause-refuses c =
+    handed-on c.from_residual-in_err-insert_comment.result c.args.token.now c.args.self.now _ c.in_err-insert_comment.field-0.0 c.from_residual-in_err-insert_comment.ensures.1
+    (refused-node c.args.token.now c.args.self.now _ c.self.inside.tree (new.Comment c.in_ok-text.text c.in_ok-number.number) c.in_err-insert_comment.field-0.0 (limits-made _ _ c.args.self.now c.self.view_is c.in_ok-number.ensures.rest)
+    (record { comment = c.requires.symbol; text_is = c.in_ok-text.ensures.data }) c.in_err-insert_comment.ensures.told)

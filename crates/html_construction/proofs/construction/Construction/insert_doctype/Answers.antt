@@ -7,6 +7,7 @@ use Rattle.html_arena.specs.declared.data.NewNode.TheVariants as new
 use Rattle.html_tree.specs.declared.groups.Target.TheVariants as target
 use Rattle.html_construction.proofs.Copying.{copied-doctype, grown-made}
 use Rattle.html_construction.proofs.Working.{works-walk-made}
+use Rattle.html_construction.proofs.Telling.{handed-on, limits-made, refused-node}
 use Rattle.html_construction.proofs.construction.Construction.insert_doctype.Goals as goal
 
 pub insert_doctype-requires : goal.insert_doctype-requires
@@ -27,3 +28,9 @@ pub returns-clause-works : goal.returns-clause-works
 returns-clause-works c =
     works-walk-made c.args.self.now _ _ _ c.self.inside.ledger _ _ c.self.view_is c.in_ok-number.ensures.rest c.in_ok-number.ensures.fate
     c.laws.ensures.sound c.self.invariant.tokens c.in_ok-insert_doctype.ensures.keeps (adds-none _ _ refl) (let h = c.in_ok-insert_doctype.ensures.steps in omega (arith, h))
+
+pub returns-in_err-insert_doctype-clause-refuses : goal.returns-in_err-insert_doctype-clause-refuses
+returns-in_err-insert_doctype-clause-refuses c =
+    handed-on c.from_residual-in_err-insert_doctype.result c.args.token.now c.args.self.now _ c.in_err-insert_doctype.field-0.0 c.from_residual-in_err-insert_doctype.ensures.1
+    (refused-node c.args.token.now c.args.self.now _ c.self.inside.tree (new.Doctype c.in_ok-ids.ids.name c.in_ok-ids.ids.«public» c.in_ok-ids.ids.system c.in_ok-number.number) c.in_err-insert_doctype.field-0.0 (limits-made _ _ c.args.self.now c.self.view_is c.in_ok-number.ensures.rest)
+    (record { doctype = c.requires.symbol; name_is = c.in_ok-ids.ensures.name; public_is = c.in_ok-ids.ensures.«public»; system_is = c.in_ok-ids.ensures.system }) c.in_err-insert_doctype.ensures.told)

@@ -1,4 +1,5 @@
 use Rattle.std.proofs.Common.{refl, ap, arith}
+use Rattle.html_construction.specs.States.{State}
 use Rattle.html_construction.proofs.Kept.{implied, still, adds-none}
 use Rattle.html_tree.specs.States.{State as Tree}
 use Rattle.html_names.specs.declared.tag.Tag.TheVariants as tag
@@ -6,6 +7,7 @@ use Rattle.html_tree.specs.Targets.{place_for}
 use Rattle.html_tree.specs.declared.groups.Target.TheVariants as target
 use Rattle.html_construction.proofs.Copying.{copied-implied, grown-kept}
 use Rattle.html_construction.proofs.Working.{works-walk}
+use Rattle.html_construction.proofs.Telling.{handed-on-any, refused-implied}
 use Rattle.html_construction.proofs.construction.Construction.insert_implied_root.Goals as goal
 
 pub invariant_of-self : goal.invariant_of-self
@@ -21,3 +23,8 @@ returns-clause-grown c =
 
 pub returns-clause-works : goal.returns-clause-works
 returns-clause-works c = works-walk c.args.self.now _ _ c.self.inside.ledger c.self.view_is c.laws.ensures.sound c.self.invariant.tokens c.in_ok-insert_implied_root.ensures.keeps (adds-none _ _ refl) (let h = c.in_ok-insert_implied_root.ensures.steps in omega (arith, h))
+
+pub returns-in_err-insert_implied_root-clause-refuses : goal.returns-in_err-insert_implied_root-clause-refuses
+returns-in_err-insert_implied_root-clause-refuses c =
+    handed-on-any c.from_residual.result c.args.self.now _ c.in_err-insert_implied_root.field-0.0 c.from_residual.ensures.1
+    (refused-implied c.args.self.now _ c.self.inside.tree tag.Html c.in_err-insert_implied_root.field-0.0 (ap (λ (x : State). x.tree.tree.limits) c.self.view_is) refl c.in_err-insert_implied_root.ensures.told)

@@ -10,6 +10,7 @@ use Rattle.html_tree.specs.declared.groups.Target.TheVariants as target
 use Rattle.html_construction.proofs.Originating.{named-formatting}
 use Rattle.html_construction.proofs.Copying.{copied-element, grown-made}
 use Rattle.html_construction.proofs.Working.{works-listed-made}
+use Rattle.html_construction.proofs.Telling.{handed-on, limits-made, refused-node}
 use Rattle.html_construction.proofs.construction.Construction.insert_listed.Goals as goal
 
 pub insert_listed-requires-clause-token : goal.insert_listed-requires-clause-token
@@ -36,3 +37,9 @@ returns-clause-works c =
     works-listed-made c.args.self.now _ _ _ c.self.inside.ledger _ _ (place_for c.self.inside.tree (target.Current c.self.inside.registers.fostering)) c.in_ok-name.name c.in_ok-attrs.attrs (attrs_of c.args.token.now) c.in_ok-number.number
     c.self.view_is c.in_ok-number.ensures.rest c.in_ok-number.ensures.fate c.laws.ensures.sound c.self.invariant.tokens c.requires.listed c.in_ok-insert_listed.ensures.keeps (adds-none _ _ refl)
     c.in_ok-attrs.ensures.attrs (ap (λ (x : Tree). x.tree) c.in_ok-insert_listed.ensures.exact) c.in_ok-insert_listed.ensures.steps
+
+pub returns-in_err-insert_listed-clause-refuses : goal.returns-in_err-insert_listed-clause-refuses
+returns-in_err-insert_listed-clause-refuses c =
+    handed-on c.from_residual-in_err-insert_listed.result c.args.token.now c.args.self.now _ c.in_err-insert_listed.field-0.0 c.from_residual-in_err-insert_listed.ensures.1
+    (refused-node c.args.token.now c.args.self.now _ c.self.inside.tree (new.Element c.in_ok-name.name c.in_ok-attrs.attrs (Token c.in_ok-number.number)) c.in_err-insert_listed.field-0.0 (limits-made _ _ c.args.self.now c.self.view_is c.in_ok-number.ensures.rest)
+    (record { name_tag = c.args.tag; start = c.requires.symbol; name_is = named-formatting c.args.tag c.args.token.now c.in_ok-name.name c.requires.formatting c.in_ok-name.ensures.name; attrs_are = c.in_ok-attrs.ensures.attrs }) c.in_err-insert_listed.ensures.told)

@@ -11,6 +11,7 @@ use Rattle.html_names.specs.Names.{name_of}
 use Rattle.html_construction.proofs.Originating.{named-html}
 use Rattle.html_construction.proofs.Copying.{copied-element, grown-made}
 use Rattle.html_construction.proofs.Working.{works-walk-made}
+use Rattle.html_construction.proofs.Telling.{handed-on, limits-made, refused-node}
 use Rattle.html_construction.proofs.construction.Construction.insert_root.Goals as goal
 
 pub insert_root-requires : goal.insert_root-requires
@@ -31,3 +32,9 @@ pub returns-clause-works : goal.returns-clause-works
 returns-clause-works c =
     works-walk-made c.args.self.now _ _ _ c.self.inside.ledger _ _ c.self.view_is c.in_ok-number.ensures.rest c.in_ok-number.ensures.fate
     c.laws.ensures.sound c.self.invariant.tokens c.in_ok-insert_root.ensures.keeps (adds-none _ _ refl) (let h = c.in_ok-insert_root.ensures.steps in omega (arith, h))
+
+pub returns-in_err-insert_root-clause-refuses : goal.returns-in_err-insert_root-clause-refuses
+returns-in_err-insert_root-clause-refuses c =
+    handed-on c.from_residual-in_err-insert_root.result c.args.token.now c.args.self.now _ c.in_err-insert_root.field-0.0 c.from_residual-in_err-insert_root.ensures.1
+    (refused-node c.args.token.now c.args.self.now _ c.self.inside.tree (new.Element (name_of tag.Html) c.in_ok-attrs.attrs (Token c.in_ok-number.number)) c.in_err-insert_root.field-0.0 (limits-made _ _ c.args.self.now c.self.view_is c.in_ok-number.ensures.rest)
+    (record { name_tag = tag.Html; start = c.requires.symbol; name_is = named-html c.args.token.now c.requires.symbol; attrs_are = c.in_ok-attrs.ensures.attrs }) c.in_err-insert_root.ensures.told)

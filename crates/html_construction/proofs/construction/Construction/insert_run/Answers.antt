@@ -9,6 +9,7 @@ use Rattle.html_tree.specs.States.{State as Tree}
 use Rattle.html_ledger.specs.Entries.{given_run}
 use Rattle.html_construction.proofs.Copying.{copied-text, grown-run}
 use Rattle.html_construction.proofs.Working.{works-text}
+use Rattle.html_construction.proofs.Telling.{handed-on-any, refused-text}
 use Rattle.html_construction.proofs.construction.Construction.insert_run.Goals as goal
 
 pub invariant_of-self : goal.invariant_of-self
@@ -29,3 +30,8 @@ pub returns-clause-works : goal.returns-clause-works
 returns-clause-works c =
     works-text c.in_ok-node.count c.args.self.now _ _ c.give_run.new.self c.self.view_is c.laws.ensures.sound c.self.invariant.tokens c.in_ok-node.ensures.keeps
     (adds-run _ _ (take c.in_ok-node.count c.args.run.now) (Text c.in_ok-node.node) c.in_ok-give_run.ensures.given) c.in_ok-node.ensures.steps
+
+pub returns-in_err-node-clause-refuses : goal.returns-in_err-node-clause-refuses
+returns-in_err-node-clause-refuses c =
+    handed-on-any c.from_residual.result c.args.self.now _ c.in_err-node.field-0.0 c.from_residual.ensures.1
+    (refused-text c.args.self.now _ c.self.inside.tree c.in_err-node.field-0.0 (ap (λ (x : State). x.tree.tree.limits) c.self.view_is) c.in_err-node.ensures.told)

@@ -1,8 +1,10 @@
 use Rattle.std.proofs.Common.{refl, ap, arith}
+use Rattle.html_construction.specs.States.{State}
 use Rattle.html_construction.proofs.Kept.{implied, adds-none}
 use Rattle.html_tree.specs.States.{State as Tree}
 use Rattle.html_construction.proofs.Copying.{copied-implied, grown-kept}
 use Rattle.html_construction.proofs.Working.{works-walk}
+use Rattle.html_construction.proofs.Telling.{handed-on-any, refused-implied}
 use Rattle.html_construction.proofs.construction.Construction.open_implied.Goals as goal
 
 pub returns-clause-keeps : goal.returns-clause-keeps
@@ -15,3 +17,8 @@ returns-clause-grown c =
 
 pub returns-clause-works : goal.returns-clause-works
 returns-clause-works c = works-walk c.args.self.now _ _ c.self.inside.ledger c.self.view_is c.laws.ensures.sound c.self.invariant.tokens c.in_ok-node.ensures.keeps (adds-none _ _ refl) (let h = c.in_ok-node.ensures.steps in omega (arith, h))
+
+pub returns-in_err-node-clause-refuses : goal.returns-in_err-node-clause-refuses
+returns-in_err-node-clause-refuses c =
+    handed-on-any c.from_residual.result c.args.self.now _ c.in_err-node.field-0.0 c.from_residual.ensures.1
+    (refused-implied c.args.self.now _ c.self.inside.tree c.args.tag c.in_err-node.field-0.0 (ap (λ (x : State). x.tree.tree.limits) c.self.view_is) c.requires.alone c.in_err-node.ensures.told)

@@ -7,6 +7,7 @@ use Rattle.html_tree.specs.Seats.{has_seat}
 use Rattle.html_tree.specs.States.{State as Tree}
 use Rattle.html_tree.specs.declared.groups.Target.TheVariants as target
 use Rattle.html_tree.specs.Targets.{place_for}
+use Rattle.html_construction.proofs.Telling.{handed-on-any, refused-implied}
 use Rattle.html_construction.proofs.construction.Construction.open_implied_part.Goals as goal
 
 pub insert_implied-requires-clause-seat : goal.insert_implied-requires-clause-seat
@@ -22,3 +23,8 @@ returns-clause-grown c =
 
 pub returns-clause-works : goal.returns-clause-works
 returns-clause-works c = works-walk c.args.self.now _ _ c.self.inside.ledger c.self.view_is c.laws.ensures.sound c.self.invariant.tokens c.in_ok-insert_implied.ensures.keeps (adds-none _ _ refl) (let h = c.in_ok-insert_implied.ensures.steps in omega (arith, h))
+
+pub returns-in_err-insert_implied-clause-refuses : goal.returns-in_err-insert_implied-clause-refuses
+returns-in_err-insert_implied-clause-refuses c =
+    handed-on-any c.from_residual.result c.args.self.now _ c.in_err-insert_implied.field-0.0 c.from_residual.ensures.1
+    (refused-implied c.args.self.now _ c.self.inside.tree c.args.tag c.in_err-insert_implied.field-0.0 (ap (λ (x : State). x.tree.tree.limits) c.self.view_is) c.requires.alone c.in_err-insert_implied.ensures.told)

@@ -1,8 +1,10 @@
-use Rattle.std.proofs.Common.{refl}
+use Rattle.std.proofs.Common.{refl, ap}
 use Rattle.html_construction.proofs.Kept.{kept, reopened, stack-is, adds-none}
 use Rattle.html_construction.proofs.Copying.{grown-reopened}
 use Rattle.html_construction.proofs.Cloning.{reopened-copies}
 use Rattle.html_construction.proofs.Working.{works-reopened}
+use Rattle.html_construction.proofs.Telling.{handed-on-any, refused-clones}
+use Rattle.html_construction.specs.States.{State}
 use Rattle.html_construction.proofs.construction.Construction.reconstruct.Goals as goal
 
 pub returns-clause-keeps : goal.returns-clause-keeps
@@ -18,3 +20,8 @@ returns-clause-grown c =
 
 pub returns-clause-works : goal.returns-clause-works
 returns-clause-works c = works-reopened c.args.self.now _ _ c.self.view_is c.laws.ensures.sound c.self.invariant.tokens c.requires.listed c.in_ok-reopen.ensures.keeps (adds-none _ _ refl) c.reopen.ensures.steps
+
+pub returns-in_err-reopen-clause-refuses : goal.returns-in_err-reopen-clause-refuses
+returns-in_err-reopen-clause-refuses c =
+    handed-on-any c.from_residual.result c.args.self.now _ c.in_err-reopen.field-0.0 c.from_residual.ensures.1
+    (refused-clones c.args.self.now _ c.self.inside.tree c.in_err-reopen.field-0.0 (ap (λ (x : State). x.tree.tree.limits) c.self.view_is) c.in_err-reopen.ensures.told)

@@ -7,6 +7,7 @@ use Rattle.html_arena.specs.declared.data.NewNode.TheVariants as new
 use Rattle.html_arena.specs.declared.data.Origin.TheVariants.{Token}
 use Rattle.html_construction.proofs.Copying.{copied-element, grown-made}
 use Rattle.html_construction.proofs.Working.{works-walk-made}
+use Rattle.html_construction.proofs.Telling.{handed-on, limits-made, refused-node}
 use Rattle.html_construction.proofs.construction.Construction.void_at.Goals as goal
 
 pub insert_void-requires-clause-token : goal.insert_void-requires-clause-token
@@ -27,3 +28,9 @@ pub returns-clause-works : goal.returns-clause-works
 returns-clause-works c =
     works-walk-made c.args.self.now _ _ _ c.self.inside.ledger _ _ c.self.view_is c.in_ok-number.ensures.rest c.in_ok-number.ensures.fate
     c.laws.ensures.sound c.self.invariant.tokens c.in_ok-node.ensures.keeps (adds-none _ _ refl) (let h = c.in_ok-node.ensures.steps in omega (arith, h))
+
+pub returns-in_err-node-clause-refuses : goal.returns-in_err-node-clause-refuses
+returns-in_err-node-clause-refuses c =
+    handed-on c.from_residual-in_err-node.result c.args.token.now c.args.self.now _ c.in_err-node.field-0.0 c.from_residual-in_err-node.ensures.1
+    (refused-node c.args.token.now c.args.self.now _ c.self.inside.tree (new.Element c.in_ok-name.name c.in_ok-attrs.attrs (Token c.in_ok-number.number)) c.in_err-node.field-0.0 (limits-made _ _ c.args.self.now c.self.view_is c.in_ok-number.ensures.rest)
+    (record { name_tag = c.args.tag; start = c.requires.symbol; name_is = c.in_ok-name.ensures.name; attrs_are = c.in_ok-attrs.ensures.attrs }) c.in_err-node.ensures.told)

@@ -1,0 +1,83 @@
+-- Why a budget was told.
+use Rattle.std.proofs.Common.{ℕ, ◌≡◌, ◌+◌, true, [], length, Option, Result, IfErr, inl, inr, refl, sym, ap, subst, ◌∙◌}
+use Rattle.std.proofs.lemmas.Result.{err_from_is_err_and}
+use Rattle.std.specs.Prelude.{IsErrAnd}
+use Rattle.html_names.specs.declared.tag.Tag.{Tag}
+use Rattle.html_names.specs.Names.{name_of}
+use Rattle.html_arena.specs.declared.arena.Limits.{Limits}
+use Rattle.html_arena.specs.declared.data.NewNode.{NewNode}
+use Rattle.html_arena.specs.declared.data.NewNode.TheVariants.{CloneOf, Element, Text}
+use Rattle.html_arena.specs.declared.data.Origin.TheVariants.{Implied}
+use Rattle.html_arena.specs.Budget.{budget_of}
+use Rattle.html_arena.specs.Make.{made_weight, nodes_made}
+use Rattle.html_arena.specs.Tree.{more}
+use Rattle.html_tokens.specs.declared.token.TokenKind.{TokenKind}
+use Rattle.html_open.specs.declared.error.OpenError.{OpenError}
+use Rattle.html_open.specs.declared.error.OpenError.TheVariants as opened
+use Rattle.html_open.specs.Opened.{open_at}
+use Rattle.html_open.specs.Reopening.{IsTold}
+use Rattle.html_tree.specs.Inserting.{IsNodePassed, IsPassed as IsTreePassed}
+use Rattle.html_tree.specs.States.{State as Tree}
+use Rattle.html_tree.specs.Texts.{IsTextPassed}
+use Rattle.html_construction.specs.declared.refusal.Refusal.{Refusal}
+use Rattle.html_construction.specs.declared.refusal.Refusal.TheVariants.{OutOfMemory}
+use Rattle.html_construction.specs.Budgets.{IsNextNode, IsReason, IsRefused, IsRefusedAny, MayAdd, Refuses, RefusesAny, a_code_point, a_node}
+use Rattle.html_construction.specs.Built.{Handed, IsBuilt}
+use Rattle.html_construction.specs.Causes.{of_open}
+use Rattle.html_construction.specs.Origins.{is_made_alone}
+use Rattle.html_construction.specs.States.{State}
+
+-- what the limits say of what was to be added
+passed-by : (l m : Option Limits) (t : TokenKind) (z : State) (nodes held : ℕ) (e : OpenError) (o : Tree) → m ≡ l → o.tree.limits ≡ m → MayAdd t z nodes held → IsTreePassed o z.tree nodes held e → IsReason l t z (of_open e)
+passed-by l m t z nodes held opened.OutOfMemory o e r a k = tt
+passed-by l m t z nodes held opened.NodeBudget o e r a k =
+    record { nodes = nodes; held = held; added = a; answer_is = ap (λ v. budget_of v (length z.tree.tree.labels + nodes) (more z.tree.tree.held held)) (sym (r ∙ e)) ∙ k }
+passed-by l m t z nodes held opened.HeldBudget o e r a k =
+    record { nodes = nodes; held = held; added = a; answer_is = ap (λ v. budget_of v (length z.tree.tree.labels + nodes) (more z.tree.tree.held held)) (sym (r ∙ e)) ∙ k }
+
+pub refused-by : (t : TokenKind) (a z : State) (o : Tree) (nodes held : ℕ) (e : OpenError) → o.tree.limits ≡ a.tree.tree.limits → MayAdd t z nodes held → IsTreePassed o z.tree nodes held e → Refuses t (of_open e) a z
+refused-by t a z o nodes held e r m k = λ h w. record { reason = passed-by h.limits a.tree.tree.limits t z nodes held e o w.limits r m k }
+
+-- the next node was refused
+pub refused-node : (t : TokenKind) (a z : State) (o : Tree) (new : NewNode) (e : OpenError) → o.tree.limits ≡ a.tree.tree.limits → IsNextNode t z new → IsNodePassed o z.tree new e → Refuses t (of_open e) a z
+refused-node t a z o new e r n k = refused-by t a z o (nodes_made new) (made_weight z.tree.tree new) e r (a_node new n) k
+
+-- an element that no token asks for
+pub refused-implied : (a z : State) (o : Tree) (g : Tag) (e : OpenError) → o.tree.limits ≡ a.tree.tree.limits → is_made_alone g ≡ true → IsNodePassed o z.tree (Element (name_of g) [] Implied) e → RefusesAny (of_open e) a z
+refused-implied a z o g e r n k =
+    λ h w. record { any = λ t. refused-node t a z o (Element (name_of g) [] Implied) e r (record { name_tag = g; alone = n; name_is = refl; no_attrs = refl }) k h w }
+
+-- a text, or a code point of it
+pub refused-text : (a z : State) (o : Tree) (e : OpenError) → o.tree.limits ≡ a.tree.tree.limits → IsTextPassed o z.tree e → RefusesAny (of_open e) a z
+refused-text a z o e r (inl k) = λ h w. record { any = λ t. refused-node t a z o Text e r tt k h w }
+refused-text a z o e r (inr k) = λ h w. record { any = λ t. refused-by t a z o 0 1 e r a_code_point k h w }
+
+-- a clone of an element in the list
+refused-clone : (t : TokenKind) (z : State) (l m : Option Limits) (e : OpenError) → m ≡ l → IsTold m (open_at z.tree.stack z.tree.list z.tree.tree) e → IsReason l t z (of_open e)
+refused-clone t z l m opened.OutOfMemory e k = tt
+refused-clone t z l m opened.NodeBudget e k =
+    record { nodes = 1; held = made_weight z.tree.tree (CloneOf k.next); added = a_node (CloneOf k.next) k.listed; answer_is = ap (λ v. budget_of v (length z.tree.tree.labels + 1) (more z.tree.tree.held (made_weight z.tree.tree (CloneOf k.next)))) (sym e) ∙ k.answer_is }
+refused-clone t z l m opened.HeldBudget e k =
+    record { nodes = 1; held = made_weight z.tree.tree (CloneOf k.next); added = a_node (CloneOf k.next) k.listed; answer_is = ap (λ v. budget_of v (length z.tree.tree.labels + 1) (more z.tree.tree.held (made_weight z.tree.tree (CloneOf k.next)))) (sym e) ∙ k.answer_is }
+
+pub refused-clones : (a z : State) (o : Tree) (e : OpenError) → o.tree.limits ≡ a.tree.tree.limits → IsTold o.tree.limits (open_at z.tree.stack z.tree.list z.tree.tree) e → RefusesAny (of_open e) a z
+refused-clones a z o e r k = λ h w. record { any = λ t. record { reason = refused-clone t z h.limits o.tree.limits e (r ∙ w.limits) k } }
+
+-- the limits are those from before the ledger took the token
+pub limits-made : (v g n : State) → v ≡ g → g ≡ record n { ledger = g.ledger } → v.tree.tree.limits ≡ n.tree.tree.limits
+limits-made v g n e r = ap (λ (x : State). x.tree.tree.limits) e ∙ ap (λ (x : State). x.tree.tree.limits) r
+
+-- there was no memory
+pub no-memory : (a z : State) (e : Refusal) → e ≡ OutOfMemory → RefusesAny e a z
+no-memory a z e q = λ h w. record { any = λ t. record { reason = subst (λ f. IsReason h.limits t z f) (sym q) tt } }
+
+-- handed on by a `?`
+pub handed-on : {A : Type 0} (r : Result A Refusal) (t : TokenKind) (a z : State) (e : OpenError) → IsErrAnd r (λ f. f ≡ of_open e) → Refuses t (of_open e) a z → IfErr r (λ f. Refuses t f a z)
+handed-on r t a z e i k = let p = err_from_is_err_and r i in rw p.1 (subst (λ f. Refuses t f a z) (sym p.2) k)
+
+pub handed-on-any : {A : Type 0} (r : Result A Refusal) (a z : State) (e : OpenError) → IsErrAnd r (λ f. f ≡ of_open e) → RefusesAny (of_open e) a z → IfErr r (λ f. RefusesAny f a z)
+handed-on-any r a z e i k = let p = err_from_is_err_and r i in rw p.1 (subst (λ f. RefusesAny f a z) (sym p.2) k)
+
+-- what is so of any token is so of the one in hand
+pub any-refused : (l : Option Limits) (t : TokenKind) (z : State) (e : Refusal) → IsRefusedAny l z e → IsRefused l t z e
+any-refused l t z e k = k.any t
