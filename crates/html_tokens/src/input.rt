@@ -38,27 +38,34 @@ fn is_plain(mode: TextMode, c: char) -> bool
 }
 
 /// How many code points are looked at at once.
-const BLOCK: usize = 16;
+const BLOCK: usize = 64;
 
-/// Whether a code point is plain text in each mode, and tells no error. It makes no choice, so that many are looked at at once.
+/// Whether a code point is plain text in each mode, and tells no error.
 fn is_clean(c: char) -> bool
+    ensures { (mode : TextMode) → result ≡ true → is_plain mode c ≡ true }
+{
+    c > '<' || !(c == '<' || c == '&' || c == '\0')
+}
+
+/// The same without a choice, so that many code points are looked at at once.
+fn is_unmarked(c: char) -> bool
     ensures { (mode : TextMode) → result ≡ true → is_plain mode c ≡ true }
 {
     (c != '<') & (c != '&') & (c != '\0')
 }
 
-/// Whether all code points are so.
+/// Whether all code points are plain text in each mode, and tell no error.
 fn are_clean(text: &[char]) -> bool
     ensures { (mode : TextMode) → result ≡ true → AllPass (is_plain mode) text.now }
 {
     let mut clean = true;
     for c in text {
-        clean = clean & is_clean(*c);
+        clean = clean & is_unmarked(*c);
     }
     clean
 }
 
-/// The length of the longest front of a text of which all code points are so.
+/// The length of the longest front of a text without U+0000, `&` and `<`.
 fn clean_front(text: &[char]) -> usize
     ensures fit { result ≤ length text.now }
     ensures plain { (mode : TextMode) → AllPass (is_plain mode) (take result text.now) }

@@ -9,7 +9,7 @@ pub loop-c-preserved : goal.loop-c-preserved
 loop-c-preserved c = λ mode both.
     let t = take_more c.args.text.now c.loop-c.c-index c.c-item.result c.loop-c-test.true in
     let taken = rw (← c.c-item.is) at t in
-    rw taken (AllPass-push (is_plain mode) _ c.c-item.result (c.loop-c.invariant mode (first_holds _ _ both)) (c.is_clean-clean.ensures mode (second_holds _ _ both)))
+    rw taken (AllPass-push (is_plain mode) _ c.c-item.result (c.loop-c.invariant mode (first_holds _ _ both)) (c.is_unmarked-clean.ensures mode (second_holds _ _ both)))
 
 pub returns : goal.returns
 returns c = λ mode clean.

@@ -9,7 +9,7 @@ use Rattle.html_tokens.proofs.input.clean_front.Goals as goal
 pub striding-preserved : goal.striding-preserved
 striding-preserved c = record {
   fit = omega (arith, c.striding-test.true, c.striding.invariant.fit);
-  plain = λ mode. AllPass-more (is_plain mode) c.striding.len 16 c.args.text.now (c.striding.invariant.plain mode) (subst (λ (m : ℕ). AllPass (is_plain mode) (take m (drop c.striding.len c.args.text.now))) (let e : c.striding.len + 16 - c.striding.len ≡ 16 = omega arith in e) (c.are_clean.ensures mode c.if-are_clean.true));
+  plain = λ mode. AllPass-more (is_plain mode) c.striding.len 64 c.args.text.now (c.striding.invariant.plain mode) (subst (λ (m : ℕ). AllPass (is_plain mode) (take m (drop c.striding.len c.args.text.now))) (let e : c.striding.len + 64 - c.striding.len ≡ 64 = omega arith in e) (c.are_clean.ensures mode c.if-are_clean.true));
 }
 
 pub looking-preserved : goal.looking-preserved
