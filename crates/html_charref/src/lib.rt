@@ -1,6 +1,7 @@
 //! Character references: the table of named ones, the numbers of numeric ones, and texts as lists of code points.
 #![tactic(auto)]
 
+mod key;
 mod number;
 mod ranges;
 mod read;
@@ -10,6 +11,7 @@ mod table;
 mod text;
 mod walk;
 
+pub use key::Key;
 pub use number::{Base, RefFault, add_digit, numeric};
 pub use read::EntityError;
 pub use table::{EntityTable, RefText, Row};

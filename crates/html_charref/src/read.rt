@@ -12,9 +12,9 @@ ghost use Rattle.serde_json.specs.Find.{as_object};
 ghost use Rattle.html_charref.specs.Table.{longest_len, NamesFit};
 ghost use Rattle.html_charref.specs.Entities.{is_name, number_of, numbers_of, ref_text, codes_of, text_of, row_of, rows_of, entities_of, json_of, IsFirstBad, core_rows};
 
+use crate::key::Key;
 use crate::ranges::ranges_of;
 use crate::table::{EntityTable, Name, RefText, Row};
-use crate::text::Str;
 use serde_json::{Map, Value};
 use std::alloc::{AllocFailed, Global};
 use thiserror::Error;
@@ -28,14 +28,14 @@ pub enum EntityError {
     /// The value of this key is no object, its `codepoints` no list of whole numbers of 64 bits, or its `characters` no
     /// text. With the empty key: the file is no object.
     #[error("the entry {0} has another shape")]
-    Shape(Str),
+    Shape(Key),
     /// This key is not an ampersand, one or more ASCII letters or digits, and at most one semicolon, or it is longer
     /// than 4,294,967,295 code points.
     #[error("the name {0} breaks the rule")]
-    Name(Str),
+    Name(Key),
     /// The `codepoints` of this key are not one or two scalar values, or not those of its `characters`.
     #[error("the text of {0} breaks the rule")]
-    Text(Str),
+    Text(Key),
     #[error("out of memory")]
     OutOfMemory,
 }
@@ -120,23 +120,23 @@ fn read_row(key: String, value: &Value) -> Result<Row, EntityError>
     ensures { result ≡ row_of (string_bytes key) (view value.now) }
 {
     if !is_row_name(key.as_bytes()) {
-        return Err(EntityError::Name(Str::from_string(key)));
+        return Err(EntityError::Name(Key::of(key)));
     }
     let Some(items) = value.get("codepoints").and_then(Value::as_array) else {
-        return Err(EntityError::Shape(Str::from_string(key)));
+        return Err(EntityError::Shape(Key::of(key)));
     };
     let Some(characters) = value.get("characters").and_then(Value::as_str) else {
-        return Err(EntityError::Shape(Str::from_string(key)));
+        return Err(EntityError::Shape(Key::of(key)));
     };
     if !are_numbers(items) {
-        return Err(EntityError::Shape(Str::from_string(key)));
+        return Err(EntityError::Shape(Key::of(key)));
     }
     match read_text(items, characters) {
         Some(text) => Ok(Row {
             name: Name::new(key),
             text,
         }),
-        None => Err(EntityError::Text(Str::from_string(key))),
+        None => Err(EntityError::Text(Key::of(key))),
     }
 }
 
@@ -220,7 +220,7 @@ impl EntityTable {
         let value = Value::from_slice(alloc, bytes)?;
         match into_members(value) {
             Some(members) => read_rows(alloc, members),
-            None => Err(EntityError::Shape(Str::new(alloc))),
+            None => Err(EntityError::Shape(Key::of(String::new(alloc)))),
         }
     }
 

@@ -7,7 +7,7 @@ use std::alloc::{AllocError, Global};
 use std::marker::Model;
 
 /// The greatest length of a short text.
-const MOST: usize = 30;
+const MOST: usize = 14;
 
 /// A text of ASCII, no longer than `MOST`: the first `len` of the bytes.
 #[derive(Drop)]
@@ -24,7 +24,7 @@ impl Model for Short {
 
     ghost view = { λ s. take s.len s.bytes };
 
-    ghost invariant = { λ s. (s.len ≤ 30) × IsAscii (take s.len s.bytes) };
+    ghost invariant = { λ s. (s.len ≤ 14) × IsAscii (take s.len s.bytes) };
 }
 
 impl Short {

@@ -20,7 +20,7 @@ pub struct Str {
 #[derive(Drop)]
 pub(crate) enum Kept {
     Short(Short),
-    Long(String),
+    Long(Box<String>),
 }
 
 impl Model for Str {
@@ -49,19 +49,12 @@ impl Str {
     {
         let kept = match Short::of(text) {
             Some(short) => Kept::Short(short),
-            None => Kept::Long(String::from_str(alloc, text)?),
+            None => {
+                let long = String::from_str(alloc, text)?;
+                Kept::Long(Box::new(alloc, long)?)
+            }
         };
         Ok(Str { alloc, kept })
-    }
-
-    /// The text of a `String`, which takes no more memory.
-    pub fn from_string(text: String) -> Str
-        ensures { result ≡ chars (string_bytes text) }
-    {
-        Str {
-            alloc: *text.allocator(),
-            kept: Kept::Long(text),
-        }
     }
 
     /// Adds a code point at the end, or leaves the text as it was.
@@ -91,7 +84,7 @@ impl Str {
     {
         match &self.kept {
             Kept::Short(short) => short.len(),
-            Kept::Long(text) => char_count(text.as_str()),
+            Kept::Long(text) => char_count(text.as_ref().as_str()),
         }
     }
 
@@ -119,7 +112,7 @@ impl Kept {
     {
         match self {
             Kept::Short(short) => short.as_str(),
-            Kept::Long(text) => text.as_str(),
+            Kept::Long(text) => text.as_ref().as_str(),
         }
     }
 
@@ -141,7 +134,7 @@ impl Kept {
     {
         if let Kept::Short(short) = self {
             let text = short.lengthened(alloc, more)?;
-            *self = Kept::Long(text);
+            *self = Kept::Long(Box::new(alloc, text)?);
         }
         Ok(())
     }
@@ -154,7 +147,7 @@ impl Kept {
     {
         match self {
             Kept::Short(_) => Ok(()),
-            Kept::Long(text) => extend(text, run),
+            Kept::Long(text) => extend(&mut **text, run),
         }
     }
 }
@@ -180,7 +173,11 @@ impl Clone for Kept {
     {
         match self {
             Kept::Short(short) => Ok(Kept::Short(short.copy())),
-            Kept::Long(text) => Ok(Kept::Long(text.clone()?)),
+            Kept::Long(text) => {
+                let copy = text.as_ref().clone()?;
+                let alloc = *Box::allocator(text);
+                Ok(Kept::Long(Box::new(alloc, copy)?))
+            }
         }
     }
 }

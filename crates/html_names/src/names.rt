@@ -25,7 +25,7 @@ impl Tag {
     fn has_name(self, name: &str) -> bool
         ensures { result ≡ true → tag_of name.now ≡ self }
     {
-        self.name() == name
+        same(name.as_bytes(), self.name().as_bytes())
     }
 
     /// The name of the tag; empty for `Other`.
@@ -146,6 +146,23 @@ impl Tag {
             Tag::Other => "",
         }
     }
+}
+
+/// Whether two short texts are the same.
+fn same(text: &[u8], other: &[u8]) -> bool
+    ensures { result ≡ true → text.now ≡ other.now }
+{
+    if text.len() != other.len() {
+        return false;
+    }
+    let mut index = 0;
+    'comparing: while index < text.len() {
+        if text[index] != other[index] {
+            return false;
+        }
+        index += 1;
+    }
+    true
 }
 
 /// Looks among the names of the same length.

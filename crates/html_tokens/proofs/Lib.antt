@@ -21,3 +21,4 @@ pub mod QuotedLemmas
 pub mod OrderLemmas
 pub mod ComparisonLemmas
 pub mod ScriptLemmas
+pub mod Fronts
