@@ -1,5 +1,2 @@
-pub mod Chunks
-pub mod Empty
 pub mod Fronts
 pub mod Read
-pub mod Rest

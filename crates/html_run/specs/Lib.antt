@@ -1,4 +1,3 @@
 pub mod Jobs
-pub mod Line
 pub mod Outcome
 pub mod Profiles

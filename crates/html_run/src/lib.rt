@@ -4,15 +4,12 @@
 mod audit;
 mod counts;
 mod errors;
-mod line;
 mod making;
 mod printing;
 mod refusal;
 mod running;
 mod status;
-mod tree;
 
 pub use refusal::{Refusal, TableRefusal, outcome};
 pub use running::{run, table_of, tell, tell_table};
 pub use status::{DONE, FILE_FAULT, REFUSED, WRONG_WORDS};
-pub use tree::print_tree;

@@ -18,8 +18,8 @@ use crate::making::{parser_for, tree_for};
 use crate::printing::ToSink;
 use crate::refusal::{TableRefusal, outcome};
 use crate::status::{DONE, FILE_FAULT, REFUSED};
-use crate::tree::print_tree;
 use html_job::{Command, Job};
+use html_print::{PrintError, print_tree};
 use html_parser::{EntityError, EntityTable, Page, ParseError, Profile, Sink, Source, Tree};
 use std::alloc::Global;
 use std::io;
@@ -79,7 +79,7 @@ fn answer<R: Source, W: Sink>(
     }
     let tree = tree_for(alloc, job, table, reader)?;
     match job.command {
-        Command::Tree => written(write_tree(alloc, &tree, writer)),
+        Command::Tree => print(alloc, &tree, writer),
         Command::Errors => written(write_errors(alloc, &tree, writer)),
         Command::Counts => written(write_counts(alloc, &tree, writer)),
         Command::Normalise => tree.serialise(profile(job.profile), writer),
@@ -133,13 +133,15 @@ pub fn tell_table<F: Write>(error: &EntityError, faults: &mut F) -> u8
     REFUSED
 }
 
-/// Prints a tree, to the last byte.
-fn write_tree<W: Sink>(alloc: Global, tree: &Tree, writer: &mut W) -> io::Result<()>
+/// Prints a tree.
+fn print<W: Sink>(alloc: Global, tree: &Tree, writer: &mut W) -> Result<(), ParseError>
     requires root { IsRoot tree.now.arena tree.now.root }
 {
-    let mut out = BufWriter::new(alloc, ToSink { sink: writer })?;
-    print_tree(alloc, &mut out, &tree.arena, tree.root)?;
-    out.flush()
+    match print_tree(alloc, &tree.arena, tree.root, writer) {
+        Ok(()) => Ok(()),
+        Err(PrintError::OutOfMemory) => Err(ParseError::OutOfMemory),
+        Err(PrintError::Write) => Err(ParseError::Write),
+    }
 }
 
 /// Prints parse errors, to the last byte.

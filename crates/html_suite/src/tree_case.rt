@@ -8,9 +8,8 @@ ghost use Rattle.html_parser.specs.Start.{Start};
 use crate::counts::Outcome;
 use crate::dat::TreeCase;
 use html_parser::{Context, EntityTable, ParseError, Parser, Str, Tree};
-use html_run::print_tree;
+use html_print::{OverWrite, PrintError, print_tree};
 use std::alloc::{AllocError, Global};
-use std::io;
 
 /// Runs a case: whether the page has the tree that is wanted. A case is skipped that wants scripts, or foreign content.
 ///
@@ -91,10 +90,10 @@ fn compared(alloc: Global, tree: &Tree, wanted: &[u8]) -> Result<Outcome, AllocE
 }
 
 /// The lines of a tree. A text takes any bytes, as far as there is memory.
-fn printed(alloc: Global, tree: &Tree) -> io::Result<Vec<u8>>
+fn printed(alloc: Global, tree: &Tree) -> Result<Vec<u8>, PrintError>
     requires root { IsRoot tree.now.arena tree.now.root }
 {
-    let mut text = Vec::new(alloc);
-    print_tree(alloc, &mut text, &tree.arena, tree.root)?;
-    Ok(text)
+    let mut writer = OverWrite::new(Vec::new(alloc));
+    print_tree(alloc, &tree.arena, tree.root, &mut writer)?;
+    Ok(writer.into_inner())
 }

@@ -1,0 +1,6 @@
+pub mod Units
+pub mod Sorting
+pub mod Pieces
+pub mod Bytes
+pub mod AtNode
+pub mod Walks

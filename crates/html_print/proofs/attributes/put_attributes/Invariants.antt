@@ -1,0 +1,10 @@
+use Rattle.std.proofs.Common.{take}
+use Rattle.std.specs.List.{flat_map}
+use Rattle.html_output.specs.Putting.{Moves, held}
+use Rattle.html_print.proofs.Bytes.{attribute_line}
+use Rattle.html_print.proofs.attributes.put_attributes.Given as goal
+
+-- the attributes so far are put
+abbrev pub invariant-attrs : goal.invariant-attrs
+invariant-attrs g l =
+    Moves (g.W.Sink.taken l.fn.writer) (held l.fn.output) (g.W.Sink.taken l.writer) (held l.output) (flat_map (attribute_line l.depth) (take l.attr-index l.attrs))

@@ -1,0 +1,4 @@
+pub mod Order
+pub mod Lines
+pub mod Arranged
+pub mod Printed

@@ -1,0 +1,103 @@
+//! Attributes in order.
+
+ghost use Rattle.std.specs.Prelude.{◌≡◌, ◌⊎◌, ◌<◌, ◌≤◌, ◌+◌, ◌^◌, true, OnErr, length, map};
+ghost use Rattle.std.specs.Cmp.Lexicographic.{slice_cmp};
+ghost use Rattle.std.specs.List.{flat_map};
+ghost use Rattle.std.specs.Ordering.{nat_cmp};
+ghost use Rattle.std.specs.Str.{chars, encode_utf8_all};
+ghost use Rattle.std.specs.Vec.{vec_capacity};
+ghost use Rattle.html_output.specs.Putting.{Puts, held};
+ghost use Rattle.html_print.specs.Lines.{line, shown_attribute};
+ghost use Rattle.html_print.specs.Order.{IsInOrder, code_units, units_of_name};
+
+use crate::line::put_line;
+use html_device::{DeviceFault, Sink};
+use html_output::Output;
+use html_tokens::Attr;
+use std::cmp::Ordering;
+
+/// Puts attributes in order of the UTF-16 code units of their names. There is room for all of them.
+pub(crate) fn arrange<'a>(ordered: &mut Vec<&'a Attr>, attrs: &'a [Attr])
+    requires room { length attrs.now ≤ vec_capacity ordered.old }
+    ensures order { IsInOrder attrs.now (map (λ a. a.now) ordered.new.items) }
+    ensures capacity { vec_capacity ordered.old ≤ vec_capacity ordered.new }
+{
+    fill(ordered, attrs);
+    ordered.sort_unstable_by(|a, b| compare(a, b));
+}
+
+/// Attributes in their own order. There is room for all of them.
+fn fill<'a>(list: &mut Vec<&'a Attr>, attrs: &'a [Attr])
+    requires room { length attrs.now ≤ vec_capacity list.old }
+    ensures items { map (λ a. a.now) list.new.items ≡ attrs.now }
+    ensures capacity { vec_capacity list.old ≤ vec_capacity list.new }
+{
+    list.clear();
+    'attrs: for attr in attrs {
+        let _ = list.push(attr);
+    }
+}
+
+/// Which of two attributes comes first by its name.
+fn compare(a: &Attr, b: &Attr) -> Ordering
+    ensures { result ≡ slice_cmp nat_cmp (units_of_name a.now) (units_of_name b.now) }
+{
+    compare_units(a.name.as_str(), b.name.as_str())
+}
+
+/// Which of two texts comes first in UTF-16.
+fn compare_units(a: &str, b: &str) -> Ordering
+    ensures { result ≡ slice_cmp nat_cmp (code_units (chars a.now)) (code_units (chars b.now)) }
+{
+    let mut first = a.encode_utf16();
+    let mut second = b.encode_utf16();
+    'units: while let Some(unit) = first.next() {
+        let Some(other) = second.next() else {
+            return Ordering::Greater;
+        };
+        if unit != other {
+            return unit.cmp(&other);
+        }
+    }
+    match second.next() {
+        Some(_) => Ordering::Less,
+        None => Ordering::Equal,
+    }
+}
+
+/// Puts the lines of attributes.
+pub(crate) fn put_attributes<W: Sink>(
+    output: &mut Output,
+    writer: &mut W,
+    depth: u128,
+    attrs: &[&Attr],
+) -> Result<(), DeviceFault>
+    requires low { depth < 2 ^ 100 }
+    ensures bytes { Puts (W.taken writer.old) (held output.old) (W.taken writer.new) (held output.new) result
+        (encode_utf8_all (flat_map (λ a. line depth (shown_attribute a)) (map (λ a. a.now) attrs.now))) }
+    ensures fault { OnErr result ((W.failed writer.new ≡ true) ⊎ (W.stalled writer.new ≡ true)) }
+{
+    'attrs: for attr in attrs {
+        put_attribute(output, writer, depth, attr)?;
+    }
+    Ok(())
+}
+
+/// Puts the line of an attribute.
+fn put_attribute<W: Sink>(
+    output: &mut Output,
+    writer: &mut W,
+    depth: u128,
+    attr: &Attr,
+) -> Result<(), DeviceFault>
+    requires low { depth < 2 ^ 100 }
+    ensures bytes { Puts (W.taken writer.old) (held output.old) (W.taken writer.new) (held output.new) result (encode_utf8_all (line depth (shown_attribute attr.now))) }
+    ensures fault { OnErr result ((W.failed writer.new ≡ true) ⊎ (W.stalled writer.new ≡ true)) }
+{
+    put_line(
+        output,
+        writer,
+        depth,
+        &[attr.name.as_str(), "=\"", attr.value.as_str(), "\""],
+    )
+}
