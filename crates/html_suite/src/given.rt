@@ -23,11 +23,11 @@ fn add(alloc: Global, entries: &mut Vec<Entry>, kind: &TokenKind) -> Result<(), 
     match kind {
         TokenKind::Char(c) => add_char(alloc, entries, *c)?,
         TokenKind::Comment(data) => {
-            let data = data.0.clone()?;
+            let data = data.as_str().to_string(alloc)?;
             entries.push(Entry::Comment { data })?;
         }
         TokenKind::End { name } => {
-            let name = name.0.clone()?;
+            let name = name.as_str().to_string(alloc)?;
             entries.push(Entry::End { name })?;
         }
         TokenKind::Start {
@@ -35,7 +35,7 @@ fn add(alloc: Global, entries: &mut Vec<Entry>, kind: &TokenKind) -> Result<(), 
             attrs,
             self_closing,
         } => {
-            let name = name.0.clone()?;
+            let name = name.as_str().to_string(alloc)?;
             let attributes = attributes(alloc, attrs.as_slice())?;
             entries.push(Entry::Start {
                 name,
@@ -49,9 +49,9 @@ fn add(alloc: Global, entries: &mut Vec<Entry>, kind: &TokenKind) -> Result<(), 
             system,
             force_quirks,
         } => {
-            let name = text(name)?;
-            let public = text(public)?;
-            let system = text(system)?;
+            let name = text(alloc, name)?;
+            let public = text(alloc, public)?;
+            let system = text(alloc, system)?;
             entries.push(Entry::Doctype {
                 name,
                 public,
@@ -64,9 +64,9 @@ fn add(alloc: Global, entries: &mut Vec<Entry>, kind: &TokenKind) -> Result<(), 
     Ok(())
 }
 
-fn text(from: &Option<Str>) -> Result<Option<String>, AllocError> {
+fn text(alloc: Global, from: &Option<Str>) -> Result<Option<String>, AllocError> {
     match from {
-        Some(text) => Ok(Some(text.0.clone()?)),
+        Some(text) => Ok(Some(text.as_str().to_string(alloc)?)),
         None => Ok(None),
     }
 }
@@ -86,8 +86,8 @@ fn add_char(alloc: Global, entries: &mut Vec<Entry>, c: char) -> Result<(), Allo
 fn attributes(alloc: Global, attrs: &[Attr]) -> Result<Vec<Attribute>, AllocError> {
     let mut attributes = Vec::new(alloc);
     for attr in attrs {
-        let name = attr.name.0.clone()?;
-        let value = attr.value.0.clone()?;
+        let name = attr.name.as_str().to_string(alloc)?;
+        let value = attr.value.as_str().to_string(alloc)?;
         attributes.push(Attribute { name, value })?;
     }
     Ok(attributes)
