@@ -1,7 +1,6 @@
 // What a node is, apart from its links.
-ghost use Rattle.std.specs.Prelude.{◌≡◌, ◌+◌, ◌<◌, ◌≤◌, [], ◌∷◌, ◌++◌, OnOk, OnErr, IfOk, length, slice_set, string_bytes, take, true, if◌then◌else◌, is_ok};
-ghost use Rattle.std.specs.Char.{encode_utf8};
-ghost use Rattle.std.specs.Str.{IsAscii, chars};
+ghost use Rattle.std.specs.Prelude.{◌≡◌, ◌+◌, ◌<◌, [], OnOk, OnErr, IfOk, length, slice_set};
+ghost use Rattle.std.specs.Str.{chars};
 ghost use Rattle.html_names.specs.Sets.{is_formatting};
 ghost use Rattle.html_arena.specs.Data.{IsText, IsElement, attrs_in, cloned, contents_in, host_in, is_clone_in, is_linkable, kind_in, label_in, name_in, origin_in, tag_in, text_in, with_attrs, with_char, with_run};
 ghost use Rattle.html_arena.specs.Weight.{weight, attrs_weight, optional_weight, capped};

@@ -23,11 +23,11 @@ fn add(alloc: Global, entries: &mut Vec<Entry>, kind: &TokenKind) -> Result<(), 
     match kind {
         TokenKind::Char(c) => add_char(alloc, entries, *c)?,
         TokenKind::Comment(data) => {
-            let data = String::from_str(alloc, data.as_str())?;
+            let data = data.as_str().to_string(alloc)?;
             entries.push(Entry::Comment { data })?;
         }
         TokenKind::End { name } => {
-            let name = String::from_str(alloc, name.as_str())?;
+            let name = name.as_str().to_string(alloc)?;
             entries.push(Entry::End { name })?;
         }
         TokenKind::Start {
@@ -35,7 +35,7 @@ fn add(alloc: Global, entries: &mut Vec<Entry>, kind: &TokenKind) -> Result<(), 
             attrs,
             self_closing,
         } => {
-            let name = String::from_str(alloc, name.as_str())?;
+            let name = name.as_str().to_string(alloc)?;
             let attributes = attributes(alloc, attrs.as_slice())?;
             entries.push(Entry::Start {
                 name,
@@ -66,7 +66,7 @@ fn add(alloc: Global, entries: &mut Vec<Entry>, kind: &TokenKind) -> Result<(), 
 
 fn text(alloc: Global, from: &Option<Str>) -> Result<Option<String>, AllocError> {
     match from {
-        Some(text) => Ok(Some(String::from_str(alloc, text.as_str())?)),
+        Some(text) => Ok(Some(text.as_str().to_string(alloc)?)),
         None => Ok(None),
     }
 }
@@ -86,8 +86,8 @@ fn add_char(alloc: Global, entries: &mut Vec<Entry>, c: char) -> Result<(), Allo
 fn attributes(alloc: Global, attrs: &[Attr]) -> Result<Vec<Attribute>, AllocError> {
     let mut attributes = Vec::new(alloc);
     for attr in attrs {
-        let name = String::from_str(alloc, attr.name.as_str())?;
-        let value = String::from_str(alloc, attr.value.as_str())?;
+        let name = attr.name.as_str().to_string(alloc)?;
+        let value = attr.value.as_str().to_string(alloc)?;
         attributes.push(Attribute { name, value })?;
     }
     Ok(attributes)

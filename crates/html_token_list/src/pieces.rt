@@ -1,9 +1,5 @@
 // Tokens in a row, of which neighbouring code points of text are one piece.
-ghost use Rattle.std.specs.Prelude.{◌≡◌, ◌+◌, ◌<◌, ◌≤◌, ◌^◌, ◌∷◌, [], ◌++◌, length, IfSome, IsTrue, OnOk, OnErr, string_bytes};
-ghost use Rattle.std.specs.Char.{len_utf8};
-ghost use Rattle.std.specs.List.{sum_by};
-ghost use Rattle.std.specs.Str.{chars};
-ghost use Rattle.std.specs.String.{string_capacity, string_len};
+ghost use Rattle.std.specs.Prelude.{◌≡◌, ◌+◌, ◌<◌, ◌≤◌, ◌^◌, ◌∷◌, [], ◌++◌, length, IfSome, IsTrue, OnOk, OnErr};
 ghost use Rattle.html_tokens.specs.Runs.{plain_tokens};
 ghost use Rattle.html_tokens.specs.Tokens.{token as token_at};
 ghost use Rattle.html_tokens.specs.declared.token.TokenKind.TheVariants.{Char};

@@ -21,4 +21,3 @@ pub mod QuotedLemmas
 pub mod OrderLemmas
 pub mod ComparisonLemmas
 pub mod ScriptLemmas
-pub mod Fronts

@@ -37,47 +37,11 @@ fn is_plain(mode: TextMode, c: char) -> bool
     }
 }
 
-/// How many code points are looked at at once.
-const BLOCK: usize = 64;
-
 /// Whether a code point is plain text in each mode, and tells no error.
 fn is_clean(c: char) -> bool
     ensures { (mode : TextMode) → result ≡ true → is_plain mode c ≡ true }
 {
     c > '<' || !(c == '<' || c == '&' || c == '\0')
-}
-
-/// The same without a choice, so that many code points are looked at at once.
-fn is_unmarked(c: char) -> bool
-    ensures { (mode : TextMode) → result ≡ true → is_plain mode c ≡ true }
-{
-    (c != '<') & (c != '&') & (c != '\0')
-}
-
-/// Whether all code points are plain text in each mode, and tell no error.
-fn are_clean(text: &[char]) -> bool
-    ensures { (mode : TextMode) → result ≡ true → AllPass (is_plain mode) text.now }
-{
-    let mut clean = true;
-    for c in text {
-        clean = clean & is_unmarked(*c);
-    }
-    clean
-}
-
-/// The length of the longest front of a text without U+0000, `&` and `<`.
-fn clean_front(text: &[char]) -> usize
-    ensures fit { result ≤ length text.now }
-    ensures plain { (mode : TextMode) → AllPass (is_plain mode) (take result text.now) }
-{
-    let mut len = 0;
-    'striding: while text.len() - len >= BLOCK && are_clean(&text[len..len + BLOCK]) {
-        len += BLOCK;
-    }
-    'looking: while len < text.len() && is_clean(text[len]) {
-        len += 1;
-    }
-    len
 }
 
 impl Input {
@@ -108,7 +72,14 @@ impl Input {
         ensures fit { result ≤ length self.now.queue.items }
         ensures plain { (mode : TextMode) → AllPass (is_plain mode) (take result self.now.queue.items) }
     {
-        clean_front(self.queue.unread())
+        let mut len = 0;
+        for c in self.queue.unread() {
+            if !is_clean(*c) {
+                return len;
+            }
+            len += 1;
+        }
+        len
     }
 
     /// Takes the first code point where it is plain text.

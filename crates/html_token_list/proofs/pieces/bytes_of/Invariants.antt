@@ -1,7 +1,0 @@
-use Rattle.std.proofs.Common.{◌≡◌, ◌≤◌, ◌*◌, take}
-use Rattle.std.specs.Char.{len_utf8}
-use Rattle.std.specs.List.{sum_by}
-use Rattle.html_token_list.proofs.pieces.bytes_of.Given as goal
-
-abbrev pub invariant-adding : goal.invariant-adding
-invariant-adding l = record { sum : l.bytes ≡ sum_by len_utf8 (take l.c-index l.run); most : l.bytes ≤ l.c-index * 4 }
