@@ -1,17 +1,18 @@
 -- Why a budget was told.
-use Rattle.std.proofs.Common.{ℕ, ◌≡◌, ◌+◌, true, [], length, Option, Result, IfErr, inl, inr, refl, sym, ap, subst, ◌∙◌}
+use Rattle.std.proofs.Common.{ℕ, ◌≡◌, ◌+◌, true, List, [], length, Option, Result, IfErr, inl, inr, refl, sym, ap, subst, ◌∙◌}
 use Rattle.std.proofs.lemmas.Result.{err_from_is_err_and}
 use Rattle.std.specs.Prelude.{IsErrAnd}
 use Rattle.html_names.specs.declared.tag.Tag.{Tag}
 use Rattle.html_names.specs.Names.{name_of}
 use Rattle.html_arena.specs.declared.arena.Limits.{Limits}
 use Rattle.html_arena.specs.declared.data.NewNode.{NewNode}
-use Rattle.html_arena.specs.declared.data.NewNode.TheVariants.{CloneOf, Element, Text}
-use Rattle.html_arena.specs.declared.data.Origin.TheVariants.{Implied}
+use Rattle.html_arena.specs.declared.data.NewNode.TheVariants.{CloneOf, Comment, Doctype, Document, Element, Text}
+use Rattle.html_arena.specs.declared.data.Origin.TheVariants.{Implied, Nothing, Token}
 use Rattle.html_arena.specs.Budget.{budget_of}
 use Rattle.html_arena.specs.Make.{made_weight, nodes_made}
 use Rattle.html_arena.specs.Tree.{more}
 use Rattle.html_tokens.specs.declared.token.TokenKind.{TokenKind}
+use Rattle.html_tokens.specs.declared.token.TokenKind.TheVariants as kind
 use Rattle.html_open.specs.declared.error.OpenError.{OpenError}
 use Rattle.html_open.specs.declared.error.OpenError.TheVariants as opened
 use Rattle.html_open.specs.Opened.{open_at}
@@ -20,9 +21,9 @@ use Rattle.html_tree.specs.Inserting.{IsNodePassed, IsPassed as IsTreePassed}
 use Rattle.html_tree.specs.States.{State as Tree}
 use Rattle.html_tree.specs.Texts.{IsTextPassed}
 use Rattle.html_construction.specs.declared.refusal.Refusal.{Refusal}
-use Rattle.html_construction.specs.declared.refusal.Refusal.TheVariants.{OutOfMemory}
-use Rattle.html_construction.specs.Budgets.{IsNextNode, IsReason, IsRefused, IsRefusedAny, MayAdd, Refuses, RefusesAny, a_code_point, a_node}
-use Rattle.html_construction.specs.Built.{Handed, IsBuilt}
+use Rattle.html_construction.specs.declared.refusal.Refusal.TheVariants.{OutOfMemory, NodeBudget, HeldBudget}
+use Rattle.html_construction.specs.Budgets.{IsNextNode, IsReason, IsRefused, IsRefusedAny, MayAdd, Refuses, RefusesAny, a_code_point, a_node, lacking_attrs}
+use Rattle.html_construction.specs.Built.{Handed, IsBuilt, Releases, chars_of, with_tokens}
 use Rattle.html_construction.specs.Causes.{of_open}
 use Rattle.html_construction.specs.Origins.{is_made_alone}
 use Rattle.html_construction.specs.States.{State}
@@ -81,3 +82,32 @@ handed-on-any r a z e i k = let p = err_from_is_err_and r i in rw p.1 (subst (λ
 -- what is so of any token is so of the one in hand
 pub any-refused : (l : Option Limits) (t : TokenKind) (z : State) (e : Refusal) → IsRefusedAny l z e → IsRefused l t z e
 any-refused l t z e k = k.any t
+
+-- of a code point nothing is added that is its own
+any-char : (c : ℕ) (t : TokenKind) (z : State) (nodes held : ℕ) → MayAdd (kind.Char c) z nodes held → MayAdd t z nodes held
+any-char c t z nodes held (a_node (Element name attrs (Token i)) n) = absurd (let k = n.start in cc)
+any-char c t z nodes held (a_node (Element name attrs Implied) n) = a_node (Element name attrs Implied) n
+any-char c t z nodes held (a_node (Element name attrs Nothing) n) = absurd n
+any-char c t z nodes held (a_node Document n) = absurd n
+any-char c t z nodes held (a_node (CloneOf x) n) = a_node (CloneOf x) n
+any-char c t z nodes held (a_node Text n) = a_node Text n
+any-char c t z nodes held (a_node (Comment text i) n) = absurd (let k = n.comment in cc)
+any-char c t z nodes held (a_node (Doctype name ids more i) n) = absurd (let k = n.doctype in cc)
+any-char c t z nodes held a_code_point = a_code_point
+any-char c t z nodes held (lacking_attrs g i s o e) = absurd (let k = s in cc)
+
+any-reason : (l : Option Limits) (c : ℕ) (t : TokenKind) (z : State) (e : Refusal) → IsReason l (kind.Char c) z e → IsReason l t z e
+any-reason l c t z OutOfMemory k = tt
+any-reason l c t z NodeBudget k = record { nodes = k.nodes; held = k.held; added = any-char c t z k.nodes k.held k.added; answer_is = k.answer_is }
+any-reason l c t z HeldBudget k = record { nodes = k.nodes; held = k.held; added = any-char c t z k.nodes k.held k.added; answer_is = k.answer_is }
+
+pub char-refused : (l : Option Limits) (c : ℕ) (z : State) (e : Refusal) → IsRefused l (kind.Char c) z e → IsRefusedAny l z e
+char-refused l c z e k = record { any = λ t. record { reason = any-reason l c t z e k.reason } }
+
+-- code points that were taken out, the first of them given their fates, leave the limits
+with-limits : (h : Handed) (ts : List TokenKind) → (with_tokens h ts).limits ≡ h.limits
+unfolding with_tokens
+with-limits h ts = refl
+
+pub released-refused : (cs : List ℕ) (a b z : State) (e : Refusal) → Releases cs a b → RefusesAny e b z → RefusesAny e a z
+released-refused cs a b z e r k = λ h w. let p = r h w in subst (λ l. IsRefusedAny l z e) (sym (ap (λ (x : Handed). x.limits) p.2 ∙ with-limits p.0 (chars_of cs))) (k p.0 p.1)

@@ -1,6 +1,7 @@
 -- Where a budget is told: what was to be added next, and which limit that would pass. Nodes are looked at before held code points.
 use Rattle.std.specs.Prelude.{ℕ, ◌≡◌, ◌+◌, ◌≤◌, true, List, [], length, slice_index, Option, Err}
 use Rattle.html_names.specs.declared.tag.Tag.{Tag}
+use Rattle.html_names.specs.Groups.{is_outermost}
 use Rattle.html_names.specs.Names.{name_of}
 use Rattle.html_arena.specs.declared.arena.ArenaError.{ArenaError}
 use Rattle.html_arena.specs.declared.arena.ArenaError.TheVariants as arena
@@ -72,7 +73,7 @@ IsNextNode t a (Doctype name public_text system_text i) = IsOwnDoctype t name pu
 pub data MayAdd (t : TokenKind) (a : State) : ℕ → ℕ → Type 0 where
   a_node : (new : NewNode) → IsNextNode t a new → MayAdd t a (nodes_made new) (made_weight a.tree.tree new)
   a_code_point : MayAdd t a 0 1
-  lacking_attrs : (i : ℕ) → i ≤ 1 → MayAdd t a 0 (capped (attrs_weight (lacking (attrs_in (label_of a.tree.tree (slice_index a.tree.stack i))) (attrs_of t))))
+  lacking_attrs : (g : Tag) (i : ℕ) → symbol_of t ≡ symbol.Start g → is_outermost g ≡ true → i ≤ 1 → MayAdd t a 0 (capped (attrs_weight (lacking (attrs_in (label_of a.tree.tree (slice_index a.tree.stack i))) (attrs_of t))))
 
 -- With what is to be added next the nodes, or the held code points, that there are now would be more than the limit.
 pub record IsPassed (limits : Option Limits) (t : TokenKind) (a : State) (limit : ArenaError) : Type 0 where

@@ -41,5 +41,5 @@ returns-clause-works c =
 pub returns-in_err-merge-clause-refuses : goal.returns-in_err-merge-clause-refuses
 returns-in_err-merge-clause-refuses c =
     handed-on c.from_residual-in_err-merge.result c.args.token.now c.args.self.now _ c.in_err-merge.field-0.0 c.from_residual-in_err-merge.ensures.1
-    (refused-by c.args.token.now c.args.self.now _ c.self.inside.tree 0 _ c.in_err-merge.field-0.0 (ap (λ (x : State). x.tree.tree.limits) c.self.view_is) (lacking_attrs c.args.index c.requires.early)
+    (refused-by c.args.token.now c.args.self.now _ c.self.inside.tree 0 _ c.in_err-merge.field-0.0 (ap (λ (x : State). x.tree.tree.limits) c.self.view_is) (lacking_attrs c.args.tag c.args.index c.requires.symbol c.requires.outermost c.requires.early)
     (subst (λ own. IsPassed c.self.inside.tree c.merge.new.self 0 (capped (attrs_weight (lacking (attrs_in (label_of c.merge.new.self.tree (slice_index c.merge.new.self.stack c.args.index))) own))) c.in_err-merge.field-0.0) c.in_ok-attrs.ensures.attrs c.in_err-merge.ensures.told))
