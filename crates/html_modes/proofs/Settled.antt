@@ -23,6 +23,7 @@ use Rattle.html_construction.specs.Works.{Works, reach_of, toll_of}
 use Rattle.html_modes.proofs.Counting.{Settles-grows}
 use Rattle.html_modes.proofs.Moded.{ModeFits-loose, opened-loose, Quiet-none, top_rank-loose, top_rank-reset, loose-reset, loose-table, rank-reset_table, rank-reset_eof, rank-char_table, rank-start_table, rank-top, rank-reset, rank-loose, rank-table_text, top_rank-all, Quiet-other, is-table_text, other-loose, other-runs, loose-runs, is-text, other-text}
 use Rattle.html_modes.proofs.Tagged.{named-is_block, unlisted-is_block, named-is_heading, named-is_preformatted, named-takes_marker, named-is_head_text, named-is_section, named-is_cell, small-other, small-is_block, small-is_heading, small-is_preformatted, small-takes_marker, small-is_head_text, small-is_section, small-is_cell, small-is_formatting, weight_of-most, placed-is_table_piece, placed-ends_section, placed-ends_row, rank-section, rank-row, rank-cell, rank-caption, rank-group, group-least, rank-table_part, outside-ends_select, outside-ends_select_in_table, may_misplace-placed, is_visible-space, apart-is_headish, apart-is_head_text, apart-is_block, apart-is_heading, apart-is_preformatted, apart-takes_marker, apart-is_void_phrase, apart-is_void_part, apart-is_formatting, apart-unplaced, part-is_section, part-is_cell}
+use Rattle.html_construction.proofs.Telling.{any-refused, char-refused}
 
 pub Fits-loose : (s : State) → is_loose s.mode ≡ true → 0 < length s.stack → s.ledger.kept ≡ [] → length s.tree.list ≤ length s.ledger.fates → Fits s
 Fits-loose s l h q k = record { stack = ModeFits-loose s.mode s.original s.stack l h; quiet = Quiet-none s.mode s.ledger.kept q; listed = k }
@@ -59,17 +60,17 @@ table_text-stack s e f = (subst (λ m. ModeFits m s.original s.stack) e f.stack)
 pub table_text-original : (s : State) → s.mode ≡ mode.InTableText → Fits s → is_table_mode s.original ≡ true
 table_text-original s e f = (subst (λ m. ModeFits m s.original s.stack) e f.stack).1
 
-pub ruleset mode_rules = (Fits-loose, Calls-loose, Fits-opened, Fits-initial, Fits-before, is_visible-space)
+pub ruleset mode_rules = (Fits-loose, Calls-loose, Fits-opened, Fits-initial, Fits-before, is_visible-space, any-refused)
 
-pub ruleset text_rules = (Fits-loose, Fits-text, text-stack, text-original, top_rank-loose, rank-loose, small-is_head_text, named-is_head_text, is_visible-space)
+pub ruleset text_rules = (Fits-loose, Fits-text, text-stack, text-original, top_rank-loose, rank-loose, small-is_head_text, named-is_head_text, is_visible-space, any-refused)
 
-pub ruleset head_rules = (Fits-loose, Calls-loose, Fits-text, small-is_head_text, named-is_head_text, apart-is_head_text, apart-is_headish)
+pub ruleset head_rules = (Fits-loose, Calls-loose, Fits-text, small-is_head_text, named-is_head_text, apart-is_head_text, apart-is_headish, any-refused)
 
-pub ruleset body_rules = (Fits-loose, Calls-loose, small-other, small-is_block, small-is_heading, small-is_preformatted, small-takes_marker, named-is_block, named-is_heading, named-is_preformatted, named-takes_marker, small-is_formatting, may_misplace-placed, unlisted-is_block, apart-is_headish, apart-is_block, apart-is_heading, apart-is_preformatted, apart-takes_marker, apart-is_void_phrase, apart-is_void_part, apart-is_formatting, apart-unplaced)
+pub ruleset body_rules = (Fits-loose, Calls-loose, small-other, small-is_block, small-is_heading, small-is_preformatted, small-takes_marker, named-is_block, named-is_heading, named-is_preformatted, named-takes_marker, small-is_formatting, may_misplace-placed, unlisted-is_block, apart-is_headish, apart-is_block, apart-is_heading, apart-is_preformatted, apart-takes_marker, apart-is_void_phrase, apart-is_void_part, apart-is_formatting, apart-unplaced, any-refused)
 
-pub ruleset reset_rules = (outside-ends_select, Fits-loose, Calls-loose, loose-reset, top_rank-reset, rank-reset)
+pub ruleset reset_rules = (outside-ends_select, Fits-loose, Calls-loose, loose-reset, top_rank-reset, rank-reset, any-refused)
 
-pub ruleset template_rules = (rank-table_part, Fits-opened, Fits-loose, Calls-loose, loose-reset, top_rank-reset, rank-reset_eof)
+pub ruleset template_rules = (rank-table_part, Fits-opened, Fits-loose, Calls-loose, loose-reset, top_rank-reset, rank-reset_eof, any-refused)
 
 -- foster parenting is on, or off again
 pub Fits-fostering : (s : State) (f : Bool) → Fits s → Fits (record s { fostering = f })
@@ -93,11 +94,11 @@ Steps-kept Done t a b c d j s k = λ h w. k (with_tokens h (t ∷ [])) (s h (j h
 Steps-kept Reprocess t a b c d j s k = λ h w. k h (s h (j h w))
 Steps-kept (Foreign name) t a b c d j s k = s
 
-pub ruleset table_rules = (Fits-loose, Calls-loose, Fits-opened, Fits-table_text, rank-char_table, rank-start_table, rank-reset_table, loose-reset, loose-table, top_rank-reset, is_visible-space, small-is_section, named-is_section, part-is_section)
+pub ruleset table_rules = (Fits-loose, Calls-loose, Fits-opened, Fits-table_text, rank-char_table, rank-start_table, rank-reset_table, loose-reset, loose-table, top_rank-reset, is_visible-space, small-is_section, named-is_section, part-is_section, any-refused)
 
-pub ruleset part_rules = (Fits-loose, Calls-loose, Fits-opened, is_visible-space, small-is_cell, named-is_cell, rank-section, rank-row, rank-cell, rank-caption, rank-group, group-least, placed-is_table_piece, placed-ends_section, placed-ends_row, may_misplace-placed, part-is_cell)
+pub ruleset part_rules = (Fits-loose, Calls-loose, Fits-opened, is_visible-space, small-is_cell, named-is_cell, rank-section, rank-row, rank-cell, rank-caption, rank-group, group-least, placed-is_table_piece, placed-ends_section, placed-ends_row, may_misplace-placed, part-is_cell, any-refused)
 
-pub ruleset select_rules = (Fits-loose, Calls-loose, Fits-opened, loose-reset, top_rank-reset, rank-reset, outside-ends_select_in_table)
+pub ruleset select_rules = (Fits-loose, Calls-loose, Fits-opened, loose-reset, top_rank-reset, rank-reset, outside-ends_select_in_table, any-refused)
 
 -- one more token
 pub allowance-next : (t u : ℕ) → u ≡ t + 1 → allowance u ≡ allowance t + (t + t + 36)
@@ -200,7 +201,7 @@ turn-last si sm sb fi fm fb ai am wb more p q u w f e i v b h k =
     let z2 : (ai + 16) * w ≡ ai * w + 16 * w = grind arith in
     omega (arith, h, k, x, y, z, z1, z2)
 
-pub ruleset table_text_rules = (Fits-loose, Fits-table_text, table_text-stack, table_text-original, loose-table, rank-table_text, Spends-none, Spends-more, Counts-held, Counts-more)
+pub ruleset table_text_rules = (Fits-loose, Fits-table_text, table_text-stack, table_text-original, loose-table, rank-table_text, Spends-none, Spends-more, Counts-held, Counts-more, any-refused)
 
 -- what every mode drops
 pub Fits-dropped : (a b : State) → Fits a → b.mode ≡ a.mode → b.original ≡ a.original → b.stack ≡ a.stack → b.ledger.kept ≡ [] → length b.tree.list ≤ length b.ledger.fates → Fits b
@@ -210,7 +211,7 @@ pub Fits-quiet : (s : State) → is_table_text s.mode ≡ false → Fits s → s
 Fits-quiet s n f = Quiet-other s.mode s.ledger.kept n f.quiet
 
 -- steps one after another
-pub ruleset step_rules = (Fits-loose, Fits-opened, Fits-dropped, Fits-quiet, is-table_text, other-loose, top_rank-all, Spends-none, Spends-dropped, Counts-none, Counts-dropped)
+pub ruleset step_rules = (Fits-loose, Fits-opened, Fits-dropped, Fits-quiet, is-table_text, other-loose, top_rank-all, Spends-none, Spends-dropped, Counts-none, Counts-dropped, any-refused)
 
 -- no code point is the start tag of foreign content
 pub char-foreign : (c : ℕ) (f : Option Root) → IfSome f (λ name. Char c ≡ root_of name) → f ≡ None
@@ -244,9 +245,9 @@ Toils-run n a m b k g h w v l r =
     let z : (weight a.stack + top_rank a.mode + 16) * turn_of b ≡ (weight a.stack + top_rank a.mode) * turn_of b + 16 * turn_of b = grind arith in
     (omega (arith, w.0, v.0), (omega (arith, w.1.0, v.1.0), omega (arith, w.0, w.1.0, w.1.1, v.0, v.1.0, v.1.1, x, y, z)))
 
-pub ruleset run_rules = (char-foreign, Pays-run, Toils-run, Fits-loose, Fits-opened, Fits-dropped, Fits-quiet, other-loose, other-runs, loose-runs, is-text, other-text, text-stack)
+pub ruleset run_rules = (char-foreign, Pays-run, Toils-run, Fits-loose, Fits-opened, Fits-dropped, Fits-quiet, other-loose, other-runs, loose-runs, is-text, other-text, text-stack, any-refused, char-refused)
 
-pub ruleset rules_rules = (Spends-one, Settles-grows, Counted-worked)
+pub ruleset rules_rules = (Spends-one, Settles-grows, Counted-worked, any-refused)
 
 -- what is true of a token's entries so far
 abbrev pub Entered : Symbol → State → State → Type 0
@@ -336,6 +337,9 @@ toils-done o y t i m n b d q e w c f z l h =
     a : (weight i.stack + rank i.mode y + 16) * turn_of b ≤ (weight i.stack + top_rank i.mode + 16) * turn_of b
     a = mul-le (weight i.stack + rank i.mode y + 16) (turn_of b) (weight i.stack + top_rank i.mode + 16) (turn_of b) (let r = rank-top i.mode y in omega (arith, r)) (omega arith)
 
-pub ruleset take_rules = (rank-top)
+pub ruleset take_rules = (rank-top, any-refused)
 
-pub ruleset foster_rules = (Fits-fostering, Calls-fostering, Falls-fostering, Grows-fostering, Steps-kept)
+pub ruleset foster_rules = (Fits-fostering, Calls-fostering, Falls-fostering, Grows-fostering, Steps-kept, any-refused)
+
+-- why a budget was told
+pub ruleset told_rules = (any-refused)

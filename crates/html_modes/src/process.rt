@@ -1,7 +1,8 @@
 // The entries of a token into the rules of the modes (13.2.6).
-ghost use Rattle.std.specs.Prelude.{◌≡◌, ◌≤◌, [], IfOk, IfSome, None, OnOk, IsTrue, true, false};
+ghost use Rattle.std.specs.Prelude.{◌≡◌, ◌≤◌, [], IfOk, IfSome, None, OnOk, IsTrue, true, false, IfErr};
 ghost use Rattle.html_ledger.specs.Symbols.{symbol_of};
 ghost use Rattle.html_ledger.specs.Flags.{is_free, may_select};
+ghost use Rattle.html_construction.specs.Budgets.{Refuses};
 ghost use Rattle.html_construction.specs.Built.{Keeps, Takes};
 ghost use Rattle.html_modes.specs.Entering.{Enters};
 ghost use Rattle.html_modes.specs.Fitting.{Fits};
@@ -56,6 +57,7 @@ pub fn take(
     ensures opens { IfOk result (λ f. f ≡ None → OpensBy symbol page.new) }
     ensures adds { IfOk result (λ f. f ≡ None → AddsBy symbol page.old page.new) }
     ensures ends { IfOk result (λ f. f ≡ None → EndsBy symbol token.now page.old page.new) }
+    ensures refuses { IfErr result (λ e. Refuses token.now e page.old page.new) }
 {
     page.begin_call();
     'steps: loop {
@@ -103,6 +105,7 @@ fn step(page: &mut Construction, token: &TokenKind, symbol: Symbol) -> Result<Ou
     ensures opens { IfOk result (λ o. Opens o symbol page.new) }
     ensures adds { IfOk result (λ o. Adds o symbol page.old page.new) }
     ensures ends { IfOk result (λ o. Ends o symbol token.now page.old page.new) }
+    ensures refuses { IfErr result (λ e. Refuses token.now e page.old page.new) }
 {
     if is_table_text(page.mode()) {
         let outcome = in_table_text(page, token, symbol)?;
@@ -140,6 +143,7 @@ fn rules(page: &mut Construction, token: &TokenKind, symbol: Symbol) -> Result<O
     ensures opens { IfOk result (λ o. Opens o symbol page.new) }
     ensures adds { IfOk result (λ o. Adds o symbol page.old page.new) }
     ensures ends { IfOk result (λ o. Ends o symbol token.now page.old page.new) }
+    ensures refuses { IfErr result (λ e. Refuses token.now e page.old page.new) }
 {
     match page.mode() {
         Mode::Initial => initial(page, token, symbol),

@@ -1,7 +1,8 @@
 // Text that is taken in runs (13.2.6.1).
-ghost use Rattle.std.specs.Prelude.{◌≡◌, ◌+◌, ◌<◌, ◌≤◌, ◌==◌, ℕ, IfOk, IsTrue, OnOk, Some, [], ◌∷◌, false, length, slice_get, take, true};
+ghost use Rattle.std.specs.Prelude.{◌≡◌, ◌+◌, ◌<◌, ◌≤◌, ◌==◌, ℕ, IfOk, IsTrue, OnOk, Some, [], ◌∷◌, false, length, slice_get, take, true, IfErr};
 ghost use Rattle.std.specs.List.{list_all};
 ghost use Rattle.html_ledger.specs.Flags.{is_not_null, may_text_run};
+ghost use Rattle.html_construction.specs.Budgets.{RefusesAny};
 ghost use Rattle.html_construction.specs.Built.{Takes, TakesRun};
 ghost use Rattle.html_modes.specs.Entering.{Enters};
 ghost use Rattle.html_modes.specs.Fitting.{Fits, is_loose};
@@ -41,6 +42,7 @@ pub fn take_front(
     ensures toils { OnOk result (Toils 0 page.old page.new) }
     ensures plain { IfOk result (λ n. list_all is_not_null (take n text.now) ≡ true → GoesOnText (take n text.now) page.old page.new) }
     ensures adds { IfOk result (λ n. AddsText (take n text.now) page.old page.new) }
+    ensures refuses { IfErr result (λ e. RefusesAny e page.old page.new) }
 {
     if takes_run(page, text[0]) {
         let end = null_index(text);
@@ -63,6 +65,7 @@ fn take_char(page: &mut Construction, c: char, entries: &mut u64) -> Result<(), 
     ensures toils { OnOk result (Toils 0 page.old page.new) }
     ensures plain { (c == 0) ≡ false → OnOk result (GoesOnText (c ∷ []) page.old page.new) }
     ensures adds { OnOk result (AddsText (c ∷ []) page.old page.new) }
+    ensures refuses { IfErr result (λ e. RefusesAny e page.old page.new) }
 {
     let token = TokenKind::Char(c);
     let _ = take(page, &token, Symbol::Char(c), entries)?;
@@ -84,6 +87,7 @@ fn take_run(page: &mut Construction, run: &[char]) -> Result<usize, Refusal>
     ensures toils { OnOk result (Toils 0 page.old page.new) }
     ensures plain { IfOk result (λ n. GoesOnText (take n run.now) page.old page.new) }
     ensures adds { IfOk result (λ n. AddsText (take n run.now) page.old page.new) }
+    ensures refuses { IfErr result (λ e. RefusesAny e page.old page.new) }
 {
     if is_text(page.mode()) {
         let count = take_text_run(page, run)?;
@@ -107,6 +111,7 @@ fn take_text_run(page: &mut Construction, run: &[char]) -> Result<usize, Refusal
     ensures lighter { OnOk result (weight page.new.stack + top_rank page.new.mode ≤ weight page.old.stack + top_rank page.old.mode) }
     ensures toils { OnOk result (Toils 0 page.old page.new) }
     ensures adds { IfOk result (λ n. AddsText (take n run.now) page.old page.new) }
+    ensures refuses { IfErr result (λ e. RefusesAny e page.old page.new) }
 {
     page.begin_call();
     let count = page.insert_run(run)?;
@@ -129,6 +134,7 @@ fn take_body_run(page: &mut Construction, run: &[char]) -> Result<usize, Refusal
     ensures toils { OnOk result (Toils 0 page.old page.new) }
     ensures plain { IfOk result (λ n. GoesOnText (take n run.now) page.old page.new) }
     ensures adds { IfOk result (λ n. AddsText (take n run.now) page.old page.new) }
+    ensures refuses { IfErr result (λ e. RefusesAny e page.old page.new) }
 {
     page.begin_call();
     let count = body_run(page, run)?;

@@ -1,8 +1,9 @@
 // The modes after the body (13.2.6.4.19 and 13.2.6.4.22).
-ghost use Rattle.std.specs.Prelude.{◌≡◌, [], IfOk, None, OnOk, IsTrue};
+ghost use Rattle.std.specs.Prelude.{◌≡◌, [], IfOk, None, OnOk, IsTrue, IfErr};
 ghost use Rattle.html_ledger.specs.Symbols.{symbol_of};
 ghost use Rattle.html_ledger.specs.Flags.{is_free};
 ghost use Rattle.html_ledger.specs.Entries.{ended};
+ghost use Rattle.html_construction.specs.Budgets.{Refuses};
 ghost use Rattle.html_construction.specs.Built.{Takes};
 ghost use Rattle.html_construction.specs.Calls.{is_idle};
 ghost use Rattle.html_modes.specs.Fitting.{Fits, Calls};
@@ -40,6 +41,7 @@ pub(crate) fn after_body(
     ensures works { IfOk result (λ o. Worked o token.now page.old page.new) }
     ensures plain { IfOk result (λ o. Turns o symbol token.now page.old page.new) }
     ensures opens { IfOk result (λ o. Opens o symbol page.new) }
+    ensures refuses { IfErr result (λ e. Refuses token.now e page.old page.new) }
 {
     match symbol {
         // A character token that is one of U+0009, U+000A, U+000C, U+000D, U+0020: process the token using the rules for "in body".
@@ -77,6 +79,7 @@ fn end_page(page: &mut Construction, token: &TokenKind) -> Result<(), Refusal>
     ensures rest { OnOk result (page.new ≡ record page.old { ledger = page.new.ledger; mode = page.new.mode }) }
     ensures document { OnOk result (page.old.context ≡ None → page.new.mode ≡ Mode.AfterAfterBody) }
     ensures ended { OnOk result (page.new.ledger ≡ ended page.old.ledger (Symbol.End Tag.Html) (is_idle page.old)) }
+    ensures refuses { IfErr result (λ e. Refuses token.now e page.old page.new) }
 {
     if !page.is_fragment() {
         page.set_mode(Mode::AfterAfterBody);
@@ -103,6 +106,7 @@ pub(crate) fn after_after_body(
     ensures works { IfOk result (λ o. Worked o token.now page.old page.new) }
     ensures plain { IfOk result (λ o. Turns o symbol token.now page.old page.new) }
     ensures opens { IfOk result (λ o. Opens o symbol page.new) }
+    ensures refuses { IfErr result (λ e. Refuses token.now e page.old page.new) }
 {
     match symbol {
         // A character token that is one of U+0009, U+000A, U+000C, U+000D, U+0020: process the token using the rules for "in body".

@@ -1,7 +1,8 @@
 // The mode in body (13.2.6.4.7): what a token meets there, its text and its end.
-ghost use Rattle.std.specs.Prelude.{◌≡◌, ◌+◌, ◌<◌, ◌≤◌, [], IfOk, OnOk, IsTrue, length, take};
+ghost use Rattle.std.specs.Prelude.{◌≡◌, ◌+◌, ◌<◌, ◌≤◌, [], IfOk, OnOk, IsTrue, length, take, IfErr};
 ghost use Rattle.html_ledger.specs.Symbols.{symbol_of};
 ghost use Rattle.html_ledger.specs.Flags.{is_free, may_text_run};
+ghost use Rattle.html_construction.specs.Budgets.{Refuses, RefusesAny};
 ghost use Rattle.html_construction.specs.Built.{Takes, TakesRun};
 ghost use Rattle.html_construction.specs.Grown.{Grown};
 ghost use Rattle.html_construction.specs.Works.{Works};
@@ -41,6 +42,7 @@ pub(crate) fn in_body(
     ensures works { IfOk result (λ o. Worked o token.now page.old page.new) }
     ensures plain { IfOk result (λ o. Turns o symbol token.now page.old page.new) }
     ensures opens { IfOk result (λ o. Opens o symbol page.new) }
+    ensures refuses { IfErr result (λ e. Refuses token.now e page.old page.new) }
 {
     match symbol {
         // An end tag whose tag name is "html".
@@ -77,6 +79,7 @@ pub(crate) fn body_rules(
     ensures works { IfOk result (λ o. Worked o token.now page.old page.new) }
     ensures plain { IfOk result (λ o. TurnsInBody o symbol token.now page.old page.new) }
     ensures opens { IfOk result (λ o. Opens o symbol page.new) }
+    ensures refuses { IfErr result (λ e. Refuses token.now e page.old page.new) }
 {
     match symbol {
         // A character token.
@@ -112,6 +115,7 @@ fn body_eof(page: &mut Construction, token: &TokenKind) -> Result<Outcome, Refus
     ensures grows { IfOk result (λ o. Grows o page.old page.new) }
     ensures works { IfOk result (λ o. Worked o token.now page.old page.new) }
     ensures plain { IfOk result (λ o. TurnsInBody o Symbol.Eof token.now page.old page.new) }
+    ensures refuses { IfErr result (λ e. Refuses token.now e page.old page.new) }
 {
     if page.has_template_mode() {
         let outcome = template_eof(page, token)?;
@@ -136,6 +140,7 @@ pub(crate) fn body_char(page: &mut Construction, token: &TokenKind, c: char) -> 
     ensures lighter { OnOk result (weight page.new.stack ≤ weight page.old.stack) }
     ensures opened { OnOk result (0 < length page.new.stack) }
     ensures plain { OnOk result (TurnsInBody Done (Symbol.Char c) token.now page.old page.new) }
+    ensures refuses { IfErr result (λ e. RefusesAny e page.old page.new) }
 {
     if c == '\0' {
         return page.drop_token(token, Symbol::Char(c), Cause::Null);
@@ -164,6 +169,7 @@ pub(crate) fn body_run(page: &mut Construction, run: &[char]) -> Result<usize, R
     ensures lighter { OnOk result (weight page.new.stack ≤ weight page.old.stack) }
     ensures opened { OnOk result (0 < length page.new.stack) }
     ensures plain { IfOk result (λ n. IsPlainState page.old → page.old.mode ≡ Mode.InBody → IsRunTurn (take n run.now) page.old page.new) }
+    ensures refuses { IfErr result (λ e. RefusesAny e page.old page.new) }
 {
     page.reconstruct()?;
     let count = page.insert_run(run)?;

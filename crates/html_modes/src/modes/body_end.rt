@@ -1,6 +1,7 @@
 // The end tags of the mode in body (13.2.6.4.7).
-ghost use Rattle.std.specs.Prelude.{◌≡◌, ◌+◌, ◌<◌, ◌≤◌, IfOk, OnOk, false, is_some, length, true};
+ghost use Rattle.std.specs.Prelude.{◌≡◌, ◌+◌, ◌<◌, ◌≤◌, IfOk, OnOk, false, is_some, length, true, IfErr};
 ghost use Rattle.html_ledger.specs.Symbols.{symbol_of};
+ghost use Rattle.html_construction.specs.Budgets.{Refuses, RefusesAny};
 ghost use Rattle.html_construction.specs.Built.{Keeps, Takes};
 ghost use Rattle.html_construction.specs.Grown.{Grown};
 ghost use Rattle.html_construction.specs.Works.{Works};
@@ -38,6 +39,7 @@ pub(crate) fn body_end(page: &mut Construction, token: &TokenKind, tag: Tag) -> 
     ensures grows { OnOk result (Grows Done page.old page.new) }
     ensures works { OnOk result (Worked Done token.now page.old page.new) }
     ensures plain { OnOk result (TurnsInBody Done (Symbol.End tag) token.now page.old page.new) }
+    ensures refuses { IfErr result (λ e. Refuses token.now e page.old page.new) }
 {
     match tag {
         // An end tag whose tag name is "template": process the token using the rules for "in head".
@@ -62,6 +64,7 @@ fn current_end(page: &mut Construction, token: &TokenKind, tag: Tag) -> Result<(
     ensures grows { OnOk result (Grows Done page.old page.new) }
     ensures works { OnOk result (Worked Done token.now page.old page.new) }
     ensures plain { same_tag tag Tag.Body ≡ false → OnOk result (TurnsInBody Done (Symbol.End tag) token.now page.old page.new) }
+    ensures refuses { IfErr result (λ e. Refuses token.now e page.old page.new) }
 {
     element_end(page, token, tag)?;
     page.end(token, Symbol::End(tag))
@@ -79,6 +82,7 @@ pub(crate) fn html_end(page: &mut Construction, token: &TokenKind) -> Result<Out
     ensures grows { IfOk result (λ o. Grows o page.old page.new) }
     ensures works { IfOk result (λ o. Worked o token.now page.old page.new) }
     ensures plain { IfOk result (λ o. TurnsInBody o (Symbol.End Tag.Html) token.now page.old page.new) }
+    ensures refuses { IfErr result (λ e. Refuses token.now e page.old page.new) }
 {
     if close_body(page) {
         return Ok(Outcome::Reprocess);
@@ -109,6 +113,7 @@ fn close_body(page: &mut Construction) -> bool
 }
 
 /// What the end tag of an element in the body closes or makes.
+#[tactic(auto, using(crate::proofs::Settled::told_rules))]
 fn element_end(page: &mut Construction, token: &TokenKind, tag: Tag) -> Result<(), Refusal>
     requires opened { 0 < length page.old.stack }
     requires listed { length page.old.tree.list ≤ length page.old.ledger.fates }
@@ -119,6 +124,7 @@ fn element_end(page: &mut Construction, token: &TokenKind, tag: Tag) -> Result<(
     ensures opened { OnOk result (0 < length page.new.stack) }
     ensures heavier { OnOk result (weight page.new.stack ≤ weight page.old.stack + 4) }
     ensures plain { symbol_of token.now ≡ Symbol.End tag → OnOk result (IsCurrent tag page.old → EndsCurrent Mode.InBody (Symbol.End tag) token.now page.old → IsClosed tag page.old page.new) }
+    ensures refuses { IfErr result (λ e. Refuses token.now e page.old page.new) }
 {
     match tag {
         // An end tag whose tag name is "form".
@@ -146,6 +152,7 @@ fn formatting_end(page: &mut Construction, tag: Tag) -> Result<(), Refusal>
     ensures lighter { OnOk result (weight page.new.stack ≤ weight page.old.stack) }
     ensures opened { OnOk result (0 < length page.new.stack) }
     ensures plain { OnOk result (IsCurrent tag page.old → IsClosed tag page.old page.new) }
+    ensures refuses { IfErr result (λ e. RefusesAny e page.old page.new) }
 {
     page.end_formatting(tag)
 }
@@ -222,6 +229,7 @@ fn paragraph_end(page: &mut Construction) -> Result<(), Refusal>
     ensures works { OnOk result (Works 6 0 6 page.old page.new) }
     ensures opened { OnOk result (0 < length page.new.stack) }
     ensures heavier { OnOk result (weight page.new.stack ≤ weight page.old.stack + 4) }
+    ensures refuses { IfErr result (λ e. RefusesAny e page.old page.new) }
 {
     if !page.has_in_scope(Tag::P, Scope::Button) {
         page.insert_implied(Tag::P)?;
@@ -240,6 +248,7 @@ fn break_end(page: &mut Construction) -> Result<(), Refusal>
     ensures works { OnOk result (Works 6 1 6 page.old page.new) }
     ensures opened { OnOk result (0 < length page.new.stack) }
     ensures lighter { OnOk result (weight page.new.stack ≤ weight page.old.stack) }
+    ensures refuses { IfErr result (λ e. RefusesAny e page.old page.new) }
 {
     page.reconstruct()?;
     page.insert_implied_void(Tag::Br)?;

@@ -1,6 +1,7 @@
 // The mode in body (13.2.6.4.7): the start tags of what stands among text.
-ghost use Rattle.std.specs.Prelude.{◌≡◌, ◌<◌, ◌≤◌, OnOk, length, false};
+ghost use Rattle.std.specs.Prelude.{◌≡◌, ◌<◌, ◌≤◌, OnOk, length, false, IfErr};
 ghost use Rattle.html_ledger.specs.Symbols.{symbol_of};
+ghost use Rattle.html_construction.specs.Budgets.{Refuses};
 ghost use Rattle.html_construction.specs.Built.{Keeps, Takes};
 ghost use Rattle.html_construction.specs.Grown.{Grown};
 ghost use Rattle.html_construction.specs.Works.{Works};
@@ -41,6 +42,7 @@ pub(crate) fn phrase_start(
     ensures works { OnOk result (Worked Done token.now page.old page.new) }
     ensures plain { OnOk result (TurnsInBody Done (Symbol.Start tag) token.now page.old page.new) }
     ensures opens { OnOk result (HasOpened tag page.new) }
+    ensures refuses { IfErr result (λ e. Refuses token.now e page.old page.new) }
 {
     match tag {
         // A start tag whose tag name is "a".
@@ -87,6 +89,7 @@ fn other_start(page: &mut Construction, token: &TokenKind, tag: Tag) -> Result<(
     ensures grows { OnOk result (Grows Done page.old page.new) }
     ensures works { OnOk result (Worked Done token.now page.old page.new) }
     ensures plain { is_formatting tag ≡ false → OnOk result (TurnsInBody Done (Symbol.Start tag) token.now page.old page.new) }
+    ensures refuses { IfErr result (λ e. Refuses token.now e page.old page.new) }
 {
     match tag {
         // A start tag whose tag name is "select".
@@ -120,6 +123,7 @@ pub(crate) fn plain_start(
     ensures grows { OnOk result (Grows Done page.old page.new) }
     ensures works { OnOk result (Works 2 1 0 page.old page.new) }
     ensures plain { is_formatting tag ≡ false → OnOk result (TurnsInBody Done (Symbol.Start tag) token.now page.old page.new) }
+    ensures refuses { IfErr result (λ e. Refuses token.now e page.old page.new) }
 {
     page.reconstruct()?;
     page.insert(token, tag)
@@ -136,6 +140,7 @@ fn void_start(page: &mut Construction, token: &TokenKind, tag: Tag) -> Result<()
     ensures falls { OnOk result (Falls Done (Symbol.Start tag) page.old page.new) }
     ensures grows { OnOk result (Grows Done page.old page.new) }
     ensures works { OnOk result (Worked Done token.now page.old page.new) }
+    ensures refuses { IfErr result (λ e. Refuses token.now e page.old page.new) }
 {
     page.reconstruct()?;
     page.insert_void(token, tag)?;
@@ -152,6 +157,7 @@ fn input_start(page: &mut Construction, token: &TokenKind) -> Result<(), Refusal
     ensures falls { OnOk result (Falls Done (Symbol.Start Tag.Input) page.old page.new) }
     ensures grows { OnOk result (Grows Done page.old page.new) }
     ensures works { OnOk result (Worked Done token.now page.old page.new) }
+    ensures refuses { IfErr result (λ e. Refuses token.now e page.old page.new) }
 {
     page.reconstruct()?;
     page.insert_void(token, Tag::Input)?;
@@ -170,6 +176,7 @@ fn button_start(page: &mut Construction, token: &TokenKind) -> Result<(), Refusa
     ensures falls { OnOk result (Falls Done (Symbol.Start Tag.Button) page.old page.new) }
     ensures grows { OnOk result (Grows Done page.old page.new) }
     ensures works { OnOk result (Worked Done token.now page.old page.new) }
+    ensures refuses { IfErr result (λ e. Refuses token.now e page.old page.new) }
 {
     let _ = page.close_in_scope(Tag::Button, Scope::Default);
     page.reconstruct()?;
@@ -191,6 +198,7 @@ fn marker_start(page: &mut Construction, token: &TokenKind, tag: Tag) -> Result<
     ensures falls { OnOk result (Falls Done (Symbol.Start tag) page.old page.new) }
     ensures grows { OnOk result (Grows Done page.old page.new) }
     ensures works { OnOk result (Worked Done token.now page.old page.new) }
+    ensures refuses { IfErr result (λ e. Refuses token.now e page.old page.new) }
 {
     page.reconstruct()?;
     page.insert(token, tag)?;
@@ -217,6 +225,7 @@ fn ruby_start(
     ensures falls { OnOk result (Falls Done (Symbol.Start tag) page.old page.new) }
     ensures grows { OnOk result (Grows Done page.old page.new) }
     ensures works { OnOk result (Worked Done token.now page.old page.new) }
+    ensures refuses { IfErr result (λ e. Refuses token.now e page.old page.new) }
 {
     close_ruby_part(page, except);
     page.insert(token, tag)
@@ -246,6 +255,7 @@ fn select_start(page: &mut Construction, token: &TokenKind) -> Result<(), Refusa
     ensures falls { OnOk result (Falls Done (Symbol.Start Tag.Select) page.old page.new) }
     ensures grows { OnOk result (Grows Done page.old page.new) }
     ensures works { OnOk result (Worked Done token.now page.old page.new) }
+    ensures refuses { IfErr result (λ e. Refuses token.now e page.old page.new) }
 {
     page.reconstruct()?;
     page.insert(token, Tag::Select)?;
@@ -279,6 +289,7 @@ fn option_start(page: &mut Construction, token: &TokenKind, tag: Tag) -> Result<
     ensures falls { OnOk result (Falls Done (Symbol.Start tag) page.old page.new) }
     ensures grows { OnOk result (Grows Done page.old page.new) }
     ensures works { OnOk result (Worked Done token.now page.old page.new) }
+    ensures refuses { IfErr result (λ e. Refuses token.now e page.old page.new) }
 {
     let _ = page.pop_if(Group::Named(Tag::Option));
     plain_start(page, token, tag)

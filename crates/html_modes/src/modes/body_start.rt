@@ -1,6 +1,7 @@
 // The mode in body (13.2.6.4.7): the start tags of the parts of a page, and of blocks.
-ghost use Rattle.std.specs.Prelude.{◌≡◌, ◌+◌, ◌<◌, ◌≤◌, [], OnOk, length, false};
+ghost use Rattle.std.specs.Prelude.{◌≡◌, ◌+◌, ◌<◌, ◌≤◌, [], OnOk, length, false, IfErr};
 ghost use Rattle.html_ledger.specs.Symbols.{symbol_of};
+ghost use Rattle.html_construction.specs.Budgets.{Refuses};
 ghost use Rattle.html_construction.specs.Built.{Keeps, Takes};
 ghost use Rattle.html_construction.specs.Grown.{Grown};
 ghost use Rattle.html_construction.specs.Works.{Works};
@@ -39,6 +40,7 @@ pub(crate) fn body_start(
     ensures works { OnOk result (Worked Done token.now page.old page.new) }
     ensures plain { OnOk result (TurnsInBody Done (Symbol.Start tag) token.now page.old page.new) }
     ensures opens { OnOk result (HasOpened tag page.new) }
+    ensures refuses { IfErr result (λ e. Refuses token.now e page.old page.new) }
 {
     match tag {
         // A start tag whose tag name is "html".
@@ -85,6 +87,7 @@ pub(crate) fn html_start(page: &mut Construction, token: &TokenKind) -> Result<(
     ensures quiet { OnOk result (page.new.ledger.kept ≡ []) }
     ensures grown { OnOk result (Grown 1 0 0 0 0 page.old page.new) }
     ensures works { OnOk result (Works 6 0 (compared token.now page.new + 6) page.old page.new) }
+    ensures refuses { IfErr result (λ e. Refuses token.now e page.old page.new) }
 {
     if page.has_template() {
         return page.drop_token(token, Symbol::Start(Tag::Html), Cause::Misplaced);
@@ -103,6 +106,7 @@ fn second_body_start(page: &mut Construction, token: &TokenKind) -> Result<(), R
     ensures falls { OnOk result (Falls Done (Symbol.Start Tag.Body) page.old page.new) }
     ensures grows { OnOk result (Grows Done page.old page.new) }
     ensures works { OnOk result (Worked Done token.now page.old page.new) }
+    ensures refuses { IfErr result (λ e. Refuses token.now e page.old page.new) }
 {
     if !page.has_template() && page.has_body() {
         page.frameset_off();
@@ -124,6 +128,7 @@ fn late_frameset_start(page: &mut Construction, token: &TokenKind) -> Result<(),
     ensures falls { OnOk result (Falls Done (Symbol.Start Tag.Frameset) page.old page.new) }
     ensures grows { OnOk result (Grows Done page.old page.new) }
     ensures works { OnOk result (Worked Done token.now page.old page.new) }
+    ensures refuses { IfErr result (λ e. Refuses token.now e page.old page.new) }
 {
     if !page.is_frameset_ok() || !page.replace_body() {
         return page.drop_token(token, Symbol::Start(Tag::Frameset), Cause::Misplaced);
@@ -147,6 +152,7 @@ fn block_start(page: &mut Construction, token: &TokenKind, tag: Tag) -> Result<(
     ensures grows { OnOk result (Grows Done page.old page.new) }
     ensures works { OnOk result (Worked Done token.now page.old page.new) }
     ensures plain { is_formatting tag ≡ false → OnOk result (TurnsInBody Done (Symbol.Start tag) token.now page.old page.new) }
+    ensures refuses { IfErr result (λ e. Refuses token.now e page.old page.new) }
 {
     page.close_p();
     page.insert(token, tag)
@@ -164,6 +170,7 @@ fn heading_start(page: &mut Construction, token: &TokenKind, tag: Tag) -> Result
     ensures falls { OnOk result (Falls Done (Symbol.Start tag) page.old page.new) }
     ensures grows { OnOk result (Grows Done page.old page.new) }
     ensures works { OnOk result (Worked Done token.now page.old page.new) }
+    ensures refuses { IfErr result (λ e. Refuses token.now e page.old page.new) }
 {
     page.close_p();
     let _ = page.pop_if(Group::Heading);
@@ -182,6 +189,7 @@ fn preformatted_start(page: &mut Construction, token: &TokenKind, tag: Tag) -> R
     ensures falls { OnOk result (Falls Done (Symbol.Start tag) page.old page.new) }
     ensures grows { OnOk result (Grows Done page.old page.new) }
     ensures works { OnOk result (Worked Done token.now page.old page.new) }
+    ensures refuses { IfErr result (λ e. Refuses token.now e page.old page.new) }
 {
     page.close_p();
     page.insert(token, tag)?;
@@ -198,6 +206,7 @@ fn form_start(page: &mut Construction, token: &TokenKind) -> Result<(), Refusal>
     ensures falls { OnOk result (Falls Done (Symbol.Start Tag.Form) page.old page.new) }
     ensures grows { OnOk result (Grows Done page.old page.new) }
     ensures works { OnOk result (Worked Done token.now page.old page.new) }
+    ensures refuses { IfErr result (λ e. Refuses token.now e page.old page.new) }
 {
     let inside = page.has_template();
     if !inside && has_form(page) {
@@ -223,6 +232,7 @@ fn item_start(page: &mut Construction, token: &TokenKind, tag: Tag) -> Result<()
     ensures falls { OnOk result (Falls Done (Symbol.Start tag) page.old page.new) }
     ensures grows { OnOk result (Grows Done page.old page.new) }
     ensures works { OnOk result (Worked Done token.now page.old page.new) }
+    ensures refuses { IfErr result (λ e. Refuses token.now e page.old page.new) }
 {
     page.frameset_off();
     page.close_item(tag);
@@ -239,6 +249,7 @@ fn table_start(page: &mut Construction, token: &TokenKind) -> Result<(), Refusal
     ensures falls { OnOk result (Falls Done (Symbol.Start Tag.Table) page.old page.new) }
     ensures grows { OnOk result (Grows Done page.old page.new) }
     ensures works { OnOk result (Worked Done token.now page.old page.new) }
+    ensures refuses { IfErr result (λ e. Refuses token.now e page.old page.new) }
 {
     close_p_before_table(page);
     page.insert(token, Tag::Table)?;
@@ -272,6 +283,7 @@ fn rule_start(page: &mut Construction, token: &TokenKind) -> Result<(), Refusal>
     ensures falls { OnOk result (Falls Done (Symbol.Start Tag.Hr) page.old page.new) }
     ensures grows { OnOk result (Grows Done page.old page.new) }
     ensures works { OnOk result (Worked Done token.now page.old page.new) }
+    ensures refuses { IfErr result (λ e. Refuses token.now e page.old page.new) }
 {
     page.close_p();
     page.insert_void(token, Tag::Hr)?;

@@ -1,6 +1,7 @@
 // The mode in body (13.2.6.4.7): the start tags of elements that hold text alone.
-ghost use Rattle.std.specs.Prelude.{◌≡◌, ◌≤◌, OnOk, false, true};
+ghost use Rattle.std.specs.Prelude.{◌≡◌, ◌≤◌, OnOk, false, true, IfErr};
 ghost use Rattle.html_ledger.specs.Symbols.{symbol_of};
+ghost use Rattle.html_construction.specs.Budgets.{Refuses};
 ghost use Rattle.html_construction.specs.Built.{Takes};
 ghost use Rattle.html_construction.specs.Weights.{weight_of};
 ghost use Rattle.html_modes.specs.Fitting.{Fits, Calls};
@@ -33,6 +34,7 @@ pub(crate) fn body_text_start(
     ensures grows { OnOk result (Grows Done page.old page.new) }
     ensures works { OnOk result (Worked Done token.now page.old page.new) }
     ensures opens { OnOk result (HasOpened tag page.new) }
+    ensures refuses { IfErr result (λ e. Refuses token.now e page.old page.new) }
 {
     match tag {
         // A start tag whose tag name is "textarea".
@@ -63,6 +65,7 @@ fn textarea_start(page: &mut Construction, token: &TokenKind) -> Result<(), Refu
     ensures grows { OnOk result (Grows Done page.old page.new) }
     ensures works { OnOk result (Worked Done token.now page.old page.new) }
     ensures opens { OnOk result (HasOpened Tag.Textarea page.new) }
+    ensures refuses { IfErr result (λ e. Refuses token.now e page.old page.new) }
 {
     page.frameset_off();
     text_start(page, token, Tag::Textarea)
@@ -78,6 +81,7 @@ fn xmp_start(page: &mut Construction, token: &TokenKind) -> Result<(), Refusal>
     ensures grows { OnOk result (Grows Done page.old page.new) }
     ensures works { OnOk result (Worked Done token.now page.old page.new) }
     ensures opens { OnOk result (HasOpened Tag.Xmp page.new) }
+    ensures refuses { IfErr result (λ e. Refuses token.now e page.old page.new) }
 {
     page.close_p();
     page.reconstruct()?;
@@ -95,6 +99,7 @@ fn iframe_start(page: &mut Construction, token: &TokenKind) -> Result<(), Refusa
     ensures grows { OnOk result (Grows Done page.old page.new) }
     ensures works { OnOk result (Worked Done token.now page.old page.new) }
     ensures opens { OnOk result (HasOpened Tag.Iframe page.new) }
+    ensures refuses { IfErr result (λ e. Refuses token.now e page.old page.new) }
 {
     page.frameset_off();
     text_start(page, token, Tag::Iframe)

@@ -1,7 +1,8 @@
 // The mode in cell (13.2.6.4.15).
-ghost use Rattle.std.specs.Prelude.{◌≡◌, ◌+◌, ◌<◌, ◌≤◌, [], IfOk, OnOk, IsTrue, length, true, if◌then◌else◌, false};
+ghost use Rattle.std.specs.Prelude.{◌≡◌, ◌+◌, ◌<◌, ◌≤◌, [], IfOk, OnOk, IsTrue, length, true, if◌then◌else◌, false, IfErr};
 ghost use Rattle.html_ledger.specs.Symbols.{symbol_of};
 ghost use Rattle.html_ledger.specs.Flags.{is_free};
+ghost use Rattle.html_construction.specs.Budgets.{Refuses};
 ghost use Rattle.html_construction.specs.Built.{Keeps, Takes};
 ghost use Rattle.html_construction.specs.Grown.{Grown};
 ghost use Rattle.html_construction.specs.Works.{Works};
@@ -35,6 +36,7 @@ pub(crate) fn cell_start(
     ensures falls { OnOk result (Falls Done (Symbol.Start tag) page.old page.new) }
     ensures grows { OnOk result (Grows Done page.old page.new) }
     ensures works { OnOk result (Worked Done token.now page.old page.new) }
+    ensures refuses { IfErr result (λ e. Refuses token.now e page.old page.new) }
 {
     page.clear_to(TableContext::Row);
     page.insert_part(token, tag)?;
@@ -61,6 +63,7 @@ pub(crate) fn in_cell(
     ensures grows { IfOk result (λ o. Grows o page.old page.new) }
     ensures works { IfOk result (λ o. Worked o token.now page.old page.new) }
     ensures opens { IfOk result (λ o. Opens o symbol page.new) }
+    ensures refuses { IfErr result (λ e. Refuses token.now e page.old page.new) }
 {
     match symbol {
         // A start tag whose tag name is one of: "caption", "col", "colgroup", "tbody", "td", "tfoot", "th",
@@ -109,6 +112,7 @@ fn outer_end(page: &mut Construction, token: &TokenKind, tag: Tag) -> Result<Out
     ensures falls { IfOk result (λ o. Falls o (Symbol.End tag) page.old page.new) }
     ensures grows { IfOk result (λ o. Grows o page.old page.new) }
     ensures works { IfOk result (λ o. Worked o token.now page.old page.new) }
+    ensures refuses { IfErr result (λ e. Refuses token.now e page.old page.new) }
 {
     if page.has_in_scope(tag, Scope::Table) && close_cell(page) {
         return Ok(Outcome::Reprocess);

@@ -1,7 +1,8 @@
 // Formatting elements (13.2.6.4.7).
-ghost use Rattle.std.specs.Prelude.{◌≡◌, ◌+◌, ◌<◌, ◌≤◌, OnOk, length, true};
+ghost use Rattle.std.specs.Prelude.{◌≡◌, ◌+◌, ◌<◌, ◌≤◌, OnOk, length, true, IfErr};
 ghost use Rattle.html_names.specs.Sets.{is_formatting};
 ghost use Rattle.html_ledger.specs.Symbols.{symbol_of};
+ghost use Rattle.html_construction.specs.Budgets.{Refuses, RefusesAny};
 ghost use Rattle.html_construction.specs.Built.{Keeps, Takes};
 ghost use Rattle.html_construction.specs.Grown.{Grown};
 ghost use Rattle.html_construction.specs.Works.{Works};
@@ -31,6 +32,7 @@ pub(crate) fn formatting_start(
     ensures grows { OnOk result (Grows Done page.old page.new) }
     ensures works { OnOk result (Worked Done token.now page.old page.new) }
     ensures plain { OnOk result (TurnsInBody Done (Symbol.Start tag) token.now page.old page.new) }
+    ensures refuses { IfErr result (λ e. Refuses token.now e page.old page.new) }
 {
     page.reconstruct()?;
     page.insert_listed(token, tag)
@@ -46,6 +48,7 @@ pub(crate) fn link_start(page: &mut Construction, token: &TokenKind) -> Result<(
     ensures falls { OnOk result (Falls Done (Symbol.Start Tag.A) page.old page.new) }
     ensures grows { OnOk result (Grows Done page.old page.new) }
     ensures works { OnOk result (Worked Done token.now page.old page.new) }
+    ensures refuses { IfErr result (λ e. Refuses token.now e page.old page.new) }
 {
     page.close_link()?;
     page.reconstruct()?;
@@ -62,6 +65,7 @@ pub(crate) fn nobr_start(page: &mut Construction, token: &TokenKind) -> Result<(
     ensures falls { OnOk result (Falls Done (Symbol.Start Tag.Nobr) page.old page.new) }
     ensures grows { OnOk result (Grows Done page.old page.new) }
     ensures works { OnOk result (Worked Done token.now page.old page.new) }
+    ensures refuses { IfErr result (λ e. Refuses token.now e page.old page.new) }
 {
     page.reconstruct()?;
     close_nobr(page)?;
@@ -78,6 +82,7 @@ fn close_nobr(page: &mut Construction) -> Result<(), Refusal>
     ensures works { OnOk result (Works 6 9 6 page.old page.new) }
     ensures opened { OnOk result (0 < length page.new.stack) }
     ensures lighter { OnOk result (weight page.new.stack ≤ weight page.old.stack) }
+    ensures refuses { IfErr result (λ e. RefusesAny e page.old page.new) }
 {
     if !page.has_in_scope(Tag::Nobr, Scope::Default) {
         return Ok(());

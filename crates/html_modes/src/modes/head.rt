@@ -1,11 +1,12 @@
 // The modes of the head (13.2.6.4.4 to 13.2.6.4.6).
-ghost use Rattle.std.specs.Prelude.{◌≡◌, ◌+◌, ◌<◌, ◌≤◌, ◌&&◌, [], IfOk, OnOk, IsTrue, drop, length, nat_lt, true};
+ghost use Rattle.std.specs.Prelude.{◌≡◌, ◌+◌, ◌<◌, ◌≤◌, ◌&&◌, [], IfOk, OnOk, IsTrue, drop, length, nat_lt, true, IfErr};
 ghost use Rattle.html_names.specs.declared.tag.Tag.TheVariants as tag;
 ghost use Rattle.html_names.specs.Sets.{is_headish};
 ghost use Rattle.html_tree.specs.Closing.{popped};
 ghost use Rattle.html_tree.specs.declared.groups.Group.TheVariants as group;
 ghost use Rattle.html_ledger.specs.Symbols.{symbol_of};
 ghost use Rattle.html_ledger.specs.Flags.{is_free};
+ghost use Rattle.html_construction.specs.Budgets.{Refuses};
 ghost use Rattle.html_construction.specs.Built.{Keeps, Takes};
 ghost use Rattle.html_construction.specs.Calls.{IsTree, is_first};
 ghost use Rattle.html_construction.specs.Grown.{Grown};
@@ -48,6 +49,7 @@ pub(crate) fn in_head(
     ensures works { IfOk result (λ o. Worked o token.now page.old page.new) }
     ensures plain { IfOk result (λ o. Turns o symbol token.now page.old page.new) }
     ensures opens { IfOk result (λ o. Opens o symbol page.new) }
+    ensures refuses { IfErr result (λ e. Refuses token.now e page.old page.new) }
 {
     match symbol {
         // A character token that is one of U+0009, U+000A, U+000C, U+000D, U+0020: insert the character.
@@ -125,6 +127,7 @@ pub(crate) fn head_start(
     ensures grows { OnOk result (Grows Done page.old page.new) }
     ensures works { OnOk result (Worked Done token.now page.old page.new) }
     ensures opens { OnOk result (HasOpened tag page.new) }
+    ensures refuses { IfErr result (λ e. Refuses token.now e page.old page.new) }
 {
     let target = page.here();
     head_start_at(page, token, tag, target)
@@ -148,6 +151,7 @@ fn head_start_at(
     ensures grows { OnOk result (Grows Done page.old page.new) }
     ensures works { OnOk result (Worked Done token.now page.old page.new) }
     ensures opens { OnOk result (HasOpened tag page.new) }
+    ensures refuses { IfErr result (λ e. Refuses token.now e page.old page.new) }
 {
     if tag.is_head_text() {
         return text_start_at(page, token, tag, target);
@@ -176,6 +180,7 @@ pub(crate) fn in_head_noscript(
     ensures grows { IfOk result (λ o. Grows o page.old page.new) }
     ensures works { IfOk result (λ o. Worked o token.now page.old page.new) }
     ensures opens { IfOk result (λ o. Opens o symbol page.new) }
+    ensures refuses { IfErr result (λ e. Refuses token.now e page.old page.new) }
 {
     match symbol {
         // A character token that is one of U+0009, U+000A, U+000C, U+000D, U+0020: insert the character.
@@ -249,6 +254,7 @@ pub(crate) fn after_head(
     ensures works { IfOk result (λ o. Worked o token.now page.old page.new) }
     ensures plain { IfOk result (λ o. Turns o symbol token.now page.old page.new) }
     ensures opens { IfOk result (λ o. Opens o symbol page.new) }
+    ensures refuses { IfErr result (λ e. Refuses token.now e page.old page.new) }
 {
     match symbol {
         // A character token that is one of U+0009, U+000A, U+000C, U+000D, U+0020: insert the character.

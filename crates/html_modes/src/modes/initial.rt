@@ -1,10 +1,11 @@
 // The modes before the head (13.2.6.4.1 to 13.2.6.4.3). White space there is dropped before any of their rules.
-ghost use Rattle.std.specs.Prelude.{◌≡◌, ◌+◌, [], IfOk, OnOk, IsTrue, length, true};
+ghost use Rattle.std.specs.Prelude.{◌≡◌, ◌+◌, [], IfOk, OnOk, IsTrue, length, true, IfErr};
 ghost use Rattle.html_ledger.specs.Symbols.{symbol_of};
 ghost use Rattle.html_ledger.specs.Flags.{is_free};
 ghost use Rattle.html_ledger.specs.Entries.{number_of};
 ghost use Rattle.html_ledger.specs.declared.fate.Fate.TheVariants.{Made};
 ghost use Rattle.html_tree.specs.declared.groups.Target.TheVariants.{Document};
+ghost use Rattle.html_construction.specs.Budgets.{Refuses};
 ghost use Rattle.html_construction.specs.Built.{Takes};
 ghost use Rattle.html_construction.specs.Calls.{HasFate, IsTree, counting, doctype_of, placed_at};
 ghost use Rattle.html_construction.specs.Grown.{Grown};
@@ -42,6 +43,7 @@ pub(crate) fn initial(
     ensures works { IfOk result (λ o. Worked o token.now page.old page.new) }
     ensures plain { IfOk result (λ o. Turns o symbol token.now page.old page.new) }
     ensures opens { IfOk result (λ o. Opens o symbol page.new) }
+    ensures refuses { IfErr result (λ e. Refuses token.now e page.old page.new) }
 {
     match symbol {
         // A comment token: insert a comment as the last child of the Document object.
@@ -81,6 +83,7 @@ pub(crate) fn before_html(
     ensures works { IfOk result (λ o. Worked o token.now page.old page.new) }
     ensures plain { IfOk result (λ o. Turns o symbol token.now page.old page.new) }
     ensures opens { IfOk result (λ o. Opens o symbol page.new) }
+    ensures refuses { IfErr result (λ e. Refuses token.now e page.old page.new) }
 {
     match symbol {
         // A comment token: insert a comment as the last child of the Document object.
@@ -123,6 +126,7 @@ pub(crate) fn before_head(
     ensures works { IfOk result (λ o. Worked o token.now page.old page.new) }
     ensures plain { IfOk result (λ o. Turns o symbol token.now page.old page.new) }
     ensures opens { IfOk result (λ o. Opens o symbol page.new) }
+    ensures refuses { IfErr result (λ e. Refuses token.now e page.old page.new) }
 {
     match symbol {
         // A comment token: insert a comment.
@@ -159,6 +163,7 @@ pub(crate) fn doctype(page: &mut Construction, token: &TokenKind) -> Result<(), 
     ensures works { OnOk result (Works 6 0 6 page.old page.new) }
     ensures exact { OnOk result (page.old.ledger.history.awaits_doctype ≡ true → IsTree (placed_at (doctype_of page.old token.now) Document (counting (number_of page.old.ledger + 1) page.old.tree)) page.new) }
     ensures fate { OnOk result (page.old.ledger.history.awaits_doctype ≡ true → HasFate Symbol.Doctype (Made (length page.old.tree.tree.labels)) page.old page.new) }
+    ensures refuses { IfErr result (λ e. Refuses token.now e page.old page.new) }
 {
     if page.history().awaits_doctype {
         return page.insert_doctype(token);

@@ -1,7 +1,8 @@
 // The mode in table (13.2.6.4.9).
-ghost use Rattle.std.specs.Prelude.{◌≡◌, ◌+◌, ◌<◌, ◌≤◌, [], IfOk, OnOk, IsTrue, length, true};
+ghost use Rattle.std.specs.Prelude.{◌≡◌, ◌+◌, ◌<◌, ◌≤◌, [], IfOk, OnOk, IsTrue, length, true, IfErr};
 ghost use Rattle.html_ledger.specs.Symbols.{symbol_of};
 ghost use Rattle.html_ledger.specs.Flags.{is_free};
+ghost use Rattle.html_construction.specs.Budgets.{Refuses, RefusesAny};
 ghost use Rattle.html_construction.specs.Built.{Keeps, Takes};
 ghost use Rattle.html_construction.specs.Grown.{Grown};
 ghost use Rattle.html_construction.specs.Modes.{is_reset};
@@ -44,6 +45,7 @@ pub(crate) fn in_table(
     ensures grows { IfOk result (λ o. Grows o page.old page.new) }
     ensures works { IfOk result (λ o. Worked o token.now page.old page.new) }
     ensures opens { IfOk result (λ o. Opens o symbol page.new) }
+    ensures refuses { IfErr result (λ e. Refuses token.now e page.old page.new) }
 {
     match symbol {
         // A start tag whose tag name is "caption".
@@ -104,6 +106,7 @@ fn imply_section(page: &mut Construction) -> Result<(), Refusal>
     ensures works { OnOk result (Works 6 0 6 page.old page.new) }
     ensures opened { OnOk result (0 < length page.new.stack) }
     ensures heavier { OnOk result (weight page.new.stack ≤ weight page.old.stack + 4) }
+    ensures refuses { IfErr result (λ e. RefusesAny e page.old page.new) }
 {
     page.clear_to(TableContext::Table);
     page.insert_implied_part(Tag::Tbody)?;
@@ -128,6 +131,7 @@ pub(crate) fn table_rules(
     ensures grows { IfOk result (λ o. Grows o page.old page.new) }
     ensures works { IfOk result (λ o. Worked o token.now page.old page.new) }
     ensures opens { IfOk result (λ o. Opens o symbol page.new) }
+    ensures refuses { IfErr result (λ e. Refuses token.now e page.old page.new) }
 {
     match symbol {
         // A character token.
@@ -169,6 +173,7 @@ fn table_rules_char(page: &mut Construction, token: &TokenKind, c: char) -> Resu
     ensures falls { IfOk result (λ o. Falls o (Symbol.Char c) page.old page.new) }
     ensures grows { IfOk result (λ o. Grows o page.old page.new) }
     ensures works { IfOk result (λ o. Worked o token.now page.old page.new) }
+    ensures refuses { IfErr result (λ e. Refuses token.now e page.old page.new) }
 {
     if collects_text(page) {
         page.enter(Mode::InTableText);
@@ -204,6 +209,7 @@ fn table_rules_start(
     ensures grows { IfOk result (λ o. Grows o page.old page.new) }
     ensures works { IfOk result (λ o. Worked o token.now page.old page.new) }
     ensures opens { IfOk result (λ o. Opens o (Symbol.Start tag) page.new) }
+    ensures refuses { IfErr result (λ e. Refuses token.now e page.old page.new) }
 {
     match tag {
         // A start tag whose tag name is "table".
@@ -236,6 +242,7 @@ fn table_rules_end(page: &mut Construction, token: &TokenKind, tag: Tag) -> Resu
     ensures falls { IfOk result (λ o. Falls o (Symbol.End tag) page.old page.new) }
     ensures grows { IfOk result (λ o. Grows o page.old page.new) }
     ensures works { IfOk result (λ o. Worked o token.now page.old page.new) }
+    ensures refuses { IfErr result (λ e. Refuses token.now e page.old page.new) }
 {
     match tag {
         // An end tag whose tag name is "table".
@@ -269,6 +276,7 @@ fn table_in_table(page: &mut Construction, token: &TokenKind) -> Result<Outcome,
     ensures falls { IfOk result (λ o. Falls o (Symbol.Start Tag.Table) page.old page.new) }
     ensures grows { IfOk result (λ o. Grows o page.old page.new) }
     ensures works { IfOk result (λ o. Worked o token.now page.old page.new) }
+    ensures refuses { IfErr result (λ e. Refuses token.now e page.old page.new) }
 {
     if close_table(page) {
         return Ok(Outcome::Reprocess);
@@ -313,6 +321,7 @@ fn form_in_table(page: &mut Construction, token: &TokenKind) -> Result<(), Refus
     ensures falls { OnOk result (Falls Done (Symbol.Start Tag.Form) page.old page.new) }
     ensures grows { OnOk result (Grows Done page.old page.new) }
     ensures works { OnOk result (Worked Done token.now page.old page.new) }
+    ensures refuses { IfErr result (λ e. Refuses token.now e page.old page.new) }
 {
     if page.has_template() {
         return page.drop_token(token, Symbol::Start(Tag::Form), Cause::Misplaced);
@@ -339,6 +348,7 @@ fn foster_rules(
     ensures grows { IfOk result (λ o. Grows o page.old page.new) }
     ensures works { IfOk result (λ o. Worked o token.now page.old page.new) }
     ensures opens { IfOk result (λ o. Opens o symbol page.new) }
+    ensures refuses { IfErr result (λ e. Refuses token.now e page.old page.new) }
 {
     page.foster_on();
     let outcome = body_rules(page, token, symbol)?;

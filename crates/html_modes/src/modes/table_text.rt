@@ -1,7 +1,8 @@
 // The mode in table text (13.2.6.4.10).
-ghost use Rattle.std.specs.Prelude.{◌≡◌, ◌+◌, ◌<◌, ◌≤◌, [], IfOk, IsTrue, OnOk, length};
+ghost use Rattle.std.specs.Prelude.{◌≡◌, ◌+◌, ◌<◌, ◌≤◌, [], IfOk, IsTrue, OnOk, length, IfErr};
 ghost use Rattle.html_ledger.specs.Flags.{is_free};
 ghost use Rattle.html_ledger.specs.Symbols.{symbol_of};
+ghost use Rattle.html_construction.specs.Budgets.{Refuses, RefusesAny};
 ghost use Rattle.html_construction.specs.Built.{Keeps, Takes};
 ghost use Rattle.html_construction.specs.Grown.{Grown};
 ghost use Rattle.html_construction.specs.Works.{Works};
@@ -33,6 +34,7 @@ pub(crate) fn in_table_text(
     ensures counts { IfOk result (λ o. Counted o token.now page.old page.new) }
     ensures settles { IfOk result (λ o. Settles o symbol page.old page.new) }
     ensures opens { IfOk result (λ o. Opens o symbol page.new) }
+    ensures refuses { IfErr result (λ e. Refuses token.now e page.old page.new) }
 {
     match symbol {
         // A character token: append the character token to the pending table character tokens list.
@@ -63,6 +65,7 @@ fn flush(page: &mut Construction) -> Result<(), Refusal>
     ensures listed { OnOk result (length page.new.tree.list ≤ length page.new.ledger.fates) }
     ensures lighter { OnOk result (weight page.new.stack ≤ weight page.old.stack) }
     ensures opened { OnOk result (0 < length page.new.stack) }
+    ensures refuses { IfErr result (λ e. RefusesAny e page.old page.new) }
 {
     let kept = page.take_kept();
     let stays = kept.iter().all(|c| *c == '\0' || is_space(*c));
@@ -84,6 +87,7 @@ fn settle_kept(page: &mut Construction, c: char, stays: bool) -> Result<(), Refu
     ensures works { OnOk result (Works 6 1 6 page.old page.new) }
     ensures lighter { OnOk result (weight page.new.stack ≤ weight page.old.stack) }
     ensures opened { OnOk result (0 < length page.new.stack) }
+    ensures refuses { IfErr result (λ e. RefusesAny e page.old page.new) }
 {
     let token = TokenKind::Char(c);
     settle_char(page, &token, c, stays)?;
@@ -108,6 +112,7 @@ fn settle_char(
     ensures works { OnOk result (Works 6 1 6 page.old page.new) }
     ensures lighter { OnOk result (weight page.new.stack ≤ weight page.old.stack) }
     ensures opened { OnOk result (0 < length page.new.stack) }
+    ensures refuses { IfErr result (λ e. RefusesAny e page.old page.new) }
 {
     if let Some(cause) = page.must_drop(Symbol::Char(c)) {
         return page.drop_token(token, Symbol::Char(c), cause);
@@ -139,6 +144,7 @@ pub(crate) fn foster_char(
     ensures works { OnOk result (Works 6 1 6 page.old page.new) }
     ensures lighter { OnOk result (weight page.new.stack ≤ weight page.old.stack) }
     ensures opened { OnOk result (0 < length page.new.stack) }
+    ensures refuses { IfErr result (λ e. RefusesAny e page.old page.new) }
 {
     page.foster_on();
     body_char(page, token, c)?;

@@ -1,7 +1,8 @@
 // Templates: their tags (13.2.6.4.4) and the mode in template (13.2.6.4.18).
-ghost use Rattle.std.specs.Prelude.{◌≡◌, ◌+◌, ◌<◌, ◌≤◌, [], IfOk, OnOk, IsTrue, length, true, false};
+ghost use Rattle.std.specs.Prelude.{◌≡◌, ◌+◌, ◌<◌, ◌≤◌, [], IfOk, OnOk, IsTrue, length, true, false, IfErr};
 ghost use Rattle.html_ledger.specs.Symbols.{symbol_of};
 ghost use Rattle.html_ledger.specs.Flags.{is_free};
+ghost use Rattle.html_construction.specs.Budgets.{Refuses};
 ghost use Rattle.html_construction.specs.Built.{Keeps, Takes};
 ghost use Rattle.html_construction.specs.Grown.{Grown};
 ghost use Rattle.html_construction.specs.Modes.{is_reset};
@@ -36,6 +37,7 @@ pub(crate) fn template_start_at(
     ensures falls { OnOk result (Falls Done (Symbol.Start Tag.Template) page.old page.new) }
     ensures grows { OnOk result (Grows Done page.old page.new) }
     ensures works { OnOk result (Worked Done token.now page.old page.new) }
+    ensures refuses { IfErr result (λ e. Refuses token.now e page.old page.new) }
 {
     page.insert_at(token, Tag::Template, target)?;
     page.add_marker()?;
@@ -55,6 +57,7 @@ pub(crate) fn template_end(page: &mut Construction, token: &TokenKind) -> Result
     ensures falls { OnOk result (Falls Done (Symbol.End Tag.Template) page.old page.new) }
     ensures grows { OnOk result (Grows Done page.old page.new) }
     ensures works { OnOk result (Worked Done token.now page.old page.new) }
+    ensures refuses { IfErr result (λ e. Refuses token.now e page.old page.new) }
 {
     if page.has_template() {
         let _ = close_template(page);
@@ -104,6 +107,7 @@ pub(crate) fn in_template(
     ensures grows { IfOk result (λ o. Grows o page.old page.new) }
     ensures works { IfOk result (λ o. Worked o token.now page.old page.new) }
     ensures opens { IfOk result (λ o. Opens o symbol page.new) }
+    ensures refuses { IfErr result (λ e. Refuses token.now e page.old page.new) }
 {
     match symbol {
         // A character token, a comment token, a DOCTYPE token: process the token using the rules for the "in
@@ -146,6 +150,7 @@ pub(crate) fn template_eof(page: &mut Construction, token: &TokenKind) -> Result
     ensures falls { IfOk result (λ o. Falls o (Symbol.Eof) page.old page.new) }
     ensures grows { IfOk result (λ o. Grows o page.old page.new) }
     ensures works { IfOk result (λ o. Worked o token.now page.old page.new) }
+    ensures refuses { IfErr result (λ e. Refuses token.now e page.old page.new) }
 {
     if page.has_template() && close_template(page) {
         return Ok(Outcome::Reprocess);

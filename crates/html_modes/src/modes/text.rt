@@ -1,7 +1,8 @@
 // The mode text (13.2.6.4.8).
-ghost use Rattle.std.specs.Prelude.{◌≡◌, ◌<◌, ◌≤◌, ◌∷◌, [], IfOk, OnOk, IsTrue, false, length};
+ghost use Rattle.std.specs.Prelude.{◌≡◌, ◌<◌, ◌≤◌, ◌∷◌, [], IfOk, OnOk, IsTrue, false, length, IfErr};
 ghost use Rattle.html_ledger.specs.Symbols.{symbol_of};
 ghost use Rattle.html_ledger.specs.Flags.{is_free};
+ghost use Rattle.html_construction.specs.Budgets.{Refuses};
 ghost use Rattle.html_construction.specs.Built.{Keeps, Takes};
 ghost use Rattle.html_construction.specs.Grown.{Grown};
 ghost use Rattle.html_construction.specs.Works.{Works};
@@ -38,6 +39,7 @@ pub(crate) fn text_start(
     ensures grown { OnOk result (Grown 1 2 0 0 0 page.old page.new) }
     ensures works { OnOk result (Works 6 0 6 page.old page.new) }
     ensures opens { OnOk result (HasOpened tag page.new) }
+    ensures refuses { IfErr result (λ e. Refuses token.now e page.old page.new) }
 {
     let target = page.here();
     text_start_at(page, token, tag, target)
@@ -62,6 +64,7 @@ pub(crate) fn text_start_at(
     ensures grown { OnOk result (Grown 1 2 0 0 0 page.old page.new) }
     ensures works { OnOk result (Works 6 0 6 page.old page.new) }
     ensures opens { OnOk result (HasOpened tag page.new) }
+    ensures refuses { IfErr result (λ e. Refuses token.now e page.old page.new) }
 {
     page.insert_at(token, tag, target)?;
     page.enter(Mode::Text);
@@ -88,6 +91,7 @@ pub(crate) fn text(
     ensures opens { IfOk result (λ o. Opens o symbol page.new) }
     ensures adds { IfOk result (λ o. Adds o symbol page.old page.new) }
     ensures ends { IfOk result (λ o. Ends o symbol token.now page.old page.new) }
+    ensures refuses { IfErr result (λ e. Refuses token.now e page.old page.new) }
 {
     match symbol {
         // A character token: insert the token's character. (No tokenizer gives U+0000 here.)
@@ -142,6 +146,7 @@ pub(crate) fn insert_text_char(
     ensures grown { OnOk result (Grown 1 1 0 0 0 page.old page.new) }
     ensures works { OnOk result (Works 6 0 6 page.old page.new) }
     ensures adds { OnOk result (AddsText (c ∷ []) page.old page.new) }
+    ensures refuses { IfErr result (λ e. Refuses token.now e page.old page.new) }
 {
     if c == '\0' {
         return page.drop_token(token, Symbol::Char(c), Cause::Null);

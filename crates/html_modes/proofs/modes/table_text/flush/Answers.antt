@@ -2,8 +2,11 @@ use Rattle.std.proofs.Common.{arith, ◌≡◌, ◌+◌, ◌∷◌, ◌++◌, []
 use Rattle.std.proofs.lemmas.Grind.{common_steps}
 use Rattle.std.proofs.lemmas.List.{take_more}
 use Rattle.std.proofs.Math.Seq.{take-length}
+use Rattle.std.proofs.lemmas.Result.{err_from_is_err_and}
+use Rattle.html_construction.proofs.Telling.{released-refused}
+use Rattle.html_construction.specs.Budgets.{RefusesAny}
 use Rattle.html_construction.specs.Built.{TakesRun}
-use Rattle.html_modes.proofs.Handing.{run-none, run-next, run-released}
+use Rattle.html_modes.proofs.Handing.{run-none, run-next, run-refused, run-released}
 use Rattle.html_modes.proofs.Settled.{Counts-kept, Counts-taken, Spends-kept}
 use Rattle.html_modes.proofs.modes.table_text.flush.Goals as goal
 
@@ -49,3 +52,10 @@ returns-clause-spends c =
 
 pub returns-clause-counts : goal.returns-clause-counts
 returns-clause-counts c = Counts-taken c.args.page.now c.take_kept-kept.new.self c.flushing.page c.take_kept-kept.ensures.grown c.take_kept-kept.ensures.works c.flushing.invariant.counts
+
+pub returns-in_err-settle_kept-clause-refuses : goal.returns-in_err-settle_kept-clause-refuses
+returns-in_err-settle_kept-clause-refuses c =
+    let p = err_from_is_err_and c.from_residual.result c.from_residual.ensures.1 in
+    rw p.1 (subst (λ e. RefusesAny e c.args.page.now c.settle_kept.new.page) (sym p.2)
+    (released-refused c.take_kept-kept.result.items c.args.page.now c.take_kept-kept.new.self c.settle_kept.new.page c.in_err-settle_kept.field-0.0 c.take_kept-kept.ensures.releases
+    (run-refused (take c.flushing.c-index c.deref-c-items.result.now) c.take_kept-kept.new.self c.flushing.page c.settle_kept.new.page c.in_err-settle_kept.field-0.0 c.flushing.invariant.run c.in_err-settle_kept.ensures.refuses)))
