@@ -1,11 +1,13 @@
 -- The tokens handed in, after each call.
 use Rattle.std.proofs.lemmas.Bool.{false≢true}
 use Rattle.std.proofs.Common.{ℕ, zero, suc, Bool, true, false, ◌≡◌, ◌+◌, ◌*◌, ◌<◌, ◌≤◌, List, [], ◌∷◌, ◌++◌, length, take, refl, sym, ap, subst, ◌∙◌, arith, length-append}
-use Rattle.std.specs.Prelude.{Option, Some, None}
+use Rattle.std.specs.Prelude.{Option, Some, None, Ok, Err}
 use Rattle.std.proofs.lemmas.List.{append_assoc, append-nil}
 use Rattle.html_names.specs.declared.tag.Tag.{Tag}
 use Rattle.html_names.specs.declared.tag.Tag.TheVariants as tag
 use Rattle.html_names.specs.Names.{tag_of}
+use Rattle.html_arena.specs.declared.arena.ArenaError.{ArenaError}
+use Rattle.html_arena.specs.declared.arena.ArenaError.TheVariants as arena
 use Rattle.html_arena.specs.declared.arena.Limits.{Limits}
 use Rattle.html_tokens.specs.declared.token.TextMode.{TextMode}
 use Rattle.html_tokens.specs.declared.token.TokenKind.{TokenKind}
@@ -17,6 +19,7 @@ use Rattle.html_ledger.specs.declared.fate.Fate.{Fate}
 use Rattle.html_ledger.specs.declared.fate.Fate.TheVariants as fate
 use Rattle.html_ledger.specs.Symbols.{symbol_of}
 use Rattle.html_ledger.specs.Runs.{last_of}
+use Rattle.html_construction.specs.Budgets.{IsPassed, IsRefused, Refuses, RefusesAny}
 use Rattle.html_construction.specs.Built.{BeginsWith, Handed as Given, IsBuilt, Takes, TakesRun, chars_of, ends_made, nothing_of, some_made, symbols, with_tokens}
 use Rattle.html_construction.specs.Modes.{is_reset}
 use Rattle.html_construction.specs.States.{State}
@@ -33,8 +36,8 @@ use Rattle.html_modes.specs.Steps.{Pays, Toils, compared, root_of}
 use Rattle.html_modes.specs.declared.outcome.Foreign.{Foreign}
 use Rattle.html_modes.specs.declared.outcome.Foreign.TheVariants as foreign
 use Rattle.html_builder.specs.Builders.{BuilderState}
-use Rattle.html_builder.specs.Errors.{error_at}
-use Rattle.html_builder.specs.Handed.{AddsFates, Handed, HandsIn, attribute_total, IsBuildCause, IsTextCause, Starts, fates_of, foreign_tag, given}
+use Rattle.html_builder.specs.Errors.{IsTextTold, IsTold, error_at}
+use Rattle.html_builder.specs.Handed.{AddsFates, AreSet, Handed, HandsIn, attribute_total, IsBuildCause, IsTextCause, Starts, fates_of, foreign_tag, given}
 use Rattle.html_builder.specs.Switches.{said_after, switch_after}
 use Rattle.html_builder.specs.declared.error.BuildError.{BuildError}
 use Rattle.html_builder.specs.declared.error.BuildError.TheVariants as error
@@ -221,15 +224,43 @@ pub cause-foreign : (s : Setting) (l : Option Limits) (ts : List TokenKind) (v :
     → IsBuildCause s l ts (fates_of v) t at (error.ForeignContent name at)
 cause-foreign s l ts v t at name h e = (refl, starts-foreign t name e, have-fates s l ts v h)
 
-pub cause-at : (s : Setting) (l : Option Limits) (ts : List TokenKind) (fs : List Fate) (t : TokenKind) (at : ℕ) (r : Refusal) → IsBuildCause s l ts fs t at (error_at r at)
-cause-at s l ts fs t at refusal.OutOfMemory = tt
-cause-at s l ts fs t at refusal.NodeBudget = refl
-cause-at s l ts fs t at refusal.HeldBudget = refl
+-- where something would pass them, there are limits
+passed-set : (l : Option Limits) (t : TokenKind) (z : State) (limit : ArenaError) → IsPassed l t z limit → AreSet l
+passed-set None t z limit k = absurd (let q : Ok tt ≡ Err limit = k.answer_is in cc)
+passed-set (Some m) t z limit k = (m, refl)
 
-pub text-cause-at : (s : Setting) (l : Option Limits) (ts : List TokenKind) (fs : List Fate) (text : List ℕ) (start at : ℕ) (r : Refusal) → start ≤ at → at < start + length text → IsTextCause s l ts fs text start (error_at r at)
-text-cause-at s l ts fs text start at refusal.OutOfMemory p q = tt
-text-cause-at s l ts fs text start at refusal.NodeBudget p q = (p, q)
-text-cause-at s l ts fs text start at refusal.HeldBudget p q = (p, q)
+-- what is told of a budget is so of the limits that were handed in
+told-as : (l : Option Limits) (t : TokenKind) (z : State) (at : ℕ) (r : Refusal) → IsRefused l t z r → IsTold l t z (error_at r at)
+told-as l t z at refusal.OutOfMemory k = tt
+told-as l t z at refusal.NodeBudget k = k.reason
+told-as l t z at refusal.HeldBudget k = k.reason
+
+pub told-at : (s : Setting) (l : Option Limits) (ts : List TokenKind) (u v : BuilderState) (t : TokenKind) (r : Refusal) (at : ℕ) (z : State) (e : BuildError) → u ≡ v → Refuses t r u.page z → e ≡ error_at r at → Handed s l ts v → IsTold l t z e
+told-at s l ts u v t r at z e q k i h =
+    subst (λ x. IsTold l t z x) (sym i) (told-as l t z at r (k (given s l ts) (subst (λ (x : BuilderState). IsBuilt (given s l ts) x.page) (sym q) h.built)))
+
+pub text-told-at : (s : Setting) (l : Option Limits) (ts : List TokenKind) (u v : BuilderState) (r : Refusal) (at : ℕ) (z : State) (e : BuildError) → u ≡ v → RefusesAny r u.page z → e ≡ error_at r at → Handed s l ts v → IsTextTold l z e
+text-told-at s l ts u v r at z e q k i h = λ t.
+    subst (λ x. IsTold l t z x) (sym i) (told-as l t z at r ((k (given s l ts) (subst (λ (x : BuilderState). IsBuilt (given s l ts) x.page) (sym q) h.built)).any t))
+
+cause-as : (s : Setting) (l : Option Limits) (ts : List TokenKind) (fs : List Fate) (t : TokenKind) (at : ℕ) (r : Refusal) (z : State) → IsRefused l t z r → IsBuildCause s l ts fs t at (error_at r at)
+cause-as s l ts fs t at refusal.OutOfMemory z k = tt
+cause-as s l ts fs t at refusal.NodeBudget z k = (refl, passed-set l t z arena.NodeBudget k.reason)
+cause-as s l ts fs t at refusal.HeldBudget z k = (refl, passed-set l t z arena.HeldBudget k.reason)
+
+pub cause-at : (s : Setting) (l : Option Limits) (ts : List TokenKind) (fs : List Fate) (u v : BuilderState) (t : TokenKind) (r : Refusal) (at : ℕ) (z : State) (e : BuildError) → u ≡ v → Refuses t r u.page z → e ≡ error_at r at → Handed s l ts v → IsBuildCause s l ts fs t at e
+cause-at s l ts fs u v t r at z e q k i h =
+    subst (λ x. IsBuildCause s l ts fs t at x) (sym i) (cause-as s l ts fs t at r z (k (given s l ts) (subst (λ (x : BuilderState). IsBuilt (given s l ts) x.page) (sym q) h.built)))
+
+text-cause-as : (s : Setting) (l : Option Limits) (ts : List TokenKind) (fs : List Fate) (text : List ℕ) (at : ℕ) (t : TokenKind) (r : Refusal) (z : State) → 0 < length text → IsRefused l t z r → IsTextCause s l ts fs text at (error_at r at)
+text-cause-as s l ts fs text at t refusal.OutOfMemory z n k = tt
+text-cause-as s l ts fs text at t refusal.NodeBudget z n k = (omega arith, omega (arith, n), passed-set l t z arena.NodeBudget k.reason)
+text-cause-as s l ts fs text at t refusal.HeldBudget z n k = (omega arith, omega (arith, n), passed-set l t z arena.HeldBudget k.reason)
+
+pub text-cause-at : (s : Setting) (l : Option Limits) (ts : List TokenKind) (fs : List Fate) (text : List ℕ) (u v : BuilderState) (r : Refusal) (at : ℕ) (z : State) (e : BuildError) → 0 < length text → u ≡ v → RefusesAny r u.page z → e ≡ error_at r at → Handed s l ts v
+    → IsTextCause s l ts fs text at e
+text-cause-at s l ts fs text u v r at z e n q k i h =
+    subst (λ x. IsTextCause s l ts fs text at x) (sym i) (text-cause-as s l ts fs text at kind.Eof r z n ((k (given s l ts) (subst (λ (x : BuilderState). IsBuilt (given s l ts) x.page) (sym q) h.built)).any kind.Eof))
 
 -- a part of the text
 pub text-cause-part : (s : Setting) (l : Option Limits) (ts us : List TokenKind) (fs gs : List Fate) (text part : List ℕ) (start at : ℕ) (e : BuildError) → start ≤ at → at + length part ≤ start + length text
@@ -238,8 +269,8 @@ text-cause-part s l ts us fs gs text part start at error.OutOfMemory p q c = tt
 text-cause-part s l ts us fs gs text part start at (error.ForeignContent name place) p q c = c
 text-cause-part s l ts us fs gs text part start at error.BadContext p q c = c
 text-cause-part s l ts us fs gs text part start at error.Stopped p q c = c
-text-cause-part s l ts us fs gs text part start at (error.NodeBudget place) p q c = let a = c.0 in let b = c.1 in (omega (arith, p, a), omega (arith, q, b))
-text-cause-part s l ts us fs gs text part start at (error.HeldBudget place) p q c = let a = c.0 in let b = c.1 in (omega (arith, p, a), omega (arith, q, b))
+text-cause-part s l ts us fs gs text part start at (error.NodeBudget place) p q c = let a = c.0 in let b = c.1 in (omega (arith, p, a), omega (arith, q, b), c.2)
+text-cause-part s l ts us fs gs text part start at (error.HeldBudget place) p q c = let a = c.0 in let b = c.1 in (omega (arith, p, a), omega (arith, q, b), c.2)
 
 -- the same, where the state is seen as a view
 pub viewed-token : (t : TokenKind) (y : Symbol) (u v w : BuilderState) → u ≡ v → y ≡ symbol_of t → Takes t u.page w.page → Pays u.page w.page → Enters 1 u.entries w.entries u.page w.page → Toils (compared t w.page) u.page w.page → GoesOn y t u.page w.page
@@ -287,6 +318,6 @@ not-stopped refusal.HeldBudget at e = absurd (let k = e in cc)
 
 pub ruleset begin_rules = (none-fated)
 
-pub ruleset process_rules = (handed-token, added-token, said-by, cause-foreign, cause-at, not-stopped)
+pub ruleset process_rules = (handed-token, added-token, said-by, cause-foreign, not-stopped)
 
-pub ruleset text_rules = (handed-run, added-run, text-cause-at, not-stopped)
+pub ruleset text_rules = (handed-run, added-run, not-stopped)

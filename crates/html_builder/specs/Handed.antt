@@ -1,5 +1,5 @@
 -- What callers know of a builder: what it was begun with, the tokens handed in, and what became of them.
-use Rattle.std.specs.Prelude.{◌≡◌, ℕ, ◌+◌, ◌*◌, ◌<◌, ◌≤◌, Bool, false, List, [], ◌∷◌, ◌++◌, length, Option, None}
+use Rattle.std.specs.Prelude.{◌≡◌, ℕ, ◌+◌, ◌*◌, ◌<◌, ◌≤◌, Bool, false, List, [], ◌∷◌, ◌++◌, length, Option, None, Some}
 use Rattle.std.specs.List.{sum_by}
 use Rattle.html_names.specs.declared.tag.Tag.{Tag}
 use Rattle.html_names.specs.declared.tag.Tag.TheVariants as tag
@@ -96,22 +96,27 @@ abbrev pub Starts : Tag → TokenKind → Type 0
 Starts t (kind.Start name attrs self_closing) = tag_of name ≡ t
 Starts t _ = ⊥
 
--- The call for a token at this place was refused: for a start tag of foreign content, after tokens with the fates given so far; for a limit; or for
--- want of memory, of which nothing can be said.
+-- there are limits
+abbrev pub AreSet : Option Limits → Type 0
+AreSet limits = (l : Limits) × (limits ≡ Some l)
+
+-- The call for a token at this place was refused: for a start tag of foreign content, after tokens with the fates given so far; for a limit that was
+-- set; or for want of memory, of which nothing can be said.
 abbrev pub IsBuildCause : Setting → Option Limits → List TokenKind → List Fate → TokenKind → ℕ → BuildError → Type 0
 IsBuildCause s limits tokens fates token at refusal.OutOfMemory = Unit {0}
 IsBuildCause s limits tokens fates token at (refusal.ForeignContent name place) =
     (place ≡ at) × Starts (foreign_tag name) token × HaveFates s tokens fates
-IsBuildCause s limits tokens fates token at (refusal.NodeBudget place) = place ≡ at
-IsBuildCause s limits tokens fates token at (refusal.HeldBudget place) = place ≡ at
+IsBuildCause s limits tokens fates token at (refusal.NodeBudget place) = (place ≡ at) × AreSet limits
+IsBuildCause s limits tokens fates token at (refusal.HeldBudget place) = (place ≡ at) × AreSet limits
 IsBuildCause s limits tokens fates token at refusal.BadContext = ⊥
 IsBuildCause s limits tokens fates token at refusal.Stopped = ⊥
 
--- The call for code points of which the first stands at a place was refused: for a limit, at the place of one of them; or for want of memory.
+-- The call for code points of which the first stands at a place was refused: for a limit that was set, at the place of one of them; or for want of
+-- memory.
 abbrev pub IsTextCause : Setting → Option Limits → List TokenKind → List Fate → List ℕ → ℕ → BuildError → Type 0
 IsTextCause s limits tokens fates text start refusal.OutOfMemory = Unit {0}
-IsTextCause s limits tokens fates text start (refusal.NodeBudget place) = (start ≤ place) × (place < start + length text)
-IsTextCause s limits tokens fates text start (refusal.HeldBudget place) = (start ≤ place) × (place < start + length text)
+IsTextCause s limits tokens fates text start (refusal.NodeBudget place) = (start ≤ place) × (place < start + length text) × AreSet limits
+IsTextCause s limits tokens fates text start (refusal.HeldBudget place) = (start ≤ place) × (place < start + length text) × AreSet limits
 IsTextCause s limits tokens fates text start (refusal.ForeignContent name place) = ⊥
 IsTextCause s limits tokens fates text start refusal.BadContext = ⊥
 IsTextCause s limits tokens fates text start refusal.Stopped = ⊥

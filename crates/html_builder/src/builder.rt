@@ -13,6 +13,7 @@ ghost use Rattle.html_page.specs.PageTokens.{page_kinds};
 ghost use Rattle.html_page.specs.Plain.{IsPlainPage};
 ghost use Rattle.html_page.specs.Shows.{Shows};
 ghost use Rattle.html_builder.specs.Contexts.{IsGood, setting_of};
+ghost use Rattle.html_builder.specs.Errors.{IsTextTold, IsTold};
 ghost use Rattle.html_builder.specs.Handed.{AddsFates, CostAtMost, EndsAtEof, Handed, HandsIn, HaveFates, IsBuildCause, IsTextCause, fates_of, is_stopped};
 ghost use Rattle.html_builder.specs.Outcome.{IsBounded, IsOutcome, most_entries};
 ghost use Rattle.html_builder.specs.Plain.{HavePlainFates};
@@ -189,6 +190,7 @@ impl Builder {
         ensures switch { IfOk result (λ m. m ≡ switch_after token.now.kind (last_of (fates_of self.new))) }
         ensures cause { IfErr result (λ e. (s : Setting) (l : Option Limits) (tokens : List TokenKind) → Handed s l tokens self.old
             → IsBuildCause s l tokens (fates_of self.old) token.now.kind token.now.span.start e) }
+        ensures told { IfErr result (λ e. (s : Setting) (l : Option Limits) (tokens : List TokenKind) → Handed s l tokens self.old → IsTold l token.now.kind self.new.page e) }
         ensures ok { OnOk result (is_stopped self.new ≡ false) }
         ensures err { OnErr result (is_stopped self.new ≡ true) }
         ensures stopped { (result ≡ Err BuildError.Stopped) ↔ (is_stopped self.old ≡ true) }
@@ -227,6 +229,7 @@ impl Builder {
         ensures grows { OnOk result (AddsFates self.old self.new) }
         ensures cause { IfErr result (λ e. (s : Setting) (l : Option Limits) (tokens : List TokenKind) → Handed s l tokens self.old
             → IsTextCause s l tokens (fates_of self.old) text.now start e) }
+        ensures told { IfErr result (λ e. (s : Setting) (l : Option Limits) (tokens : List TokenKind) → Handed s l tokens self.old → IsTextTold l self.new.page e) }
         ensures ok { OnOk result (is_stopped self.new ≡ is_stopped self.old) }
         ensures err { OnErr result (is_stopped self.new ≡ true) }
         ensures stopped { (result ≡ Err BuildError.Stopped) ↔ ((is_stopped self.old ≡ true) × (0 < length text.now)) }
@@ -249,6 +252,7 @@ impl Builder {
         ensures count { IfOk result (λ n. (0 < n) × (n ≤ length text.now)) }
         ensures cause { IfErr result (λ e. (s : Setting) (l : Option Limits) (tokens : List TokenKind) → Handed s l tokens self.old
             → IsTextCause s l tokens (fates_of self.old) (take 1 text.now) at e) }
+        ensures told { IfErr result (λ e. (s : Setting) (l : Option Limits) (tokens : List TokenKind) → Handed s l tokens self.old → IsTextTold l self.new.page e) }
         ensures ready { OnOk result (is_stopped self.old ≡ false) }
         ensures ok { OnOk result (is_stopped self.new ≡ false) }
         ensures err { OnErr result (is_stopped self.new ≡ true) }

@@ -1,7 +1,8 @@
 use Rattle.std.proofs.Common.{◌≡◌, ◌∙◌, false, refl, subst, sym}
 use Rattle.std.specs.Prelude.{IfSome}
 use Rattle.html_modes.specs.Steps.{root_of}
-use Rattle.html_builder.proofs.Handing.{cause-foreign, viewed-grown, viewed-token}
+use Rattle.html_builder.specs.Handed.{fates_of}
+use Rattle.html_builder.proofs.Handing.{cause-at, cause-foreign, told-at, viewed-grown, viewed-token}
 use Rattle.html_builder.proofs.builder.Builder.process.Goals as goal
 
 pub returns-in-Ok-None-clause-takes : goal.returns-in-Ok-None-clause-takes
@@ -19,3 +20,11 @@ pub returns-in-Ok-Some-clause-cause : goal.returns-in-Ok-Some-clause-cause
 returns-in-Ok-Some-clause-cause c = λ s l ts h.
     cause-foreign s l ts c.args.self.now c.args.token.now.kind c.args.token.now.span.start c.in-Ok-Some.name h
     (sym c.of-symbol.ensures.value ∙ subst (λ f. IfSome f (λ name. c.of-symbol.result ≡ root_of name)) c.in-Ok-Some.field-0-is c.in-Ok-Some.ensures.foreign)
+
+pub returns-in-Err-clause-told : goal.returns-in-Err-clause-told
+returns-in-Err-clause-told c = λ s l ts h.
+    told-at s l ts (record { page = c.self.inside.construction; entries = c.self.inside.entries; stopped = c.self.inside.stopped }) c.args.self.now c.args.token.now.kind c.in-Err.refusal c.args.token.now.span.start c.take.new.page _ c.self.view_is c.in-Err.ensures.refuses c.at.ensures.value h
+
+pub returns-in-Err-clause-cause : goal.returns-in-Err-clause-cause
+returns-in-Err-clause-cause c = λ s l ts h.
+    cause-at s l ts (fates_of c.args.self.now) (record { page = c.self.inside.construction; entries = c.self.inside.entries; stopped = c.self.inside.stopped }) c.args.self.now c.args.token.now.kind c.in-Err.refusal c.args.token.now.span.start c.take.new.page _ c.self.view_is c.in-Err.ensures.refuses c.at.ensures.value h

@@ -1,5 +1,6 @@
-use Rattle.std.proofs.Common.{refl, take, false}
-use Rattle.html_builder.proofs.Handing.{going-not, take-some, taken-enters, viewed-added, viewed-run}
+use Rattle.std.proofs.Common.{refl, take, false, arith}
+use Rattle.html_builder.specs.Handed.{fates_of}
+use Rattle.html_builder.proofs.Handing.{going-not, take-some, taken-enters, text-cause-at, text-told-at, viewed-added, viewed-run}
 use Rattle.html_builder.proofs.builder.Builder.process_front.Goals as goal
 
 pub returns-then-self-clause-cause : goal.returns-then-self-clause-cause
@@ -15,3 +16,11 @@ pub returns-in-Ok-clause-grows : goal.returns-in-Ok-clause-grows
 returns-in-Ok-clause-grows c =
     viewed-added (take c.in-Ok.count c.args.text.now) (record { page = c.self.inside.construction; entries = c.self.inside.entries; stopped = c.self.inside.stopped }) c.args.self.now (record { page = c.take_front.new.page; entries = c.take_front.new.entries; stopped = false }) c.self.view_is
     c.in-Ok.ensures.takes
+
+pub returns-in-Err-clause-told : goal.returns-in-Err-clause-told
+returns-in-Err-clause-told c = λ s l ts h.
+    text-told-at s l ts (record { page = c.self.inside.construction; entries = c.self.inside.entries; stopped = c.self.inside.stopped }) c.args.self.now c.in-Err.refusal c.args.at c.take_front.new.page _ c.self.view_is c.in-Err.ensures.refuses c.at.ensures.value h
+
+pub returns-in-Err-clause-cause : goal.returns-in-Err-clause-cause
+returns-in-Err-clause-cause c = λ s l ts h.
+    text-cause-at s l ts (fates_of c.args.self.now) (take 1 c.args.text.now) (record { page = c.self.inside.construction; entries = c.self.inside.entries; stopped = c.self.inside.stopped }) c.args.self.now c.in-Err.refusal c.args.at c.take_front.new.page _ (take-some 1 c.args.text.now (omega arith) c.requires.some) c.self.view_is c.in-Err.ensures.refuses c.at.ensures.value h

@@ -4,6 +4,7 @@ use Rattle.std.proofs.lemmas.List.{take_rest}
 use Rattle.std.proofs.lemmas.Result.{err_from_is_err_and}
 use Rattle.std.proofs.Math.Seq.{take-add, take-length}
 use Rattle.html_construction.specs.Built.{chars_of}
+use Rattle.html_builder.specs.Errors.{IsTextTold}
 use Rattle.html_builder.specs.Handed.{HandsIn, IsTextCause, fates_of}
 use Rattle.html_builder.proofs.Handing.{added-then, handed-then, take-one, text-cause-part}
 use Rattle.html_builder.proofs.builder.Builder.process_text.Goals as goal
@@ -41,3 +42,8 @@ returns-in_err-count-clause-cause c =
     c.args.start c.saturating_add-at.result c.in_err-count.field-0.0 low (omega (arith, high, one, more))
     (subst (λ cs. IsTextCause s l (ts ++ chars_of (take c.taking.taken c.args.text.now)) (fates_of c.taking.self) (take 1 cs) c.saturating_add-at.result c.in_err-count.field-0.0) (take_rest c.args.text.now c.taking.taken)
     (c.in_err-count.ensures.cause s l (ts ++ chars_of (take c.taking.taken c.args.text.now)) (c.taking.invariant.takes s l ts h)))))
+
+pub returns-in_err-count-clause-told : goal.returns-in_err-count-clause-told
+returns-in_err-count-clause-told c =
+    let p = err_from_is_err_and c.from_residual.result c.from_residual.ensures.1 in
+    rw p.1 (λ s l ts h. subst (λ e. IsTextTold l c.process_front.new.self.page e) (sym p.2) (c.in_err-count.ensures.told s l (ts ++ chars_of (take c.taking.taken c.args.text.now)) (c.taking.invariant.takes s l ts h)))
