@@ -8,7 +8,6 @@ use Rattle.std.specs.List.Sorted.{SwapsInRange, apply_swaps}
 use Rattle.std.proofs.lemmas.List.{get_or_past}
 use Rattle.std.proofs.lemmas.Bool.Decides.{nat_tests}
 use Rattle.html_tokens.specs.declared.attributes.Attr.{Attr}
-use Rattle.html_names.specs.declared.tag.Tag.{Tag}
 use Rattle.html_names.specs.Names.{tag_of}
 use Rattle.html_names.specs.Sets.{is_template}
 use Rattle.html_arena.specs.Data.{attrs_in, contents_in, name_in, tag_in}
@@ -19,7 +18,7 @@ use Rattle.html_page.specs.Label.{Label, label_for}
 use Rattle.html_page.specs.Label.Label.{document, doctype, element, text, comment}
 use Rattle.html_page.specs.Shows.{label_at}
 use Rattle.html_print.specs.Arranged.{IsOrdered}
-use Rattle.html_print.specs.Lines.{attributes_in, has_contents, is_template_name, levels, line, lines_at, shown, shown_attribute}
+use Rattle.html_print.specs.Lines.{has_contents, is_template_name, levels, line, lines_at, shown, shown_attribute}
 use Rattle.html_print.specs.Order.{IsInOrder}
 use Rattle.html_print.proofs.Sorting.{in_order}
 

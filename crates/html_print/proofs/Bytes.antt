@@ -1,5 +1,5 @@
 -- The bytes of lines.
-use Rattle.std.proofs.Common.{◌≡◌, Bor, map, ℕ, zero, suc, ◌+◌, ◌*◌, Bool, true, false, List, [], ◌∷◌, ◌++◌, replicate, refl, sym, ap, ◌∙◌, append_assoc}
+use Rattle.std.proofs.Common.{◌≡◌, Bor, map, ℕ, zero, suc, ◌*◌, true, List, [], ◌∷◌, ◌++◌, replicate, refl, sym, ap, ◌∙◌, append_assoc}
 use Rattle.std.specs.Prelude.{codes}
 use Rattle.std.specs.Str.{encode_utf8_all}
 use Rattle.std.specs.List.{flat_map}

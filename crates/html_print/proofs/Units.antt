@@ -1,11 +1,9 @@
 -- Texts read unit by unit of UTF-16.
-use Rattle.std.proofs.Common.{◌≡◌, ◌≢◌, ◌⊎◌, Ordering, Less, Equal, Greater, inl, inr, ℕ, List, [], ◌∷◌, ◌++◌, length, refl, sym, ap, ◌∙◌, append_assoc}
-use Rattle.std.specs.Prelude.{Option, Some, None}
-use Rattle.std.specs.Char.Escape.{encode_utf16}
+use Rattle.std.proofs.Common.{◌≡◌, ◌≢◌, Ordering, Less, Equal, Greater, inl, inr, ℕ, List, [], ◌∷◌, ◌++◌, length, refl, sym, ap, ◌∙◌}
+use Rattle.std.specs.Prelude.{Some, None}
 use Rattle.std.specs.Cmp.{nat_cmp_is}
 use Rattle.std.specs.Cmp.Lexicographic.{slice_cmp}
 use Rattle.std.specs.FinMap.{nat_cmp-IsAntisymmetric}
-use Rattle.std.specs.List.{flat_map}
 use Rattle.std.specs.Ordering.{nat_cmp, ordering_then}
 use Rattle.std.specs.Str.{chars, IsUtf8}
 use Rattle.std.specs.Str.Iter.{encode_utf16_pending, encode_utf16_rest, encode_utf16_steps}
@@ -30,13 +28,13 @@ module _ (s t : EncodeUtf16) where
     pub next_some : encode_utf16_steps s (Some x) t → (left s ≡ x ∷ left t) × IsUtf8 (encode_utf16_rest t)
     next_some (inl (p, q, e)) = (
       ap (λ l. l ++ code_units (chars (encode_utf16_rest s))) p ∙ ap (λ l. x ∷ code_units (chars l)) (sym e)
-      ∙ ap (λ l. x ∷ (l ++ code_units (chars (encode_utf16_rest t)))) (sym q),
+          ∙ ap (λ l. x ∷ (l ++ code_units (chars (encode_utf16_rest t)))) (sym q),
       rw e u,
     )
     next_some (inr (p, (c, q, e))) = (
       ap (λ l. l ++ code_units (chars (encode_utf16_rest s))) p
-      ∙ ap code_units (chars_past_char (encode_utf16_rest s) (encode_utf16_rest t) c u q)
-      ∙ ap (λ l. l ++ code_units (chars (encode_utf16_rest t))) e,
+          ∙ ap code_units (chars_past_char (encode_utf16_rest s) (encode_utf16_rest t) c u q)
+          ∙ ap (λ l. l ++ code_units (chars (encode_utf16_rest t))) e,
       IsUtf8-past_char (encode_utf16_rest s) (encode_utf16_rest t) c u q,
     )
 

@@ -10,7 +10,6 @@ use Rattle.html_arena.specs.declared.walk.Event.{Event}
 use Rattle.html_arena.specs.declared.walk.Event.TheVariants.{Enter, Leave}
 use Rattle.html_arena.specs.declared.walk.Show.TheVariants.{All as Everything}
 use Rattle.html_page.specs.Label.{Label}
-use Rattle.html_page.specs.Serialised.{forest_below}
 use Rattle.html_page.specs.Shows.{label_at}
 use Rattle.html_print.specs.Arranged.{IsArranged, IsOrdered}
 use Rattle.html_print.specs.Lines.{levels, lines_at, lines_of}

@@ -63,9 +63,7 @@ fn put_own<W: Sink>(
             depth,
             &["<", element.name.as_str(), ">"],
         ),
-        NodeData::Text { text } => {
-            put_line(output, writer, depth, &["\"", text.as_str(), "\""])
-        }
+        NodeData::Text { text } => { put_line(output, writer, depth, &["\"", text.as_str(), "\""]) }
         NodeData::Comment { text, .. } => {
             put_line(output, writer, depth, &["<!-- ", text.as_str(), " -->"])
         }

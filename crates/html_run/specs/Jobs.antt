@@ -1,13 +1,14 @@
 -- What a job asks of the parser.
 use Rattle.std.specs.Prelude.{◌≡◌, ◌-◌, ◌^◌, ℕ, false, List, Option, Some, None, option_map, unwrap_or}
 use Rattle.std.specs.Io.KnownBytes.{Consumes, IsAtEnd}
-use Rattle.std.specs.Str.{chars}
+use Rattle.std.specs.Str.{chars, encode_utf8_all}
 use Rattle.html_charref.specs.declared.table.Row.{Row}
 use Rattle.html_arena.specs.declared.arena.Limits.{Limits}
 use Rattle.html_job.specs.declared.jobs.Job.{Job}
 use Rattle.html_parser.specs.Parsed.{IsTreeOf}
 use Rattle.html_parser.specs.Start.{Start, document_start, fragment_start}
 use Rattle.html_parser.specs.declared.page.Tree.{Tree}
+use Rattle.html_print.specs.Printed.{IsPrinted}
 
 -- the limit, or the greatest number of 64 bits where there is none
 abbrev pub limit_or_most : Option ℕ → ℕ
@@ -29,6 +30,15 @@ start_in (Some name) rows limits = fragment_start rows (record { name = chars na
 
 abbrev pub start_for : Job → List Row → Start
 start_for job rows = start_in (option_map (λ s. s.now) job.fragment) rows (limits_for job)
+
+-- A reader was read from `old` to its end, a tree of all of it was had, and this holds of the bytes of that tree's lines.
+pub record IsShown (start : Start) (Written : List ℕ → Type 0) (old new : Option (List ℕ)) : Type 0 where
+  pub bytes : List ℕ
+  pub consumed : Consumes old new bytes
+  pub at_end : IsAtEnd new
+  pub tree : Tree
+  pub is_tree : IsTreeOf start bytes tree
+  pub shown : IsPrinted tree.arena tree.root (λ text. Written (encode_utf8_all text))
 
 -- A reader was read from `old` to its end, and a tree of all of it was had.
 pub record IsRead (start : Start) (old new : Option (List ℕ)) : Type 0 where

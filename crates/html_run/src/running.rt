@@ -2,12 +2,14 @@
 
 ghost use Rattle.std.specs.Prelude.{◌≡◌, ◌≢◌, ◌<◌, ◌⊎◌, List, IfOk, IfErr, MatchOption, Ok, Err, OnOk};
 ghost use Rattle.std.specs.Io.KnownBytes.{Appends};
+ghost use Rattle.std.specs.Str.{encode_utf8_all};
 ghost use Rattle.html_arena.specs.Walking.{IsRoot};
 ghost use Rattle.html_charref.specs.Entities.{core_rows, entities_of};
 ghost use Rattle.html_charref.specs.declared.table.Row.{Row};
 ghost use Rattle.html_device.specs.Device.{AppendsFront};
 ghost use Rattle.html_parser.specs.Normalised.{IsNormalised};
-ghost use Rattle.html_run.specs.Jobs.{IsRead, start_for};
+ghost use Rattle.html_print.specs.Printed.{IsPrinted};
+ghost use Rattle.html_run.specs.Jobs.{IsRead, IsShown, start_for};
 ghost use Rattle.html_run.specs.Outcome.{status_of};
 ghost use Rattle.html_run.specs.Profiles.{profile_of};
 
@@ -46,6 +48,15 @@ pub fn run<R: Source, W: Sink, F: Write>(
     ensures failed { job.now.command ≡ Command.Normalise → result ≡ FILE_FAULT → (W.taken writer.new ≡ W.taken writer.old)
         ⊎ ((rows : List Row) × MatchOption entities.entry (rows ≡ core_rows) (λ bytes. entities_of bytes.now ≡ Ok rows)
         × IsNormalised (start_for job.now rows) (profile_of job.now.profile) (AppendsFront (W.taken writer.old) (W.taken writer.new)) (R.remaining reader.old) (R.remaining reader.new)) }
+
+    // Of `tree`: all lines were written, or nothing, or a front of them.
+    ensures shown { job.now.command ≡ Command.Tree → result ≡ DONE
+        → (rows : List Row) × MatchOption entities.entry (rows ≡ core_rows) (λ bytes. entities_of bytes.now ≡ Ok rows)
+        × IsShown (start_for job.now rows) (Appends (W.taken writer.old) (W.taken writer.new)) (R.remaining reader.old) (R.remaining reader.new) }
+    ensures shown_nothing { job.now.command ≡ Command.Tree → result ≡ REFUSED → W.taken writer.new ≡ W.taken writer.old }
+    ensures shown_front { job.now.command ≡ Command.Tree → result ≡ FILE_FAULT → (W.taken writer.new ≡ W.taken writer.old)
+        ⊎ ((rows : List Row) × MatchOption entities.entry (rows ≡ core_rows) (λ bytes. entities_of bytes.now ≡ Ok rows)
+        × IsShown (start_for job.now rows) (AppendsFront (W.taken writer.old) (W.taken writer.new)) (R.remaining reader.old) (R.remaining reader.new)) }
     ensures status { result < 4 }
 {
     let input = job.input.unwrap_or("-");
@@ -72,6 +83,11 @@ fn answer<R: Source, W: Sink>(
         (Appends (W.taken writer.old) (W.taken writer.new)) (R.remaining reader.old) (R.remaining reader.new)) }
     ensures failed { job.now.command ≡ Command.Normalise → IfErr result (λ e. (W.taken writer.new ≡ W.taken writer.old)
         ⊎ ((e ≡ ParseError.Write) × IsNormalised (start_for job.now table.now) (profile_of job.now.profile)
+        (AppendsFront (W.taken writer.old) (W.taken writer.new)) (R.remaining reader.old) (R.remaining reader.new))) }
+    ensures shown { job.now.command ≡ Command.Tree → OnOk result (IsShown (start_for job.now table.now)
+        (Appends (W.taken writer.old) (W.taken writer.new)) (R.remaining reader.old) (R.remaining reader.new)) }
+    ensures shown_front { job.now.command ≡ Command.Tree → IfErr result (λ e. (W.taken writer.new ≡ W.taken writer.old)
+        ⊎ ((e ≡ ParseError.Write) × IsShown (start_for job.now table.now)
         (AppendsFront (W.taken writer.old) (W.taken writer.new)) (R.remaining reader.old) (R.remaining reader.new))) }
 {
     if matches!(job.command, Command::Audit) {
@@ -136,6 +152,9 @@ pub fn tell_table<F: Write>(error: &EntityError, faults: &mut F) -> u8
 /// Prints a tree.
 fn print<W: Sink>(alloc: Global, tree: &Tree, writer: &mut W) -> Result<(), ParseError>
     requires root { IsRoot tree.now.arena tree.now.root }
+    ensures ok { OnOk result (IsPrinted tree.now.arena tree.now.root (λ text. Appends (W.taken writer.old) (W.taken writer.new) (encode_utf8_all text))) }
+    ensures err { IfErr result (λ e. (W.taken writer.new ≡ W.taken writer.old)
+        ⊎ ((e ≡ ParseError.Write) × IsPrinted tree.now.arena tree.now.root (λ text. AppendsFront (W.taken writer.old) (W.taken writer.new) (encode_utf8_all text)))) }
 {
     match print_tree(alloc, &tree.arena, tree.root, writer) {
         Ok(()) => Ok(()),

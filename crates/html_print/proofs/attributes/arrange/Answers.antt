@@ -1,4 +1,4 @@
-use Rattle.std.proofs.Common.{Bor, map, rules, sym, subst}
+use Rattle.std.proofs.Common.{Bor, map, rules, subst}
 use Rattle.std.specs.Cmp.Lexicographic.{slice_cmp}
 use Rattle.std.specs.List.Sorted.{IsPermutation}
 use Rattle.std.specs.Ordering.{is_lt, nat_cmp}
@@ -8,7 +8,7 @@ use Rattle.std.proofs.lemmas.List.MinMax.{ranks_by}
 use Rattle.std.proofs.lemmas.List.Sorted.{IsPermutation-map}
 use Rattle.html_tokens.specs.declared.attributes.Attr.{Attr}
 use Rattle.html_print.specs.Order.{units_of_name}
-use Rattle.html_print.proofs.Sorting.{in_order, sorted_map}
+use Rattle.html_print.proofs.Sorting.{sorted_map}
 use Rattle.html_print.proofs.attributes.arrange.Goals as goal
 
 pub returns-clause-order : goal.returns-clause-order

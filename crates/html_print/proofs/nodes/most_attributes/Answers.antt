@@ -1,4 +1,4 @@
-use Rattle.std.proofs.Common.{ℕ, ◌≡◌, ◌<◌, length, ap, subst, ◌∙◌, arith}
+use Rattle.std.proofs.Common.{ℕ, ◌<◌, length, ap, ◌∙◌, arith}
 use Rattle.html_arena.specs.Data.{attrs_in}
 use Rattle.html_arena.specs.Tree.{label_of}
 use Rattle.html_print.proofs.AtNode.{each_node, one_more_node}

@@ -1,6 +1,5 @@
 use Rattle.html_output.proofs.Puts.{put_is}
 use Rattle.html_page.specs.Html.{text_or_empty}
-use Rattle.html_page.specs.Label.{Label}
 use Rattle.html_page.specs.Label.Label.{doctype}
 use Rattle.html_print.specs.Lines.{shown}
 use Rattle.html_print.proofs.Bytes.{full_doctype, line_bytes, plain_doctype}

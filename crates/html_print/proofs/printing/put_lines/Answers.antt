@@ -1,4 +1,4 @@
-use Rattle.std.proofs.Common.{◌≡◌, ◌<◌, ◌≤◌, ◌+◌, ◌-◌, ◌*◌, ◌^◌, ℕ, List, [], ◌∷◌, ◌++◌, length, refl, sym, ap, subst, ◌∙◌, append_assoc, append-nil, arith}
+use Rattle.std.proofs.Common.{◌≡◌, ◌<◌, ◌+◌, ◌-◌, ◌*◌, ◌^◌, [], ◌∷◌, ◌++◌, length, sym, ap, subst, ◌∙◌, append_assoc, append-nil, arith}
 use Rattle.std.specs.Str.{encode_utf8_all}
 use Rattle.std.proofs.lemmas.Str.{encodes-append}
 use Rattle.html_arena.specs.Below.{below}
@@ -9,7 +9,7 @@ use Rattle.html_arena.specs.declared.walk.Show.TheVariants.{All as Everything}
 use Rattle.html_page.specs.Shows.{label_at}
 use Rattle.html_output.proofs.Puts.{Moves-nil, Moves-is, Moves-trans, front_after, put_err}
 use Rattle.html_print.specs.Lines.{levels, lines_at}
-use Rattle.html_print.proofs.Walks.{Low, Texts, enter_low, enter_texts, first_in, is_printed, leave_low, leave_texts, low_all, no_texts, rest_in, some_text}
+use Rattle.html_print.proofs.Walks.{Low, Texts, enter_low, enter_texts, is_printed, leave_low, leave_texts, low_all, no_texts, rest_in, some_text}
 use Rattle.html_print.proofs.printing.put_lines.Goals as goal
 
 pub events-init : goal.events-init

@@ -1,4 +1,4 @@
-use Rattle.std.proofs.Common.{◌≡◌, ◌+◌, ◌-◌, ◌≤◌, ◌++◌, min, sym, ap, ◌∙◌, arith}
+use Rattle.std.proofs.Common.{◌+◌, ◌-◌, ◌≤◌, ◌++◌, sym, ap, ◌∙◌, arith}
 use Rattle.html_output.proofs.Puts.{Moves-trans, Moves-is, front_after, put_err}
 use Rattle.html_output.proofs.Spaces.{blanks, blanks_all, blanks_more, least}
 use Rattle.html_output.proofs.output.Output.put_spaces.Goals as goal
