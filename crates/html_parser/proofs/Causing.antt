@@ -59,8 +59,8 @@ unfolding one-at
 token_refused start finished p bytes run t token build.OutOfMemory r h f c = tt
 token_refused start finished p bytes run t token (build.ForeignContent name at) r h f (e, starts, has) =
     record { token = one-at start finished p bytes run t token at r h f (sym e); foreign = starts }
-token_refused start finished p bytes run t token (build.NodeBudget at) r h f e = one-at start finished p bytes run t token at r h f (sym e)
-token_refused start finished p bytes run t token (build.HeldBudget at) r h f e = one-at start finished p bytes run t token at r h f (sym e)
+token_refused start finished p bytes run t token (build.NodeBudget at) r h f (e, set) = (one-at start finished p bytes run t token at r h f (sym e), set)
+token_refused start finished p bytes run t token (build.HeldBudget at) r h f (e, set) = (one-at start finished p bytes run t token at r h f (sym e), set)
 token_refused start finished p bytes run t token build.BadContext r h f c = absurd c
 token_refused start finished p bytes run t token build.Stopped r h f c = absurd c
 
@@ -131,8 +131,8 @@ pub text_refused : (start : Start) (finished : Bool) (p : Stages) (bytes : List 
     → HaveFates start.setting (kinds run.given) (fates_of p.builder) → Fed t (gave_all run (plain_tokens place text))
     → IsTextCause start.setting start.limits (kinds run.given) (fates_of p.builder) text place e → IsTokenCause start finished run.text (build_cause e)
 text_refused start finished p bytes run t place text build.OutOfMemory r h f c = tt
-text_refused start finished p bytes run t place text (build.NodeBudget at) r h f (low, high) = char-at start finished p bytes run t place text at r h f low high
-text_refused start finished p bytes run t place text (build.HeldBudget at) r h f (low, high) = char-at start finished p bytes run t place text at r h f low high
+text_refused start finished p bytes run t place text (build.NodeBudget at) r h f (low, high, set) = (char-at start finished p bytes run t place text at r h f low high, set)
+text_refused start finished p bytes run t place text (build.HeldBudget at) r h f (low, high, set) = (char-at start finished p bytes run t place text at r h f low high, set)
 text_refused start finished p bytes run t place text (build.ForeignContent name at) r h f c = absurd c
 text_refused start finished p bytes run t place text build.BadContext r h f c = absurd c
 text_refused start finished p bytes run t place text build.Stopped r h f c = absurd c

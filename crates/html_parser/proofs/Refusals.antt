@@ -87,8 +87,8 @@ token-or-end-whole start text rest at (inr e) = absurd (true≢false (sym e.0))
 pub cause-whole : (start : Start) (text rest : List ℕ) (e : ParseError) → IsTokenCause start false text e → IsTokenCause start true (text ++ rest) e
 cause-whole start text rest OutOfMemory h = tt
 cause-whole start text rest (ForeignContent n at) h = foreign-whole start text rest n at h
-cause-whole start text rest (NodeBudget at) h = token-whole start text rest at h
-cause-whole start text rest (HeldBudget at) h = token-whole start text rest at h
+cause-whole start text rest (NodeBudget at) h = (token-whole start text rest at h.0, h.1)
+cause-whole start text rest (HeldBudget at) h = (token-whole start text rest at h.0, h.1)
 cause-whole start text rest InputTooLong h = h
 cause-whole start text rest BadContext h = h
 cause-whole start text rest Read h = h

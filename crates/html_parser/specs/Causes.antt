@@ -70,13 +70,13 @@ HasLimits start = (l : Limits) × (start.limits ≡ Some l)
 abbrev pub IsTokenOrEnd : Start → Bool → List ℕ → ℕ → Type 0
 IsTokenOrEnd start finished text at = IsTokenAt start finished text at ⊎ ((finished ≡ true) × (at ≡ length text))
 
--- Why a token of a text, which is whole or goes on, was refused: for want of memory, for foreign content, or for a limit, on steps only
--- where there are limits.
+-- Why a token of a text, which is whole or goes on, was refused: for want of memory, for foreign content, or for a limit, where there are
+-- limits.
 abbrev pub IsTokenCause : Start → Bool → List ℕ → ParseError → Type 0
 IsTokenCause start finished text OutOfMemory = Unit {0}
 IsTokenCause start finished text (ForeignContent name at) = IsForeignAt start finished text name at
-IsTokenCause start finished text (NodeBudget at) = IsTokenAt start finished text at
-IsTokenCause start finished text (HeldBudget at) = IsTokenAt start finished text at
+IsTokenCause start finished text (NodeBudget at) = IsTokenAt start finished text at × HasLimits start
+IsTokenCause start finished text (HeldBudget at) = IsTokenAt start finished text at × HasLimits start
 IsTokenCause start finished text (StepBudget at) = IsTokenOrEnd start finished text at × HasLimits start
 IsTokenCause start finished text _ = ⊥
 
