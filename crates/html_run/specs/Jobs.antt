@@ -1,5 +1,5 @@
 -- What a job asks of the parser.
-use Rattle.std.specs.Prelude.{◌≡◌, ◌-◌, ◌^◌, ℕ, false, List, Option, Some, None, option_map, unwrap_or}
+use Rattle.std.specs.Prelude.{◌-◌, ◌^◌, ℕ, false, List, Option, Some, None, option_map, unwrap_or}
 use Rattle.std.specs.Io.KnownBytes.{Consumes, IsAtEnd}
 use Rattle.std.specs.Str.{chars, encode_utf8_all}
 use Rattle.html_charref.specs.declared.table.Row.{Row}

@@ -1,4 +1,3 @@
-use Rattle.html_parser.proofs.Rewritten.{root-of}
 use Rattle.html_run.specs.Jobs.{start_for}
 use Rattle.html_run.specs.Profiles.{profile_of}
 use Rattle.html_run.proofs.Fronts.{all-written, front-written, on-ok}
