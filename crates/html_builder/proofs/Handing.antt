@@ -1,8 +1,9 @@
 -- The tokens handed in, after each call.
 use Rattle.std.proofs.lemmas.Bool.{false≢true}
-use Rattle.std.proofs.Common.{ℕ, zero, suc, Bool, true, false, ◌≡◌, ◌+◌, ◌*◌, ◌<◌, ◌≤◌, List, [], ◌∷◌, ◌++◌, length, take, refl, sym, ap, subst, ◌∙◌, arith, length-append}
+use Rattle.std.proofs.Common.{ℕ, zero, suc, Bool, true, false, ◌&&◌, ◌≡◌, ◌+◌, ◌*◌, ◌<◌, ◌≤◌, List, [], ◌∷◌, ◌++◌, length, take, refl, sym, ap, subst, ◌∙◌, arith, length-append}
 use Rattle.std.specs.Prelude.{Option, Some, None, Ok, Err}
 use Rattle.std.proofs.lemmas.List.{append_assoc, append-nil}
+use Rattle.std.proofs.lemmas.List.Folds.{list_all-append}
 use Rattle.html_names.specs.declared.tag.Tag.{Tag}
 use Rattle.html_names.specs.declared.tag.Tag.TheVariants as tag
 use Rattle.html_names.specs.Names.{tag_of}
@@ -15,13 +16,16 @@ use Rattle.html_tokens.specs.declared.token.TokenKind.TheVariants as kind
 use Rattle.html_ledger.specs.declared.setting.Setting.{Setting}
 use Rattle.html_ledger.specs.declared.symbol.Symbol.{Symbol}
 use Rattle.html_ledger.specs.declared.symbol.Symbol.TheVariants.{Start, End, Char, Comment, Doctype, Eof}
+use Rattle.html_ledger.specs.declared.fate.Cause.{Cause}
+use Rattle.html_ledger.specs.declared.fate.Cause.TheVariants as cause
 use Rattle.html_ledger.specs.declared.fate.Fate.{Fate}
 use Rattle.html_ledger.specs.declared.fate.Fate.TheVariants as fate
 use Rattle.html_ledger.specs.Symbols.{symbol_of}
 use Rattle.html_ledger.specs.Runs.{last_of}
 use Rattle.html_construction.specs.Budgets.{IsPassed, IsRefused, Refuses, RefusesAny}
-use Rattle.html_construction.specs.Built.{BeginsWith, Handed as Given, IsBuilt, Takes, TakesRun, chars_of, ends_made, nothing_of, some_made, symbols, with_tokens}
-use Rattle.html_construction.specs.Modes.{is_reset}
+use Rattle.html_construction.specs.Built.{Accepts, AcceptsRun, Handed as Given, IsBuilt, chars_of, ends_made, in_call, nothing_of, some_made, symbols, with_tokens}
+use Rattle.html_construction.specs.Begun.{IsFounded, IsInCall, drops_in, gives_in}
+use Rattle.html_construction.specs.Modes.{is_of_frames, is_of_selects, is_reset}
 use Rattle.html_construction.specs.States.{State}
 use Rattle.html_construction.specs.declared.mode.Mode.{Mode}
 use Rattle.html_construction.specs.declared.mode.Mode.TheVariants as mode
@@ -30,6 +34,8 @@ use Rattle.html_construction.specs.Weights.{weight}
 use Rattle.html_construction.specs.Works.{reach_of, span_of}
 use Rattle.html_construction.specs.declared.refusal.Refusal.{Refusal}
 use Rattle.html_construction.specs.declared.refusal.Refusal.TheVariants as refusal
+use Rattle.html_modes.specs.Begun.{Gives, GivesIn, StaysOut, StaysOutIn, ignores_foreign}
+use Rattle.html_modes.proofs.Begun.{accepts-gives, founded-other, run-gives}
 use Rattle.html_modes.specs.Entering.{Enters}
 use Rattle.html_modes.specs.Ranks.{top_rank}
 use Rattle.html_modes.specs.Steps.{Pays, Toils, compared, root_of}
@@ -37,7 +43,7 @@ use Rattle.html_modes.specs.declared.outcome.Foreign.{Foreign}
 use Rattle.html_modes.specs.declared.outcome.Foreign.TheVariants as foreign
 use Rattle.html_builder.specs.Builders.{BuilderState}
 use Rattle.html_builder.specs.Errors.{IsTextTold, IsTold, error_at}
-use Rattle.html_builder.specs.Handed.{AddsFates, AreSet, Handed, HandsIn, attribute_total, IsBuildCause, IsTextCause, Starts, fates_of, foreign_tag, given}
+use Rattle.html_builder.specs.Handed.{AddsFates, AreSet, EntersNone, GivesFates, Handed, HandsIn, attribute_total, IsBuildCause, IsForeignOutside, IsTextCause, Starts, fates_of, foreign_tag, given}
 use Rattle.html_builder.specs.Switches.{said_after, switch_after}
 use Rattle.html_builder.specs.declared.error.BuildError.{BuildError}
 use Rattle.html_builder.specs.declared.error.BuildError.TheVariants as error
@@ -56,44 +62,60 @@ use Rattle.html_ledger.specs.declared.setting.Setting.TheVariants as setting
 use Rattle.html_tree.specs.States.{document_state}
 use Rattle.std.specs.List.{list_all}
 
+both : (a b : Bool) → a ≡ true → b ≡ true → (a && b) ≡ true
+both a b e f = rw (e, f) refl
+
+both-of : (a b : Bool) → (a && b) ≡ true → (a ≡ true) × (b ≡ true)
+both-of true b e = (refl, e)
+both-of false b e = absurd (false≢true e)
+
 with-given : (s : Setting) (l : Option Limits) (ts us : List TokenKind) → with_tokens (given s l ts) us ≡ given s l (ts ++ us)
 unfolding with_tokens
 with-given s l ts us = refl
 
--- the same, where it is known which fates there are
-abbrev pub knowing : Given → List Fate → Given
-knowing h fs = record h { known = fs }
-
-with-known : (h : Given) (fs : List Fate) (ts : List TokenKind) → (with_tokens (knowing h fs) ts).known ≡ fs
+-- the call is over
+over : (h : Given) (us : List TokenKind) (a b : State) → h.call ≡ None → IsBuilt (with_tokens (in_call h a) us) b → IsBuilt (with_tokens h us) b
 unfolding with_tokens
-with-known h fs ts = refl
+over h us a b e w = record {
+  fed = w.fed;
+  known = w.known;
+  rooted = w.rooted;
+  limits = w.limits;
+  root = w.root;
+  origins = w.origins;
+  made = w.made;
+  texts = w.texts;
+  since = w.since;
+  call = subst (λ o. IsInCall o b) (sym e) tt;
+}
 
--- what is built of tokens was built with the fates that there are
-pub built-knowing : (h : Given) (a : State) → IsBuilt h a → IsBuilt (knowing h a.ledger.fates) a
-built-knowing h a w = record { fed = w.fed; known = ([], sym (append-nil a.ledger.fates)); rooted = w.rooted; limits = w.limits; root = w.root; origins = w.origins; made = w.made; texts = w.texts; since = w.since }
+-- tokens handed in, in one call
+abbrev pub Accepting : List TokenKind → State → State → Type 0
+Accepting us a b = (h : Given) → IsBuilt h a → IsBuilt (with_tokens (in_call h a) us) b
 
--- fates are only added
-added : (us : List TokenKind) (v w : BuilderState) → ((h : Given) → IsBuilt h v.page → IsBuilt (with_tokens h us) w.page) → AddsFates v w
-added us v w f = λ s l ts h.
-    let b = f (knowing (given s l ts) (fates_of v)) (built-knowing (given s l ts) v.page h.built) in
-    subst (λ fs. BeginsWith fs (fates_of w)) (with-known (given s l ts) (fates_of v) us) b.known
+-- fates are only added, and which
+gave : (v w : BuilderState) → GivesIn v.page w.page → GivesFates v w
+gave v w f = λ s l ts h. f (given s l ts) h.built
 
-pub added-token : (t : TokenKind) (v w : BuilderState) → Takes t v.page w.page → AddsFates v w
-added-token t v w f = added (t ∷ []) v w f
+added : (v w : BuilderState) → GivesIn v.page w.page → AddsFates v w
+added v w f = λ s l ts h. let g = gave v w f s l ts h in (g.later, g.fates_are)
 
-pub added-run : (cs : List ℕ) (v w : BuilderState) → TakesRun cs v.page w.page → AddsFates v w
-added-run cs v w f = added (chars_of cs) v w f
+pub added-token : (t : TokenKind) (v w : BuilderState) → Accepts t v.page w.page → AddsFates v w
+added-token t v w f = added v w (accepts-gives t v.page w.page f)
+
+pub added-run : (cs : List ℕ) (v w : BuilderState) → AcceptsRun cs v.page w.page → AddsFates v w
+added-run cs v w f = added v w (run-gives cs v.page w.page f)
 
 -- what elements that hold text alone hold so far
 abbrev pub RawSoFar : List TokenKind → BuilderState → BuilderState → Type 0
 RawSoFar us v w = (s : Setting) (l : Option Limits) (ts : List TokenKind) → Handed s l ts v → StandSoFar (symbols (ts ++ us)) w.page.ledger.fates w.page
 
 -- so many tokens, handed in at once
-handed-in : (us : List TokenKind) (more : ℕ) (v w : BuilderState) → ((h : Given) → IsBuilt h v.page → IsBuilt (with_tokens h us) w.page) → Pays v.page w.page
-    → Enters (length us) v.entries w.entries v.page w.page → Toils more v.page w.page → more ≤ attribute_total us * span_of w.page → ((s : Setting) (ts : List TokenKind) → IsPlainSoFar s ts v.page → IsPlainSoFar s (ts ++ us) w.page) → RawSoFar us v w → 0 < length us → w.stopped ≡ false → HandsIn us v w
-handed-in us more v w f p r o m q z k g = λ s l ts h.
+handed-in : (us : List TokenKind) (more : ℕ) (v w : BuilderState) → Accepting us v.page w.page → Pays v.page w.page
+    → Enters (length us) v.entries w.entries v.page w.page → Toils more v.page w.page → more ≤ attribute_total us * span_of w.page → ((s : Setting) (ts : List TokenKind) → IsPlainSoFar s ts v.page → IsPlainSoFar s (ts ++ us) w.page) → RawSoFar us v w → 0 < length us → IsFounded w.page → w.stopped ≡ false → HandsIn us v w
+handed-in us more v w f p r o m q z k i g = λ s l ts h.
     let n : length (ts ++ us) ≡ length ts + length us = length-append ts us in
-    let b : IsBuilt (given s l (ts ++ us)) w.page = subst (λ x. IsBuilt x w.page) (with-given s l ts us) (f (given s l ts) h.built) in
+    let b : IsBuilt (given s l (ts ++ us)) w.page = subst (λ x. IsBuilt x w.page) (with-given s l ts us) (over (given s l ts) us v.page w.page refl (f (given s l ts) h.built)) in
     let c = handed-count (given s l (ts ++ us)) w.page b in record {
       going = g;
       built = b;
@@ -103,23 +125,24 @@ handed-in us more v w f p r o m q z k g = λ s l ts h.
       implied_paid = omega (arith, p.1.1.1, h.implied_paid, n, k);
       entered = omega (arith, r, h.entered, n);
       counted = counted-in ts us more (given s l (ts ++ us)) v.page w.page refl b (omega (arith, c)) k h.counted (omega (arith, h.implied_paid)) o m;
+      founded = i;
       plain = q s ts h.plain;
       raw_texts = z s l ts h;
     }
 
-pub handed-token : (t : TokenKind) (v w : BuilderState) → Takes t v.page w.page → Pays v.page w.page → Enters 1 v.entries w.entries v.page w.page → Toils (compared t w.page) v.page w.page → GoesOn (symbol_of t) t v.page w.page
-    → OpensBy (symbol_of t) w.page → AddsBy (symbol_of t) v.page w.page → EndsBy (symbol_of t) t v.page w.page → w.stopped ≡ false → HandsIn (t ∷ []) v w
-handed-token t v w f p r o q x y z g = handed-in (t ∷ []) (compared t w.page) v w f p r o (compared-one t (span_of w.page)) (plain-token t v.page w.page q)
-    (λ s l ts h. raw-token (given s l ts) ts t v.page w.page refl h.built f x y z (added-token t v w f s l ts h) h.raw_texts) (omega arith) g
+pub handed-token : (t : TokenKind) (v w : BuilderState) → Accepts t v.page w.page → Pays v.page w.page → Enters 1 v.entries w.entries v.page w.page → Toils (compared t w.page) v.page w.page → GoesOn (symbol_of t) t v.page w.page
+    → OpensBy (symbol_of t) w.page → AddsBy (symbol_of t) v.page w.page → EndsBy (symbol_of t) t v.page w.page → IsFounded w.page → w.stopped ≡ false → HandsIn (t ∷ []) v w
+handed-token t v w f p r o q x y z i g = handed-in (t ∷ []) (compared t w.page) v w f p r o (compared-one t (span_of w.page)) (plain-token t v.page w.page q)
+    (λ s l ts h. raw-token (given s l ts) ts t v.page w.page refl h.built f x y z (added-token t v w f s l ts h) h.raw_texts) (omega arith) i g
 
 length-chars : (cs : List ℕ) → length (chars_of cs) ≡ length cs
 length-chars [] = refl
 length-chars (c ∷ cs) = ap suc (length-chars cs)
 
-pub handed-run : (cs : List ℕ) (v w : BuilderState) → TakesRun cs v.page w.page → Pays v.page w.page → Enters (length cs) v.entries w.entries v.page w.page → Toils 0 v.page w.page → (list_all is_not_null cs ≡ true → GoesOnText cs v.page w.page) → AddsText cs v.page w.page → 0 < length cs → w.stopped ≡ false
+pub handed-run : (cs : List ℕ) (v w : BuilderState) → AcceptsRun cs v.page w.page → Pays v.page w.page → Enters (length cs) v.entries w.entries v.page w.page → Toils 0 v.page w.page → (list_all is_not_null cs ≡ true → GoesOnText cs v.page w.page) → AddsText cs v.page w.page → 0 < length cs → IsFounded w.page → w.stopped ≡ false
     → HandsIn (chars_of cs) v w
-handed-run cs v w f p r o q z k g = handed-in (chars_of cs) 0 v w f p (subst (λ n. Enters n v.entries w.entries v.page w.page) (sym (length-chars cs)) r) o (omega arith) (plain-run cs v.page w.page k q)
-    (λ s l ts h. raw-run (given s l ts) ts (chars_of cs) cs v.page w.page refl h.built (symbols-chars cs) f z (added-run cs v w f s l ts h) h.raw_texts) (let e = length-chars cs in omega (arith, e, k)) g
+handed-run cs v w f p r o q z k i g = handed-in (chars_of cs) 0 v w f p (subst (λ n. Enters n v.entries w.entries v.page w.page) (sym (length-chars cs)) r) o (omega arith) (plain-run cs v.page w.page k q)
+    (λ s l ts h. raw-run (given s l ts) ts (chars_of cs) cs v.page w.page refl h.built (symbols-chars cs) f z (added-run cs v w f s l ts h) h.raw_texts) (let e = length-chars cs in omega (arith, e, k)) i g
 
 -- ONE AFTER ANOTHER
 
@@ -144,6 +167,50 @@ added-then xs u v w f g k = λ s l ts h.
     let q = k s l (ts ++ chars_of xs) (f s l ts h) in
     (p.0 ++ q.0, q.1 ∙ ap (λ fs. fs ++ q.0) p.1 ∙ append_assoc (fates_of u) p.0 q.0)
 
+gives-out : (m n : Mode) (f : Fate) → StaysOut m n → gives_in n f ≡ true → gives_in m f ≡ true
+gives-out m n (fate.Made d) o e = refl
+gives-out m n fate.Merged o e = refl
+gives-out m n (fate.Text d) o e = refl
+gives-out m n fate.Ended o e = refl
+gives-out m n (fate.Dropped c) o e = by c e
+  where
+    by : (c : Cause) → drops_in c n ≡ true → drops_in c m ≡ true
+    by cause.InSelect e = o.select e
+    by cause.InFrameset e = o.frameset e
+    by cause.InColumnGroup e = o.column_group e
+    by cause.PrologSpace e = refl
+    by cause.Null e = refl
+    by cause.LeadingNewline e = refl
+    by cause.Misplaced e = refl
+
+all-out : (m n : Mode) (fs : List Fate) → StaysOut m n → list_all (gives_in n) fs ≡ true → list_all (gives_in m) fs ≡ true
+all-out m n [] o e = refl
+all-out m n (f ∷ fs) o e =
+    let p = both-of (gives_in n f) (list_all (gives_in n) fs) e in
+    both (gives_in m f) (list_all (gives_in m) fs) (gives-out m n f o p.0) (all-out m n fs o p.1)
+
+gives-on : (m n : Mode) (xs ys zs : List Fate) → StaysOut m n → Gives m xs ys → Gives n ys zs → Gives m xs zs
+gives-on m n xs ys zs o g k = record {
+  later = g.later ++ k.later;
+  fates_are = k.fates_are ∙ ap (λ fs. fs ++ k.later) g.fates_are ∙ append_assoc xs g.later k.later;
+  given = list_all-append (gives_in m) g.later k.later ∙ both (list_all (gives_in m) g.later) (list_all (gives_in m) k.later) g.given (all-out m n k.later o k.given);
+}
+
+pub gives-none : (v : BuilderState) → GivesFates v v
+gives-none v = λ s l ts h. record { later = []; fates_are = sym (append-nil (fates_of v)); given = refl }
+
+pub enters-none : (v : BuilderState) → EntersNone v v
+enters-none v = λ s l ts h. record { select = λ p. p; frameset = λ p. p; column_group = λ p. p }
+
+pub gives-then : (xs : List ℕ) (u v w : BuilderState) → HandsIn (chars_of xs) u v → EntersNone u v → GivesFates u v → GivesFates v w → GivesFates u w
+gives-then xs u v w f n g k = λ s l ts h. gives-on u.page.mode v.page.mode (fates_of u) (fates_of v) (fates_of w) (n s l ts h) (g s l ts h) (k s l (ts ++ chars_of xs) (f s l ts h))
+
+pub enters-then : (xs : List ℕ) (u v w : BuilderState) → HandsIn (chars_of xs) u v → EntersNone u v → EntersNone v w → EntersNone u w
+enters-then xs u v w f g k = λ s l ts h.
+    let p = g s l ts h in
+    let q = k s l (ts ++ chars_of xs) (f s l ts h) in
+    record { select = λ e. p.select (q.select e); frameset = λ e. p.frameset (q.frameset e); column_group = λ e. p.column_group (q.column_group e) }
+
 -- THE BEGINNING
 
 length-none : (fs : List Fate) → length fs ≡ 0 → fs ≡ []
@@ -154,8 +221,8 @@ pub none-fated : (s : Setting) (l : Option Limits) (a : State) → IsBuilt (noth
 none-fated s l a w = let c = handed-count (nothing_of s l) a w in length-none a.ledger.fates (omega (arith, c))
 
 begun : (s : Setting) (l : Option Limits) (b : BuilderState) → b.stopped ≡ false → b.entries ≡ 0 → IsBuilt (nothing_of s l) b.page → length b.page.tree.tree.labels + 2 * (weight b.page.stack + top_rank b.page.mode) ≤ 40
-    → most_clones b.page.tree.tree.labels ≡ 0 → implied_count b.page.tree.tree.labels ≤ 1 → b.page.tree.steps ≤ 2 + reach_of b.page → weight b.page.stack + top_rank b.page.mode ≤ 14 → IsPlainSoFar s [] b.page → Handed s l [] b
-begun s l b g z w p c i t r q = record { going = g; built = w; paid = omega (arith, p); cloned = omega (arith, c); implied = omega (arith, i); implied_paid = omega (arith, i, r); entered = omega (arith, z, r); counted = counted-none [] b.page t r; plain = q; raw_texts = tt }
+    → most_clones b.page.tree.tree.labels ≡ 0 → implied_count b.page.tree.tree.labels ≤ 1 → b.page.tree.steps ≤ 2 + reach_of b.page → weight b.page.stack + top_rank b.page.mode ≤ 14 → IsFounded b.page → IsPlainSoFar s [] b.page → Handed s l [] b
+begun s l b g z w p c i t r f q = record { going = g; built = w; paid = omega (arith, p); cloned = omega (arith, c); implied = omega (arith, i); implied_paid = omega (arith, i, r); entered = omega (arith, z, r); counted = counted-none [] b.page t r; founded = f; plain = q; raw_texts = tt }
 
 pub begun-document : (l : Option Limits) (b : BuilderState) → b.stopped ≡ false → b.entries ≡ 0 → IsBuilt (nothing_of setting.Document l) b.page → b.page.mode ≡ mode.Initial → b.page.stack ≡ [] → length b.page.tree.tree.labels ≡ 1
     → most_clones b.page.tree.tree.labels ≡ 0 → implied_count b.page.tree.tree.labels ≤ 1 → b.page.tree.steps ≤ 2 + reach_of b.page → (z : Option Limits) × (j : ℕ) × (b.page.tree ≡ document_state z j)
@@ -163,7 +230,7 @@ pub begun-document : (l : Option Limits) (b : BuilderState) → b.stopped ≡ fa
 begun-document l b g z w m k n c i t d e f o =
     let p : top_rank b.page.mode ≡ 14 = ap top_rank m in
     let q : weight b.page.stack ≡ 0 = ap weight k in
-    begun setting.Document l b g z w (omega (arith, p, q, n)) c i t (omega (arith, p, q)) (λ z. begun-plain b.page m k d.0 d.1 d.2 e f o)
+    begun setting.Document l b g z w (omega (arith, p, q, n)) c i t (omega (arith, p, q)) (founded-other b.page (ap is_of_selects m) (ap is_of_frames m)) (λ z. begun-plain b.page m k d.0 d.1 d.2 e f o)
 
 reset-low : (m : Mode) → is_reset m ≡ true → top_rank m ≤ 10
 reset-low mode.Initial e = absurd (false≢true e)
@@ -173,11 +240,11 @@ reset-low mode.InTableText e = absurd (false≢true e)
 reset-low _ e = omega arith
 
 pub begun-fragment : (u : Tag) (form : Bool) (l : Option Limits) (b : BuilderState) → b.stopped ≡ false → b.entries ≡ 0 → IsBuilt (nothing_of (setting.Fragment u form) l) b.page → is_reset b.page.mode ≡ true → b.page.stack ≡ tag.Html ∷ []
-    → length b.page.tree.tree.labels ≡ 1 → most_clones b.page.tree.tree.labels ≡ 0 → implied_count b.page.tree.tree.labels ≤ 1 → b.page.tree.steps ≤ 2 + reach_of b.page → Handed (setting.Fragment u form) l [] b
-begun-fragment u form l b g z w m k n c i t =
+    → length b.page.tree.tree.labels ≡ 1 → most_clones b.page.tree.tree.labels ≡ 0 → implied_count b.page.tree.tree.labels ≤ 1 → b.page.tree.steps ≤ 2 + reach_of b.page → IsFounded b.page → Handed (setting.Fragment u form) l [] b
+begun-fragment u form l b g z w m k n c i t f =
     let p : top_rank b.page.mode ≤ 10 = reset-low b.page.mode m in
     let q : weight b.page.stack ≡ 4 = ap weight k in
-    begun (setting.Fragment u form) l b g z w (omega (arith, p, q, n)) c i t (omega (arith, p, q)) tt
+    begun (setting.Fragment u form) l b g z w (omega (arith, p, q, n)) c i t (omega (arith, p, q)) f tt
 
 -- WHAT IS SAID AND REFUSED
 
@@ -273,20 +340,41 @@ text-cause-part s l ts us fs gs text part start at (error.NodeBudget place) p q 
 text-cause-part s l ts us fs gs text part start at (error.HeldBudget place) p q c = let a = c.0 in let b = c.1 in (omega (arith, p, a), omega (arith, q, b), c.2)
 
 -- the same, where the state is seen as a view
-pub viewed-token : (t : TokenKind) (y : Symbol) (u v w : BuilderState) → u ≡ v → y ≡ symbol_of t → Takes t u.page w.page → Pays u.page w.page → Enters 1 u.entries w.entries u.page w.page → Toils (compared t w.page) u.page w.page → GoesOn y t u.page w.page
-    → OpensBy y w.page → AddsBy y u.page w.page → EndsBy y t u.page w.page → w.stopped ≡ false → HandsIn (t ∷ []) v w
-viewed-token t y u v w e i f p r o q x m n g =
+pub viewed-token : (t : TokenKind) (y : Symbol) (u v w : BuilderState) → u ≡ v → y ≡ symbol_of t → Accepts t u.page w.page → Pays u.page w.page → Enters 1 u.entries w.entries u.page w.page → Toils (compared t w.page) u.page w.page → GoesOn y t u.page w.page
+    → OpensBy y w.page → AddsBy y u.page w.page → EndsBy y t u.page w.page → IsFounded w.page → w.stopped ≡ false → HandsIn (t ∷ []) v w
+viewed-token t y u v w e i f p r o q x m n j g =
     subst (λ x. HandsIn (t ∷ []) x w) e
-    (handed-token t u w f p r o (subst (λ z. GoesOn z t u.page w.page) i q) (subst (λ z. OpensBy z w.page) i x) (subst (λ z. AddsBy z u.page w.page) i m) (subst (λ z. EndsBy z t u.page w.page) i n) g)
+    (handed-token t u w f p r o (subst (λ z. GoesOn z t u.page w.page) i q) (subst (λ z. OpensBy z w.page) i x) (subst (λ z. AddsBy z u.page w.page) i m) (subst (λ z. EndsBy z t u.page w.page) i n) j g)
 
-pub viewed-run : (cs : List ℕ) (u v w : BuilderState) → u ≡ v → TakesRun cs u.page w.page → Pays u.page w.page → Enters (length cs) u.entries w.entries u.page w.page → Toils 0 u.page w.page → (list_all is_not_null cs ≡ true → GoesOnText cs u.page w.page) → AddsText cs u.page w.page → 0 < length cs → w.stopped ≡ false → HandsIn (chars_of cs) v w
-viewed-run cs u v w e f p r o q z k g = subst (λ x. HandsIn (chars_of cs) x w) e (handed-run cs u w f p r o q z k g)
+pub viewed-run : (cs : List ℕ) (u v w : BuilderState) → u ≡ v → AcceptsRun cs u.page w.page → Pays u.page w.page → Enters (length cs) u.entries w.entries u.page w.page → Toils 0 u.page w.page → (list_all is_not_null cs ≡ true → GoesOnText cs u.page w.page) → AddsText cs u.page w.page → 0 < length cs → IsFounded w.page → w.stopped ≡ false → HandsIn (chars_of cs) v w
+viewed-run cs u v w e f p r o q z k i g = subst (λ x. HandsIn (chars_of cs) x w) e (handed-run cs u w f p r o q z k i g)
 
-pub viewed-added : (cs : List ℕ) (u v w : BuilderState) → u ≡ v → TakesRun cs u.page w.page → AddsFates v w
+pub viewed-added : (cs : List ℕ) (u v w : BuilderState) → u ≡ v → AcceptsRun cs u.page w.page → AddsFates v w
 viewed-added cs u v w e f = subst (λ x. AddsFates x w) e (added-run cs u w f)
 
-pub viewed-grown : (t : TokenKind) (u v w : BuilderState) → u ≡ v → Takes t u.page w.page → AddsFates v w
+pub viewed-grown : (t : TokenKind) (u v w : BuilderState) → u ≡ v → Accepts t u.page w.page → AddsFates v w
 viewed-grown t u v w e f = subst (λ x. AddsFates x w) e (added-token t u w f)
+
+pub viewed-gives : (u v w : BuilderState) → u ≡ v → GivesIn u.page w.page → GivesFates v w
+viewed-gives u v w e f = subst (λ x. GivesFates x w) e (gave u w f)
+
+pub viewed-enters : (u v w : BuilderState) → u ≡ v → StaysOutIn u.page w.page → EntersNone v w
+viewed-enters u v w e f = subst (λ x. EntersNone x w) e (λ s l ts h. f (given s l ts) h.built)
+
+-- foreign content is told where the mode does not ignore it
+pub foreign-outside : (u v : BuilderState) (s : Setting) (l : Option Limits) (ts : List TokenKind) (name : Foreign) (at : ℕ) (e : BuildError) → u ≡ v → Handed s l ts v → (IsFounded u.page → ignores_foreign u.page.mode ≡ false) → e ≡ error.ForeignContent name at → IsForeignOutside v.page.mode e
+foreign-outside u v s l ts name at e q h f i =
+    subst (λ x. IsForeignOutside v.page.mode x) (sym i)
+    (subst (λ (x : BuilderState). ignores_foreign x.page.mode ≡ false) q (f (subst (λ (x : BuilderState). IsFounded x.page) (sym q) h.founded)))
+
+-- no other refusal tells of foreign content
+pub refusal-outside : (m : Mode) (r : Refusal) (at : ℕ) (e : BuildError) → e ≡ error_at r at → IsForeignOutside m e
+refusal-outside m r at e q = subst (λ x. IsForeignOutside m x) (sym q) (by r)
+  where
+    by : (r : Refusal) → IsForeignOutside m (error_at r at)
+    by refusal.OutOfMemory = tt
+    by refusal.NodeBudget = tt
+    by refusal.HeldBudget = tt
 
 -- a builder that was stopped was not handed tokens alone
 pub going-not : (s : Setting) (l : Option Limits) (ts : List TokenKind) (u v : BuilderState) → u ≡ v → u.stopped ≡ true → Handed s l ts v → ⊥

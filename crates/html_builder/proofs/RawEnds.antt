@@ -1,5 +1,5 @@
 -- Elements that hold text alone, at the end of the page.
-use Rattle.std.proofs.Common.{◌≡◌, inl, inr, true, false, List, [], ◌∷◌, ◌++◌, sym, ◌∙◌, ap, subst}
+use Rattle.std.proofs.Common.{◌≡◌, inl, inr, true, List, [], ◌∷◌, ◌++◌, sym, ◌∙◌, ap, subst}
 use Rattle.std.proofs.lemmas.Bool.{false≢true}
 use Rattle.html_arena.specs.Tree.{Tree}
 use Rattle.html_open.specs.Marking.{bare}

@@ -1,5 +1,5 @@
 -- Elements that hold text alone, as tokens come.
-use Rattle.std.proofs.Common.{◌≡◌, ℕ, ◌+◌, ◌<◌, ◌≤◌, ◌⊎◌, inl, inr, Bool, true, false, ◌||◌, cond, if◌then◌else◌, List, [], ◌∷◌, ◌++◌, length, length-append, Some, None, refl, sym, ◌∙◌, ap, subst, arith}
+use Rattle.std.proofs.Common.{◌≡◌, ℕ, ◌<◌, ◌≤◌, ◌⊎◌, inl, inr, Bool, true, false, ◌||◌, cond, if◌then◌else◌, List, [], ◌∷◌, ◌++◌, length, length-append, Some, None, refl, sym, ◌∙◌, ap, subst, arith}
 use Rattle.std.proofs.lemmas.Bool.{false≢true}
 use Rattle.std.proofs.lemmas.List.{append_assoc, append-nil, append_cancel_left}
 use Rattle.html_names.specs.declared.tag.Tag.{Tag}
@@ -23,7 +23,7 @@ use Rattle.html_ledger.specs.Symbols.{chars_of, symbol_of}
 use Rattle.html_tree.specs.Since.{IsClosed, Since}
 use Rattle.html_tree.specs.States.{State as Open}
 use Rattle.html_tree.proofs.Kept.{same-element, same-tag_in}
-use Rattle.html_construction.specs.Built.{BeginsWith, Handed as Given, IsBuilt, Takes, since_tree, symbols, with_tokens}
+use Rattle.html_construction.specs.Built.{Accepts, BeginsWith, Handed as Given, IsBuilt, in_call, since_tree, symbols, with_tokens}
 use Rattle.html_construction.specs.States.{State}
 use Rattle.html_construction.proofs.Building.{symbols-append}
 use Rattle.html_construction.proofs.Kept.{built-since}
@@ -253,6 +253,10 @@ since-of : (h : Given) (e : Open) (us : List TokenKind) (b : State) → IsBuilt 
 unfolding with_tokens since_tree
 since-of h e us b w = w.since
 
+since-in : (h : Given) (e : Open) (a : State) (us : List TokenKind) (b : State) → IsBuilt (with_tokens (in_call (since_tree h e) a) us) b → Since e b.tree
+unfolding with_tokens since_tree
+since-in h e a us b w = w.since
+
 tokens-with : (h : Given) (us : List TokenKind) → (with_tokens h us).tokens ≡ h.tokens ++ us
 unfolding with_tokens
 tokens-with h us = refl
@@ -260,10 +264,10 @@ tokens-with h us = refl
 -- ONE TOKEN, OR CODE POINTS IN A ROW
 
 -- code points
-module _ (a b : State) (h : Given) (w : IsBuilt h a) (us : List TokenKind) (cs : List ℕ) (is : symbols us ≡ chars_of cs) (k : (h : Given) → IsBuilt h a → IsBuilt (with_tokens h us) b) (t : AddsText cs a b) (gs : List Fate) (f : b.ledger.fates ≡ a.ledger.fates ++ gs) where
+module _ (a b : State) (h : Given) (w : IsBuilt h a) (us : List TokenKind) (cs : List ℕ) (is : symbols us ≡ chars_of cs) (k : (h : Given) → IsBuilt h a → IsBuilt (with_tokens (in_call h a) us) b) (t : AddsText cs a b) (gs : List Fate) (f : b.ledger.fates ≡ a.ledger.fates ++ gs) where
   moves-run : Moves (symbols us) gs a b
   moves-run = record {
-    still = since-still a a.tree b refl (λ x i. i) (since-of h a.tree us b (k (since_tree h a.tree) (built-since h a w)));
+    still = since-still a a.tree b refl (λ x i. i) (since-in h a.tree a us b (k (since_tree h a.tree) (built-since h a w)));
     goes = λ x s o.
         let p = t.added x s o in
         let e : p.0 ≡ gs = append_cancel_left a.ledger.fates p.0 gs (sym p.1 ∙ f) in
@@ -289,11 +293,11 @@ bool-cases true = inl refl
 bool-cases false = inr refl
 
 -- any other token
-module _ (a b : State) (h : Given) (w : IsBuilt h a) (t : TokenKind) (other : is_code_point (symbol_of t) ≡ false) (k : Takes t a b) (ends : EndsBy (symbol_of t) t a b) (gs : List Fate) where
+module _ (a b : State) (h : Given) (w : IsBuilt h a) (t : TokenKind) (other : is_code_point (symbol_of t) ≡ false) (k : Accepts t a b) (ends : EndsBy (symbol_of t) t a b) (gs : List Fate) where
   moves-left : is_text a.mode ≡ true → Moves (symbol_of t ∷ []) gs a b
   moves-left e =
       let p = ends.ends e other h w in
-      let v = since-of h p.0 (t ∷ []) b p.2 in
+      let v = since-of (in_call h a) p.0 (t ∷ []) b p.2 in
       let o = over-one (symbol_of t) gs other in
       record {
         still = since-still a p.0 b p.1.nodes_are p.1.off v;
@@ -304,7 +308,7 @@ module _ (a b : State) (h : Given) (w : IsBuilt h a) (t : TokenKind) (other : is
 
   moves-other : is_text a.mode ≡ false → Moves (symbol_of t ∷ []) gs a b
   moves-other e = record {
-    still = since-still a a.tree b refl (λ x i. i) (since-of h a.tree (t ∷ []) b (k (since_tree h a.tree) (built-since h a w)));
+    still = since-still a a.tree b refl (λ x i. i) (since-in h a.tree a (t ∷ []) b (k (since_tree h a.tree) (built-since h a w)));
     goes = λ x s i. absurd (false≢true (sym e ∙ ap is_text i.mode_is));
   }
 
@@ -317,7 +321,7 @@ fates-most : (h : Given) (a : State) → IsBuilt h a → length a.ledger.fates �
 fates-most h a w = let c = handed-count h a w in let l = length-symbols h.tokens in omega (arith, c, l)
 
 -- code points in a row
-pub raw-run : (h : Given) (ts us : List TokenKind) (cs : List ℕ) (a b : State) → h.tokens ≡ ts → IsBuilt h a → symbols us ≡ chars_of cs → ((h : Given) → IsBuilt h a → IsBuilt (with_tokens h us) b) → AddsText cs a b
+pub raw-run : (h : Given) (ts us : List TokenKind) (cs : List ℕ) (a b : State) → h.tokens ≡ ts → IsBuilt h a → symbols us ≡ chars_of cs → ((h : Given) → IsBuilt h a → IsBuilt (with_tokens (in_call h a) us) b) → AddsText cs a b
     → BeginsWith a.ledger.fates b.ledger.fates → StandSoFar (symbols ts) a.ledger.fates a → StandSoFar (symbols (ts ++ us)) b.ledger.fates b
 raw-run h ts us cs a b q w is k t f s =
     let m = moves-run a b h w us cs is k t f.0 f.1 in
@@ -349,13 +353,13 @@ opens-start : (y : Symbol) (t : Tag) (b : State) → OpensBy y b → y ≡ Start
 opens-start y t b o e = subst (λ z. OpensBy z b) e o
 
 -- one token
-module _ (h : Given) (ts : List TokenKind) (t : TokenKind) (a b : State) (q : h.tokens ≡ ts) (w : IsBuilt h a) (k : Takes t a b) (o : OpensBy (symbol_of t) b) (d : AddsBy (symbol_of t) a b) (n : EndsBy (symbol_of t) t a b) (f : BeginsWith a.ledger.fates b.ledger.fates) (s : StandSoFar (symbols ts) a.ledger.fates a) where
+module _ (h : Given) (ts : List TokenKind) (t : TokenKind) (a b : State) (q : h.tokens ≡ ts) (w : IsBuilt h a) (k : Accepts t a b) (o : OpensBy (symbol_of t) b) (d : AddsBy (symbol_of t) a b) (n : EndsBy (symbol_of t) t a b) (f : BeginsWith a.ledger.fates b.ledger.fates) (s : StandSoFar (symbols ts) a.ledger.fates a) where
   raw-other : is_code_point (symbol_of t) ≡ false → StandSoFar (symbols (ts ++ t ∷ [])) b.ledger.fates b
   raw-other e =
       let m = moves-one a b h w t e k n f.0 in
-      let v : IsBuilt (with_tokens h (t ∷ [])) b = k h w in
-      let tokens : (with_tokens h (t ∷ [])).tokens ≡ ts ++ t ∷ [] = tokens-with h (t ∷ []) ∙ ap (λ us. us ++ t ∷ []) q in
-      let quiet : b.ledger.kept ≡ [] = quiet-after (with_tokens h (t ∷ [])) ts t b tokens v e in
+      let v : IsBuilt (with_tokens (in_call h a) (t ∷ [])) b = k h w in
+      let tokens : (with_tokens (in_call h a) (t ∷ [])).tokens ≡ ts ++ t ∷ [] = tokens-with (in_call h a) (t ∷ []) ∙ ap (λ us. us ++ t ∷ []) q in
+      let quiet : b.ledger.kept ≡ [] = quiet-after (with_tokens (in_call h a) (t ∷ [])) ts t b tokens v e in
       let all : length (symbols ts ++ symbol_of t ∷ []) ≡ length (a.ledger.fates ++ f.0) = counted v tokens quiet in
       subst (λ ys. StandSoFar ys b.ledger.fates b) (sym (symbols-append ts (t ∷ [])))
       (subst (λ fs. StandSoFar (symbols ts ++ symbol_of t ∷ []) fs b) (sym f.1)
@@ -373,11 +377,11 @@ module _ (h : Given) (ts : List TokenKind) (t : TokenKind) (a b : State) (q : h.
       no-chars Doctype e j = false≢true j
       no-chars Eof e j = false≢true j
 
-      counted : IsBuilt (with_tokens h (t ∷ [])) b → (with_tokens h (t ∷ [])).tokens ≡ ts ++ t ∷ [] → b.ledger.kept ≡ [] → length (symbols ts ++ symbol_of t ∷ []) ≡ length (a.ledger.fates ++ f.0)
+      counted : IsBuilt (with_tokens (in_call h a) (t ∷ [])) b → (with_tokens (in_call h a) (t ∷ [])).tokens ≡ ts ++ t ∷ [] → b.ledger.kept ≡ [] → length (symbols ts ++ symbol_of t ∷ []) ≡ length (a.ledger.fates ++ f.0)
       counted v tokens quiet =
-          let c = handed-count (with_tokens h (t ∷ [])) b v in
+          let c = handed-count (with_tokens (in_call h a) (t ∷ [])) b v in
           let z : length b.ledger.kept ≡ 0 = ap length quiet in
-          let x : length (with_tokens h (t ∷ [])).tokens ≡ length (ts ++ t ∷ []) = ap length tokens in
+          let x : length (with_tokens (in_call h a) (t ∷ [])).tokens ≡ length (ts ++ t ∷ []) = ap length tokens in
           let y : length (symbols (ts ++ t ∷ [])) ≡ length (symbols ts ++ symbol_of t ∷ []) = ap length (symbols-append ts (t ∷ [])) in
           let l = length-symbols (ts ++ t ∷ []) in
           let g : length b.ledger.fates ≡ length (a.ledger.fates ++ f.0) = ap length f.1 in

@@ -1,12 +1,11 @@
 -- The context of a fragment, and which names it may have (13.4).
 use Rattle.std.specs.Prelude.{ℕ, ◌≡◌, ◌==◌, Bool, true, false, not, ◌||◌, ◌&&◌, nat_lt, List, [], ◌∷◌}
 use Rattle.std.specs.List.{list_all}
-use Rattle.html_names.specs.declared.tag.Tag.{Tag}
-use Rattle.html_names.specs.declared.tag.Tag.TheVariants as tag
 use Rattle.html_names.specs.Names.{tag_of}
 use Rattle.html_tokens.specs.declared.token.TextMode.{TextMode}
 use Rattle.html_ledger.specs.declared.setting.Setting.{Setting}
 use Rattle.html_ledger.specs.declared.setting.Setting.TheVariants.{Fragment}
+use Rattle.html_modes.specs.Begun.{is_foreign}
 use Rattle.html_builder.specs.Switches.{text_mode_in}
 use Rattle.html_builder.specs.declared.context.Context.{Context}
 
@@ -28,11 +27,6 @@ begins_name (c ∷ cs) = is_lower c
 -- the name of some start tag: a letter, and then nothing that ends it
 abbrev pub is_tag_name : List ℕ → Bool
 is_tag_name name = begins_name name && list_all stays_in_name name
-
-abbrev pub is_foreign : Tag → Bool
-is_foreign tag.Svg = true
-is_foreign tag.Math = true
-is_foreign _ = false
 
 -- a name that a start tag can have, and not that of foreign content
 abbrev pub is_good : List ℕ → Bool

@@ -11,12 +11,15 @@ use Rattle.html_tokens.specs.Cost.{own_len}
 use Rattle.html_ledger.specs.declared.setting.Setting.{Setting}
 use Rattle.html_ledger.specs.declared.fate.Fate.{Fate}
 use Rattle.html_ledger.specs.Fated.{Fated}
+use Rattle.html_construction.specs.declared.mode.Mode.{Mode}
+use Rattle.html_construction.specs.Begun.{IsFounded}
 use Rattle.html_construction.specs.Built.{Handed as Given, IsBuilt, chars_of, symbols}
 use Rattle.html_construction.specs.Copies.{implied_count, most_clones}
 use Rattle.html_construction.specs.Tokens.{attrs_of}
 use Rattle.html_construction.specs.Weights.{weight}
 use Rattle.html_modes.specs.declared.outcome.Foreign.{Foreign}
 use Rattle.html_modes.specs.declared.outcome.Foreign.TheVariants.{Svg, Math}
+use Rattle.html_modes.specs.Begun.{Gives, StaysOut, ignores_foreign}
 use Rattle.html_modes.specs.Ranks.{top_rank}
 use Rattle.html_modes.specs.Steps.{allowance, fee_of, turn_of}
 use Rattle.html_builder.specs.Builders.{BuilderState}
@@ -35,7 +38,7 @@ is_stopped b = b.stopped
 
 -- what was handed in
 abbrev pub given : Setting → Option Limits → List TokenKind → Given
-given s limits tokens = record { setting = s; limits = limits; tokens = tokens; known = []; earlier = None }
+given s limits tokens = record { setting = s; limits = limits; tokens = tokens; known = []; earlier = None; call = None }
 
 -- how many attributes a token has, and tokens have together
 abbrev pub attribute_count : TokenKind → ℕ
@@ -51,8 +54,9 @@ most_compared tokens = 2 * (attribute_total tokens * attribute_total tokens * (l
 -- It was begun in this setting, within these limits, it was handed these tokens and refused none, and what it holds was built of them: its nodes, and
 -- those for which the open elements and the mode are room, are no more than so many tokens grant; of one token's element there are ten clones at most
 -- for each fate; and so are bounded the elements that no token asked for, and the steps that it counted: a fee for each fate, and for each token so many
--- entries into the rules, less those for which the open elements and the mode are still room. Where the tokens begin those of a plain page, the tree is
--- that page's so far. Each element that holds text alone holds the text up to the next other token, or so far.
+-- entries into the rules, less those for which the open elements and the mode are still room. Where its mode is inside a select, or of a page of
+-- frames, something leads there. Where the tokens begin those of a plain page, the tree is that page's so far. Each element that holds text alone holds
+-- the text up to the next other token, or so far.
 pub record Handed (s : Setting) (limits : Option Limits) (tokens : List TokenKind) (b : BuilderState) : Type 0 where
   pub going : b.stopped ≡ false
   pub built : IsBuilt (given s limits tokens) b.page
@@ -63,6 +67,7 @@ pub record Handed (s : Setting) (limits : Option Limits) (tokens : List TokenKin
   pub entered : b.entries + (weight b.page.stack + top_rank b.page.mode) ≤ 16 + 16 * length tokens
   pub counted : b.page.tree.steps + (weight b.page.stack + top_rank b.page.mode) * turn_of b.page
       ≤ length b.page.ledger.fates * fee_of b.page + (16 + 16 * length tokens) * turn_of b.page + most_compared tokens
+  pub founded : IsFounded b.page
   pub plain : IsPlainSoFar s tokens b.page
   pub raw_texts : StandSoFar (symbols tokens) b.page.ledger.fates b.page
 
@@ -73,6 +78,15 @@ HandsIn more a b = (s : Setting) (limits : Option Limits) (tokens : List TokenKi
 -- Fates are only added.
 abbrev pub AddsFates : BuilderState → BuilderState → Type 0
 AddsFates a b = (s : Setting) (limits : Option Limits) (tokens : List TokenKind) → Handed s limits tokens a → (later : List Fate) × (fates_of b ≡ fates_of a ++ later)
+
+-- Each fate that was given since is one that tokens may have in a call that begins in this mode: none is dropped as outside a select, outside a
+-- frameset or outside a column group but where the mode is inside a select, of a page of frames, or that of a column group.
+abbrev pub GivesFates : BuilderState → BuilderState → Type 0
+GivesFates a b = (s : Setting) (limits : Option Limits) (tokens : List TokenKind) → Handed s limits tokens a → Gives a.page.mode (fates_of a) (fates_of b)
+
+-- No mode inside a select, of a page of frames or of a column group was entered.
+abbrev pub EntersNone : BuilderState → BuilderState → Type 0
+EntersNone a b = (s : Setting) (limits : Option Limits) (tokens : List TokenKind) → Handed s limits tokens a → StaysOut a.page.mode b.page.mode
 
 -- The first of the tokens have these fates, which they may have; those that have none yet are code points.
 pub record HaveFates (s : Setting) (tokens : List TokenKind) (fates : List Fate) : Type 0 where
@@ -110,6 +124,11 @@ IsBuildCause s limits tokens fates token at (refusal.NodeBudget place) = (place 
 IsBuildCause s limits tokens fates token at (refusal.HeldBudget place) = (place ≡ at) × AreSet limits
 IsBuildCause s limits tokens fates token at refusal.BadContext = ⊥
 IsBuildCause s limits tokens fates token at refusal.Stopped = ⊥
+
+-- In a call that begins inside a select, or in a page of frames, no foreign content is told.
+abbrev pub IsForeignOutside : Mode → BuildError → Type 0
+IsForeignOutside m (refusal.ForeignContent name place) = ignores_foreign m ≡ false
+IsForeignOutside m _ = Unit {0}
 
 -- The call for code points of which the first stands at a place was refused: for a limit that was set, at the place of one of them; or for want of
 -- memory.

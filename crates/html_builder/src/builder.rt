@@ -14,7 +14,7 @@ ghost use Rattle.html_page.specs.Plain.{IsPlainPage};
 ghost use Rattle.html_page.specs.Shows.{Shows};
 ghost use Rattle.html_builder.specs.Contexts.{IsGood, setting_of};
 ghost use Rattle.html_builder.specs.Errors.{IsTextTold, IsTold};
-ghost use Rattle.html_builder.specs.Handed.{AddsFates, CostAtMost, EndsAtEof, Handed, HandsIn, HaveFates, IsBuildCause, IsTextCause, fates_of, is_stopped};
+ghost use Rattle.html_builder.specs.Handed.{AddsFates, CostAtMost, EndsAtEof, EntersNone, GivesFates, Handed, HandsIn, HaveFates, IsBuildCause, IsForeignOutside, IsTextCause, fates_of, is_stopped};
 ghost use Rattle.html_builder.specs.Outcome.{IsBounded, IsOutcome, most_entries};
 ghost use Rattle.html_builder.specs.Plain.{HavePlainFates};
 ghost use Rattle.html_builder.specs.Switches.{switch_after};
@@ -187,9 +187,11 @@ impl Builder {
     pub fn process(&mut self, token: &Token) -> Result<Option<TextMode>, BuildError>
         ensures takes { OnOk result (HandsIn (token.now.kind ∷ []) self.old self.new) }
         ensures grows { OnOk result (AddsFates self.old self.new) }
+        ensures gives { OnOk result (GivesFates self.old self.new) }
         ensures switch { IfOk result (λ m. m ≡ switch_after token.now.kind (last_of (fates_of self.new))) }
         ensures cause { IfErr result (λ e. (s : Setting) (l : Option Limits) (tokens : List TokenKind) → Handed s l tokens self.old
             → IsBuildCause s l tokens (fates_of self.old) token.now.kind token.now.span.start e) }
+        ensures foreign { IfErr result (λ e. (s : Setting) (l : Option Limits) (tokens : List TokenKind) → Handed s l tokens self.old → IsForeignOutside self.old.page.mode e) }
         ensures told { IfErr result (λ e. (s : Setting) (l : Option Limits) (tokens : List TokenKind) → Handed s l tokens self.old → IsTold l token.now.kind self.new.page e) }
         ensures ok { OnOk result (is_stopped self.new ≡ false) }
         ensures err { OnErr result (is_stopped self.new ≡ true) }
@@ -227,6 +229,8 @@ impl Builder {
     pub fn process_text(&mut self, text: &[char], start: u64) -> Result<(), BuildError>
         ensures takes { OnOk result (HandsIn (chars_of text.now) self.old self.new) }
         ensures grows { OnOk result (AddsFates self.old self.new) }
+        ensures gives { OnOk result (GivesFates self.old self.new) }
+        ensures enters { OnOk result (EntersNone self.old self.new) }
         ensures cause { IfErr result (λ e. (s : Setting) (l : Option Limits) (tokens : List TokenKind) → Handed s l tokens self.old
             → IsTextCause s l tokens (fates_of self.old) text.now start e) }
         ensures told { IfErr result (λ e. (s : Setting) (l : Option Limits) (tokens : List TokenKind) → Handed s l tokens self.old → IsTextTold l self.new.page e) }
@@ -249,6 +253,8 @@ impl Builder {
         requires some { 0 < length text.now }
         ensures takes { IfOk result (λ n. HandsIn (chars_of (take n text.now)) self.old self.new) }
         ensures grows { OnOk result (AddsFates self.old self.new) }
+        ensures gives { OnOk result (GivesFates self.old self.new) }
+        ensures enters { OnOk result (EntersNone self.old self.new) }
         ensures count { IfOk result (λ n. (0 < n) × (n ≤ length text.now)) }
         ensures cause { IfErr result (λ e. (s : Setting) (l : Option Limits) (tokens : List TokenKind) → Handed s l tokens self.old
             → IsTextCause s l tokens (fates_of self.old) (take 1 text.now) at e) }

@@ -1,21 +1,15 @@
 -- The tokens handed in, after each call.
-use Rattle.std.proofs.Common.{ℕ, ◌≡◌, ◌<◌, ◌⊎◌, List, [], ◌∷◌, ◌++◌, length, inl, inr, refl, sym, ap, ◌∙◌, arith, Bool, true, false}
+use Rattle.std.proofs.Common.{ℕ, ◌≡◌, ◌<◌, ◌⊎◌, List, [], ◌∷◌, ◌++◌, length, inl, inr, refl, sym, ap, ◌∙◌, arith}
 use Rattle.std.proofs.lemmas.List.{append-nil}
 use Rattle.html_open.specs.Marking.{bare}
-use Rattle.html_arena.specs.declared.data.NewNode.TheVariants.{Text}
 use Rattle.std.specs.Prelude.{Option, Some, None}
 use Rattle.html_arena.specs.declared.data.NodeData.{NodeData}
 use Rattle.html_arena.specs.declared.data.NodeData.TheVariants as node
-use Rattle.html_arena.specs.declared.data.NewNode.{NewNode}
 use Rattle.html_arena.specs.Data.{host_in, name_in, origin_in}
-use Rattle.html_arena.specs.Make.{has_contents, made}
 use Rattle.html_arena.specs.Tree.{Tree as Nodes, detached, host_at, label_of, parent_of}
-use Rattle.html_open.specs.declared.places.Place.{Place}
 use Rattle.html_tokens.specs.declared.token.TokenKind.{TokenKind}
 use Rattle.html_tree.specs.States.{State as Tree}
-use Rattle.html_tree.specs.Inserting.{with_new}
 use Rattle.html_tree.specs.Listing.{HasCloned}
-use Rattle.html_tree.specs.Texts.{place_here, text_before, tree_or_new, with_text_node}
 use Rattle.html_tree.specs.Since.{IsContents, Keeps as TreeKeeps, Since, essence}
 use Rattle.html_ledger.specs.declared.symbol.Symbol.TheVariants.{Char}
 use Rattle.html_ledger.specs.Symbols.{symbol_of, chars_of as symbol_chars}

@@ -3,7 +3,8 @@ use Rattle.std.specs.List.{list_all}
 use Rattle.std.specs.Bool.{IsTrue}
 use Rattle.std.proofs.lemmas.Bool.{false≢true}
 use Rattle.std.proofs.lemmas.List.{append-nil}
-use Rattle.std.proofs.Common.{ℕ, zero, suc, ◌&&◌, not, take, append_assoc, ◌≡◌, ◌+◌, ◌<◌, ◌≤◌, Bool, true, false, List, [], ◌∷◌, ◌++◌, length, refl, sym, ap, subst, ◌∙◌, arith, Option, ◌≢◌, replicate}
+use Rattle.std.proofs.lemmas.List.Folds.{list_all-append}
+use Rattle.std.proofs.Common.{ℕ, zero, suc, ◌&&◌, not, take, append_assoc, ◌≡◌, ◌+◌, ◌<◌, ◌≤◌, Bool, true, false, List, [], ◌∷◌, ◌++◌, length, refl, sym, ap, subst, ◌∙◌, arith, Option, None, Some, ◌≢◌, replicate}
 use Rattle.html_names.specs.declared.tag.Tag.{Tag}
 use Rattle.html_names.specs.Sets.{is_formatting}
 use Rattle.html_tokens.specs.declared.attributes.Attr.{Attr}
@@ -20,6 +21,7 @@ use Rattle.html_tree.specs.OpenTags.{HasClosed, HasReopened, IsLighter, IsLighte
 use Rattle.html_tokens.specs.declared.token.TokenKind.TheVariants as kind
 use Rattle.html_ledger.specs.declared.history.History.{History}
 use Rattle.html_ledger.specs.declared.symbol.Symbol.TheVariants.{Char, Eof, Comment, Doctype, Start}
+use Rattle.html_ledger.specs.declared.fate.Cause.{Cause}
 use Rattle.html_ledger.specs.declared.fate.Fate.{Fate}
 use Rattle.html_ledger.specs.Flags.{is_free_run, is_not_null, may_text_run}
 use Rattle.html_ledger.specs.declared.symbol.Symbol.{Symbol}
@@ -33,7 +35,8 @@ use Rattle.html_ledger.specs.declared.setting.Setting.TheVariants as setting
 use Rattle.html_construction.specs.Origins.{HasRoot, is_made_alone}
 use Rattle.html_construction.proofs.Beginning.{document-root, document-rooted, document-told, fragment-limits, fragment-root, fragment-rooted, fragment-told}
 use Rattle.html_tree.proofs.Texted.{new-limits}
-use Rattle.html_construction.specs.Built.{BeginsWith, Handed, IsBuilt, IsRooted, nothing_of, Keeps, Releases, Takes, TakesRun, chars_of, since_tree, symbols, with_tokens}
+use Rattle.html_construction.specs.Begun.{Begun, IsInCall, drops_in, gives_in}
+use Rattle.html_construction.specs.Built.{Begins, BeginsWith, Handed, IsBuilt, IsRooted, nothing_of, Keeps, Releases, Takes, TakesRun, chars_of, in_call, since_tree, symbols, with_tokens}
 use Rattle.html_construction.specs.Modes.{is_reset}
 use Rattle.html_construction.specs.UnderWay.{IsUnderWay}
 use Rattle.html_construction.specs.Weights.{group_weight, weight, weight_of}
@@ -93,6 +96,59 @@ adds-made n g y f h = record { more = f ∷ []; fates_are = ap (λ (x : Entries)
 longer : (fs gs hs ks : List Fate) → ks ≡ gs ++ hs → BeginsWith fs gs → BeginsWith fs ks
 longer fs gs hs ks e b = (b.0 ++ hs, e ∙ ap (λ xs. xs ++ hs) b.1 ∙ append_assoc fs b.0 hs)
 
+-- fates are only added, which tokens may have in a call that began in this mode
+pub record Gives (m : Mode) (a b : Entries) : Type 0 where
+  pub more : List Fate
+  pub fates_are : b.fates ≡ a.fates ++ more
+  pub given : list_all (gives_in m) more ≡ true
+
+pub gives-none : (m : Mode) (a b : Entries) → b.fates ≡ a.fates → Gives m a b
+gives-none m a b e = record { more = []; fates_are = e ∙ sym (append-nil a.fates); given = refl }
+
+pub gives : (m : Mode) (a b : Entries) (fs : List Fate) → b.fates ≡ a.fates ++ fs → list_all (gives_in m) fs ≡ true → Gives m a b
+gives m a b fs e g = record { more = fs; fates_are = e; given = g }
+
+pub gives-text : (m : Mode) (a b : Entries) (d : ℕ) → b.fates ≡ a.fates ++ Text d ∷ [] → Gives m a b
+gives-text m a b d e = record { more = Text d ∷ []; fates_are = e; given = refl }
+
+pub gives-merged : (m : Mode) (a b : Entries) → b.fates ≡ a.fates ++ Merged ∷ [] → Gives m a b
+gives-merged m a b e = record { more = Merged ∷ []; fates_are = e; given = refl }
+
+pub gives-made : (m : Mode) (n g : State) (y : Symbol) (d : ℕ) → HasFate y (Made d) n g → Gives m n.ledger g.ledger
+gives-made m n g y d h = record { more = Made d ∷ []; fates_are = ap (λ (x : Entries). x.fates) h.ledger_is; given = refl }
+
+pub gives-dropped : (v n : State) (c : Cause) → v ≡ n → IsTrue (drops_in c n.began) → list_all (gives_in v.began) (Dropped c ∷ []) ≡ true
+gives-dropped v n c e g = and (drops_in c v.began) true (ap (λ (x : State). drops_in c x.began) e ∙ g) refl
+
+-- the call that is under way goes on
+call-same : (o : Option Begun) (v z : State) → z.ledger.fates ≡ v.ledger.fates → z.began ≡ v.began → IsInCall o v → IsInCall o z
+call-same None v z e b u = tt
+call-same (Some c) v z e b u = record { began = b ∙ u.began; later = u.later; fates_are = e ∙ u.fates_are; given = u.given }
+
+call-more : (o : Option Begun) (v z : State) (more : List Fate) → z.ledger.fates ≡ v.ledger.fates ++ more → list_all (gives_in v.began) more ≡ true → z.began ≡ v.began → IsInCall o v → IsInCall o z
+call-more None v z more e g b u = tt
+call-more (Some c) v z more e g b u = record {
+  began = b ∙ u.began;
+  later = u.later ++ more;
+  fates_are = e ∙ ap (λ xs. xs ++ more) u.fates_are ∙ append_assoc c.before u.later more;
+  given = list_all-append (gives_in c.mode) u.later more ∙ and (list_all (gives_in c.mode) u.later) (list_all (gives_in c.mode) more) u.given (subst (λ m. list_all (gives_in m) more ≡ true) u.began g);
+}
+
+-- a call begins
+pub begins : (v n z : State) (d k : ℕ) → v ≡ n → z ≡ record v { began = v.mode; depth = d; nodes = k } → Begins n z
+begins v n z d k e f = λ h w. subst (λ x. IsBuilt (in_call h n) x) (sym (f ∙ ap (λ (x : State). record x { began = x.mode; depth = d; nodes = k }) e)) (record {
+  fed = w.fed;
+  known = w.known;
+  rooted = w.rooted;
+  limits = w.limits;
+  root = w.root;
+  origins = w.origins;
+  made = w.made;
+  texts = w.texts;
+  since = w.since;
+  call = record { began = refl; later = []; fates_are = sym (append-nil n.ledger.fates); given = refl };
+})
+
 -- before the first token of a document
 pub begun-document : (l : Option Limits) (k : ℕ) (a : State) → a.tree ≡ document_state l k → Fed setting.Document a.ledger [] → IsBuilt (nothing_of setting.Document l) a
 begun-document l k a e d = record {
@@ -105,6 +161,7 @@ begun-document l k a e d = record {
   made = told.made;
   texts = told.texts;
   since = tt;
+  call = tt;
 }
   where
     told : Told [] a.ledger.fates a.tree.tree.labels
@@ -122,6 +179,7 @@ begun-fragment g f l k a e d = record {
   made = told.made;
   texts = told.texts;
   since = tt;
+  call = tt;
 }
   where
     told : Told [] a.ledger.fates a.tree.tree.labels
@@ -186,6 +244,13 @@ told-merge v z t g y s o k e b n q = record {
 pub run-given : (l : Entries) (cs : List ℕ) (f : Fate) → (given_run l cs f).fates ≡ l.fates ++ replicate (length cs) f
 run-given l [] f = sym (append-nil l.fates)
 run-given l (c ∷ cs) f = run-given (given l (Char c) f) cs f ∙ append_assoc l.fates (f ∷ []) (replicate (length cs) f)
+
+all-texts : (m : Mode) (d n : ℕ) → list_all (gives_in m) (replicate n (Text d)) ≡ true
+all-texts m d zero = refl
+all-texts m d (suc n) = all-texts m d n
+
+pub gives-run : (m : Mode) (a b : Entries) (cs : List ℕ) (d : ℕ) → b ≡ given_run a cs (Text d) → Gives m a b
+gives-run m a b cs d e = record { more = replicate (length cs) (Text d); fates_are = ap (λ (x : Entries). x.fates) e ∙ run-given a cs (Text d); given = all-texts m d (length cs) }
 
 some-run : (cs : List ℕ) → 0 < length cs → cs ≢ []
 some-run [] h e = absurd (omega arith)
@@ -255,8 +320,8 @@ made-doctype b t x y z k m s e f g i ts l =
     (subst (λ d. IsNext (label_for b (new.Doctype (name_id t) (public_id t) d m)) (ts ++ t ∷ []) m) (sym g) (next-doctype b ts t m l s))))
 
 -- the tree changed, and the ledger did not
-pub kept : (v n z : State) → v ≡ n → z.ledger ≡ v.ledger → TreeKeeps v.tree z.tree → HasCloned v.tree z.tree → Keeps n z
-kept v n z e f k c = λ h w.
+pub kept : (v n z : State) → v ≡ n → z.ledger ≡ v.ledger → z.began ≡ v.began → TreeKeeps v.tree z.tree → HasCloned v.tree z.tree → Keeps n z
+kept v n z e f b k c = λ h w.
     let u : IsBuilt h v = subst (λ x. IsBuilt h x) (sym e) w in record {
       fed = subst (λ l. Fed h.setting l (symbols h.tokens)) (sym f) u.fed;
       known = subst (λ (l : Entries). BeginsWith h.known l.fates) (sym f) u.known;
@@ -267,14 +332,15 @@ kept v n z e f k c = λ h w.
       made = (all h u).made;
       texts = (all h u).texts;
       since = since-keeps h.earlier v.tree z.tree k u.since;
+      call = call-same h.call v z (ap (λ (l : Entries). l.fates) f) b u.call;
     }
   where
     all : (h : Handed) → IsBuilt h v → Told h.tokens z.ledger.fates z.tree.tree.labels
     all h u = subst (λ (l : Entries). Told h.tokens l.fates z.tree.tree.labels) (sym f) (told-clones h.tokens v.ledger.fates v.tree z.tree c (told-built h v u))
 
 -- an element that no token asked for was made
-pub implied : (v n z : State) (at : Place) (g : Tag) → v ≡ n → z.ledger ≡ v.ledger → TreeKeeps v.tree z.tree → z.tree.tree ≡ with_new v.tree.tree at (implied_of g) → is_made_alone g ≡ true → Keeps n z
-implied v n z at g e f k q a = λ h w.
+pub implied : (v n z : State) (at : Place) (g : Tag) → v ≡ n → z.ledger ≡ v.ledger → z.began ≡ v.began → TreeKeeps v.tree z.tree → z.tree.tree ≡ with_new v.tree.tree at (implied_of g) → is_made_alone g ≡ true → Keeps n z
+implied v n z at g e f b k q a = λ h w.
     let u : IsBuilt h v = subst (λ x. IsBuilt h x) (sym e) w in record {
       fed = subst (λ l. Fed h.setting l (symbols h.tokens)) (sym f) u.fed;
       known = subst (λ (l : Entries). BeginsWith h.known l.fates) (sym f) u.known;
@@ -285,6 +351,7 @@ implied v n z at g e f k q a = λ h w.
       made = (all h u).made;
       texts = (all h u).texts;
       since = since-keeps h.earlier v.tree z.tree k u.since;
+      call = call-same h.call v z (ap (λ (l : Entries). l.fates) f) b u.call;
     }
   where
     all : (h : Handed) → IsBuilt h v → Told h.tokens z.ledger.fates z.tree.tree.labels
@@ -303,12 +370,13 @@ built-since h a w = record {
   made = w.made;
   texts = w.texts;
   since = Since-same a.tree;
+  call = w.call;
 }
 
 -- the ledger took a token, and the tree may have changed
-pub taken : (v n z : State) (t : TokenKind) (y : Symbol) → v ≡ n → symbol_of t ≡ y → LedgerTakes y v.ledger z.ledger → AddsFates v.ledger z.ledger → TreeKeeps v.tree z.tree → z.tree.tree.limits ≡ v.tree.tree.limits → Tells (t ∷ []) v z → Takes t n z
+pub taken : (v n z : State) (t : TokenKind) (y : Symbol) → v ≡ n → symbol_of t ≡ y → LedgerTakes y v.ledger z.ledger → Gives v.began v.ledger z.ledger → TreeKeeps v.tree z.tree → z.tree.tree.limits ≡ v.tree.tree.limits → Tells (t ∷ []) v z → z.began ≡ v.began → Takes t n z
 unfolding with_tokens
-taken v n z t y e f g m k l x = λ h w.
+taken v n z t y e f g m k l x b = λ h w.
     let u : IsBuilt h v = subst (λ x. IsBuilt h x) (sym e) w in record {
       fed = subst (λ us. Fed h.setting z.ledger us) (sym (symbols-push h.tokens t ∙ ap (λ x. symbols h.tokens ++ x ∷ []) f)) (g h.setting (symbols h.tokens) u.fed);
       known = longer h.known v.ledger.fates m.more z.ledger.fates m.fates_are u.known;
@@ -319,12 +387,13 @@ taken v n z t y e f g m k l x = λ h w.
       made = (x.told h u.fed (told-built h v u)).made;
       texts = (x.told h u.fed (told-built h v u)).texts;
       since = since-keeps h.earlier v.tree z.tree k u.since;
+      call = call-more h.call v z m.more m.fates_are m.given b u.call;
     }
 
 -- the ledger took code points
-pub taken-run : (v n z : State) (cs : List ℕ) → v ≡ n → LedgerTakesRun cs v.ledger z.ledger → AddsFates v.ledger z.ledger → TreeKeeps v.tree z.tree → z.tree.tree.limits ≡ v.tree.tree.limits → Tells (chars_of cs) v z → TakesRun cs n z
+pub taken-run : (v n z : State) (cs : List ℕ) → v ≡ n → LedgerTakesRun cs v.ledger z.ledger → Gives v.began v.ledger z.ledger → TreeKeeps v.tree z.tree → z.tree.tree.limits ≡ v.tree.tree.limits → Tells (chars_of cs) v z → z.began ≡ v.began → TakesRun cs n z
 unfolding with_tokens
-taken-run v n z cs e g m k l x = λ h w.
+taken-run v n z cs e g m k l x b = λ h w.
     let u : IsBuilt h v = subst (λ x. IsBuilt h x) (sym e) w in record {
       fed = subst (λ us. Fed h.setting z.ledger us) (sym (symbols-append h.tokens (chars_of cs) ∙ ap (λ x. symbols h.tokens ++ x) (symbols-chars cs))) (g h.setting (symbols h.tokens) u.fed);
       known = longer h.known v.ledger.fates m.more z.ledger.fates m.fates_are u.known;
@@ -335,6 +404,7 @@ taken-run v n z cs e g m k l x = λ h w.
       made = (x.told h u.fed (told-built h v u)).made;
       texts = (x.told h u.fed (told-built h v u)).texts;
       since = since-keeps h.earlier v.tree z.tree k u.since;
+      call = call-more h.call v z m.more m.fates_are m.given b u.call;
     }
 
 -- the tree is as it was
@@ -359,14 +429,14 @@ pub stack-is : (v n : State) → v ≡ n → v.stack ≡ n.stack
 stack-is v n e = ap (λ (x : State). x.stack) e
 
 -- the ledger took a token first, and then the tree changed
-pub taken-made : (v g n z : State) (t : TokenKind) (y : Symbol) → v ≡ g → g ≡ record n { ledger = g.ledger } → z.ledger ≡ v.ledger → symbol_of t ≡ y → LedgerTakes y n.ledger g.ledger → AddsFates n.ledger g.ledger → TreeKeeps v.tree z.tree → (at : Place) (d : NewNode) → z.tree.tree ≡ with_new v.tree.tree at d → Tells (t ∷ []) n z → Takes t n z
-taken-made v g n z t y e r p f k q j at d l x =
+pub taken-made : (v g n z : State) (t : TokenKind) (y : Symbol) → v ≡ g → g ≡ record n { ledger = g.ledger } → z.ledger ≡ v.ledger → z.began ≡ v.began → symbol_of t ≡ y → LedgerTakes y n.ledger g.ledger → Gives n.began n.ledger g.ledger → TreeKeeps v.tree z.tree → (at : Place) (d : NewNode) → z.tree.tree ≡ with_new v.tree.tree at d → Tells (t ∷ []) n z → Takes t n z
+taken-made v g n z t y e r p b f k q j at d l x =
     taken n n z t y refl f
     (subst (λ m. LedgerTakes y n.ledger m) (sym (p ∙ ap (λ (x : State). x.ledger) e)) k)
-    (subst (λ m. AddsFates n.ledger m) (sym (p ∙ ap (λ (x : State). x.ledger) e)) q)
+    (subst (λ m. Gives n.began n.ledger m) (sym (p ∙ ap (λ (x : State). x.ledger) e)) q)
     (subst (λ x. TreeKeeps x z.tree) (ap (λ (x : State). x.tree) e ∙ ap (λ (x : State). x.tree) r) j)
     (ap (λ (t : Nodes). t.limits) l ∙ new-limits v.tree.tree at d ∙ ap (λ (x : State). x.tree.tree.limits) e ∙ ap (λ (x : State). x.tree.tree.limits) r)
-    x
+    x (b ∙ ap (λ (x : State). x.began) e ∙ ap (λ (x : State). x.began) r)
 
 -- formatting elements were opened anew
 formatting-weighs : (ts : List Tag) → list_all is_formatting ts ≡ true → weight ts ≡ 0
@@ -425,9 +495,9 @@ split-symbols [] (y ∷ ys) cs e = absurd cc
 split-symbols (t ∷ ts) (y ∷ ys) cs e = let p = split-symbols ts ys cs (ap rest e) in
     (t ∷ p.0, ap (λ z. z ∷ symbols p.0) (ap first e) ∙ ap (λ zs. y ∷ zs) p.1, ap (λ us. t ∷ us) p.2)
 
-pub released : (v n z : State) (cs : List ℕ) → v ≡ n → LedgerReleases cs v.ledger z.ledger → z.ledger.fates ≡ v.ledger.fates → z.tree ≡ v.tree → Releases cs n z
+pub released : (v n z : State) (cs : List ℕ) → v ≡ n → z.began ≡ v.began → LedgerReleases cs v.ledger z.ledger → z.ledger.fates ≡ v.ledger.fates → z.tree ≡ v.tree → Releases cs n z
 unfolding with_tokens
-released v n z cs e r m k = λ h w.
+released v n z cs e i r m k = λ h w.
     let u : IsBuilt h v = subst (λ x. IsBuilt h x) (sym e) w in
     let p = r h.setting (symbols h.tokens) u.fed in
     let q = split-symbols h.tokens p.0 cs p.2 in (
@@ -451,6 +521,7 @@ released v n z cs e r m k = λ h w.
           made = y.made;
           texts = y.texts;
           since = u.since;
+          call = call-same h.call v (record z { tree = v.tree }) m i u.call;
         }
 
 -- a front of code points that may become text in one go

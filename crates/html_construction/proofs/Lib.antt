@@ -1,4 +1,5 @@
 pub mod Beginning
+pub mod Begun
 pub mod Building
 pub mod Copying
 pub mod Cloning

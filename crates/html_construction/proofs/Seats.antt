@@ -1,5 +1,5 @@
 -- Parts of tables: what follows from being one.
-use Rattle.std.proofs.Common.{◌≡◌, ℕ, Bool, true, false, List, Option, Some, None, IfSome, inl, inr, refl, sym, ◌∙◌, ap, if◌then◌else◌}
+use Rattle.std.proofs.Common.{◌≡◌, ℕ, Bool, true, false, List, Option, Some, None, IfSome, inl, inr, refl, ◌∙◌, ap, if◌then◌else◌}
 use Rattle.html_names.specs.declared.tag.Tag.{Tag}
 use Rattle.html_names.specs.declared.tag.Tag.TheVariants as tag
 use Rattle.html_names.specs.Groups.{is_placed}

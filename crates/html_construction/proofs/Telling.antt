@@ -23,7 +23,7 @@ use Rattle.html_tree.specs.Texts.{IsTextPassed}
 use Rattle.html_construction.specs.declared.refusal.Refusal.{Refusal}
 use Rattle.html_construction.specs.declared.refusal.Refusal.TheVariants.{OutOfMemory, NodeBudget, HeldBudget}
 use Rattle.html_construction.specs.Budgets.{IsNextNode, IsReason, IsRefused, IsRefusedAny, MayAdd, Refuses, RefusesAny, a_code_point, a_node, lacking_attrs}
-use Rattle.html_construction.specs.Built.{Handed, IsBuilt, Releases, chars_of, with_tokens}
+use Rattle.html_construction.specs.Built.{Handed, Releases, chars_of, with_tokens}
 use Rattle.html_construction.specs.Causes.{of_open}
 use Rattle.html_construction.specs.Origins.{is_made_alone}
 use Rattle.html_construction.specs.States.{State}

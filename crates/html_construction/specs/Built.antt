@@ -14,6 +14,7 @@ use Rattle.html_ledger.specs.Entries.{Fed}
 use Rattle.html_ledger.specs.Fates.{is_made}
 use Rattle.html_ledger.specs.Runs.{last_of}
 use Rattle.html_construction.specs.Accounts.{AreMade, AreTexts}
+use Rattle.html_construction.specs.Begun.{Begun, IsInCall}
 use Rattle.html_construction.specs.Origins.{AreOrigins, HasRoot}
 use Rattle.html_construction.specs.States.{State}
 
@@ -33,18 +34,19 @@ IsRooted t =
     (x : ℕ) → x < length t.tree.labels → parent_of t.tree x ≡ None
     → (x ≡ 0) ⊎ (((h : ℕ) × (host_at t.tree x ≡ Some h)) ⊎ (t.detached ≡ Some x))
 
--- What is parsed, the limits to which the tree keeps, the tokens that were handed in, fates that the first of them are known to have, and an earlier
--- tree that is known, if one is.
+-- What is parsed, the limits to which the tree keeps, the tokens that were handed in, fates that the first of them are known to have, an earlier
+-- tree that is known, if one is, and the call that is under way, if one is known.
 pub record Handed : Type 0 where
   pub setting : Setting
   pub limits : Option Limits
   pub tokens : List TokenKind
   pub known : List Fate
   pub earlier : Option Tree
+  pub call : Option Begun
 
 -- before the first token
 abbrev pub nothing_of : Setting → Option Limits → Handed
-nothing_of s l = record { setting = s; limits = l; tokens = []; known = []; earlier = None }
+nothing_of s l = record { setting = s; limits = l; tokens = []; known = []; earlier = None; call = None }
 
 -- after more tokens
 unfoldable pub with_tokens : Handed → List TokenKind → Handed
@@ -53,6 +55,10 @@ with_tokens h ts = record h { tokens = h.tokens ++ ts }
 -- where this earlier tree is known
 unfoldable pub since_tree : Handed → Tree → Handed
 since_tree h t = record h { earlier = Some t }
+
+-- in a call that begins in this state
+abbrev pub in_call : Handed → State → Handed
+in_call h a = record h { call = Some (record { mode = a.mode; before = a.ledger.fates }) }
 
 -- these members come first
 abbrev pub BeginsWith : List Fate → List Fate → Type 0
@@ -63,8 +69,8 @@ abbrev pub IsSince : Option Tree → Tree → Type 0
 IsSince None t = Unit {0}
 IsSince (Some e) t = Since e t
 
--- The tree and the ledger are what was built of what was handed in; fates that were known are as they were, and what was closed in an earlier tree
--- that is known is closed.
+-- The tree and the ledger are what was built of what was handed in; fates that were known are as they were, what was closed in an earlier tree
+-- that is known is closed, and in a call that is known each token got a fate that it may have there.
 pub record IsBuilt (h : Handed) (a : State) : Type 0 where
   pub fed : Fed h.setting a.ledger (symbols h.tokens)
   pub known : BeginsWith h.known a.ledger.fates
@@ -75,10 +81,15 @@ pub record IsBuilt (h : Handed) (a : State) : Type 0 where
   pub made : AreMade a.ledger.fates a.tree.tree.labels
   pub texts : AreTexts (symbols h.tokens) a.ledger.fates a.tree.tree.labels
   pub since : IsSince h.earlier a.tree
+  pub call : IsInCall h.call a
 
 -- From one state to a later one: the tokens handed in are the same.
 abbrev pub Keeps : State → State → Type 0
 Keeps a b = (h : Handed) → IsBuilt h a → IsBuilt h b
+
+-- A call begins.
+abbrev pub Begins : State → State → Type 0
+Begins a b = (h : Handed) → IsBuilt h a → IsBuilt (in_call h a) b
 
 -- This token was handed in.
 abbrev pub Takes : TokenKind → State → State → Type 0
@@ -87,6 +98,14 @@ Takes t a b = (h : Handed) → IsBuilt h a → IsBuilt (with_tokens h (t ∷ [])
 -- These code points were handed in.
 abbrev pub TakesRun : List ℕ → State → State → Type 0
 TakesRun cs a b = (h : Handed) → IsBuilt h a → IsBuilt (with_tokens h (chars_of cs)) b
+
+-- This token was handed in, in one call.
+abbrev pub Accepts : TokenKind → State → State → Type 0
+Accepts t a b = (h : Handed) → IsBuilt h a → IsBuilt (with_tokens (in_call h a) (t ∷ [])) b
+
+-- So were these code points.
+abbrev pub AcceptsRun : List ℕ → State → State → Type 0
+AcceptsRun cs a b = (h : Handed) → IsBuilt h a → IsBuilt (with_tokens (in_call h a) (chars_of cs)) b
 
 -- These code points, the last that were handed in, were taken out again.
 abbrev pub Releases : List ℕ → State → State → Type 0

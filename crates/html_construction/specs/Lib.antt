@@ -3,6 +3,7 @@ pub mod Weights
 pub mod Tokens
 pub mod Origins
 pub mod Accounts
+pub mod Begun
 pub mod Built
 pub mod Calls
 pub mod Causes

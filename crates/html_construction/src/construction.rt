@@ -14,11 +14,12 @@ ghost use Rattle.html_arena.specs.Weight.{capped, weight};
 ghost use Rattle.html_open.specs.Marking.{bare};
 ghost use Rattle.html_ledger.specs.Errors.{AreErrors};
 ghost use Rattle.html_ledger.specs.Fated.{Fated};
+ghost use Rattle.html_construction.specs.Begun.{IsFounded};
 ghost use Rattle.html_construction.specs.Built.{Handed, IsBuilt, Keeps, nothing_of, symbols};
 ghost use Rattle.html_construction.specs.Copies.{implied_count, most_clones};
 ghost use Rattle.html_construction.specs.Grown.{Grown};
 ghost use Rattle.html_construction.specs.Works.{Works, reach_of};
-ghost use Rattle.html_construction.specs.Modes.{is_reset};
+ghost use Rattle.html_construction.specs.Modes.{is_of_frames, is_of_selects, is_reset};
 
 use crate::mode::Mode;
 use crate::refusal::Refusal;
@@ -141,6 +142,7 @@ impl Construction {
     ) -> Result<Construction, Refusal>
         ensures built { IfOk result (λ b. IsBuilt (nothing_of (Fragment context in_form) None) b) }
         ensures reset { IfOk result (λ b. is_reset b.mode ≡ true) }
+        ensures founded { IfOk result (λ b. IsFounded b) }
         ensures stack { IfOk result (λ b. b.stack ≡ tag.Html ∷ []) }
         ensures quiet { IfOk result (λ b. b.ledger.kept ≡ []) }
         ensures listed { IfOk result (λ b. b.tree.list ≡ []) }
@@ -168,6 +170,7 @@ impl Construction {
     ) -> Result<Construction, Refusal>
         ensures built { IfOk result (λ b. IsBuilt (nothing_of (Fragment context in_form) (Some limits)) b) }
         ensures reset { IfOk result (λ b. is_reset b.mode ≡ true) }
+        ensures founded { IfOk result (λ b. IsFounded b) }
         ensures stack { IfOk result (λ b. b.stack ≡ tag.Html ∷ []) }
         ensures quiet { IfOk result (λ b. b.ledger.kept ≡ []) }
         ensures listed { IfOk result (λ b. b.tree.list ≡ []) }
@@ -269,6 +272,7 @@ impl Construction {
         requires begun { (l : Option Limits) × (k : ℕ) × (tree ≡ fragment_state l k) }
         ensures built { (l : Option Limits) (k : ℕ) → tree ≡ fragment_state l k → IfOk result (λ b. IsBuilt (nothing_of (Fragment context in_form) l) b) }
         ensures reset { IfOk result (λ b. is_reset b.mode ≡ true) }
+        ensures founded { IfOk result (λ b. IsFounded b) }
         ensures stack { IfOk result (λ b. b.stack ≡ tag.Html ∷ []) }
         ensures quiet { IfOk result (λ b. b.ledger.kept ≡ []) }
         ensures listed { IfOk result (λ b. b.tree.list ≡ []) }
@@ -290,17 +294,22 @@ impl Construction {
 
     /// The mode that a context calls for, before the first token.
     fn enter_context(&mut self, context: Tag) -> Result<(), Refusal>
-        ensures rest { OnOk result (self.new ≡ record self.old { tree = self.new.tree; mode = self.new.mode; templates = self.new.templates }) }
+        ensures rest { OnOk result (self.new ≡ record self.old { mode = self.new.mode; templates = self.new.templates }) }
         ensures keeps { OnOk result (Keeps self.old self.new) }
         ensures grown { OnOk result (Grown 0 0 0 0 0 self.old self.new) }
         ensures works { OnOk result (Works 1 0 0 self.old self.new) }
         ensures reset { OnOk result (is_reset self.new.mode ≡ true) }
+        ensures select { OnOk result (is_of_selects self.new.mode ≡ true → context ≡ tag.Select) }
+        ensures frameset { OnOk result (is_of_frames self.new.mode ≡ true → context ≡ tag.Frameset) }
         ensures cause { IfErr result (λ e. e ≡ Refusal.OutOfMemory) }
     {
         if context.is_template() {
             self.push_template_mode(Mode::InTemplate)?;
+            self.set_mode(Mode::InTemplate);
+            return Ok(());
         }
-        self.reset();
+        let mode = self.mode_of_outermost(context);
+        self.set_mode(mode);
         Ok(())
     }
 }

@@ -1,3 +1,4 @@
+pub mod Begun
 pub mod Moded
 pub mod Tagged
 pub mod Settled

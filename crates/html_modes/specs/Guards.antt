@@ -3,26 +3,13 @@ use Rattle.std.specs.Prelude.{Bool, true, false}
 use Rattle.html_ledger.specs.declared.symbol.Symbol.{Symbol}
 use Rattle.html_ledger.specs.declared.symbol.Symbol.TheVariants.{Start, Char}
 use Rattle.html_construction.specs.declared.mode.Mode.{Mode}
-use Rattle.html_construction.specs.declared.mode.Mode.TheVariants.{InBody, Text, InTableText, InCaption, InCell, InSelect, InSelectInTable, InFrameset, AfterFrameset, AfterAfterFrameset}
+use Rattle.html_construction.specs.declared.mode.Mode.TheVariants.{InBody, Text, InTableText, InCaption, InCell}
 
 -- a token that a rule may drop for the mode that is set
 abbrev pub is_droppable : Symbol → Bool
 is_droppable (Start t) = true
 is_droppable (Char c) = true
 is_droppable _ = false
-
--- the modes inside a select (13.2.6.4.16 and 13.2.6.4.17)
-abbrev pub is_of_selects : Mode → Bool
-is_of_selects InSelect = true
-is_of_selects InSelectInTable = true
-is_of_selects _ = false
-
--- the modes of a page of frames (13.2.6.4.20, 13.2.6.4.21 and 13.2.6.4.23)
-abbrev pub is_of_frames : Mode → Bool
-is_of_frames InFrameset = true
-is_of_frames AfterFrameset = true
-is_of_frames AfterAfterFrameset = true
-is_of_frames _ = false
 
 -- the modes in which all text but U+0000 is inserted, and nothing else follows from it for the mode
 abbrev pub takes_runs : Mode → Bool

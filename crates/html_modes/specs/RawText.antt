@@ -16,7 +16,7 @@ use Rattle.html_ledger.specs.declared.symbol.Symbol.TheVariants.{Char, Start}
 use Rattle.html_ledger.specs.Symbols.{chars_of}
 use Rattle.html_tree.specs.States.{State as Open}
 use Rattle.html_construction.specs.declared.mode.Mode.TheVariants.{Text}
-use Rattle.html_construction.specs.Built.{Handed, IsBuilt, since_tree, with_tokens}
+use Rattle.html_construction.specs.Built.{Handed, IsBuilt, in_call, since_tree, with_tokens}
 use Rattle.html_construction.specs.States.{State}
 use Rattle.html_modes.specs.Guards.{is_text}
 use Rattle.html_modes.specs.Steps.{is_code_point}
@@ -105,5 +105,9 @@ OpensBy y b = Opens Done y b
 abbrev pub AddsBy : Symbol → State → State → Type 0
 AddsBy y a b = Adds Done y a b
 
-abbrev pub EndsBy : Symbol → TokenKind → State → State → Type 0
-EndsBy y t a b = Ends Done y t a b
+-- so in one call
+abbrev pub LeavesIn : TokenKind → State → State → Type 0
+LeavesIn t a b = (h : Handed) → IsBuilt h a → (m : Open) × IsLeft a.tree m × IsBuilt (with_tokens (since_tree (in_call h a) m) (t ∷ [])) b
+
+pub record EndsBy (y : Symbol) (t : TokenKind) (a b : State) : Type 0 where
+  pub ends : is_text a.mode ≡ true → is_code_point y ≡ false → LeavesIn t a b

@@ -2,10 +2,14 @@
 // not, the token goes on by a rule that asks for nothing.
 ghost use Rattle.std.specs.Prelude.{◌≡◌, ◌≤◌, ◌==◌, IsTrue, true, false};
 ghost use Rattle.html_ledger.specs.Flags.{is_free, may_select, may_drop};
+ghost use Rattle.html_modes.specs.Begun.{StaysOut};
 ghost use Rattle.html_modes.specs.Fitting.{is_loose};
 ghost use Rattle.html_modes.specs.Ranks.{rank, top_rank};
+ghost use Rattle.html_modes.specs.Steps.{is_code_point};
 ghost use Rattle.html_ledger.specs.declared.fate.Cause.TheVariants.{InColumnGroup};
-ghost use Rattle.html_modes.specs.Guards.{is_droppable, is_of_frames, is_of_selects, is_table_text, is_text, takes_runs};
+ghost use Rattle.html_construction.specs.Begun.{IsFounded};
+ghost use Rattle.html_construction.specs.Modes.{is_of_column_groups, is_of_frames, is_of_selects};
+ghost use Rattle.html_modes.specs.Guards.{is_droppable, is_table_text, is_text, takes_runs};
 ghost use Rattle.html_ledger.specs.declared.symbol.Symbol.{Symbol as AnySymbol};
 
 use html_construction::{Construction, Mode};
@@ -14,9 +18,13 @@ use html_ledger::Symbol;
 /// A start tag or a code point in a mode of selects or of frames, in a call that did not begin in such a mode, or without a select or a
 /// frameset that was made. Never: tokens that lead into these modes are not processed again, and see `is_unfounded`. Would go on in the
 /// mode in body. So the causes InSelect and InFrameset come in calls alone that begin in their modes, and the history allows them.
+/// (A call that begins in such a mode, to which something leads, goes by its rules.)
 pub(crate) fn is_astray(page: &Construction, symbol: Symbol) -> bool
     ensures select { result ≡ false → is_droppable symbol ≡ true → is_of_selects page.now.mode ≡ true → may_select page.now.ledger.history ≡ true }
     ensures frameset { result ≡ false → is_droppable symbol ≡ true → is_of_frames page.now.mode ≡ true → page.now.ledger.history.frameset ≡ true }
+    ensures in_select { result ≡ false → is_droppable symbol ≡ true → is_of_selects page.now.mode ≡ true → is_of_selects page.now.began ≡ true }
+    ensures in_frameset { result ≡ false → is_droppable symbol ≡ true → is_of_frames page.now.mode ≡ true → is_of_frames page.now.began ≡ true }
+    ensures founded { IsFounded page.now → page.now.began ≡ page.now.mode → result ≡ false }
     ensures other { is_of_selects page.now.mode ≡ false → is_of_frames page.now.mode ≡ false → result ≡ false }
     ensures loose { result ≡ true → is_loose page.now.mode ≡ true }
     ensures high { (s : AnySymbol) → result ≡ true → 2 ≤ rank page.now.mode s }
@@ -36,7 +44,9 @@ pub(crate) fn is_astray(page: &Construction, symbol: Symbol) -> bool
 
 /// At the end of a call: a mode of selects or of frames, to which nothing that was seen leads. Never: a select or a frameset was made, or
 /// is the context, and is open. Would leave the mode in body. So a start tag `svg` in a select is always dropped.
+#[tactic(auto, using(crate::proofs::Begun::begun_rules))]
 pub(crate) fn is_unfounded(page: &Construction) -> bool
+    ensures founded { result ≡ false → IsFounded page.now }
     ensures other { is_of_selects page.now.mode ≡ false → is_of_frames page.now.mode ≡ false → result ≡ false }
     ensures loose { result ≡ true → is_loose page.now.mode ≡ true }
     ensures high { result ≡ true → 2 ≤ top_rank page.now.mode }
@@ -51,12 +61,35 @@ pub(crate) fn is_unfounded(page: &Construction) -> bool
     }
 }
 
+/// At the end of a call for a code point: a mode of selects, of frames or of a column group, where the call began in no such mode. Never:
+/// text leads to none. Would leave the mode in body. So text is dropped for such a mode where it begins in one alone.
+#[tactic(auto, using(crate::proofs::Begun::begun_rules))]
+pub(crate) fn is_misled(page: &Construction, symbol: Symbol) -> bool
+    ensures out { result ≡ false → is_code_point symbol ≡ true → StaysOut page.now.began page.now.mode }
+    ensures other { is_of_selects page.now.mode ≡ false → is_of_frames page.now.mode ≡ false → is_of_column_groups page.now.mode ≡ false → result ≡ false }
+    ensures loose { result ≡ true → is_loose page.now.mode ≡ true }
+    ensures high { result ≡ true → 2 ≤ top_rank page.now.mode }
+{
+    if !matches!(symbol, Symbol::Char(_)) {
+        return false;
+    }
+    let mode = page.mode();
+    if is_of_selects(mode) {
+        !is_of_selects(page.began())
+    } else if is_of_frames(mode) {
+        !is_of_frames(page.began())
+    } else {
+        is_of_column_groups(mode) && !is_of_column_groups(page.began())
+    }
+}
+
 /// Whether a token may be dropped as outside a column group, where no colgroup is the current node. Always: then a col was made in this
 /// mode or the context is a colgroup. Where not, the token would go on in the mode in body.
 pub(crate) fn is_outside_column_group(page: &Construction, symbol: Symbol) -> bool
     ensures may { result ≡ true → IsTrue (may_drop page.now.ledger.history symbol InColumnGroup) }
+    ensures began { result ≡ true → is_of_column_groups page.now.began ≡ true }
 {
-    page.began() == Mode::InColumnGroup && page.history().col && symbol.is_outside_column_group()
+    is_of_column_groups(page.began()) && page.history().col && symbol.is_outside_column_group()
 }
 
 /// Whether there is a form that a form would be nested in: the form element pointer is at one. The history says the same: none is where
@@ -116,6 +149,13 @@ fn is_of_frames(mode: Mode) -> bool
         mode,
         Mode::InFrameset | Mode::AfterFrameset | Mode::AfterAfterFrameset
     )
+}
+
+/// The mode of a column group.
+fn is_of_column_groups(mode: Mode) -> bool
+    ensures value { result ≡ is_of_column_groups mode }
+{
+    matches!(mode, Mode::InColumnGroup)
 }
 
 /// A mode in which all text but U+0000 is inserted, and nothing else follows from it for the mode.

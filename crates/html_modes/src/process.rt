@@ -3,16 +3,19 @@ ghost use Rattle.std.specs.Prelude.{◌≡◌, ◌≤◌, [], IfOk, IfSome, None
 ghost use Rattle.html_ledger.specs.Symbols.{symbol_of};
 ghost use Rattle.html_ledger.specs.Flags.{is_free, may_select};
 ghost use Rattle.html_construction.specs.Budgets.{Refuses};
-ghost use Rattle.html_construction.specs.Built.{Keeps, Takes};
+ghost use Rattle.html_construction.specs.Begun.{IsFounded};
+ghost use Rattle.html_construction.specs.Built.{Accepts, Keeps};
+ghost use Rattle.html_modes.specs.Begun.{GivesIn, IgnoresFirst, IgnoresIn, StaysOut, StaysOutIn, ignores_foreign};
 ghost use Rattle.html_modes.specs.Entering.{Enters};
 ghost use Rattle.html_modes.specs.Fitting.{Fits};
 ghost use Rattle.html_modes.specs.Plain.{GoesOn, Turns};
-ghost use Rattle.html_modes.specs.Steps.{Counted, Falls, Pays, Settles, Spends, Steps, Toils, compared, root_of};
+ghost use Rattle.html_modes.specs.Steps.{Counted, Falls, Pays, Settles, Spends, Steps, Toils, compared, is_code_point, root_of};
 ghost use Rattle.html_modes.specs.Ranks.{top_rank};
-ghost use Rattle.html_modes.specs.Guards.{is_droppable, is_of_frames, is_of_selects, is_table_text};
+ghost use Rattle.html_construction.specs.Modes.{is_of_column_groups, is_of_frames, is_of_selects};
+ghost use Rattle.html_modes.specs.Guards.{is_droppable, is_table_text};
 ghost use Rattle.html_modes.specs.RawText.{Adds, AddsBy, Ends, EndsBy, Opens, OpensBy};
 
-use crate::guards::{is_astray, is_table_text, is_unfounded};
+use crate::guards::{is_astray, is_misled, is_table_text, is_unfounded};
 use crate::modes::after::{after_after_body, after_body};
 use crate::modes::body::in_body;
 use crate::modes::cell::in_cell;
@@ -32,7 +35,7 @@ use html_ledger::Symbol;
 use html_tokens::TokenKind;
 
 /// Takes the next token through all its entries into the rules of the modes, and answers none; or answers which foreign content the token begins,
-/// where it is a start tag that no rule takes. `symbol` is the token as the rules tell tokens apart. `entries` counts the entries.
+/// where it is a start tag that no rule takes; this is so in no call that begins inside a select or in a page of frames. `symbol` is the token as the rules tell tokens apart. `entries` counts the entries.
 ///
 /// # Errors
 ///
@@ -48,8 +51,12 @@ pub fn take(
     requires symbol { symbol_of token.now ≡ symbol }
     requires fits { Fits page.old }
     ensures fits { OnOk result (Fits page.new) }
-    ensures takes { IfOk result (λ f. f ≡ None → Takes token.now page.old page.new) }
+    ensures takes { IfOk result (λ f. f ≡ None → Accepts token.now page.old page.new) }
+    ensures gives { IfOk result (λ f. f ≡ None → GivesIn page.old page.new) }
+    ensures out { IfOk result (λ f. f ≡ None → is_code_point symbol ≡ true → StaysOutIn page.old page.new) }
+    ensures founded { IfOk result (λ f. f ≡ None → IsFounded page.new) }
     ensures foreign { IfOk result (λ f. IfSome f (λ name. symbol ≡ root_of name)) }
+    ensures ignores { IfOk result (λ f. IfSome f (λ name. IsFounded page.old → ignores_foreign page.old.mode ≡ false)) }
     ensures pays { IfOk result (λ f. f ≡ None → Pays page.old page.new) }
     ensures enters { IfOk result (λ f. f ≡ None → Enters 1 entries.old entries.new page.old page.new) }
     ensures toils { IfOk result (λ f. f ≡ None → Toils (compared token.now page.new) page.old page.new) }
@@ -65,7 +72,7 @@ pub fn take(
         *entries = entries.saturating_add(1);
         match step(page, token, symbol)? {
             Outcome::Done => {
-                settle(page);
+                settle(page, symbol);
                 page.laws();
                 return Ok(None);
             }
@@ -75,23 +82,25 @@ pub fn take(
     }
 }
 
-/// Leaves a mode to which nothing that was seen leads.
-#[tactic(auto, using(crate::proofs::Settled::step_rules))]
-fn settle(page: &mut Construction)
+/// Leaves a mode to which nothing that was seen leads, or to which no code point does.
+#[tactic(auto, using(crate::proofs::Settled::step_rules, crate::proofs::Begun::begun_rules))]
+fn settle(page: &mut Construction, symbol: Symbol)
     requires fits { Fits page.old }
     ensures rest { page.new ≡ record page.old { mode = page.new.mode } }
     ensures keeps { Keeps page.old page.new }
     ensures fits { Fits page.new }
     ensures top { top_rank page.new.mode ≤ top_rank page.old.mode }
-    ensures same { is_of_selects page.old.mode ≡ false → is_of_frames page.old.mode ≡ false → page.new ≡ page.old }
+    ensures same { is_of_selects page.old.mode ≡ false → is_of_frames page.old.mode ≡ false → is_of_column_groups page.old.mode ≡ false → page.new ≡ page.old }
+    ensures founded { IsFounded page.new }
+    ensures out { is_code_point symbol ≡ true → StaysOut page.new.began page.new.mode }
 {
-    if is_unfounded(page) {
+    if is_unfounded(page) || is_misled(page, symbol) {
         page.set_mode(Mode::InBody);
     }
 }
 
 /// One entry: the text of a table, what every mode drops, or the rules of the mode that is set.
-#[tactic(auto, using(crate::proofs::Settled::step_rules, crate::proofs::Plain::step_plain, crate::proofs::RawText::step_texts))]
+#[tactic(auto, using(crate::proofs::Settled::step_rules, crate::proofs::Plain::step_plain, crate::proofs::RawText::step_texts, crate::proofs::Begun::first_rules))]
 fn step(page: &mut Construction, token: &TokenKind, symbol: Symbol) -> Result<Outcome, Refusal>
     requires symbol { symbol_of token.now ≡ symbol }
     requires fits { Fits page.old }
@@ -100,6 +109,7 @@ fn step(page: &mut Construction, token: &TokenKind, symbol: Symbol) -> Result<Ou
     ensures falls { IfOk result (λ o. Falls o symbol page.old page.new) }
     ensures spends { OnOk result (Spends 2 page.old page.new) }
     ensures counts { IfOk result (λ o. Counted o token.now page.old page.new) }
+    ensures ignores { IfOk result (λ o. IgnoresFirst page.old o symbol) }
     ensures settles { IfOk result (λ o. Settles o symbol page.old page.new) }
     ensures plain { IfOk result (λ o. Turns o symbol token.now page.old page.new) }
     ensures opens { IfOk result (λ o. Opens o symbol page.new) }
@@ -124,7 +134,7 @@ fn step(page: &mut Construction, token: &TokenKind, symbol: Symbol) -> Result<Ou
 }
 
 /// The rules of the mode that is set.
-#[tactic(auto, using(crate::proofs::Settled::rules_rules, crate::proofs::Plain::rules_plain, crate::proofs::RawText::other_rules))]
+#[tactic(auto, using(crate::proofs::Settled::rules_rules, crate::proofs::Plain::rules_plain, crate::proofs::RawText::other_rules, crate::proofs::Begun::modes_ignoring))]
 fn rules(page: &mut Construction, token: &TokenKind, symbol: Symbol) -> Result<Outcome, Refusal>
     requires symbol { symbol_of token.now ≡ symbol }
     requires fits { Fits page.old }
@@ -133,11 +143,14 @@ fn rules(page: &mut Construction, token: &TokenKind, symbol: Symbol) -> Result<O
     requires other { is_table_text page.old.mode ≡ false }
     requires select { is_droppable symbol ≡ true → is_of_selects page.old.mode ≡ true → may_select page.old.ledger.history ≡ true }
     requires frameset { is_droppable symbol ≡ true → is_of_frames page.old.mode ≡ true → page.old.ledger.history.frameset ≡ true }
+    requires in_select { is_droppable symbol ≡ true → is_of_selects page.old.mode ≡ true → is_of_selects page.old.began ≡ true }
+    requires in_frameset { is_droppable symbol ≡ true → is_of_frames page.old.mode ≡ true → is_of_frames page.old.began ≡ true }
     ensures fits { OnOk result (Fits page.new) }
     ensures takes { IfOk result (λ o. Steps o token.now page.old page.new) }
     ensures falls { IfOk result (λ o. Falls o symbol page.old page.new) }
     ensures spends { OnOk result (Spends 2 page.old page.new) }
     ensures counts { IfOk result (λ o. Counted o token.now page.old page.new) }
+    ensures ignores { IfOk result (λ o. IgnoresIn page.old.mode o symbol) }
     ensures settles { IfOk result (λ o. Settles o symbol page.old page.new) }
     ensures plain { IfOk result (λ o. Turns o symbol token.now page.old page.new) }
     ensures opens { IfOk result (λ o. Opens o symbol page.new) }

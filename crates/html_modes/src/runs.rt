@@ -3,7 +3,9 @@ ghost use Rattle.std.specs.Prelude.{◌≡◌, ◌+◌, ◌<◌, ◌≤◌, ◌=
 ghost use Rattle.std.specs.List.{list_all};
 ghost use Rattle.html_ledger.specs.Flags.{is_not_null, may_text_run};
 ghost use Rattle.html_construction.specs.Budgets.{RefusesAny};
-ghost use Rattle.html_construction.specs.Built.{Takes, TakesRun};
+ghost use Rattle.html_construction.specs.Begun.{IsFounded};
+ghost use Rattle.html_construction.specs.Built.{Accepts, AcceptsRun};
+ghost use Rattle.html_modes.specs.Begun.{GivesIn, StaysOutIn};
 ghost use Rattle.html_modes.specs.Entering.{Enters};
 ghost use Rattle.html_modes.specs.Fitting.{Fits, is_loose};
 ghost use Rattle.html_modes.specs.Guards.{is_text, takes_runs};
@@ -35,7 +37,10 @@ pub fn take_front(
     requires fits { Fits page.old }
     requires some { 0 < length text.now }
     ensures fits { OnOk result (Fits page.new) }
-    ensures takes { IfOk result (λ n. TakesRun (take n text.now) page.old page.new) }
+    ensures takes { IfOk result (λ n. AcceptsRun (take n text.now) page.old page.new) }
+    ensures gives { OnOk result (GivesIn page.old page.new) }
+    ensures out { OnOk result (StaysOutIn page.old page.new) }
+    ensures founded { OnOk result (IsFounded page.new) }
     ensures count { IfOk result (λ n. (0 < n) × (n ≤ length text.now)) }
     ensures pays { OnOk result (Pays page.old page.new) }
     ensures enters { IfOk result (λ n. Enters n entries.old entries.new page.old page.new) }
@@ -59,7 +64,10 @@ pub fn take_front(
 fn take_char(page: &mut Construction, c: char, entries: &mut u64) -> Result<(), Refusal>
     requires fits { Fits page.old }
     ensures fits { OnOk result (Fits page.new) }
-    ensures takes { OnOk result (Takes (TokenKind.Char c) page.old page.new) }
+    ensures takes { OnOk result (Accepts (TokenKind.Char c) page.old page.new) }
+    ensures gives { OnOk result (GivesIn page.old page.new) }
+    ensures out { OnOk result (StaysOutIn page.old page.new) }
+    ensures founded { OnOk result (IsFounded page.new) }
     ensures pays { OnOk result (Pays page.old page.new) }
     ensures enters { OnOk result (Enters 1 entries.old entries.new page.old page.new) }
     ensures toils { OnOk result (Toils 0 page.old page.new) }
@@ -73,14 +81,17 @@ fn take_char(page: &mut Construction, c: char, entries: &mut u64) -> Result<(), 
 }
 
 /// Takes the longest front of a run that the limits take.
-#[tactic(auto, using(crate::proofs::Settled::run_rules))]
+#[tactic(auto, using(crate::proofs::Settled::run_rules, crate::proofs::Begun::run_begun))]
 fn take_run(page: &mut Construction, run: &[char]) -> Result<usize, Refusal>
     requires fits { Fits page.old }
     requires mode { takes_runs page.old.mode ≡ true }
     requires some { 0 < length run.now }
     requires may { IsTrue (may_text_run page.old.ledger.history run.now) }
     ensures fits { OnOk result (Fits page.new) }
-    ensures takes { IfOk result (λ n. TakesRun (take n run.now) page.old page.new) }
+    ensures takes { IfOk result (λ n. AcceptsRun (take n run.now) page.old page.new) }
+    ensures gives { OnOk result (GivesIn page.old page.new) }
+    ensures out { OnOk result (StaysOutIn page.old page.new) }
+    ensures founded { OnOk result (IsFounded page.new) }
     ensures count { IfOk result (λ n. (0 < n) × (n ≤ length run.now)) }
     ensures pays { OnOk result (Pays page.old page.new) }
     ensures lighter { OnOk result (weight page.new.stack + top_rank page.new.mode ≤ weight page.old.stack + top_rank page.old.mode) }
@@ -105,7 +116,8 @@ fn take_text_run(page: &mut Construction, run: &[char]) -> Result<usize, Refusal
     requires some { 0 < length run.now }
     requires may { IsTrue (may_text_run page.old.ledger.history run.now) }
     ensures fits { OnOk result (Fits page.new) }
-    ensures takes { IfOk result (λ n. TakesRun (take n run.now) page.old page.new) }
+    ensures takes { IfOk result (λ n. AcceptsRun (take n run.now) page.old page.new) }
+    ensures mode { OnOk result (page.new.mode ≡ page.old.mode) }
     ensures count { IfOk result (λ n. (0 < n) × (n ≤ length run.now)) }
     ensures pays { OnOk result (Pays page.old page.new) }
     ensures lighter { OnOk result (weight page.new.stack + top_rank page.new.mode ≤ weight page.old.stack + top_rank page.old.mode) }
@@ -127,7 +139,8 @@ fn take_body_run(page: &mut Construction, run: &[char]) -> Result<usize, Refusal
     requires some { 0 < length run.now }
     requires may { IsTrue (may_text_run page.old.ledger.history run.now) }
     ensures fits { OnOk result (Fits page.new) }
-    ensures takes { IfOk result (λ n. TakesRun (take n run.now) page.old page.new) }
+    ensures takes { IfOk result (λ n. AcceptsRun (take n run.now) page.old page.new) }
+    ensures mode { OnOk result (page.new.mode ≡ page.old.mode) }
     ensures count { IfOk result (λ n. (0 < n) × (n ≤ length run.now)) }
     ensures pays { OnOk result (Pays page.old page.new) }
     ensures lighter { OnOk result (weight page.new.stack + top_rank page.new.mode ≤ weight page.old.stack + top_rank page.old.mode) }

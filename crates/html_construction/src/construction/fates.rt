@@ -7,7 +7,9 @@ ghost use Rattle.html_ledger.specs.Fates.{is_made};
 ghost use Rattle.html_ledger.specs.Flags.{is_free, may_drop, may_make, must_drop};
 ghost use Rattle.html_ledger.specs.declared.symbol.Symbol.TheVariants.{Char};
 ghost use Rattle.html_tokens.specs.declared.token.TokenKind.TheVariants as kind;
+ghost use Rattle.html_construction.specs.Begun.{drops_in};
 ghost use Rattle.html_construction.specs.Budgets.{RefusesAny};
+ghost use Rattle.html_construction.specs.declared.mode.Mode.{Mode};
 ghost use Rattle.html_construction.specs.Built.{Keeps, Releases, Takes, ends_made};
 ghost use Rattle.html_construction.specs.Grown.{Grown};
 ghost use Rattle.html_construction.specs.Works.{Works};
@@ -41,7 +43,7 @@ impl Construction {
         Ok(token)
     }
 
-    /// Drops the token in hand, which the history allows for this cause.
+    /// Drops the token in hand, which the history allows for this cause, and the mode in which its call began.
     pub fn drop_token(
         &mut self,
         token: &TokenKind,
@@ -50,6 +52,7 @@ impl Construction {
     ) -> Result<(), Refusal>
         requires symbol { symbol_of token.now ≡ symbol }
         requires may { IsTrue (may_drop self.old.ledger.history symbol cause) }
+        requires allowed { IsTrue (drops_in cause self.old.began) }
         requires quiet { self.old.ledger.kept ≡ [] }
         ensures rest { OnOk result (self.new ≡ record self.old { ledger = self.new.ledger }) }
         ensures takes { OnOk result (Takes token.now self.old self.new) }
@@ -96,6 +99,7 @@ impl Construction {
     /// The cause by which a token has to be dropped in every insertion mode.
     pub fn must_drop(&self, symbol: Symbol) -> Option<Cause>
         ensures may { IfSome result (λ cause. IsTrue (may_drop self.now.ledger.history symbol cause)) }
+        ensures allowed { IfSome result (λ cause. (m : Mode) → IsTrue (drops_in cause m)) }
         ensures free { result ≡ None → IsTrue (is_free self.now.ledger.history symbol) }
         ensures value { result ≡ must_drop self.now.ledger.history symbol }
     {

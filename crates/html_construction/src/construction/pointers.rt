@@ -6,7 +6,7 @@ ghost use Rattle.html_arena.specs.Tree.{named, tag_at};
 ghost use Rattle.html_ledger.specs.Symbols.{symbol_of};
 ghost use Rattle.html_ledger.specs.declared.symbol.Symbol.TheVariants.{Start};
 ghost use Rattle.html_construction.specs.Budgets.{Refuses, RefusesAny};
-ghost use Rattle.html_construction.specs.Built.{Keeps, Takes};
+ghost use Rattle.html_construction.specs.Built.{Begins, Keeps, Takes};
 ghost use Rattle.html_construction.specs.Grown.{Grown};
 ghost use Rattle.html_construction.specs.Works.{Works};
 ghost use Rattle.html_construction.specs.Weights.{weight};
@@ -232,7 +232,7 @@ impl Construction {
     /// Begins the rules for a token: nothing of the tree or of the ledger changes.
     pub fn begin_call(&mut self)
         ensures rest { self.new ≡ record self.old { began = self.old.mode; depth = length self.old.stack; nodes = length self.old.tree.tree.labels } }
-        ensures keeps { Keeps self.old self.new }
+        ensures begins { Begins self.old self.new }
     {
         self.registers.call = Call {
             began: self.registers.mode,

@@ -1,9 +1,10 @@
 // The mode that the open elements call for (13.2.4.1).
-ghost use Rattle.std.specs.Prelude.{◌≡◌, ◌<◌, IfSome, None, length, true};
+ghost use Rattle.std.specs.Prelude.{◌≡◌, ◌<◌, IfSome, None, false, length, true};
+ghost use Rattle.html_names.specs.declared.tag.Tag.TheVariants as html;
 ghost use Rattle.html_construction.specs.Built.{Keeps};
 ghost use Rattle.html_construction.specs.Grown.{Grown};
 ghost use Rattle.html_construction.specs.Works.{Works};
-ghost use Rattle.html_construction.specs.Modes.{is_reset};
+ghost use Rattle.html_construction.specs.Modes.{is_of_frames, is_of_selects, is_reset};
 
 use super::Construction;
 use crate::mode::Mode;
@@ -72,8 +73,19 @@ impl Construction {
             None => Tag::Html,
         };
         match tag {
-            Tag::Select => Mode::InSelect,
             Tag::Template => self.template_mode(),
+            _ => self.mode_of_outermost(tag),
+        }
+    }
+
+    /// The mode of an element of this name, other than a template, that no element is around.
+    pub(super) fn mode_of_outermost(&self, tag: Tag) -> Mode
+        ensures reset { is_reset result ≡ true }
+        ensures select { is_of_selects result ≡ true → tag ≡ html.Select }
+        ensures frameset { is_of_frames result ≡ true → tag ≡ html.Frameset }
+    {
+        match tag {
+            Tag::Select => Mode::InSelect,
             Tag::Html => self.mode_of_root(),
             _ => mode_of(tag).unwrap_or(Mode::InBody),
         }
@@ -82,6 +94,8 @@ impl Construction {
     /// The mode of the root.
     fn mode_of_root(&self) -> Mode
         ensures reset { is_reset result ≡ true }
+        ensures select { is_of_selects result ≡ false }
+        ensures frameset { is_of_frames result ≡ false }
     {
         match self.tree.head() {
             Some(_) => Mode::AfterHead,
@@ -115,6 +129,8 @@ impl Construction {
 /// than their names.
 fn mode_of(tag: Tag) -> Option<Mode>
     ensures reset { IfSome result (λ m. is_reset m ≡ true) }
+    ensures select { IfSome result (λ m. is_of_selects m ≡ false) }
+    ensures frameset { IfSome result (λ m. is_of_frames m ≡ true → tag ≡ html.Frameset) }
 {
     match tag {
         Tag::Tr => Some(Mode::InRow),

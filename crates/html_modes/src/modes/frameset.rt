@@ -5,8 +5,10 @@ ghost use Rattle.html_ledger.specs.Flags.{is_free};
 ghost use Rattle.html_construction.specs.Budgets.{Refuses};
 ghost use Rattle.html_construction.specs.Built.{Keeps};
 ghost use Rattle.html_construction.specs.Grown.{Grown};
+ghost use Rattle.html_construction.specs.Modes.{is_of_frames};
 ghost use Rattle.html_construction.specs.Works.{Works};
 ghost use Rattle.html_construction.specs.Weights.{weight};
+ghost use Rattle.html_modes.specs.Begun.{Ignores};
 ghost use Rattle.html_modes.specs.Fitting.{Fits, is_loose};
 ghost use Rattle.html_modes.specs.Steps.{Falls, Grows, Steps, Worked};
 ghost use Rattle.html_modes.specs.Ranks.{top_rank};
@@ -25,13 +27,14 @@ use html_tokens::TokenKind;
 use html_tree::Target;
 
 /// The rules for the "in frameset" insertion mode (13.2.6.4.20).
-#[tactic(auto, using(crate::proofs::Settled::mode_rules, crate::proofs::RawText::open_rules))]
+#[tactic(auto, using(crate::proofs::Settled::mode_rules, crate::proofs::RawText::open_rules, crate::proofs::Begun::ignoring_rules))]
 pub(crate) fn in_frameset(
     page: &mut Construction,
     token: &TokenKind,
     symbol: Symbol,
 ) -> Result<Outcome, Refusal>
     requires seen { is_droppable symbol ≡ true → page.old.ledger.history.frameset ≡ true }
+    requires began { is_droppable symbol ≡ true → is_of_frames page.old.began ≡ true }
     requires symbol { symbol_of token.now ≡ symbol }
     requires mode { page.old.mode ≡ Mode.InFrameset }
     requires fits { Fits page.old }
@@ -42,6 +45,7 @@ pub(crate) fn in_frameset(
     ensures falls { IfOk result (λ o. Falls o symbol page.old page.new) }
     ensures grows { IfOk result (λ o. Grows o page.old page.new) }
     ensures works { IfOk result (λ o. Worked o token.now page.old page.new) }
+    ensures ignores { IfOk result (λ o. Ignores o symbol) }
     ensures opens { IfOk result (λ o. Opens o symbol page.new) }
     ensures refuses { IfErr result (λ e. Refuses token.now e page.old page.new) }
 {
@@ -96,13 +100,14 @@ fn close_frameset(page: &mut Construction)
 }
 
 /// The rules for the "after frameset" insertion mode (13.2.6.4.21).
-#[tactic(auto, using(crate::proofs::Settled::mode_rules, crate::proofs::RawText::open_rules))]
+#[tactic(auto, using(crate::proofs::Settled::mode_rules, crate::proofs::RawText::open_rules, crate::proofs::Begun::ignoring_rules))]
 pub(crate) fn after_frameset(
     page: &mut Construction,
     token: &TokenKind,
     symbol: Symbol,
 ) -> Result<Outcome, Refusal>
     requires seen { is_droppable symbol ≡ true → page.old.ledger.history.frameset ≡ true }
+    requires began { is_droppable symbol ≡ true → is_of_frames page.old.began ≡ true }
     requires symbol { symbol_of token.now ≡ symbol }
     requires mode { page.old.mode ≡ Mode.AfterFrameset }
     requires fits { Fits page.old }
@@ -113,6 +118,7 @@ pub(crate) fn after_frameset(
     ensures falls { IfOk result (λ o. Falls o symbol page.old page.new) }
     ensures grows { IfOk result (λ o. Grows o page.old page.new) }
     ensures works { IfOk result (λ o. Worked o token.now page.old page.new) }
+    ensures ignores { IfOk result (λ o. Ignores o symbol) }
     ensures opens { IfOk result (λ o. Opens o symbol page.new) }
     ensures refuses { IfErr result (λ e. Refuses token.now e page.old page.new) }
 {
@@ -141,13 +147,14 @@ pub(crate) fn after_frameset(
 }
 
 /// The rules for the "after after frameset" insertion mode (13.2.6.4.23).
-#[tactic(auto, using(crate::proofs::Settled::mode_rules, crate::proofs::RawText::open_rules))]
+#[tactic(auto, using(crate::proofs::Settled::mode_rules, crate::proofs::RawText::open_rules, crate::proofs::Begun::ignoring_rules))]
 pub(crate) fn after_after_frameset(
     page: &mut Construction,
     token: &TokenKind,
     symbol: Symbol,
 ) -> Result<Outcome, Refusal>
     requires seen { is_droppable symbol ≡ true → page.old.ledger.history.frameset ≡ true }
+    requires began { is_droppable symbol ≡ true → is_of_frames page.old.began ≡ true }
     requires symbol { symbol_of token.now ≡ symbol }
     requires mode { page.old.mode ≡ Mode.AfterAfterFrameset }
     requires fits { Fits page.old }
@@ -158,6 +165,7 @@ pub(crate) fn after_after_frameset(
     ensures falls { IfOk result (λ o. Falls o symbol page.old page.new) }
     ensures grows { IfOk result (λ o. Grows o page.old page.new) }
     ensures works { IfOk result (λ o. Worked o token.now page.old page.new) }
+    ensures ignores { IfOk result (λ o. Ignores o symbol) }
     ensures opens { IfOk result (λ o. Opens o symbol page.new) }
     ensures refuses { IfErr result (λ e. Refuses token.now e page.old page.new) }
 {

@@ -5,9 +5,10 @@ ghost use Rattle.html_ledger.specs.Flags.{is_free, may_select};
 ghost use Rattle.html_construction.specs.Budgets.{Refuses};
 ghost use Rattle.html_construction.specs.Built.{Keeps, Takes};
 ghost use Rattle.html_construction.specs.Grown.{Grown};
-ghost use Rattle.html_construction.specs.Modes.{is_reset};
+ghost use Rattle.html_construction.specs.Modes.{is_of_selects, is_reset};
 ghost use Rattle.html_construction.specs.Works.{Works};
 ghost use Rattle.html_construction.specs.Weights.{weight};
+ghost use Rattle.html_modes.specs.Begun.{Ignores, is_foreign};
 ghost use Rattle.html_modes.specs.Fitting.{Fits, Calls, is_loose};
 ghost use Rattle.html_modes.specs.Steps.{Falls, Grows, Steps, Worked};
 ghost use Rattle.html_modes.specs.Ranks.{rank};
@@ -37,6 +38,7 @@ pub(crate) fn in_select(
     symbol: Symbol,
 ) -> Result<Outcome, Refusal>
     requires seen { is_droppable symbol ≡ true → may_select page.old.ledger.history ≡ true }
+    requires began { is_droppable symbol ≡ true → is_of_selects page.old.began ≡ true }
     requires symbol { symbol_of token.now ≡ symbol }
     requires mode { page.old.mode ≡ Mode.InSelect }
     requires fits { Fits page.old }
@@ -47,6 +49,7 @@ pub(crate) fn in_select(
     ensures falls { IfOk result (λ o. Falls o symbol page.old page.new) }
     ensures grows { IfOk result (λ o. Grows o page.old page.new) }
     ensures works { IfOk result (λ o. Worked o token.now page.old page.new) }
+    ensures ignores { IfOk result (λ o. Ignores o symbol) }
     ensures opens { IfOk result (λ o. Opens o symbol page.new) }
     ensures refuses { IfErr result (λ e. Refuses token.now e page.old page.new) }
 {
@@ -55,13 +58,14 @@ pub(crate) fn in_select(
 }
 
 /// The rules that both modes share.
-#[tactic(auto, using(crate::proofs::Settled::reset_rules, crate::proofs::RawText::open_rules))]
+#[tactic(auto, using(crate::proofs::Settled::reset_rules, crate::proofs::RawText::open_rules, crate::proofs::Begun::ignoring_rules))]
 fn select_rules(
     page: &mut Construction,
     token: &TokenKind,
     symbol: Symbol,
 ) -> Result<Outcome, Refusal>
     requires seen { is_droppable symbol ≡ true → may_select page.old.ledger.history ≡ true }
+    requires began { is_droppable symbol ≡ true → is_of_selects page.old.began ≡ true }
     requires high { 7 ≤ rank page.old.mode symbol }
     requires symbol { symbol_of token.now ≡ symbol }
     requires calls { Calls page.old }
@@ -71,6 +75,7 @@ fn select_rules(
     ensures falls { IfOk result (λ o. Falls o symbol page.old page.new) }
     ensures grows { IfOk result (λ o. Grows o page.old page.new) }
     ensures works { IfOk result (λ o. Worked o token.now page.old page.new) }
+    ensures ignores { IfOk result (λ o. Ignores o symbol) }
     ensures opens { IfOk result (λ o. Opens o symbol page.new) }
     ensures refuses { IfErr result (λ e. Refuses token.now e page.old page.new) }
 {
@@ -97,13 +102,14 @@ fn select_rules(
     Ok(Outcome::Done)
 }
 
-#[tactic(auto, using(crate::proofs::Settled::reset_rules, crate::proofs::RawText::head_names))]
+#[tactic(auto, using(crate::proofs::Settled::reset_rules, crate::proofs::RawText::head_names, crate::proofs::Begun::ignoring_rules))]
 fn select_start_tag(
     page: &mut Construction,
     token: &TokenKind,
     tag: Tag,
 ) -> Result<Outcome, Refusal>
     requires seen { may_select page.old.ledger.history ≡ true }
+    requires began { is_of_selects page.old.began ≡ true }
     requires high { 7 ≤ rank page.old.mode (Symbol.Start tag) }
     requires symbol { symbol_of token.now ≡ Symbol.Start tag }
     requires calls { Calls page.old }
@@ -112,6 +118,7 @@ fn select_start_tag(
     ensures falls { IfOk result (λ o. Falls o (Symbol.Start tag) page.old page.new) }
     ensures grows { IfOk result (λ o. Grows o page.old page.new) }
     ensures works { IfOk result (λ o. Worked o token.now page.old page.new) }
+    ensures ignores { IfOk result (λ o. Ignores o (Symbol.Start tag)) }
     ensures opens { IfOk result (λ o. Opens o (Symbol.Start tag) page.new) }
     ensures refuses { IfErr result (λ e. Refuses token.now e page.old page.new) }
 {
@@ -230,9 +237,11 @@ fn close_grouped_option(page: &mut Construction)
 }
 
 /// A start tag that closes the select, and is dropped where none is in scope.
-#[tactic(auto, using(crate::proofs::Settled::reset_rules, crate::proofs::RawText::open_rules))]
+#[tactic(auto, using(crate::proofs::Settled::reset_rules, crate::proofs::RawText::open_rules, crate::proofs::Begun::ignoring_rules))]
 fn leave_select(page: &mut Construction, token: &TokenKind, tag: Tag) -> Result<Outcome, Refusal>
     requires seen { may_select page.old.ledger.history ≡ true }
+    requires began { is_of_selects page.old.began ≡ true }
+    requires native { is_foreign tag ≡ false }
     requires high { 7 ≤ rank page.old.mode (Symbol.Start tag) }
     requires outside { is_in_select tag ≡ false }
     requires symbol { symbol_of token.now ≡ Symbol.Start tag }
@@ -242,6 +251,7 @@ fn leave_select(page: &mut Construction, token: &TokenKind, tag: Tag) -> Result<
     ensures falls { IfOk result (λ o. Falls o (Symbol.Start tag) page.old page.new) }
     ensures grows { IfOk result (λ o. Grows o page.old page.new) }
     ensures works { IfOk result (λ o. Worked o token.now page.old page.new) }
+    ensures ignores { IfOk result (λ o. Ignores o (Symbol.Start tag)) }
     ensures opens { IfOk result (λ o. Opens o (Symbol.Start tag) page.new) }
     ensures refuses { IfErr result (λ e. Refuses token.now e page.old page.new) }
 {
@@ -275,13 +285,14 @@ fn close_select(page: &mut Construction) -> bool
 }
 
 /// The rules for the "in select in table" insertion mode (13.2.6.4.17).
-#[tactic(auto, using(crate::proofs::Settled::select_rules, crate::proofs::RawText::open_rules))]
+#[tactic(auto, using(crate::proofs::Settled::select_rules, crate::proofs::RawText::open_rules, crate::proofs::Begun::ignoring_rules))]
 pub(crate) fn in_select_in_table(
     page: &mut Construction,
     token: &TokenKind,
     symbol: Symbol,
 ) -> Result<Outcome, Refusal>
     requires seen { is_droppable symbol ≡ true → may_select page.old.ledger.history ≡ true }
+    requires began { is_droppable symbol ≡ true → is_of_selects page.old.began ≡ true }
     requires symbol { symbol_of token.now ≡ symbol }
     requires mode { page.old.mode ≡ Mode.InSelectInTable }
     requires fits { Fits page.old }
@@ -292,6 +303,7 @@ pub(crate) fn in_select_in_table(
     ensures falls { IfOk result (λ o. Falls o symbol page.old page.new) }
     ensures grows { IfOk result (λ o. Grows o page.old page.new) }
     ensures works { IfOk result (λ o. Worked o token.now page.old page.new) }
+    ensures ignores { IfOk result (λ o. Ignores o symbol) }
     ensures opens { IfOk result (λ o. Opens o symbol page.new) }
     ensures refuses { IfErr result (λ e. Refuses token.now e page.old page.new) }
 {

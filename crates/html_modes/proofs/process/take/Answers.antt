@@ -1,4 +1,5 @@
-use Rattle.std.proofs.Common.{ap, arith, length, subst, ◌∙◌}
+use Rattle.std.proofs.Common.{ap, arith, inl, inr, length, subst, ◌∙◌}
+use Rattle.html_open.proofs.Keeps.{cases_bool}
 use Rattle.html_construction.specs.States.{State}
 use Rattle.html_modes.specs.Entering.{Enters}
 use Rattle.html_modes.specs.Guards.{is_text}
@@ -7,6 +8,8 @@ use Rattle.html_modes.proofs.Entering.{enters-done, enters-next}
 use Rattle.html_modes.proofs.Settled.{Entered, entered-next, toils-done}
 use Rattle.html_modes.proofs.Plain.{IsAlike, alike-begun, alike-counted, alike-then, goes-not, goes-on, next-alike}
 use Rattle.html_modes.proofs.RawText.{adds-done, adds-not, ends-done, leaving-on, opens-settled}
+use Rattle.html_modes.specs.Begun.{ignores_foreign}
+use Rattle.html_modes.proofs.Begun.{accepts-done, accepts-gives, accepts-out, began-own, begins-root, begun-refuses, done-foreign, done-not, first-entry, founded-begun}
 use Rattle.html_modes.proofs.process.take.Goals as goal
 
 pub steps-preserved : goal.steps-preserved
@@ -18,6 +21,11 @@ steps-preserved c =
     record {
       fits = c.in_ok-step.ensures.fits;
       keeps = λ h w. (subst (λ o. Steps o c.args.token.now c.count_steps.new.self c.step.new.page) c.in-Reprocess.is c.in_ok-step.ensures.takes) h (c.count_steps.ensures.keeps h (i.keeps h w));
+      first = λ k w z. absurd (
+          done-not c.in_ok-step.field-0
+          (first-entry c.begin_call.new.self c.steps.page c.count_steps.new.self c.in_ok-step.field-0 c.args.symbol i.first c.count_steps.ensures.rest (began-own c.args.page.now c.begin_call.new.self _ _ c.begin_call.ensures.rest) c.in_ok-step.ensures.ignores k w z)
+          c.in-Reprocess.is
+          );
       nodes = e.0;
       clones = e.1.0;
       implied = e.1.1.0;
@@ -82,6 +90,39 @@ pub returns-in-Done-clause-ends : goal.returns-in-Done-clause-ends
 returns-in-Done-clause-ends c = λ n.
     ends-done c.in_ok-step.field-0 c.args.symbol c.args.token.now c.args.page.now c.begin_call.new.self c.steps.page c.count_steps.new.self c.step.new.page c.settle.new.page c.in-Done.is
     (alike-begun c.args.page.now c.begin_call.new.self c.args.page.now.mode (length c.args.page.now.stack) (length c.args.page.now.tree.tree.labels) c.begin_call.ensures.rest)
-    c.begin_call.ensures.keeps c.steps.invariant.ends c.steps.invariant.keeps
+    c.begin_call.ensures.begins c.steps.invariant.ends c.steps.invariant.keeps
     (alike-counted c.steps.page c.count_steps.new.self c.count_steps.ensures.rest c.count_steps.ensures.same) c.count_steps.ensures.keeps
     c.in_ok-step.ensures.ends c.in_ok-step.ensures.takes c.settle.ensures.keeps
+
+pub returns-in-Done-clause-takes : goal.returns-in-Done-clause-takes
+returns-in-Done-clause-takes c = λ n.
+    (accepts-done c.args.token.now c.in_ok-step.field-0 c.args.page.now c.begin_call.new.self c.steps.page c.count_steps.new.self c.step.new.page c.settle.new.page c.in-Done.is c.begin_call.ensures.begins c.steps.invariant.keeps
+    c.count_steps.ensures.keeps c.in_ok-step.ensures.takes c.settle.ensures.keeps)
+
+pub returns-in-Done-clause-gives : goal.returns-in-Done-clause-gives
+returns-in-Done-clause-gives c = λ n. accepts-gives c.args.token.now c.args.page.now c.settle.new.page
+    (accepts-done c.args.token.now c.in_ok-step.field-0 c.args.page.now c.begin_call.new.self c.steps.page c.count_steps.new.self c.step.new.page c.settle.new.page c.in-Done.is c.begin_call.ensures.begins c.steps.invariant.keeps
+    c.count_steps.ensures.keeps c.in_ok-step.ensures.takes c.settle.ensures.keeps)
+
+pub returns-in-Done-clause-out : goal.returns-in-Done-clause-out
+returns-in-Done-clause-out c = λ n p. accepts-out c.args.token.now c.args.page.now c.settle.new.page
+    (accepts-done c.args.token.now c.in_ok-step.field-0 c.args.page.now c.begin_call.new.self c.steps.page c.count_steps.new.self c.step.new.page c.settle.new.page c.in-Done.is c.begin_call.ensures.begins c.steps.invariant.keeps
+    c.count_steps.ensures.keeps c.in_ok-step.ensures.takes c.settle.ensures.keeps)
+    (c.settle.ensures.out p)
+
+pub returns-in-Foreign-clause-ignores : goal.returns-in-Foreign-clause-ignores
+returns-in-Foreign-clause-ignores c = λ w. elim (cases_bool (ignores_foreign c.args.page.now.mode)) [
+  | inl k ↦ absurd (
+      done-foreign c.in_ok-step.field-0 c.in-Foreign.name
+      (first-entry c.begin_call.new.self c.steps.page c.count_steps.new.self c.in_ok-step.field-0 c.args.symbol c.steps.invariant.first c.count_steps.ensures.rest (began-own c.args.page.now c.begin_call.new.self _ _ c.begin_call.ensures.rest) c.in_ok-step.ensures.ignores
+      (ap (λ (x : State). ignores_foreign x.mode) c.begin_call.ensures.rest ∙ k) (founded-begun c.args.page.now c.begin_call.new.self _ _ c.begin_call.ensures.rest w)
+      (begins-root c.args.token.now c.args.symbol c.in_ok-step.field-0 c.in-Foreign.name _ c.requires.symbol c.in-Foreign.is (subst (λ o. Steps o c.args.token.now c.count_steps.new.self c.step.new.page) c.in-Foreign.is c.in_ok-step.ensures.takes)))
+      c.in-Foreign.is
+      )
+  | inr k ↦ k
+]
+
+pub returns-in_err-step-clause-refuses : goal.returns-in_err-step-clause-refuses
+returns-in_err-step-clause-refuses c =
+    begun-refuses c.from_residual.result c.args.token.now c.args.page.now c.begin_call.new.self c.step.new.page c.in_err-step.field-0.0 c.from_residual.ensures.1 c.begin_call.ensures.begins
+    (λ h w. c.in_err-step.ensures.refuses h (c.count_steps.ensures.keeps h (c.steps.invariant.keeps h w)))

@@ -1,4 +1,5 @@
 use Rattle.std.proofs.Common.{length, take}
+use Rattle.html_modes.proofs.Begun.{begun-refuses-any}
 use Rattle.html_modes.proofs.Plain.{alike-begun, alike-counted}
 use Rattle.html_modes.proofs.RawText.{run-other}
 use Rattle.html_modes.proofs.TextRuns.{run-goes-on}
@@ -13,3 +14,6 @@ returns-clause-plain c =
 
 pub returns-clause-adds : goal.returns-clause-adds
 returns-clause-adds c = run-other (take c.in_ok-count.count c.args.run.now) c.args.page.now c.count_steps.new.self c.requires.loose
+
+pub returns-in_err-count-clause-refuses : goal.returns-in_err-count-clause-refuses
+returns-in_err-count-clause-refuses c = begun-refuses-any c.from_residual.result c.args.page.now c.begin_call.new.self c.body_run.new.page c.in_err-count.field-0.0 c.from_residual.ensures.1 c.begin_call.ensures.begins c.in_err-count.ensures.refuses

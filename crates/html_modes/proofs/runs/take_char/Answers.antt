@@ -1,3 +1,4 @@
+use Rattle.std.proofs.Common.{refl}
 use Rattle.html_modes.proofs.Settled.{char-foreign}
 use Rattle.html_modes.proofs.TextRuns.{char-goes-on}
 use Rattle.html_modes.proofs.runs.take_char.Goals as goal
@@ -12,3 +13,12 @@ returns-clause-plain c = λ v.
 
 pub returns-clause-adds : goal.returns-clause-adds
 returns-clause-adds c = c.in_ok-take.ensures.adds (char-foreign c.args.c c.in_ok-take.field-0 c.in_ok-take.ensures.foreign)
+
+pub returns-clause-gives : goal.returns-clause-gives
+returns-clause-gives c = c.in_ok-take.ensures.gives (char-foreign c.args.c c.in_ok-take.field-0 c.in_ok-take.ensures.foreign)
+
+pub returns-clause-out : goal.returns-clause-out
+returns-clause-out c = c.in_ok-take.ensures.out (char-foreign c.args.c c.in_ok-take.field-0 c.in_ok-take.ensures.foreign) refl
+
+pub returns-clause-founded : goal.returns-clause-founded
+returns-clause-founded c = c.in_ok-take.ensures.founded (char-foreign c.args.c c.in_ok-take.field-0 c.in_ok-take.ensures.foreign)

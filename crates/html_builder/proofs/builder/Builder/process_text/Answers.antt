@@ -6,7 +6,7 @@ use Rattle.std.proofs.Math.Seq.{take-add, take-length}
 use Rattle.html_construction.specs.Built.{chars_of}
 use Rattle.html_builder.specs.Errors.{IsTextTold}
 use Rattle.html_builder.specs.Handed.{HandsIn, IsTextCause, fates_of}
-use Rattle.html_builder.proofs.Handing.{added-then, handed-then, take-one, text-cause-part}
+use Rattle.html_builder.proofs.Handing.{added-then, enters-then, gives-then, handed-then, take-one, text-cause-part}
 use Rattle.html_builder.proofs.builder.Builder.process_text.Goals as goal
 
 pub taking-preserved : goal.taking-preserved
@@ -20,6 +20,8 @@ taking-preserved c =
       takes = subst (λ cs. HandsIn (chars_of cs) c.args.self.now c.process_front.new.self) (sym (take-add c.taking.taken c.in_ok-count.count c.args.text.now))
           (handed-then (take c.taking.taken c.args.text.now) (take c.in_ok-count.count (drop c.taking.taken c.args.text.now)) c.args.self.now c.taking.self c.process_front.new.self c.taking.invariant.takes piece);
       grows = added-then (take c.taking.taken c.args.text.now) c.args.self.now c.taking.self c.process_front.new.self c.taking.invariant.takes c.taking.invariant.grows c.in_ok-count.ensures.grows;
+      gives = gives-then (take c.taking.taken c.args.text.now) c.args.self.now c.taking.self c.process_front.new.self c.taking.invariant.takes c.taking.invariant.enters c.taking.invariant.gives c.in_ok-count.ensures.gives;
+      enters = enters-then (take c.taking.taken c.args.text.now) c.args.self.now c.taking.self c.process_front.new.self c.taking.invariant.takes c.taking.invariant.enters c.in_ok-count.ensures.enters;
       stopped = c.in_ok-count.ensures.ok ∙ sym c.in_ok-count.ensures.ready ∙ c.taking.invariant.stopped;
       ready = λ k. sym c.taking.invariant.stopped ∙ c.in_ok-count.ensures.ready;
       most = omega (arith, count, c.taking.invariant.most);

@@ -1,7 +1,6 @@
 use Rattle.std.proofs.Common.{refl}
-use Rattle.html_construction.proofs.Kept.{kept, unchanged}
-use Rattle.html_construction.proofs.Building.{as-was}
+use Rattle.html_construction.proofs.Kept.{begins}
 use Rattle.html_construction.proofs.construction.Construction.begin_call.Goals as goal
 
-pub returns-clause-keeps : goal.returns-clause-keeps
-returns-clause-keeps c = kept _ c.args.self.now _ c.self.view_is refl (unchanged _) (as-was _ _ refl)
+pub returns-clause-begins : goal.returns-clause-begins
+returns-clause-begins c = begins _ c.args.self.now _ _ _ c.self.view_is refl

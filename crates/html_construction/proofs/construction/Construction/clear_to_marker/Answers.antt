@@ -6,7 +6,7 @@ use Rattle.html_construction.proofs.Working.{works-list}
 use Rattle.html_construction.proofs.construction.Construction.clear_to_marker.Goals as goal
 
 pub returns-clause-keeps : goal.returns-clause-keeps
-returns-clause-keeps c = kept _ c.args.self.now _ c.self.view_is refl c.clear_to_marker.ensures.keeps (as-was _ _ (ap (λ (x : Tree). x.tree) c.clear_to_marker.ensures.exact))
+returns-clause-keeps c = kept _ c.args.self.now _ c.self.view_is refl refl c.clear_to_marker.ensures.keeps (as-was _ _ (ap (λ (x : Tree). x.tree) c.clear_to_marker.ensures.exact))
 
 pub returns-clause-works : goal.returns-clause-works
 returns-clause-works c = works-list c.args.self.now _ _ c.self.inside.ledger c.self.view_is c.requires.listed c.clear_to_marker.ensures.keeps (adds-none _ _ refl) (let h = c.clear_to_marker.ensures.steps in omega (arith, h))

@@ -4,4 +4,4 @@ use Rattle.html_construction.proofs.Building.{as-was}
 use Rattle.html_construction.proofs.construction.Construction.foster_on.Goals as goal
 
 pub returns-clause-keeps : goal.returns-clause-keeps
-returns-clause-keeps c = kept _ c.args.self.now _ c.self.view_is refl (unchanged _) (as-was _ _ refl)
+returns-clause-keeps c = kept _ c.args.self.now _ c.self.view_is refl refl (unchanged _) (as-was _ _ refl)

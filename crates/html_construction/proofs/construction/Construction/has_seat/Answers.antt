@@ -6,7 +6,7 @@ use Rattle.html_construction.proofs.Working.{works-counted}
 use Rattle.html_construction.proofs.construction.Construction.has_seat.Goals as goal
 
 pub returns-clause-keeps : goal.returns-clause-keeps
-returns-clause-keeps c = kept _ c.args.self.now _ c.self.view_is refl c.has_seat.ensures.keeps (as-was _ _ (ap (λ (x : Tree). x.tree) c.has_seat.ensures.rest))
+returns-clause-keeps c = kept _ c.args.self.now _ c.self.view_is refl refl c.has_seat.ensures.keeps (as-was _ _ (ap (λ (x : Tree). x.tree) c.has_seat.ensures.rest))
 
 pub returns-clause-works : goal.returns-clause-works
 returns-clause-works c = works-counted 1 c.args.self.now _ _ c.self.inside.ledger c.self.view_is c.has_seat.ensures.keeps (adds-none _ _ refl) (let h = c.has_seat.ensures.steps in omega (arith, h))

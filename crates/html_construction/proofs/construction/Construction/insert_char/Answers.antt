@@ -1,7 +1,7 @@
 use Rattle.html_ledger.specs.declared.symbol.Symbol.TheVariants.{Char}
-use Rattle.std.proofs.Common.{ap, ◌∙◌, arith}
+use Rattle.std.proofs.Common.{ap, ◌∙◌, arith, refl}
 use Rattle.html_ledger.specs.Entries.{Entries, given}
-use Rattle.html_construction.proofs.Kept.{adds, still, taken, told-char}
+use Rattle.html_construction.proofs.Kept.{adds, still, taken, told-char, gives-text}
 use Rattle.html_tree.proofs.Texted.{text-limits}
 use Rattle.html_tree.specs.States.{State as Tree}
 use Rattle.html_construction.specs.States.{State}
@@ -16,7 +16,7 @@ pub invariant_of-self : goal.invariant_of-self
 invariant_of-self c = still _ _ c.self.inside.ledger c.self.inside.registers.templates.items c.append_run.ensures.tokens c.self.invariant
 
 pub returns-clause-takes : goal.returns-clause-takes
-returns-clause-takes c = taken _ c.args.self.now _ c.args.token.now (Char c.args.c) c.self.view_is c.requires.symbol c.in_ok-give.ensures.takes (adds _ _ _ (ap (λ (x : Entries). x.fates) c.in_ok-give.ensures.given)) c.in_ok-node.ensures.keeps (ap (λ (x : Tree). x.tree.limits) c.in_ok-node.ensures.exact ∙ text-limits c.self.inside.tree c.self.inside.registers.fostering) (told-char _ _ c.self.inside.registers.fostering c.args.token.now c.in_ok-node.field-0-1 c.args.c c.as_slice.result.now c.requires.symbol c.as_slice.ensures c.in_ok-node.ensures.count.0 (ap (λ (x : State). x.ledger.kept) c.self.view_is ∙ c.requires.quiet) (ap (λ (x : Tree). x.tree) c.in_ok-node.ensures.exact) (c.in_ok-give.ensures.given ∙ ap (λ d. given c.self.inside.ledger (Char c.args.c) (Text d)) c.in_ok-node.ensures.node))
+returns-clause-takes c = taken _ c.args.self.now _ c.args.token.now (Char c.args.c) c.self.view_is c.requires.symbol c.in_ok-give.ensures.takes (gives-text _ _ _ _ (ap (λ (x : Entries). x.fates) c.in_ok-give.ensures.given)) c.in_ok-node.ensures.keeps (ap (λ (x : Tree). x.tree.limits) c.in_ok-node.ensures.exact ∙ text-limits c.self.inside.tree c.self.inside.registers.fostering) (told-char _ _ c.self.inside.registers.fostering c.args.token.now c.in_ok-node.field-0-1 c.args.c c.as_slice.result.now c.requires.symbol c.as_slice.ensures c.in_ok-node.ensures.count.0 (ap (λ (x : State). x.ledger.kept) c.self.view_is ∙ c.requires.quiet) (ap (λ (x : Tree). x.tree) c.in_ok-node.ensures.exact) (c.in_ok-give.ensures.given ∙ ap (λ d. given c.self.inside.ledger (Char c.args.c) (Text d)) c.in_ok-node.ensures.node)) refl
 
 pub returns-clause-grown : goal.returns-clause-grown
 returns-clause-grown c =

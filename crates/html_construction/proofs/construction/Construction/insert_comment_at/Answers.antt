@@ -1,6 +1,6 @@
 use Rattle.html_ledger.specs.declared.symbol.Symbol.TheVariants.{Comment}
 use Rattle.std.proofs.Common.{refl, ap, arith}
-use Rattle.html_construction.proofs.Kept.{adds-made, behind, made-next, taken-made, told-made, made-comment, adds-none}
+use Rattle.html_construction.proofs.Kept.{behind, made-next, taken-made, told-made, made-comment, adds-none, gives-made}
 use Rattle.html_tree.specs.States.{State as Tree}
 use Rattle.html_tree.specs.Targets.{place_for}
 use Rattle.html_arena.specs.declared.data.NewNode.TheVariants as new
@@ -16,7 +16,7 @@ pub invariant_of-self : goal.invariant_of-self
 invariant_of-self c = made-next _ _ c.args.self.now c.in_ok-number.number _ c.self.inside.registers.templates.items c.self.view_is c.in_ok-number.ensures.number c.in_ok-number.ensures.counted c.insert_comment.ensures.tokens_most c.self.invariant.templates_fit
 
 pub returns-clause-takes : goal.returns-clause-takes
-returns-clause-takes c = taken-made _ _ c.args.self.now _ c.args.token.now Comment c.self.view_is c.in_ok-number.ensures.rest refl c.requires.symbol c.in_ok-number.ensures.takes (adds-made _ _ _ _ c.in_ok-number.ensures.fate) c.in_ok-insert_comment.ensures.keeps (place_for c.self.inside.tree c.args.target) (new.Comment c.in_ok-text.text c.in_ok-number.number) (ap (λ (x : Tree). x.tree) c.in_ok-insert_comment.ensures.exact) (told-made _ _ _ _ c.args.token.now Comment (place_for c.self.inside.tree c.args.target) (new.Comment c.in_ok-text.text c.in_ok-number.number) c.self.view_is c.in_ok-number.ensures.rest refl c.in_ok-number.ensures.fate c.requires.quiet (made-comment c.self.inside.tree.tree c.args.token.now c.in_ok-text.text c.in_ok-number.number _ c.requires.symbol c.in_ok-text.ensures.data c.in_ok-number.ensures.number) (ap (λ (x : Tree). x.tree) c.in_ok-insert_comment.ensures.exact))
+returns-clause-takes c = taken-made _ _ c.args.self.now _ c.args.token.now Comment c.self.view_is c.in_ok-number.ensures.rest refl refl c.requires.symbol c.in_ok-number.ensures.takes (gives-made _ _ _ _ _ c.in_ok-number.ensures.fate) c.in_ok-insert_comment.ensures.keeps (place_for c.self.inside.tree c.args.target) (new.Comment c.in_ok-text.text c.in_ok-number.number) (ap (λ (x : Tree). x.tree) c.in_ok-insert_comment.ensures.exact) (told-made _ _ _ _ c.args.token.now Comment (place_for c.self.inside.tree c.args.target) (new.Comment c.in_ok-text.text c.in_ok-number.number) c.self.view_is c.in_ok-number.ensures.rest refl c.in_ok-number.ensures.fate c.requires.quiet (made-comment c.self.inside.tree.tree c.args.token.now c.in_ok-text.text c.in_ok-number.number _ c.requires.symbol c.in_ok-text.ensures.data c.in_ok-number.ensures.number) (ap (λ (x : Tree). x.tree) c.in_ok-insert_comment.ensures.exact))
 
 pub returns-clause-grown : goal.returns-clause-grown
 returns-clause-grown c =

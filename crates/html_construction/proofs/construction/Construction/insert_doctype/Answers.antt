@@ -1,6 +1,6 @@
 use Rattle.html_ledger.specs.declared.symbol.Symbol.TheVariants.{Doctype}
 use Rattle.std.proofs.Common.{refl, ap, arith}
-use Rattle.html_construction.proofs.Kept.{adds-made, behind, made-next, taken-made, told-made, made-doctype, adds-none}
+use Rattle.html_construction.proofs.Kept.{behind, made-next, taken-made, told-made, made-doctype, adds-none, gives-made}
 use Rattle.html_tree.specs.States.{State as Tree}
 use Rattle.html_tree.specs.Targets.{place_for}
 use Rattle.html_arena.specs.declared.data.NewNode.TheVariants as new
@@ -17,7 +17,7 @@ pub invariant_of-self : goal.invariant_of-self
 invariant_of-self c = made-next _ _ c.args.self.now c.in_ok-number.number _ c.self.inside.registers.templates.items c.self.view_is c.in_ok-number.ensures.number c.in_ok-number.ensures.counted c.insert_doctype.ensures.tokens_most c.self.invariant.templates_fit
 
 pub returns-clause-takes : goal.returns-clause-takes
-returns-clause-takes c = taken-made _ _ c.args.self.now _ c.args.token.now Doctype c.self.view_is c.in_ok-number.ensures.rest refl c.requires.symbol c.in_ok-number.ensures.takes (adds-made _ _ _ _ c.in_ok-number.ensures.fate) c.in_ok-insert_doctype.ensures.keeps (place_for c.self.inside.tree target.Document) (new.Doctype c.in_ok-ids.ids.name c.in_ok-ids.ids.«public» c.in_ok-ids.ids.system c.in_ok-number.number) (ap (λ (x : Tree). x.tree) c.in_ok-insert_doctype.ensures.exact) (told-made _ _ _ _ c.args.token.now Doctype (place_for c.self.inside.tree target.Document) (new.Doctype c.in_ok-ids.ids.name c.in_ok-ids.ids.«public» c.in_ok-ids.ids.system c.in_ok-number.number) c.self.view_is c.in_ok-number.ensures.rest refl c.in_ok-number.ensures.fate c.requires.quiet (made-doctype c.self.inside.tree.tree c.args.token.now c.in_ok-ids.ids.name c.in_ok-ids.ids.«public» c.in_ok-ids.ids.system c.in_ok-number.number _ c.requires.symbol c.in_ok-ids.ensures.name c.in_ok-ids.ensures.public c.in_ok-ids.ensures.system c.in_ok-number.ensures.number) (ap (λ (x : Tree). x.tree) c.in_ok-insert_doctype.ensures.exact))
+returns-clause-takes c = taken-made _ _ c.args.self.now _ c.args.token.now Doctype c.self.view_is c.in_ok-number.ensures.rest refl refl c.requires.symbol c.in_ok-number.ensures.takes (gives-made _ _ _ _ _ c.in_ok-number.ensures.fate) c.in_ok-insert_doctype.ensures.keeps (place_for c.self.inside.tree target.Document) (new.Doctype c.in_ok-ids.ids.name c.in_ok-ids.ids.«public» c.in_ok-ids.ids.system c.in_ok-number.number) (ap (λ (x : Tree). x.tree) c.in_ok-insert_doctype.ensures.exact) (told-made _ _ _ _ c.args.token.now Doctype (place_for c.self.inside.tree target.Document) (new.Doctype c.in_ok-ids.ids.name c.in_ok-ids.ids.«public» c.in_ok-ids.ids.system c.in_ok-number.number) c.self.view_is c.in_ok-number.ensures.rest refl c.in_ok-number.ensures.fate c.requires.quiet (made-doctype c.self.inside.tree.tree c.args.token.now c.in_ok-ids.ids.name c.in_ok-ids.ids.«public» c.in_ok-ids.ids.system c.in_ok-number.number _ c.requires.symbol c.in_ok-ids.ensures.name c.in_ok-ids.ensures.public c.in_ok-ids.ensures.system c.in_ok-number.ensures.number) (ap (λ (x : Tree). x.tree) c.in_ok-insert_doctype.ensures.exact))
 
 pub returns-clause-grown : goal.returns-clause-grown
 returns-clause-grown c =

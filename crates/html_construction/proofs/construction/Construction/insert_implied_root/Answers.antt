@@ -14,7 +14,7 @@ pub invariant_of-self : goal.invariant_of-self
 invariant_of-self c = still _ _ c.self.inside.ledger c.self.inside.registers.templates.items c.insert_implied_root.ensures.tokens c.self.invariant
 
 pub returns-clause-keeps : goal.returns-clause-keeps
-returns-clause-keeps c = implied _ c.args.self.now _ (place_for c.self.inside.tree target.Document) tag.Html c.self.view_is refl c.in_ok-insert_implied_root.ensures.keeps (ap (λ (x : Tree). x.tree) c.in_ok-insert_implied_root.ensures.exact) refl
+returns-clause-keeps c = implied _ c.args.self.now _ (place_for c.self.inside.tree target.Document) tag.Html c.self.view_is refl refl c.in_ok-insert_implied_root.ensures.keeps (ap (λ (x : Tree). x.tree) c.in_ok-insert_implied_root.ensures.exact) refl
 
 pub returns-clause-grown : goal.returns-clause-grown
 returns-clause-grown c =

@@ -11,7 +11,7 @@ pub invariant_of-self : goal.invariant_of-self
 invariant_of-self c = still _ _ c.self.inside.ledger c.self.inside.registers.templates.items c.insert_implied_void.ensures.tokens c.self.invariant
 
 pub returns-clause-keeps : goal.returns-clause-keeps
-returns-clause-keeps c = implied _ c.args.self.now _ _ c.args.tag c.self.view_is refl c.in_ok-insert_implied_void.ensures.keeps (ap (λ (x : Tree). x.tree) c.in_ok-insert_implied_void.ensures.exact) c.requires.alone
+returns-clause-keeps c = implied _ c.args.self.now _ _ c.args.tag c.self.view_is refl refl c.in_ok-insert_implied_void.ensures.keeps (ap (λ (x : Tree). x.tree) c.in_ok-insert_implied_void.ensures.exact) c.requires.alone
 
 pub returns-clause-grown : goal.returns-clause-grown
 returns-clause-grown c =

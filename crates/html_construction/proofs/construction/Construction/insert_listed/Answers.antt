@@ -1,7 +1,7 @@
 use Rattle.html_ledger.specs.declared.symbol.Symbol.TheVariants.{Start}
 use Rattle.std.proofs.Common.{refl, ap}
 use Rattle.html_construction.specs.Tokens.{attrs_of, tag_name}
-use Rattle.html_construction.proofs.Kept.{adds-made, behind, listed-made, made-next, taken-made, told-made, made-element, adds-none}
+use Rattle.html_construction.proofs.Kept.{behind, listed-made, made-next, taken-made, told-made, made-element, adds-none, gives-made}
 use Rattle.html_tree.specs.States.{State as Tree}
 use Rattle.html_tree.specs.Targets.{place_for}
 use Rattle.html_arena.specs.declared.data.NewNode.TheVariants as new
@@ -20,7 +20,7 @@ pub invariant_of-self : goal.invariant_of-self
 invariant_of-self c = made-next _ _ c.args.self.now c.in_ok-number.number _ c.self.inside.registers.templates.items c.self.view_is c.in_ok-number.ensures.number c.in_ok-number.ensures.counted c.insert_listed.ensures.tokens_most c.self.invariant.templates_fit
 
 pub returns-clause-takes : goal.returns-clause-takes
-returns-clause-takes c = taken-made _ _ c.args.self.now _ c.args.token.now (Start c.args.tag) c.self.view_is c.in_ok-number.ensures.rest refl c.requires.symbol c.in_ok-number.ensures.takes (adds-made _ _ _ _ c.in_ok-number.ensures.fate) c.in_ok-insert_listed.ensures.keeps (place_for c.self.inside.tree (target.Current c.self.inside.registers.fostering)) (new.Element c.in_ok-name.name c.in_ok-attrs.attrs (Token c.in_ok-number.number)) (ap (λ (x : Tree). x.tree) c.in_ok-insert_listed.ensures.exact) (told-made _ _ _ _ c.args.token.now (Start c.args.tag) (place_for c.self.inside.tree (target.Current c.self.inside.registers.fostering)) (new.Element c.in_ok-name.name c.in_ok-attrs.attrs (Token c.in_ok-number.number)) c.self.view_is c.in_ok-number.ensures.rest refl c.in_ok-number.ensures.fate c.requires.quiet (made-element c.self.inside.tree.tree c.args.token.now c.args.tag c.in_ok-name.name c.in_ok-attrs.attrs c.in_ok-number.number _ c.requires.symbol (named-formatting c.args.tag c.args.token.now c.in_ok-name.name c.requires.formatting c.in_ok-name.ensures.name) c.in_ok-attrs.ensures.attrs c.in_ok-number.ensures.number) (ap (λ (x : Tree). x.tree) c.in_ok-insert_listed.ensures.exact))
+returns-clause-takes c = taken-made _ _ c.args.self.now _ c.args.token.now (Start c.args.tag) c.self.view_is c.in_ok-number.ensures.rest refl refl c.requires.symbol c.in_ok-number.ensures.takes (gives-made _ _ _ _ _ c.in_ok-number.ensures.fate) c.in_ok-insert_listed.ensures.keeps (place_for c.self.inside.tree (target.Current c.self.inside.registers.fostering)) (new.Element c.in_ok-name.name c.in_ok-attrs.attrs (Token c.in_ok-number.number)) (ap (λ (x : Tree). x.tree) c.in_ok-insert_listed.ensures.exact) (told-made _ _ _ _ c.args.token.now (Start c.args.tag) (place_for c.self.inside.tree (target.Current c.self.inside.registers.fostering)) (new.Element c.in_ok-name.name c.in_ok-attrs.attrs (Token c.in_ok-number.number)) c.self.view_is c.in_ok-number.ensures.rest refl c.in_ok-number.ensures.fate c.requires.quiet (made-element c.self.inside.tree.tree c.args.token.now c.args.tag c.in_ok-name.name c.in_ok-attrs.attrs c.in_ok-number.number _ c.requires.symbol (named-formatting c.args.tag c.args.token.now c.in_ok-name.name c.requires.formatting c.in_ok-name.ensures.name) c.in_ok-attrs.ensures.attrs c.in_ok-number.ensures.number) (ap (λ (x : Tree). x.tree) c.in_ok-insert_listed.ensures.exact))
 
 pub returns-clause-exact : goal.returns-clause-exact
 returns-clause-exact c =

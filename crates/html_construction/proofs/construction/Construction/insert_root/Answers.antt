@@ -1,7 +1,7 @@
 use Rattle.html_ledger.specs.declared.symbol.Symbol.TheVariants.{Start}
 use Rattle.html_names.specs.declared.tag.Tag.TheVariants as tag
 use Rattle.std.proofs.Common.{refl, ap, arith}
-use Rattle.html_construction.proofs.Kept.{adds-made, behind, made-next, taken-made, told-made, made-element, adds-none}
+use Rattle.html_construction.proofs.Kept.{behind, made-next, taken-made, told-made, made-element, adds-none, gives-made}
 use Rattle.html_tree.specs.States.{State as Tree}
 use Rattle.html_tree.specs.Targets.{place_for}
 use Rattle.html_arena.specs.declared.data.NewNode.TheVariants as new
@@ -21,7 +21,7 @@ pub invariant_of-self : goal.invariant_of-self
 invariant_of-self c = made-next _ _ c.args.self.now c.in_ok-number.number _ c.self.inside.registers.templates.items c.self.view_is c.in_ok-number.ensures.number c.in_ok-number.ensures.counted c.insert_root.ensures.tokens_most c.self.invariant.templates_fit
 
 pub returns-clause-takes : goal.returns-clause-takes
-returns-clause-takes c = taken-made _ _ c.args.self.now _ c.args.token.now (Start tag.Html) c.self.view_is c.in_ok-number.ensures.rest refl c.requires.symbol c.in_ok-number.ensures.takes (adds-made _ _ _ _ c.in_ok-number.ensures.fate) c.in_ok-insert_root.ensures.keeps (place_for c.self.inside.tree target.Document) (new.Element (name_of tag.Html) c.in_ok-attrs.attrs (Token c.in_ok-number.number)) (ap (λ (x : Tree). x.tree) c.in_ok-insert_root.ensures.exact) (told-made _ _ _ _ c.args.token.now (Start tag.Html) (place_for c.self.inside.tree target.Document) (new.Element (name_of tag.Html) c.in_ok-attrs.attrs (Token c.in_ok-number.number)) c.self.view_is c.in_ok-number.ensures.rest refl c.in_ok-number.ensures.fate c.requires.quiet (made-element c.self.inside.tree.tree c.args.token.now tag.Html (name_of tag.Html) c.in_ok-attrs.attrs c.in_ok-number.number _ c.requires.symbol (named-html c.args.token.now c.requires.symbol) c.in_ok-attrs.ensures.attrs c.in_ok-number.ensures.number) (ap (λ (x : Tree). x.tree) c.in_ok-insert_root.ensures.exact))
+returns-clause-takes c = taken-made _ _ c.args.self.now _ c.args.token.now (Start tag.Html) c.self.view_is c.in_ok-number.ensures.rest refl refl c.requires.symbol c.in_ok-number.ensures.takes (gives-made _ _ _ _ _ c.in_ok-number.ensures.fate) c.in_ok-insert_root.ensures.keeps (place_for c.self.inside.tree target.Document) (new.Element (name_of tag.Html) c.in_ok-attrs.attrs (Token c.in_ok-number.number)) (ap (λ (x : Tree). x.tree) c.in_ok-insert_root.ensures.exact) (told-made _ _ _ _ c.args.token.now (Start tag.Html) (place_for c.self.inside.tree target.Document) (new.Element (name_of tag.Html) c.in_ok-attrs.attrs (Token c.in_ok-number.number)) c.self.view_is c.in_ok-number.ensures.rest refl c.in_ok-number.ensures.fate c.requires.quiet (made-element c.self.inside.tree.tree c.args.token.now tag.Html (name_of tag.Html) c.in_ok-attrs.attrs c.in_ok-number.number _ c.requires.symbol (named-html c.args.token.now c.requires.symbol) c.in_ok-attrs.ensures.attrs c.in_ok-number.ensures.number) (ap (λ (x : Tree). x.tree) c.in_ok-insert_root.ensures.exact))
 
 pub returns-clause-grown : goal.returns-clause-grown
 returns-clause-grown c =

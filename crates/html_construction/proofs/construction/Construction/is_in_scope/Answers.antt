@@ -6,7 +6,7 @@ use Rattle.html_construction.proofs.Working.{works-walk}
 use Rattle.html_construction.proofs.construction.Construction.is_in_scope.Goals as goal
 
 pub returns-clause-keeps : goal.returns-clause-keeps
-returns-clause-keeps c = kept _ c.args.self.now _ c.self.view_is refl c.is_in_scope.ensures.keeps (as-was _ _ (ap (λ (x : Tree). x.tree) c.is_in_scope.ensures.rest))
+returns-clause-keeps c = kept _ c.args.self.now _ c.self.view_is refl refl c.is_in_scope.ensures.keeps (as-was _ _ (ap (λ (x : Tree). x.tree) c.is_in_scope.ensures.rest))
 
 pub returns-clause-works : goal.returns-clause-works
 returns-clause-works c = works-walk c.args.self.now _ _ c.self.inside.ledger c.self.view_is c.laws.ensures.sound c.self.invariant.tokens c.is_in_scope.ensures.keeps (adds-none _ _ refl) (let h = c.is_in_scope.ensures.steps in omega (arith, h))

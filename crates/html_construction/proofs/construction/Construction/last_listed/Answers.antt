@@ -9,7 +9,7 @@ use Rattle.html_construction.proofs.Seats.{listed-formatting}
 use Rattle.html_construction.proofs.construction.Construction.last_listed.Goals as goal
 
 pub returns-clause-keeps : goal.returns-clause-keeps
-returns-clause-keeps c = kept _ c.args.self.now _ c.self.view_is refl c.last_listed.ensures.keeps (as-was _ _ (ap (λ (x : Tree). x.tree) c.last_listed.ensures.rest))
+returns-clause-keeps c = kept _ c.args.self.now _ c.self.view_is refl refl c.last_listed.ensures.keeps (as-was _ _ (ap (λ (x : Tree). x.tree) c.last_listed.ensures.rest))
 
 pub returns-clause-listed : goal.returns-clause-listed
 returns-clause-listed c = c.last_listed.ensures.node ∙ ap (λ (x : State). last_named x.tree.tree c.args.tag x.tree.list) c.self.view_is

@@ -1,7 +1,7 @@
 use Rattle.html_ledger.specs.declared.symbol.Symbol.TheVariants.{Start}
-use Rattle.std.proofs.Common.{ap, ◌∙◌, subst, sym, true, ◌≡◌}
+use Rattle.std.proofs.Common.{ap, ◌∙◌, subst, sym, true, ◌≡◌, refl}
 use Rattle.html_ledger.specs.Entries.{Entries}
-use Rattle.html_construction.proofs.Kept.{adds, still, taken, told-merge}
+use Rattle.html_construction.proofs.Kept.{adds, still, taken, told-merge, gives-merged}
 use Rattle.html_tree.specs.States.{State as Tree}
 use Rattle.html_construction.specs.States.{State}
 use Rattle.std.specs.Prelude.{slice_index}
@@ -25,8 +25,8 @@ pub invariant_of-self : goal.invariant_of-self
 invariant_of-self c = still _ _ c.self.inside.ledger c.self.inside.registers.templates.items c.merge.ensures.tokens c.self.invariant
 
 pub returns-clause-takes : goal.returns-clause-takes
-returns-clause-takes c = taken _ c.args.self.now _ c.args.token.now (Start c.args.tag) c.self.view_is c.requires.symbol c.in_ok-give.ensures.takes (adds _ _ _ (ap (λ (x : Entries). x.fates) c.in_ok-give.ensures.given)) c.in_ok-merge.ensures.keeps (ap (λ (x : Tree). x.tree.limits) c.in_ok-merge.ensures.exact) (told-merge _ _ c.args.token.now c.args.tag (slice_index c.self.inside.tree.stack c.args.index) c.requires.symbol c.requires.outermost (ap (λ (x : State). x.ledger.kept) c.self.view_is ∙ c.requires.quiet) (ap (λ (x : Entries). x.fates) c.in_ok-give.ensures.given) (outermost-in c.self.inside.tree.tree c.args.tag (slice_index c.self.inside.tree.stack c.args.index) c.requires.outermost (subst (λ (x : State). named x.tree.tree c.args.tag (slice_index x.tree.stack c.args.index) ≡ true) (sym c.self.view_is) c.requires.own)) (subst (λ (x : State). named x.tree.tree c.args.tag (slice_index x.tree.stack c.args.index) ≡ true) (sym c.self.view_is) c.requires.own)
-    (ap (λ (x : Tree). x.tree) c.in_ok-merge.ensures.exact ∙ ap (λ own. bare (with_merged c.self.inside.tree.tree (slice_index c.self.inside.tree.stack c.args.index) own)) c.in_ok-attrs.ensures.attrs))
+returns-clause-takes c = taken _ c.args.self.now _ c.args.token.now (Start c.args.tag) c.self.view_is c.requires.symbol c.in_ok-give.ensures.takes (gives-merged _ _ _ (ap (λ (x : Entries). x.fates) c.in_ok-give.ensures.given)) c.in_ok-merge.ensures.keeps (ap (λ (x : Tree). x.tree.limits) c.in_ok-merge.ensures.exact) (told-merge _ _ c.args.token.now c.args.tag (slice_index c.self.inside.tree.stack c.args.index) c.requires.symbol c.requires.outermost (ap (λ (x : State). x.ledger.kept) c.self.view_is ∙ c.requires.quiet) (ap (λ (x : Entries). x.fates) c.in_ok-give.ensures.given) (outermost-in c.self.inside.tree.tree c.args.tag (slice_index c.self.inside.tree.stack c.args.index) c.requires.outermost (subst (λ (x : State). named x.tree.tree c.args.tag (slice_index x.tree.stack c.args.index) ≡ true) (sym c.self.view_is) c.requires.own)) (subst (λ (x : State). named x.tree.tree c.args.tag (slice_index x.tree.stack c.args.index) ≡ true) (sym c.self.view_is) c.requires.own)
+    (ap (λ (x : Tree). x.tree) c.in_ok-merge.ensures.exact ∙ ap (λ own. bare (with_merged c.self.inside.tree.tree (slice_index c.self.inside.tree.stack c.args.index) own)) c.in_ok-attrs.ensures.attrs)) refl
 
 pub returns-clause-grown : goal.returns-clause-grown
 returns-clause-grown c =

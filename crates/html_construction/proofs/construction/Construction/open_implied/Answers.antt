@@ -8,7 +8,7 @@ use Rattle.html_construction.proofs.Telling.{handed-on-any, refused-implied}
 use Rattle.html_construction.proofs.construction.Construction.open_implied.Goals as goal
 
 pub returns-clause-keeps : goal.returns-clause-keeps
-returns-clause-keeps c = implied _ c.args.self.now _ _ c.args.tag c.self.view_is refl c.in_ok-node.ensures.keeps (ap (λ (x : Tree). x.tree) c.in_ok-node.ensures.exact) c.requires.alone
+returns-clause-keeps c = implied _ c.args.self.now _ _ c.args.tag c.self.view_is refl refl c.in_ok-node.ensures.keeps (ap (λ (x : Tree). x.tree) c.in_ok-node.ensures.exact) c.requires.alone
 
 pub returns-clause-grown : goal.returns-clause-grown
 returns-clause-grown c =

@@ -14,7 +14,7 @@ pub insert_implied-requires-clause-seat : goal.insert_implied-requires-clause-se
 insert_implied-requires-clause-seat c = λ p. (refl, subst (λ (b : State). has_seat b.tree c.args.tag ≡ true) (sym c.self.view_is) c.requires.seat)
 
 pub returns-clause-keeps : goal.returns-clause-keeps
-returns-clause-keeps c = implied _ c.args.self.now _ (place_for c.self.inside.tree (target.Current false)) c.args.tag c.self.view_is refl c.in_ok-insert_implied.ensures.keeps (ap (λ (x : Tree). x.tree) c.in_ok-insert_implied.ensures.exact) c.requires.alone
+returns-clause-keeps c = implied _ c.args.self.now _ (place_for c.self.inside.tree (target.Current false)) c.args.tag c.self.view_is refl refl c.in_ok-insert_implied.ensures.keeps (ap (λ (x : Tree). x.tree) c.in_ok-insert_implied.ensures.exact) c.requires.alone
 
 pub returns-clause-grown : goal.returns-clause-grown
 returns-clause-grown c =

@@ -6,7 +6,7 @@ use Rattle.html_construction.proofs.Working.{works-walk}
 use Rattle.html_construction.proofs.construction.Construction.pop_to.Goals as goal
 
 pub returns-clause-keeps : goal.returns-clause-keeps
-returns-clause-keeps c = kept _ c.args.self.now _ c.self.view_is refl c.pop_to.ensures.keeps (as-was _ _ (ap (λ (x : Tree). x.tree) c.pop_to.ensures.exact))
+returns-clause-keeps c = kept _ c.args.self.now _ c.self.view_is refl refl c.pop_to.ensures.keeps (as-was _ _ (ap (λ (x : Tree). x.tree) c.pop_to.ensures.exact))
 
 pub returns-clause-lighter : goal.returns-clause-lighter
 returns-clause-lighter c = lighter c.args.self.now c.self.inside.tree c.pop_to.new.self (stack-is _ c.args.self.now c.self.view_is) c.pop_to.ensures.lighter

@@ -6,7 +6,7 @@ use Rattle.html_construction.proofs.Working.{works-walk}
 use Rattle.html_construction.proofs.construction.Construction.remove_open.Goals as goal
 
 pub returns-clause-keeps : goal.returns-clause-keeps
-returns-clause-keeps c = kept _ c.args.self.now _ c.self.view_is refl c.remove_open.ensures.keeps (as-was _ _ (ap (λ (x : Tree). x.tree) c.remove_open.ensures.exact))
+returns-clause-keeps c = kept _ c.args.self.now _ c.self.view_is refl refl c.remove_open.ensures.keeps (as-was _ _ (ap (λ (x : Tree). x.tree) c.remove_open.ensures.exact))
 
 pub returns-clause-lighter : goal.returns-clause-lighter
 returns-clause-lighter c = lighter c.args.self.now c.self.inside.tree c.remove_open.new.self (stack-is _ c.args.self.now c.self.view_is) c.remove_open.ensures.lighter

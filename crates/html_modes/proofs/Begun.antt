@@ -1,0 +1,194 @@
+-- What a call does of the insertion mode in which it begins.
+use Rattle.std.proofs.Common.{ℕ, ◌≡◌, ◌||◌, Bool, true, false, List, [], ◌∷◌, Result, IfErr, refl, sym, ap, subst, ◌∙◌}
+use Rattle.std.proofs.lemmas.Bool.{false≢true}
+use Rattle.std.proofs.lemmas.Result.{err_from_is_err_and}
+use Rattle.std.specs.Prelude.{IsErrAnd}
+use Rattle.html_names.specs.declared.tag.Tag.{Tag}
+use Rattle.html_names.specs.declared.tag.Tag.TheVariants as tag
+use Rattle.html_names.specs.Groups.{ends_select, ends_select_in_table}
+use Rattle.html_tokens.specs.declared.token.TokenKind.{TokenKind}
+use Rattle.html_tree.specs.States.{State as Tree}
+use Rattle.html_ledger.specs.declared.symbol.Symbol.{Symbol}
+use Rattle.html_ledger.specs.Flags.{may_select}
+use Rattle.html_construction.specs.declared.mode.Mode.{Mode}
+use Rattle.html_construction.specs.declared.mode.Mode.TheVariants as mode
+use Rattle.html_construction.specs.Begun.{IsFounded, IsUnder}
+use Rattle.html_construction.specs.Budgets.{Refuses, RefusesAny}
+use Rattle.html_construction.specs.declared.refusal.Refusal.{Refusal}
+use Rattle.html_construction.specs.Built.{Accepts, AcceptsRun, Begins, Handed, IsBuilt, Keeps, chars_of, in_call, with_tokens}
+use Rattle.html_construction.specs.Modes.{is_of_column_groups, is_of_frames, is_of_selects}
+use Rattle.html_construction.specs.States.{State}
+use Rattle.html_modes.specs.Begun.{GivesIn, Ignores, IgnoresFirst, IgnoresIn, StaysOut, StaysOutIn, begins_foreign, ignores_foreign, is_foreign}
+use Rattle.html_modes.specs.Guards.{takes_runs}
+use Rattle.html_modes.specs.Steps.{Steps, root_of}
+use Rattle.html_modes.specs.declared.outcome.Foreign.{Foreign as Root}
+use Rattle.html_modes.specs.declared.outcome.Foreign.TheVariants as root
+use Rattle.html_modes.specs.declared.outcome.Outcome.{Outcome}
+use Rattle.html_modes.specs.declared.outcome.Outcome.TheVariants.{Done, Reprocess, Foreign}
+
+-- WHAT A CALL GIVES
+
+under : (h : Handed) (a : State) (ts : List TokenKind) (b : State) → IsBuilt (with_tokens (in_call h a) ts) b → IsUnder (record { mode = a.mode; before = a.ledger.fates }) b
+unfolding with_tokens
+under h a ts b w = w.call
+
+pub accepts-gives : (t : TokenKind) (a b : State) → Accepts t a b → GivesIn a b
+accepts-gives t a b f = λ h w. let c = under h a (t ∷ []) b (f h w) in record { later = c.later; fates_are = c.fates_are; given = c.given }
+
+pub run-gives : (cs : List ℕ) (a b : State) → AcceptsRun cs a b → GivesIn a b
+run-gives cs a b f = λ h w. let c = under h a (chars_of cs) b (f h w) in record { later = c.later; fates_are = c.fates_are; given = c.given }
+
+-- a call that is done with
+pub accepts-done : (t : TokenKind) (o : Outcome) (a i m n b d : State) → o ≡ Done → Begins a i → Keeps i m → Keeps m n → Steps o t n b → Keeps b d → Accepts t a d
+accepts-done t o a i m n b d q f k l s z = λ h w. z (with_tokens (in_call h a) (t ∷ [])) ((subst (λ x. Steps x t n b) q s) (in_call h a) (l (in_call h a) (k (in_call h a) (f h w))))
+
+-- what a call is refused for, as told by its `?`
+pub begun-refuses : {A : Type 0} (r : Result A Refusal) (t : TokenKind) (a i z : State) (e : Refusal) → IsErrAnd r (λ f. f ≡ e) → Begins a i → Refuses t e i z → IfErr r (λ f. Refuses t f a z)
+begun-refuses r t a i z e q b k = let p = err_from_is_err_and r q in rw p.1 (subst (λ f. Refuses t f a z) (sym p.2) (λ h w. k (in_call h a) (b h w)))
+
+pub begun-refuses-any : {A : Type 0} (r : Result A Refusal) (a i z : State) (e : Refusal) → IsErrAnd r (λ f. f ≡ e) → Begins a i → RefusesAny e i z → IfErr r (λ f. RefusesAny f a z)
+begun-refuses-any r a i z e q b k = let p = err_from_is_err_and r q in rw p.1 (subst (λ f. RefusesAny f a z) (sym p.2) (λ h w. k (in_call h a) (b h w)))
+
+pub accepts-out : (t : TokenKind) (a b : State) → Accepts t a b → StaysOut b.began b.mode → StaysOutIn a b
+accepts-out t a b f s = λ h w. subst (λ m. StaysOut m b.mode) (under h a (t ∷ []) b (f h w)).began s
+
+-- MODES
+
+-- to other modes nothing has to lead
+pub founded-other : (a : State) → is_of_selects a.mode ≡ false → is_of_frames a.mode ≡ false → IsFounded a
+founded-other a e f = record { select = λ m. absurd (false≢true (sym e ∙ m)); frameset = λ m. absurd (false≢true (sym f ∙ m)) }
+
+select-frames : (m : Mode) → is_of_selects m ≡ true → is_of_frames m ≡ false
+select-frames mode.InSelect e = refl
+select-frames mode.InSelectInTable e = refl
+select-frames _ e = absurd (false≢true e)
+
+select-columns : (m : Mode) → is_of_selects m ≡ true → is_of_column_groups m ≡ false
+select-columns mode.InSelect e = refl
+select-columns mode.InSelectInTable e = refl
+select-columns _ e = absurd (false≢true e)
+
+frames-columns : (m : Mode) → is_of_frames m ≡ true → is_of_column_groups m ≡ false
+frames-columns mode.InFrameset e = refl
+frames-columns mode.AfterFrameset e = refl
+frames-columns mode.AfterAfterFrameset e = refl
+frames-columns _ e = absurd (false≢true e)
+
+pub founded-select : (a : State) → is_of_selects a.mode ≡ true → may_select a.ledger.history ≡ true → IsFounded a
+founded-select a e h = record { select = λ m. h; frameset = λ m. absurd (false≢true (sym (select-frames a.mode e) ∙ m)) }
+
+pub founded-frames : (a : State) → is_of_selects a.mode ≡ false → a.ledger.history.frameset ≡ true → IsFounded a
+founded-frames a e h = record { select = λ m. absurd (false≢true (sym e ∙ m)); frameset = λ m. h }
+
+pub out-select : (m n : Mode) → is_of_selects n ≡ true → is_of_selects m ≡ true → StaysOut m n
+out-select m n e f = record {
+  select = λ p. f;
+  frameset = λ p. absurd (false≢true (sym (select-frames n e) ∙ p));
+  column_group = λ p. absurd (false≢true (sym (select-columns n e) ∙ p));
+}
+
+pub out-frames : (m n : Mode) → is_of_selects n ≡ false → is_of_frames n ≡ true → is_of_frames m ≡ true → StaysOut m n
+out-frames m n e f g = record {
+  select = λ p. absurd (false≢true (sym e ∙ p));
+  frameset = λ p. g;
+  column_group = λ p. absurd (false≢true (sym (frames-columns n f) ∙ p));
+}
+
+pub out-columns : (m n : Mode) → is_of_selects n ≡ false → is_of_frames n ≡ false → (is_of_column_groups n ≡ true → is_of_column_groups m ≡ true) → StaysOut m n
+out-columns m n e f g = record { select = λ p. absurd (false≢true (sym e ∙ p)); frameset = λ p. absurd (false≢true (sym f ∙ p)); column_group = g }
+
+pub out-body : (m n : Mode) → n ≡ mode.InBody → StaysOut m n
+out-body m n e = out-columns m n (ap is_of_selects e) (ap is_of_frames e) (λ p. absurd (false≢true (sym (ap is_of_column_groups e) ∙ p)))
+
+-- a run leaves the mode, which is none of those
+pub run-out : (a b : State) → b.mode ≡ a.mode → StaysOutIn a b
+run-out a b e = λ h w. subst (λ m. StaysOut a.mode m) (sym e) (record { select = λ p. p; frameset = λ p. p; column_group = λ p. p })
+
+runs-own : (m : Mode) → takes_runs m ≡ true → (is_of_selects m ≡ false) × (is_of_frames m ≡ false)
+runs-own mode.InBody e = (refl, refl)
+runs-own mode.Text e = (refl, refl)
+runs-own mode.InCaption e = (refl, refl)
+runs-own mode.InCell e = (refl, refl)
+runs-own _ e = absurd (false≢true e)
+
+pub run-founded : (a b : State) → takes_runs a.mode ≡ true → b.mode ≡ a.mode → IsFounded b
+run-founded a b e f = let z = runs-own a.mode e in founded-other b (ap is_of_selects f ∙ z.0) (ap is_of_frames f ∙ z.1)
+
+-- FOREIGN CONTENT
+
+pub native-ends_select : (t : Tag) → ends_select t ≡ true → is_foreign t ≡ false
+native-ends_select tag.Input e = refl
+native-ends_select tag.Keygen e = refl
+native-ends_select tag.Textarea e = refl
+native-ends_select _ e = absurd (false≢true e)
+
+pub native-ends_select_in_table : (t : Tag) → ends_select_in_table t ≡ true → is_foreign t ≡ false
+native-ends_select_in_table tag.Svg e = absurd (false≢true e)
+native-ends_select_in_table tag.Math e = absurd (false≢true e)
+native-ends_select_in_table _ e = refl
+
+pub ignores-done : (y : Symbol) → Ignores Done y
+ignores-done y = record { done = λ e. refl }
+
+pub ignores-not : (o : Outcome) (y : Symbol) → begins_foreign y ≡ false → Ignores o y
+ignores-not o y e = record { done = λ f. absurd (false≢true (sym e ∙ f)) }
+
+pub ignores-in : (m : Mode) (o : Outcome) (y : Symbol) → Ignores o y → IgnoresIn m o y
+ignores-in m o y i = record { done = λ e. i }
+
+either-not : (a b : Bool) → a ≡ false → b ≡ false → (a || b) ≡ false
+either-not false false e f = refl
+either-not true b e f = absurd (false≢true (sym e))
+either-not false true e f = absurd (false≢true (sym f))
+
+pub ignores-other : (m : Mode) (o : Outcome) (y : Symbol) → is_of_selects m ≡ false → is_of_frames m ≡ false → IgnoresIn m o y
+ignores-other m o y e f = record { done = λ p. absurd (false≢true (sym (either-not (is_of_selects m) (is_of_frames m) e f) ∙ p)) }
+
+pub first-in : (a : State) (o : Outcome) (y : Symbol) → IgnoresIn a.mode o y → IgnoresFirst a o y
+first-in a o y i = record { done = λ w e. i }
+
+pub first-done : (a : State) (y : Symbol) → IgnoresFirst a Done y
+first-done a y = first-in a Done y (ignores-in a.mode Done y (ignores-done y))
+
+-- the first entry goes by the rules of the mode
+pub first-astray : (r : Bool) (a : State) (o : Outcome) (y : Symbol) → r ≡ true → (IsFounded a → a.began ≡ a.mode → r ≡ false) → IgnoresFirst a o y
+first-astray r a o y e f = record { done = λ w b. absurd (false≢true (sym (f w b) ∙ e)) }
+
+founded-tree : (a : State) (t : Tree) → IsFounded a → IsFounded (record a { tree = t })
+founded-tree a t w = record { select = w.select; frameset = w.frameset }
+
+-- an entry before which nothing but steps was counted in the call
+pub first-entry : (i m n : State) (o : Outcome) (y : Symbol) → (ignores_foreign i.mode ≡ true → IsFounded i → begins_foreign y ≡ true → m ≡ i) → n ≡ record m { tree = n.tree } → i.began ≡ i.mode → IgnoresFirst n o y
+    → ignores_foreign i.mode ≡ true → IsFounded i → begins_foreign y ≡ true → o ≡ Done
+first-entry i m n o y f r b g k w z =
+    let q : n ≡ record i { tree = n.tree } = r ∙ ap (λ (x : State). record x { tree = n.tree }) (f k w z) in
+    let own : IsFounded n = subst IsFounded (sym q) (founded-tree i n.tree w) in
+    let began : n.began ≡ n.mode = ap (λ (x : State). x.began) q ∙ b ∙ sym (ap (λ (x : State). x.mode) q) in
+    ((g.done own began).done (ap (λ (x : State). ignores_foreign x.mode) q ∙ k)).done z
+
+-- a call has begun
+pub founded-begun : (a i : State) (d k : ℕ) → i ≡ record a { began = a.mode; depth = d; nodes = k } → IsFounded a → IsFounded i
+founded-begun a i d k e w = subst IsFounded (sym e) (record { select = w.select; frameset = w.frameset })
+
+pub began-own : (a i : State) (d k : ℕ) → i ≡ record a { began = a.mode; depth = d; nodes = k } → i.began ≡ i.mode
+began-own a i d k e = ap (λ (x : State). x.began) e ∙ sym (ap (λ (x : State). x.mode) e)
+
+pub begins-root : (t : TokenKind) (y : Symbol) (o : Outcome) (name : Root) (s : Symbol) → s ≡ y → o ≡ Foreign name → s ≡ root_of name → begins_foreign y ≡ true
+begins-root t y o root.Svg s e q r = ap begins_foreign (sym e ∙ r)
+begins-root t y o root.Math s e q r = ap begins_foreign (sym e ∙ r)
+
+pub done-not : (o : Outcome) → o ≡ Done → o ≡ Reprocess → ⊥
+done-not o e f = (let k : Done ≡ Reprocess = sym e ∙ f in cc)
+
+pub done-foreign : (o : Outcome) (name : Root) → o ≡ Done → o ≡ Foreign name → ⊥
+done-foreign o name e f = (let k : Done ≡ Foreign name = sym e ∙ f in cc)
+
+pub ruleset begun_rules = (founded-other, founded-select, founded-frames, out-select, out-frames, out-columns, out-body)
+
+pub ruleset ignoring_rules = (ignores-done, ignores-not, native-ends_select, native-ends_select_in_table)
+
+pub ruleset modes_ignoring = (ignores-in, ignores-other)
+
+pub ruleset first_rules = (first-in, first-done, first-astray)
+
+pub ruleset run_begun = (run-gives, run-out, run-founded)
