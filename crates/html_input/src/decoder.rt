@@ -10,7 +10,7 @@ use crate::unsettled::Unsettled;
 use simdutf8::compat::from_utf8;
 
 /// The greatest number of code points that is decoded, counted before ends of lines are normalised and without the mark.
-pub const LIMIT: u64 = 16_777_216;
+pub const LIMIT: u64 = 268_435_456;
 
 // UTF-8 is tested in blocks, which are short behind ill-formed bytes, so that no byte is read again many times.
 const SHORTEST_BLOCK: usize = 32;
