@@ -1,5 +1,5 @@
 // Questions about the open elements.
-ghost use Rattle.std.specs.Prelude.{◌≡◌, ℕ, ◌+◌, ◌<◌, ◌≤◌, IfSome, None, Some, false, is_some, length, reverse, slice_get, slice_index, true};
+ghost use Rattle.std.specs.Prelude.{◌≡◌, ℕ, ◌+◌, ◌<◌, ◌≤◌, ◌↔◌, IfSome, None, Some, false, is_some, length, reverse, slice_get, slice_index, true};
 ghost use Rattle.std.specs.Str.{chars};
 ghost use Rattle.html_names.specs.declared.sets.Scope.TheVariants as scope;
 ghost use Rattle.html_names.specs.declared.tag.Tag.TheVariants as tag;
@@ -56,9 +56,10 @@ impl OpenTree {
     /// Whether an element of this tag can be put at a target and opened there: a part of a table in the current node alone, where that may
     /// hold it. One step for a part.
     pub fn can_seat(&mut self, tag: Tag, target: Target) -> bool
-        ensures can { result ≡ true → CanSeat self.new tag target }
-        ensures plain { is_part tag ≡ false → result ≡ true }
+        ensures can { (result ≡ true) ↔ CanSeat self.old tag target }
+        ensures can_now { result ≡ true → CanSeat self.new tag target }
         ensures rest { self.new ≡ record self.old { steps = self.new.steps } }
+        ensures steps { self.new.steps ≤ self.old.steps + 1 }
         ensures keeps { Keeps self.old self.new }
         ensures grown { Grown 0 0 0 0 self.old self.new }
         ensures tags { open_tags self.new ≡ open_tags self.old }
