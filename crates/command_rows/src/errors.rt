@@ -1,8 +1,8 @@
 //! The status and the line of each error.
 
 use anyhow::Result;
-use html_parser::{Foreign, ParseError};
-use html_run::{outcome, tell};
+use html_parser::{Foreign, OverWrite, ParseError};
+use html_refusal::tell;
 use std::alloc::Global;
 
 const SVG: ParseError = ParseError::ForeignContent {
@@ -29,7 +29,7 @@ const ERRORS: [ParseError; 11] = [
     ParseError::StepBudget { at: 10 },
 ];
 
-/// Adds two lines for each error: the status and the line that `outcome` answers, and those of `tell`.
+/// Adds a line for each error: the status and the line that `tell` answers and writes.
 pub(crate) fn tell_errors(alloc: Global, out: &mut String) -> Result<()> {
     for error in ERRORS {
         tell_error(alloc, &error, out)?;
@@ -38,11 +38,10 @@ pub(crate) fn tell_errors(alloc: Global, out: &mut String) -> Result<()> {
 }
 
 fn tell_error(alloc: Global, error: &ParseError, out: &mut String) -> Result<()> {
-    let (status, line) = outcome(error, "page.html");
-    writeln!(out, "{status} {line}")?;
-    let mut faults = Vec::new(alloc);
-    let told = tell(error, "page.html", &mut faults);
-    let line = std::str::from_utf8(faults.as_slice())?;
-    write!(out, "{told} {line}")?;
+    let mut faults = OverWrite::new(Vec::new(alloc));
+    let status = tell(error, "page.html", &mut faults);
+    let told = faults.into_inner();
+    let line = std::str::from_utf8(told.as_slice())?;
+    write!(out, "{status} {line}")?;
     Ok(())
 }

@@ -2,7 +2,7 @@
 
 use crate::rows::show;
 use anyhow::Result;
-use html_parser::EntityTable;
+use html_parser::{EntityTable, OverWrite};
 use html_suite::suite_file;
 use std::alloc::Global;
 
@@ -20,7 +20,7 @@ fn run_over(
     out: &mut String,
 ) -> Result<()> {
     let mut written = Vec::new(alloc);
-    let mut faults = Vec::new(alloc);
+    let mut faults = OverWrite::new(Vec::new(alloc));
     let status = suite_file(
         alloc,
         name,
@@ -29,5 +29,6 @@ fn run_over(
         &mut written,
         &mut faults,
     );
-    show(out, written.as_slice(), faults.as_slice(), status)
+    let told = faults.into_inner();
+    show(out, written.as_slice(), told.as_slice(), status)
 }

@@ -11,7 +11,7 @@
 //! - `read N`, `write N`: the same, over a reader or a writer that fails after N calls, of ten bytes each; `stuck`: over a writer that
 //!   takes no bytes.
 //! - `table`: the same of a small page, where the text is a file of named character references.
-//! - `errors`: the status and the line of each error, as `outcome` answers them and as `tell` does.
+//! - `errors`: the status and the line of each error, as `tell` answers and writes them.
 //! - `file`: a file of test cases that has this name and this text.
 #![tactic(auto)]
 

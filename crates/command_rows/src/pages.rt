@@ -17,10 +17,11 @@ pub(crate) fn answer(
 ) -> Result<()> {
     let mut reader = OverRead::new(page.as_bytes());
     let mut writer = OverWrite::new(Vec::new(alloc));
-    let mut faults = Vec::new(alloc);
+    let mut faults = OverWrite::new(Vec::new(alloc));
     let status = run(alloc, job, entities, &mut reader, &mut writer, &mut faults);
     let written = writer.into_inner();
-    show(out, written.as_slice(), faults.as_slice(), status)
+    let told = faults.into_inner();
+    show(out, written.as_slice(), told.as_slice(), status)
 }
 
 /// The answer to a job that writes counts.
@@ -111,7 +112,8 @@ fn answer_over(
     writer: &mut FailAt,
     out: &mut String,
 ) -> Result<()> {
-    let mut faults = Vec::new(alloc);
+    let mut faults = OverWrite::new(Vec::new(alloc));
     let status = run(alloc, job, None, reader, writer, &mut faults);
-    show(out, writer.taken(), faults.as_slice(), status)
+    let told = faults.into_inner();
+    show(out, writer.taken(), told.as_slice(), status)
 }

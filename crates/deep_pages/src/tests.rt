@@ -64,7 +64,7 @@ fn normalises_a_deep_page(rt: HostRuntime) -> Result<(), Fail> {
     let job = job_of(alloc, Command::Normalise);
     let mut reader = OverRead::new(page.as_slice());
     let mut writer = OverWrite::new(Vec::new(alloc));
-    let mut faults = Vec::new(alloc);
+    let mut faults = OverWrite::new(Vec::new(alloc));
     let status = run(alloc, &job, None, &mut reader, &mut writer, &mut faults);
     assert_eq!(rt; status, DONE);
     assert!(rt; writer.into_inner().as_slice() == page.as_slice());
@@ -82,7 +82,7 @@ fn prints_a_deep_page(rt: HostRuntime) -> Result<(), Fail> {
     let job = job_of(alloc, Command::Tree);
     let mut reader = OverRead::new(page.as_slice());
     let mut writer = Counter { bytes: 0 };
-    let mut faults = Vec::new(alloc);
+    let mut faults = OverWrite::new(Vec::new(alloc));
     let status = run(alloc, &job, None, &mut reader, &mut writer, &mut faults);
     assert_eq!(rt; status, DONE);
     assert_eq!(rt; writer.bytes, PRINTED);

@@ -1,2 +1,4 @@
+pub mod HexDigits
+pub mod OneByOne
 pub mod Puts
 pub mod Spaces

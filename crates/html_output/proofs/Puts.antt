@@ -111,3 +111,18 @@ front_written a b h xs e (left, p) = (p.moved, left, sym (ap (λ z. z ++ xs) e) 
 pub put_through : (a b c : Option (List ℕ)) (h k : List ℕ) (r : Result (Unit {0}) DeviceFault) (xs : List ℕ) → Appends a b h → k ≡ [] → OnOk r (Appends b c xs) → OnErr r (AppendsFront b c xs) → Puts a h c k r xs
 put_through a b c h k (Ok u) xs p e q f = Moves-through a b c h k xs p e q
 put_through a b c h k (Err d) xs p e q f = front_through a b c h xs p f
+
+-- all was put into what was empty, and what is kept of it is written, which may fail
+module _ (a b c : Option (List ℕ)) (h k xs : List ℕ) (e : h ≡ []) where
+  pub flush_ok : (r : Result (Unit {0}) DeviceFault) → Moves a h b k xs → OnOk r (Appends b c k) → OnOk r (Appends a c xs)
+  flush_ok (Ok u) p q = written_all a b c h k xs e p q
+  flush_ok (Err f) p q = tt
+
+  pub flush_err : (r : Result (Unit {0}) DeviceFault) → Moves a h b k xs → OnErr r (AppendsFront b c k) → OnErr r (AppendsFront a c xs)
+  flush_err (Ok u) p q = tt
+  flush_err (Err f) p q = written_front a b c h k xs e p q
+
+-- what was empty took a front
+pub put_front : (a b : Option (List ℕ)) (h xs : List ℕ) → h ≡ [] → (r : Result (Unit {0}) DeviceFault) → MovesFront a h b xs → OnErr r (AppendsFront a b xs)
+put_front a b h xs e (Ok u) p = tt
+put_front a b h xs e (Err f) p = front_written a b h xs e p

@@ -1,6 +1,5 @@
 pub mod Units
 pub mod Sorting
-pub mod Pieces
 pub mod Bytes
 pub mod AtNode
 pub mod Walks

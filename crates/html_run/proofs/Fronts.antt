@@ -18,7 +18,7 @@ use Rattle.html_parser.specs.declared.error.ParseError.{ParseError}
 use Rattle.html_parser.specs.declared.error.ParseError.TheVariants.{OutOfMemory, InputTooLong, ForeignContent, BadContext, Read, Write, Stopped, NodeBudget, HeldBudget, StepBudget}
 use Rattle.html_parser.specs.declared.page.Tree.{Tree}
 use Rattle.html_parser.proofs.Rewritten.{plain-text, text-few}
-use Rattle.html_run.specs.Outcome.{status_of}
+use Rattle.html_refusal.specs.Outcome.{status_of}
 
 -- what holds anyway, holds of an answer
 pub on-ok : (r : Result (Unit {0}) ParseError) (P : Type 0) → P → OnOk r P
@@ -77,12 +77,3 @@ never-done Stopped h = cc
 never-done (NodeBudget at) h = cc
 never-done (HeldBudget at) h = cc
 never-done (StepBudget at) h = cc
-
-module _ (start : Start) (profile : Profile) (old new writer new_writer : Option (List ℕ)) where
-  -- where the status is that of a refusal, nothing was written
-  pub nothing-written : (e : ParseError) → NothingOrFront start profile old new writer new_writer e → status_of e ≡ 1 → new_writer ≡ writer
-  nothing-written e (inl same) h = same
-  nothing-written e (inr front) h = absurd (fault-is-told e front.0 h)
-    where
-      fault-is-told : (f : ParseError) → f ≡ Write → status_of f ≡ 1 → ⊥
-      fault-is-told f is k = let j : status_of Write ≡ 1 = subst (λ (x : ParseError). status_of x ≡ 1) is k in cc

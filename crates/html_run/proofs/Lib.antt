@@ -1,3 +1,4 @@
+pub mod Answers
+pub mod Causes
 pub mod Fronts
-pub mod Lines
 pub mod Read

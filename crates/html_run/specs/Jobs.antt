@@ -1,5 +1,5 @@
 -- What a job asks of the parser.
-use Rattle.std.specs.Prelude.{◌-◌, ◌^◌, ℕ, false, List, Option, Some, None, option_map, unwrap_or}
+use Rattle.std.specs.Prelude.{◌-◌, ◌^◌, ℕ, false, List, Option, Some, None, codes, option_map, unwrap_or}
 use Rattle.std.specs.Io.KnownBytes.{Consumes, IsAtEnd}
 use Rattle.std.specs.Str.{chars, encode_utf8_all}
 use Rattle.html_charref.specs.declared.table.Row.{Row}
@@ -30,6 +30,10 @@ start_in (Some name) rows limits = fragment_start rows (record { name = chars na
 
 abbrev pub start_for : Job → List Row → Start
 start_for job rows = start_in (option_map (λ s. s.now) job.fragment) rows (limits_for job)
+
+-- the name of the file of the page, or `-`
+abbrev pub input_name : Job → List ℕ
+input_name job = unwrap_or (option_map (λ s. s.now) job.input) (codes "-")
 
 -- A reader was read from `old` to its end, a tree of all of it was had, and this holds of the bytes of that tree's lines.
 pub record IsShown (start : Start) (Written : List ℕ → Type 0) (old new : Option (List ℕ)) : Type 0 where

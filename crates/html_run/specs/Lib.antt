@@ -1,3 +1,4 @@
+pub mod Answers
 pub mod Jobs
-pub mod Outcome
 pub mod Profiles
+pub mod Refused

@@ -1,14 +1,15 @@
 //! The parser that a job asks for.
 
-ghost use Rattle.std.specs.Prelude.{◌≡◌, ℕ, [], List, IfOk, OnOk};
+ghost use Rattle.std.specs.Prelude.{◌≡◌, ℕ, [], List, IfErr, IfOk, OnOk};
 ghost use Rattle.std.specs.Io.KnownBytes.{Consumes, IsAtEnd};
 ghost use Rattle.html_parser.specs.Fed.{IsFed};
 ghost use Rattle.html_parser.specs.Parsed.{IsPageOf, IsTreeOf};
 ghost use Rattle.html_parser.specs.Staged.{KeepsTokens};
 ghost use Rattle.html_run.specs.Jobs.{limits_for, start_for};
+ghost use Rattle.html_run.specs.Refused.{IsBeginCause, IsReadCause};
 
 use html_job::Job;
-use html_parser::{Context, EntityTable, Limits, ParseError, Parser, Source, Str, Tree};
+use html_parser::{Context, EntityTable, Limits, Page, ParseError, Parser, Source, Str, Tree};
 use std::alloc::Global;
 
 /// The tree of all that a reader has, as the job asks for it.
@@ -21,6 +22,7 @@ pub(crate) fn tree_for<R: Source>(
     ensures tree { IfOk result (λ tree. (bytes : List ℕ) × Consumes (R.remaining reader.old) (R.remaining reader.new) bytes
         × IsTreeOf (start_for job.now table.now) bytes tree) }
     ensures end { OnOk result (IsAtEnd (R.remaining reader.new)) }
+    ensures cause { IfErr result (IsReadCause job.now table.now (R.remaining reader.old) (R.remaining reader.new) (R.failed reader.new)) }
 {
     let parser = parser_for(alloc, job, table)?;
     let mut parser = parser.without_ledger();
@@ -28,14 +30,32 @@ pub(crate) fn tree_for<R: Source>(
     parser.finish()
 }
 
+/// The page of all that a reader has, with its ledger, as the job asks for it.
+pub(crate) fn page_for<R: Source>(
+    alloc: Global,
+    job: &Job<'_>,
+    table: &EntityTable,
+    reader: &mut R,
+) -> Result<Page, ParseError>
+    ensures page { IfOk result (λ page. (bytes : List ℕ) × Consumes (R.remaining reader.old) (R.remaining reader.new) bytes
+        × IsPageOf (start_for job.now table.now) bytes page) }
+    ensures end { OnOk result (IsAtEnd (R.remaining reader.new)) }
+    ensures cause { IfErr result (IsReadCause job.now table.now (R.remaining reader.old) (R.remaining reader.new) (R.failed reader.new)) }
+{
+    let mut parser = parser_for(alloc, job, table)?;
+    parser.feed_from(reader)?;
+    parser.finish()
+}
+
 /// The parser for a job: of a document, or of a fragment in the context that the job names, within its limits.
-pub(crate) fn parser_for<'a>(
+fn parser_for<'a>(
     alloc: Global,
     job: &Job<'_>,
     table: &'a EntityTable,
 ) -> Result<Parser<'a>, ParseError>
     ensures begun { IfOk result (λ p. IsFed (start_for job.now table.entry.now) p.feeder []) }
     ensures keeps { IfOk result (λ p. KeepsTokens p.feeder.stages) }
+    ensures cause { IfErr result (IsBeginCause job.now) }
 {
     let limits = limits_of(job);
     match job.fragment {

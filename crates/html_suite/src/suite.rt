@@ -7,8 +7,9 @@ use crate::counts::{Counts, Outcome};
 use crate::dat::cases_of;
 use crate::texts::CaseFault;
 use crate::tree_case::run_tree_case;
+use html_output::{Piece, write_pieces};
 use html_parser::{EntityTable, ParseError};
-use html_run::{DONE, FILE_FAULT, REFUSED, tell};
+use html_refusal::{DONE, FILE_FAULT, REFUSED, Sink, tell};
 use serde_json::Value;
 use std::alloc::{AllocError, Global};
 use std::io;
@@ -37,7 +38,7 @@ enum SuiteFault {
 /// the tree under a line `#document`, as the command `tree` prints it; between them a line `#document-fragment` is followed
 /// by the name of a context. A case is skipped where there is a line `#script-on`, its context is no HTML element, or its
 /// page has foreign content.
-pub fn suite_file<W: Write, F: Write>(
+pub fn suite_file<W: Write, F: Sink>(
     alloc: Global,
     name: &str,
     bytes: &[u8],
@@ -53,10 +54,22 @@ pub fn suite_file<W: Write, F: Write>(
         Err(SuiteFault::OutOfMemory) => tell(&ParseError::OutOfMemory, name, faults),
         Err(SuiteFault::Write) => tell(&ParseError::Write, name, faults),
         Err(SuiteFault::Malformed) => {
-            let _ = writeln!(faults, "fault: {name}: not a test file");
+            tell_malformed(name, faults);
             FILE_FAULT
         }
     }
+}
+
+/// Tells that a file is no file of cases.
+fn tell_malformed<F: Sink>(name: &str, faults: &mut F) {
+    let _ = write_pieces(
+        faults,
+        &[
+            Piece::Text("fault: "),
+            Piece::Text(name),
+            Piece::Text(": not a test file\n"),
+        ],
+    );
 }
 
 /// Runs the cases of a file, by the kind that its name tells.

@@ -1,0 +1,4 @@
+pub mod Audit
+pub mod Counts
+pub mod Errors
+pub mod FaultNames

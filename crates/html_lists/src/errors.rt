@@ -1,0 +1,63 @@
+//! The parse errors of a page.
+
+ghost use Rattle.std.specs.Prelude.{◌≡◌, ◌⊎◌, true, OnErr, OnOk};
+ghost use Rattle.std.specs.Io.KnownBytes.{Appends};
+ghost use Rattle.html_device.specs.Device.{AppendsFront};
+ghost use Rattle.html_output.specs.Putting.{Puts, held};
+ghost use Rattle.html_lists.specs.Errors.{error_line, error_lines};
+
+use crate::fault_names::page_fault_name;
+use html_device::{DeviceFault, Sink};
+use html_output::{Output, Piece};
+use html_parser::PageFault;
+
+/// Writes errors in their order, a line each, to the last byte: the place and the name.
+///
+/// # Errors
+///
+/// The writer failed, or took no bytes. A front of the lines was written then.
+pub fn write_errors<W: Sink>(errors: &[PageFault], writer: &mut W) -> Result<(), DeviceFault>
+    ensures ok { OnOk result (Appends (W.taken writer.old) (W.taken writer.new) (error_lines errors.now)) }
+    ensures err { OnErr result (AppendsFront (W.taken writer.old) (W.taken writer.new) (error_lines errors.now)) }
+    ensures fault { OnErr result ((W.failed writer.new ≡ true) ⊎ (W.stalled writer.new ≡ true)) }
+{
+    let mut output = Output::new();
+    put_errors(&mut output, writer, errors)?;
+    output.flush(writer)
+}
+
+/// Puts the lines of errors.
+fn put_errors<W: Sink>(
+    output: &mut Output,
+    writer: &mut W,
+    errors: &[PageFault],
+) -> Result<(), DeviceFault>
+    ensures bytes { Puts (W.taken writer.old) (held output.old) (W.taken writer.new) (held output.new) result (error_lines errors.now) }
+    ensures fault { OnErr result ((W.failed writer.new ≡ true) ⊎ (W.stalled writer.new ≡ true)) }
+{
+    'errors: for error in errors {
+        put_error(output, writer, *error)?;
+    }
+    Ok(())
+}
+
+/// Puts the line of an error.
+fn put_error<W: Sink>(
+    output: &mut Output,
+    writer: &mut W,
+    error: PageFault,
+) -> Result<(), DeviceFault>
+    ensures bytes { Puts (W.taken writer.old) (held output.old) (W.taken writer.new) (held output.new) result (error_line error) }
+    ensures fault { OnErr result ((W.failed writer.new ≡ true) ⊎ (W.stalled writer.new ≡ true)) }
+{
+    let name = page_fault_name(error.name);
+    output.put_pieces(
+        writer,
+        &[
+            Piece::Number(error.place as u128),
+            Piece::Text(" "),
+            Piece::Text(name),
+            Piece::Text("\n"),
+        ],
+    )
+}
