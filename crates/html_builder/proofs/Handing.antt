@@ -34,7 +34,7 @@ use Rattle.html_construction.specs.Weights.{weight}
 use Rattle.html_construction.specs.Works.{reach_of, span_of}
 use Rattle.html_construction.specs.declared.refusal.Refusal.{Refusal}
 use Rattle.html_construction.specs.declared.refusal.Refusal.TheVariants as refusal
-use Rattle.html_modes.specs.Begun.{Gives, GivesIn, StaysOut, StaysOutIn, ignores_foreign}
+use Rattle.html_modes.specs.Begun.{Gives, GivesIn, StaysOut, ignores_foreign}
 use Rattle.html_modes.proofs.Begun.{accepts-gives, founded-other, run-gives}
 use Rattle.html_modes.specs.Entering.{Enters}
 use Rattle.html_modes.specs.Ranks.{top_rank}
@@ -196,20 +196,11 @@ gives-on m n xs ys zs o g k = record {
   given = list_all-append (gives_in m) g.later k.later ∙ both (list_all (gives_in m) g.later) (list_all (gives_in m) k.later) g.given (all-out m n k.later o k.given);
 }
 
-pub gives-none : (v : BuilderState) → GivesFates v v
-gives-none v = λ s l ts h. record { later = []; fates_are = sym (append-nil (fates_of v)); given = refl }
-
-pub enters-none : (v : BuilderState) → EntersNone v v
-enters-none v = λ s l ts h. record { select = λ p. p; frameset = λ p. p; column_group = λ p. p }
-
 pub gives-then : (xs : List ℕ) (u v w : BuilderState) → HandsIn (chars_of xs) u v → EntersNone u v → GivesFates u v → GivesFates v w → GivesFates u w
-gives-then xs u v w f n g k = λ s l ts h. gives-on u.page.mode v.page.mode (fates_of u) (fates_of v) (fates_of w) (n s l ts h) (g s l ts h) (k s l (ts ++ chars_of xs) (f s l ts h))
+gives-then xs u v w f n g k = λ s l ts h. gives-on u.page.mode v.page.mode (fates_of u) (fates_of v) (fates_of w) n (g s l ts h) (k s l (ts ++ chars_of xs) (f s l ts h))
 
-pub enters-then : (xs : List ℕ) (u v w : BuilderState) → HandsIn (chars_of xs) u v → EntersNone u v → EntersNone v w → EntersNone u w
-enters-then xs u v w f g k = λ s l ts h.
-    let p = g s l ts h in
-    let q = k s l (ts ++ chars_of xs) (f s l ts h) in
-    record { select = λ e. p.select (q.select e); frameset = λ e. p.frameset (q.frameset e); column_group = λ e. p.column_group (q.column_group e) }
+pub enters-then : (u v w : BuilderState) → EntersNone u v → EntersNone v w → EntersNone u w
+enters-then u v w p q = record { select = λ e. p.select (q.select e); frameset = λ e. p.frameset (q.frameset e); column_group = λ e. p.column_group (q.column_group e) }
 
 -- THE BEGINNING
 
@@ -358,8 +349,8 @@ viewed-grown t u v w e f = subst (λ x. AddsFates x w) e (added-token t u w f)
 pub viewed-gives : (u v w : BuilderState) → u ≡ v → GivesIn u.page w.page → GivesFates v w
 viewed-gives u v w e f = subst (λ x. GivesFates x w) e (gave u w f)
 
-pub viewed-enters : (u v w : BuilderState) → u ≡ v → StaysOutIn u.page w.page → EntersNone v w
-viewed-enters u v w e f = subst (λ x. EntersNone x w) e (λ s l ts h. f (given s l ts) h.built)
+pub viewed-enters : (u v w : BuilderState) → u ≡ v → StaysOut u.page.mode w.page.mode → EntersNone v w
+viewed-enters u v w e f = subst (λ x. EntersNone x w) e f
 
 -- foreign content is told where the mode does not ignore it
 pub foreign-outside : (u v : BuilderState) (s : Setting) (l : Option Limits) (ts : List TokenKind) (name : Foreign) (at : ℕ) (e : BuildError) → u ≡ v → Handed s l ts v → (IsFounded u.page → ignores_foreign u.page.mode ≡ false) → e ≡ error.ForeignContent name at → IsForeignOutside v.page.mode e

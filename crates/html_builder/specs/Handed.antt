@@ -86,7 +86,7 @@ GivesFates a b = (s : Setting) (limits : Option Limits) (tokens : List TokenKind
 
 -- No mode inside a select, of a page of frames or of a column group was entered.
 abbrev pub EntersNone : BuilderState → BuilderState → Type 0
-EntersNone a b = (s : Setting) (limits : Option Limits) (tokens : List TokenKind) → Handed s limits tokens a → StaysOut a.page.mode b.page.mode
+EntersNone a b = StaysOut a.page.mode b.page.mode
 
 -- The first of the tokens have these fates, which they may have; those that have none yet are code points.
 pub record HaveFates (s : Setting) (tokens : List TokenKind) (fates : List Fate) : Type 0 where

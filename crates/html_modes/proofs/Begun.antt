@@ -18,9 +18,9 @@ use Rattle.html_construction.specs.declared.refusal.Refusal.{Refusal}
 use Rattle.html_construction.specs.Built.{Accepts, AcceptsRun, Begins, Handed, IsBuilt, Keeps, chars_of, in_call, with_tokens}
 use Rattle.html_construction.specs.Modes.{is_of_column_groups, is_of_frames, is_of_selects}
 use Rattle.html_construction.specs.States.{State}
-use Rattle.html_modes.specs.Begun.{GivesIn, Ignores, IgnoresFirst, IgnoresIn, StaysOut, StaysOutIn, begins_foreign, ignores_foreign, is_foreign}
+use Rattle.html_modes.specs.Begun.{GivesIn, Ignores, IgnoresFirst, IgnoresIn, StaysOut, TextStays, begins_foreign, ignores_foreign, is_foreign}
 use Rattle.html_modes.specs.Guards.{takes_runs}
-use Rattle.html_modes.specs.Steps.{Steps, root_of}
+use Rattle.html_modes.specs.Steps.{Steps, is_code_point, root_of}
 use Rattle.html_modes.specs.declared.outcome.Foreign.{Foreign as Root}
 use Rattle.html_modes.specs.declared.outcome.Foreign.TheVariants as root
 use Rattle.html_modes.specs.declared.outcome.Outcome.{Outcome}
@@ -49,9 +49,6 @@ begun-refuses r t a i z e q b k = let p = err_from_is_err_and r q in rw p.1 (sub
 pub begun-refuses-any : {A : Type 0} (r : Result A Refusal) (a i z : State) (e : Refusal) → IsErrAnd r (λ f. f ≡ e) → Begins a i → RefusesAny e i z → IfErr r (λ f. RefusesAny f a z)
 begun-refuses-any r a i z e q b k = let p = err_from_is_err_and r q in rw p.1 (subst (λ f. RefusesAny f a z) (sym p.2) (λ h w. k (in_call h a) (b h w)))
 
-pub accepts-out : (t : TokenKind) (a b : State) → Accepts t a b → StaysOut b.began b.mode → StaysOutIn a b
-accepts-out t a b f s = λ h w. subst (λ m. StaysOut m b.mode) (under h a (t ∷ []) b (f h w)).began s
-
 -- MODES
 
 -- to other modes nothing has to lead
@@ -63,47 +60,46 @@ select-frames mode.InSelect e = refl
 select-frames mode.InSelectInTable e = refl
 select-frames _ e = absurd (false≢true e)
 
-select-columns : (m : Mode) → is_of_selects m ≡ true → is_of_column_groups m ≡ false
-select-columns mode.InSelect e = refl
-select-columns mode.InSelectInTable e = refl
-select-columns _ e = absurd (false≢true e)
-
-frames-columns : (m : Mode) → is_of_frames m ≡ true → is_of_column_groups m ≡ false
-frames-columns mode.InFrameset e = refl
-frames-columns mode.AfterFrameset e = refl
-frames-columns mode.AfterAfterFrameset e = refl
-frames-columns _ e = absurd (false≢true e)
-
 pub founded-select : (a : State) → is_of_selects a.mode ≡ true → may_select a.ledger.history ≡ true → IsFounded a
 founded-select a e h = record { select = λ m. h; frameset = λ m. absurd (false≢true (sym (select-frames a.mode e) ∙ m)) }
 
 pub founded-frames : (a : State) → is_of_selects a.mode ≡ false → a.ledger.history.frameset ≡ true → IsFounded a
 founded-frames a e h = record { select = λ m. absurd (false≢true (sym e ∙ m)); frameset = λ m. h }
 
-pub out-select : (m n : Mode) → is_of_selects n ≡ true → is_of_selects m ≡ true → StaysOut m n
-out-select m n e f = record {
-  select = λ p. f;
-  frameset = λ p. absurd (false≢true (sym (select-frames n e) ∙ p));
-  column_group = λ p. absurd (false≢true (sym (select-columns n e) ∙ p));
-}
-
-pub out-frames : (m n : Mode) → is_of_selects n ≡ false → is_of_frames n ≡ true → is_of_frames m ≡ true → StaysOut m n
-out-frames m n e f g = record {
-  select = λ p. absurd (false≢true (sym e ∙ p));
-  frameset = λ p. g;
-  column_group = λ p. absurd (false≢true (sym (frames-columns n f) ∙ p));
-}
-
-pub out-columns : (m n : Mode) → is_of_selects n ≡ false → is_of_frames n ≡ false → (is_of_column_groups n ≡ true → is_of_column_groups m ≡ true) → StaysOut m n
-out-columns m n e f g = record { select = λ p. absurd (false≢true (sym e ∙ p)); frameset = λ p. absurd (false≢true (sym f ∙ p)); column_group = g }
+-- other modes are none of those
+pub out-own : (m n : Mode) → is_of_selects n ≡ false → is_of_frames n ≡ false → is_of_column_groups n ≡ false → StaysOut m n
+out-own m n e f g = record { select = λ p. absurd (false≢true (sym e ∙ p)); frameset = λ p. absurd (false≢true (sym f ∙ p)); column_group = λ p. absurd (false≢true (sym g ∙ p)) }
 
 pub out-body : (m n : Mode) → n ≡ mode.InBody → StaysOut m n
-out-body m n e = out-columns m n (ap is_of_selects e) (ap is_of_frames e) (λ p. absurd (false≢true (sym (ap is_of_column_groups e) ∙ p)))
+out-body m n e = out-own m n (ap is_of_selects e) (ap is_of_frames e) (ap is_of_column_groups e)
 
--- a run leaves the mode, which is none of those
-pub run-out : (a b : State) → b.mode ≡ a.mode → StaysOutIn a b
-run-out a b e = λ h w. subst (λ m. StaysOut a.mode m) (sym e) (record { select = λ p. p; frameset = λ p. p; column_group = λ p. p })
+pub out-same : (m n : Mode) → n ≡ m → StaysOut m n
+out-same m n e = subst (λ x. StaysOut m x) (sym e) (record { select = λ p. p; frameset = λ p. p; column_group = λ p. p })
 
+out-then : (m n o : Mode) → StaysOut m n → StaysOut n o → StaysOut m o
+out-then m n o s t = record { select = λ p. s.select (t.select p); frameset = λ p. s.frameset (t.frameset p); column_group = λ p. s.column_group (t.column_group p) }
+
+-- any other token than a code point, the same mode, and modes that are none of those
+pub stays-other : (y : Symbol) (m n : Mode) → is_code_point y ≡ false → TextStays y m n
+stays-other y m n e = record { out = λ p. absurd (false≢true (sym e ∙ p)) }
+
+pub stays-same : (y : Symbol) (m n : Mode) → n ≡ m → TextStays y m n
+stays-same y m n e = record { out = λ p. out-same m n e }
+
+pub stays-own : (y : Symbol) (m n : Mode) → is_of_selects n ≡ false → is_of_frames n ≡ false → is_of_column_groups n ≡ false → TextStays y m n
+stays-own y m n e f g = record { out = λ p. out-own m n e f g }
+
+pub stays-out : (y : Symbol) (m n : Mode) → StaysOut m n → TextStays y m n
+stays-out y m n s = record { out = λ p. s }
+
+-- an entry after others, between which the mode stays
+pub stays-then : (y : Symbol) (m n k o : Mode) → TextStays y m n → k ≡ n → TextStays y k o → TextStays y m o
+stays-then y m n k o s e t = record { out = λ p. out-then m n o (s.out p) (subst (λ x. StaysOut x o) e (t.out p)) }
+
+pub stays-settled : (y : Symbol) (m n o : Mode) → TextStays y m n → StaysOut n o → TextStays y m o
+stays-settled y m n o s t = record { out = λ p. out-then m n o (s.out p) t }
+
+-- a run leaves the mode, to which nothing has to lead
 runs-own : (m : Mode) → takes_runs m ≡ true → (is_of_selects m ≡ false) × (is_of_frames m ≡ false)
 runs-own mode.InBody e = (refl, refl)
 runs-own mode.Text e = (refl, refl)
@@ -183,7 +179,9 @@ done-not o e f = (let k : Done ≡ Reprocess = sym e ∙ f in cc)
 pub done-foreign : (o : Outcome) (name : Root) → o ≡ Done → o ≡ Foreign name → ⊥
 done-foreign o name e f = (let k : Done ≡ Foreign name = sym e ∙ f in cc)
 
-pub ruleset begun_rules = (founded-other, founded-select, founded-frames, out-select, out-frames, out-columns, out-body)
+pub ruleset begun_rules = (founded-other, founded-select, founded-frames, out-body, out-same)
+
+pub ruleset text_stays = (stays-other, stays-same, stays-own)
 
 pub ruleset ignoring_rules = (ignores-done, ignores-not, native-ends_select, native-ends_select_in_table)
 
@@ -191,4 +189,8 @@ pub ruleset modes_ignoring = (ignores-in, ignores-other)
 
 pub ruleset first_rules = (first-in, first-done, first-astray)
 
-pub ruleset run_begun = (run-gives, run-out, run-founded)
+pub ruleset run_begun = (run-gives, out-same, run-founded)
+
+pub ruleset out_rules = (out-own)
+
+pub ruleset text_leaves = (stays-out)

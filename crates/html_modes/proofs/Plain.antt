@@ -36,7 +36,7 @@ use Rattle.html_construction.specs.declared.mode.Mode.TheVariants as mode
 use Rattle.html_construction.specs.Calls.{IsTree}
 use Rattle.html_construction.specs.States.{State}
 use Rattle.html_construction.proofs.Weighing.{same-tag}
-use Rattle.html_construction.specs.Modes.{is_of_column_groups, is_of_frames, is_of_selects}
+use Rattle.html_construction.specs.Modes.{is_of_frames, is_of_selects}
 use Rattle.html_modes.specs.Guards.{is_table_text}
 use Rattle.html_modes.specs.Plain.{AreListed, EndsCurrent, GoesOn, HasSeen, IsNext, IsPlainState, IsTurn, StandsIn, Turns, closes, is_next, is_plain_tag, next_fate, next_list, next_mode, next_nodes, next_stack, next_tags}
 use Rattle.html_modes.specs.declared.outcome.Outcome.{Outcome}
@@ -218,16 +218,16 @@ closed-listed a t v r w e h =
 
 -- WHAT COMES NEXT
 
--- modes of a plain page are neither of selects nor of frames, nor that of a column group, and no text is kept in them
-pub own-mode : (m : Mode) (s : List Tag) → StandsIn m s → (is_of_selects m ≡ false) × (is_of_frames m ≡ false) × (is_table_text m ≡ false) × (is_of_column_groups m ≡ false)
-own-mode mode.Initial s h = (refl, refl, refl, refl)
-own-mode mode.BeforeHtml s h = (refl, refl, refl, refl)
-own-mode mode.BeforeHead s h = (refl, refl, refl, refl)
-own-mode mode.InHead s h = (refl, refl, refl, refl)
-own-mode mode.AfterHead s h = (refl, refl, refl, refl)
-own-mode mode.InBody s h = (refl, refl, refl, refl)
-own-mode mode.AfterBody s h = (refl, refl, refl, refl)
-own-mode mode.AfterAfterBody s h = (refl, refl, refl, refl)
+-- modes of a plain page are neither of selects nor of frames, and no text is kept in them
+pub own-mode : (m : Mode) (s : List Tag) → StandsIn m s → (is_of_selects m ≡ false) × (is_of_frames m ≡ false) × (is_table_text m ≡ false)
+own-mode mode.Initial s h = (refl, refl, refl)
+own-mode mode.BeforeHtml s h = (refl, refl, refl)
+own-mode mode.BeforeHead s h = (refl, refl, refl)
+own-mode mode.InHead s h = (refl, refl, refl)
+own-mode mode.AfterHead s h = (refl, refl, refl)
+own-mode mode.InBody s h = (refl, refl, refl)
+own-mode mode.AfterBody s h = (refl, refl, refl)
+own-mode mode.AfterAfterBody s h = (refl, refl, refl)
 own-mode _ s h = absurd h
 
 plain-newline : (t : Tag) → is_plain_tag t ≡ true → takes_newline t ≡ false
@@ -453,10 +453,10 @@ plain-next y k a b h t w g = record {
 }
 
 -- the mode after it is not one that is left at once
-pub next-own : (y : Symbol) (k : TokenKind) (a b : State) → IsNext y k a → IsTurn y k a b → (is_of_selects b.mode ≡ false) × (is_of_frames b.mode ≡ false) × (is_of_column_groups b.mode ≡ false)
+pub next-own : (y : Symbol) (k : TokenKind) (a b : State) → IsNext y k a → IsTurn y k a b → (is_of_selects b.mode ≡ false) × (is_of_frames b.mode ≡ false)
 next-own y k a b h t =
     let z = own-mode (next_mode a.mode y) (next_tags a.mode y a.stack) (stands-next a.mode a.stack y h.next h.plain.stands) in
-    (ap is_of_selects t.mode_is ∙ z.0, ap is_of_frames t.mode_is ∙ z.1, ap is_of_column_groups t.mode_is ∙ z.3)
+    (ap is_of_selects t.mode_is ∙ z.0, ap is_of_frames t.mode_is ∙ z.1)
 
 -- STEPS THAT ARE COUNTED
 
@@ -592,12 +592,12 @@ pub turn-alike : (y : Symbol) (k : TokenKind) (a b c : State) → IsAlike a b �
 turn-alike y k a b c f t = turn-later y k a c b.tree.steps b.began b.depth b.nodes (subst (λ z. IsTurn y k z c) f.same t)
 
 -- the token is done with
-pub goes-on : (o : Outcome) (y : Symbol) (k : TokenKind) (a n b d : State) → o ≡ Done → IsAlike a n → Turns o y k n b → (is_of_selects b.mode ≡ false → is_of_frames b.mode ≡ false → is_of_column_groups b.mode ≡ false → d ≡ b)
+pub goes-on : (o : Outcome) (y : Symbol) (k : TokenKind) (a n b d : State) → o ≡ Done → IsAlike a n → Turns o y k n b → (is_of_selects b.mode ≡ false → is_of_frames b.mode ≡ false → d ≡ b)
     → IsSound d.tree → d.stack ≡ open_tags d.tree → GoesOn y k a d
 goes-on o y k a n b d q f t same w g = λ h.
     let turn : IsTurn y k n b = (let z : Turns Done y k n b = subst (λ x. Turns x y k n b) q t in z (next-alike y k a n f h)) in
     let own = next-own y k n b (next-alike y k a n f h) turn in
-    let all : IsTurn y k a d = subst (λ x. IsTurn y k a x) (sym (same own.0 own.1 own.2)) (turn-alike y k a n b f turn) in
+    let all : IsTurn y k a d = subst (λ x. IsTurn y k a x) (sym (same own.0 own.1)) (turn-alike y k a n b f turn) in
     (all, plain-next y k a d h all w g)
 
 -- the token is still in hand, which that of a plain page is not

@@ -54,7 +54,7 @@ use Rattle.html_names.specs.Sets.{is_block, is_cell, is_formatting, is_heading, 
 use Rattle.html_names.specs.Groups.{is_head_text, is_noscript_part, is_preformatted, is_table_head, is_void_part, is_void_phrase, takes_marker}
 use Rattle.html_modes.specs.RawText.{AddsText, Adds, Ends, EndsBy, HasOpened, IsLeft, Leaves, LeavesIn, HoldsText, IsOpenText, Opens, holds_text_alone, is_aside, is_body_text, run_of}
 use Rattle.html_modes.specs.Fitting.{is_loose}
-use Rattle.html_construction.specs.Modes.{is_of_column_groups, is_of_frames, is_of_selects}
+use Rattle.html_construction.specs.Modes.{is_of_frames, is_of_selects}
 use Rattle.html_modes.specs.Guards.{is_table_text, is_text}
 use Rattle.html_modes.specs.Steps.{Steps, is_code_point}
 use Rattle.html_modes.specs.declared.outcome.Outcome.{Outcome}
@@ -589,17 +589,17 @@ ends-astray o y t a b n = ends-other o y t a b (text-astray a.mode n)
 
 -- ONE TOKEN
 
-text-own : (m : Mode) → m ≡ mode.Text → (is_of_selects m ≡ false) × (is_of_frames m ≡ false) × (is_of_column_groups m ≡ false)
-text-own m e = (ap is_of_selects e, ap is_of_frames e, ap is_of_column_groups e)
+text-own : (m : Mode) → m ≡ mode.Text → (is_of_selects m ≡ false) × (is_of_frames m ≡ false)
+text-own m e = (ap is_of_selects e, ap is_of_frames e)
 
 -- the mode is left at the end of the call where nothing leads to it, which is not text
-pub opens-settled : (o : Outcome) (y : Symbol) (b d : State) → o ≡ Done → Opens o y b → d ≡ record b { mode = d.mode } → (is_of_selects b.mode ≡ false → is_of_frames b.mode ≡ false → is_of_column_groups b.mode ≡ false → d ≡ b) → Opens Done y d
+pub opens-settled : (o : Outcome) (y : Symbol) (b d : State) → o ≡ Done → Opens o y b → d ≡ record b { mode = d.mode } → (is_of_selects b.mode ≡ false → is_of_frames b.mode ≡ false → d ≡ b) → Opens Done y d
 opens-settled o (Start t) b d q h r same = record {
   opened = λ alone fs x e.
       let k : HasOpened t b = subst (λ z. Opens z (Start t) b) q h in
       let i : IsOpenText x [] b = k.opened alone fs x (sym (ap (λ (z : State). z.ledger.fates) r) ∙ e) in
       let own = text-own b.mode i.mode_is in
-      subst (λ z. IsOpenText x [] z) (sym (same own.0 own.1 own.2)) i;
+      subst (λ z. IsOpenText x [] z) (sym (same own.0 own.1)) i;
 }
 opens-settled o (End t) b d q h r same = tt
 opens-settled o (Char c) b d q h r same = tt
@@ -640,12 +640,12 @@ adds-later run a b d h f = record {
 }
 
 -- the token is done with
-adds-settled : (c : ℕ) (a b d : State) → AddsText (c ∷ []) a b → (is_of_selects b.mode ≡ false → is_of_frames b.mode ≡ false → is_of_column_groups b.mode ≡ false → d ≡ b) → AddsText (c ∷ []) a d
+adds-settled : (c : ℕ) (a b d : State) → AddsText (c ∷ []) a b → (is_of_selects b.mode ≡ false → is_of_frames b.mode ≡ false → d ≡ b) → AddsText (c ∷ []) a d
 adds-settled c a b d h same = record {
   added = λ x s o.
       let p = h.added x s o in
       let own = text-own b.mode p.3.mode_is in
-      let e : d ≡ b = same own.0 own.1 own.2 in
+      let e : d ≡ b = same own.0 own.1 in
       (p.0, ap (λ (z : State). z.ledger.fates) e ∙ p.1, p.2, subst (λ z. IsOpenText x (s ++ run_of (Char c ∷ []) p.0) z) (sym e) p.3);
 }
 
@@ -653,7 +653,7 @@ text-mode : (m : Mode) → (is_text m ≡ true) ⊎ (is_text m ≡ false)
 text-mode mode.Text = inl refl
 text-mode _ = inr refl
 
-pub adds-done : (o : Outcome) (y : Symbol) (a n b d : State) → o ≡ Done → (is_text a.mode ≡ true → is_code_point y ≡ true → IsAlike a n) → Adds o y n b → (is_of_selects b.mode ≡ false → is_of_frames b.mode ≡ false → is_of_column_groups b.mode ≡ false → d ≡ b) → Adds Done y a d
+pub adds-done : (o : Outcome) (y : Symbol) (a n b d : State) → o ≡ Done → (is_text a.mode ≡ true → is_code_point y ≡ true → IsAlike a n) → Adds o y n b → (is_of_selects b.mode ≡ false → is_of_frames b.mode ≡ false → d ≡ b) → Adds Done y a d
 adds-done o (Char c) a n b d q f h same = elim (text-mode a.mode) [
   | inl m ↦ adds-settled c a b d (adds-alike (c ∷ []) a n b (f m refl) (subst (λ z. Adds z (Char c) n b) q h)) same
   | inr m ↦ adds-other Done (Char c) a d m

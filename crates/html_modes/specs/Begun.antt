@@ -11,6 +11,7 @@ use Rattle.html_construction.specs.Built.{Handed, IsBuilt}
 use Rattle.html_construction.specs.Modes.{is_of_column_groups, is_of_frames, is_of_selects}
 use Rattle.html_construction.specs.States.{State}
 use Rattle.html_construction.specs.declared.mode.Mode.{Mode}
+use Rattle.html_modes.specs.Steps.{is_code_point}
 use Rattle.html_modes.specs.declared.outcome.Outcome.{Outcome}
 use Rattle.html_modes.specs.declared.outcome.Outcome.TheVariants.{Done}
 
@@ -61,6 +62,6 @@ pub record StaysOut (m n : Mode) : Type 0 where
   pub frameset : is_of_frames n ≡ true → is_of_frames m ≡ true
   pub column_group : is_of_column_groups n ≡ true → is_of_column_groups m ≡ true
 
--- so in a call
-abbrev pub StaysOutIn : State → State → Type 0
-StaysOutIn a b = (h : Handed) → IsBuilt h a → StaysOut a.mode b.mode
+-- Where the token is a code point, it enters none.
+pub record TextStays (y : Symbol) (m n : Mode) : Type 0 where
+  pub out : is_code_point y ≡ true → StaysOut m n

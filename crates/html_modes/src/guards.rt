@@ -2,10 +2,8 @@
 // not, the token goes on by a rule that asks for nothing.
 ghost use Rattle.std.specs.Prelude.{◌≡◌, ◌≤◌, ◌==◌, IsTrue, true, false};
 ghost use Rattle.html_ledger.specs.Flags.{is_free, may_select, may_drop};
-ghost use Rattle.html_modes.specs.Begun.{StaysOut};
 ghost use Rattle.html_modes.specs.Fitting.{is_loose};
 ghost use Rattle.html_modes.specs.Ranks.{rank, top_rank};
-ghost use Rattle.html_modes.specs.Steps.{is_code_point};
 ghost use Rattle.html_ledger.specs.declared.fate.Cause.TheVariants.{InColumnGroup};
 ghost use Rattle.html_construction.specs.Begun.{IsFounded};
 ghost use Rattle.html_construction.specs.Modes.{is_of_column_groups, is_of_frames, is_of_selects};
@@ -58,28 +56,6 @@ pub(crate) fn is_unfounded(page: &Construction) -> bool
         !page.history().frameset
     } else {
         false
-    }
-}
-
-/// At the end of a call for a code point: a mode of selects, of frames or of a column group, where the call began in no such mode. Never:
-/// text leads to none. Would leave the mode in body. So text is dropped for such a mode where it begins in one alone.
-#[tactic(auto, using(crate::proofs::Begun::begun_rules))]
-pub(crate) fn is_misled(page: &Construction, symbol: Symbol) -> bool
-    ensures out { result ≡ false → is_code_point symbol ≡ true → StaysOut page.now.began page.now.mode }
-    ensures other { is_of_selects page.now.mode ≡ false → is_of_frames page.now.mode ≡ false → is_of_column_groups page.now.mode ≡ false → result ≡ false }
-    ensures loose { result ≡ true → is_loose page.now.mode ≡ true }
-    ensures high { result ≡ true → 2 ≤ top_rank page.now.mode }
-{
-    if !matches!(symbol, Symbol::Char(_)) {
-        return false;
-    }
-    let mode = page.mode();
-    if is_of_selects(mode) {
-        !is_of_selects(page.began())
-    } else if is_of_frames(mode) {
-        !is_of_frames(page.began())
-    } else {
-        is_of_column_groups(mode) && !is_of_column_groups(page.began())
     }
 }
 

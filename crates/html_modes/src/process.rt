@@ -5,17 +5,17 @@ ghost use Rattle.html_ledger.specs.Flags.{is_free, may_select};
 ghost use Rattle.html_construction.specs.Budgets.{Refuses};
 ghost use Rattle.html_construction.specs.Begun.{IsFounded};
 ghost use Rattle.html_construction.specs.Built.{Accepts, Keeps};
-ghost use Rattle.html_modes.specs.Begun.{GivesIn, IgnoresFirst, IgnoresIn, StaysOut, StaysOutIn, ignores_foreign};
+ghost use Rattle.html_modes.specs.Begun.{GivesIn, IgnoresFirst, IgnoresIn, StaysOut, TextStays, ignores_foreign};
 ghost use Rattle.html_modes.specs.Entering.{Enters};
 ghost use Rattle.html_modes.specs.Fitting.{Fits};
 ghost use Rattle.html_modes.specs.Plain.{GoesOn, Turns};
-ghost use Rattle.html_modes.specs.Steps.{Counted, Falls, Pays, Settles, Spends, Steps, Toils, compared, is_code_point, root_of};
+ghost use Rattle.html_modes.specs.Steps.{Counted, Falls, Pays, Settles, Spends, Steps, Toils, compared, root_of};
 ghost use Rattle.html_modes.specs.Ranks.{top_rank};
-ghost use Rattle.html_construction.specs.Modes.{is_of_column_groups, is_of_frames, is_of_selects};
+ghost use Rattle.html_construction.specs.Modes.{is_of_frames, is_of_selects};
 ghost use Rattle.html_modes.specs.Guards.{is_droppable, is_table_text};
 ghost use Rattle.html_modes.specs.RawText.{Adds, AddsBy, Ends, EndsBy, Opens, OpensBy};
 
-use crate::guards::{is_astray, is_misled, is_table_text, is_unfounded};
+use crate::guards::{is_astray, is_table_text, is_unfounded};
 use crate::modes::after::{after_after_body, after_body};
 use crate::modes::body::in_body;
 use crate::modes::cell::in_cell;
@@ -53,7 +53,7 @@ pub fn take(
     ensures fits { OnOk result (Fits page.new) }
     ensures takes { IfOk result (λ f. f ≡ None → Accepts token.now page.old page.new) }
     ensures gives { IfOk result (λ f. f ≡ None → GivesIn page.old page.new) }
-    ensures out { IfOk result (λ f. f ≡ None → is_code_point symbol ≡ true → StaysOutIn page.old page.new) }
+    ensures out { IfOk result (λ f. f ≡ None → TextStays symbol page.old.mode page.new.mode) }
     ensures founded { IfOk result (λ f. f ≡ None → IsFounded page.new) }
     ensures foreign { IfOk result (λ f. IfSome f (λ name. symbol ≡ root_of name)) }
     ensures ignores { IfOk result (λ f. IfSome f (λ name. IsFounded page.old → ignores_foreign page.old.mode ≡ false)) }
@@ -72,7 +72,7 @@ pub fn take(
         *entries = entries.saturating_add(1);
         match step(page, token, symbol)? {
             Outcome::Done => {
-                settle(page, symbol);
+                settle(page);
                 page.laws();
                 return Ok(None);
             }
@@ -82,31 +82,32 @@ pub fn take(
     }
 }
 
-/// Leaves a mode to which nothing that was seen leads, or to which no code point does.
+/// Leaves a mode to which nothing that was seen leads.
 #[tactic(auto, using(crate::proofs::Settled::step_rules, crate::proofs::Begun::begun_rules))]
-fn settle(page: &mut Construction, symbol: Symbol)
+fn settle(page: &mut Construction)
     requires fits { Fits page.old }
     ensures rest { page.new ≡ record page.old { mode = page.new.mode } }
     ensures keeps { Keeps page.old page.new }
     ensures fits { Fits page.new }
     ensures top { top_rank page.new.mode ≤ top_rank page.old.mode }
-    ensures same { is_of_selects page.old.mode ≡ false → is_of_frames page.old.mode ≡ false → is_of_column_groups page.old.mode ≡ false → page.new ≡ page.old }
+    ensures same { is_of_selects page.old.mode ≡ false → is_of_frames page.old.mode ≡ false → page.new ≡ page.old }
     ensures founded { IsFounded page.new }
-    ensures out { is_code_point symbol ≡ true → StaysOut page.new.began page.new.mode }
+    ensures out { StaysOut page.old.mode page.new.mode }
 {
-    if is_unfounded(page) || is_misled(page, symbol) {
+    if is_unfounded(page) {
         page.set_mode(Mode::InBody);
     }
 }
 
 /// One entry: the text of a table, what every mode drops, or the rules of the mode that is set.
-#[tactic(auto, using(crate::proofs::Settled::step_rules, crate::proofs::Plain::step_plain, crate::proofs::RawText::step_texts, crate::proofs::Begun::first_rules))]
+#[tactic(auto, using(crate::proofs::Settled::step_rules, crate::proofs::Plain::step_plain, crate::proofs::RawText::step_texts, crate::proofs::Begun::first_rules, crate::proofs::Begun::text_stays))]
 fn step(page: &mut Construction, token: &TokenKind, symbol: Symbol) -> Result<Outcome, Refusal>
     requires symbol { symbol_of token.now ≡ symbol }
     requires fits { Fits page.old }
     ensures fits { OnOk result (Fits page.new) }
     ensures takes { IfOk result (λ o. Steps o token.now page.old page.new) }
     ensures falls { IfOk result (λ o. Falls o symbol page.old page.new) }
+    ensures out { OnOk result (TextStays symbol page.old.mode page.new.mode) }
     ensures spends { OnOk result (Spends 2 page.old page.new) }
     ensures counts { IfOk result (λ o. Counted o token.now page.old page.new) }
     ensures ignores { IfOk result (λ o. IgnoresFirst page.old o symbol) }
@@ -148,6 +149,7 @@ fn rules(page: &mut Construction, token: &TokenKind, symbol: Symbol) -> Result<O
     ensures fits { OnOk result (Fits page.new) }
     ensures takes { IfOk result (λ o. Steps o token.now page.old page.new) }
     ensures falls { IfOk result (λ o. Falls o symbol page.old page.new) }
+    ensures out { OnOk result (TextStays symbol page.old.mode page.new.mode) }
     ensures spends { OnOk result (Spends 2 page.old page.new) }
     ensures counts { IfOk result (λ o. Counted o token.now page.old page.new) }
     ensures ignores { IfOk result (λ o. IgnoresIn page.old.mode o symbol) }

@@ -5,7 +5,7 @@ ghost use Rattle.html_ledger.specs.Flags.{is_not_null, may_text_run};
 ghost use Rattle.html_construction.specs.Budgets.{RefusesAny};
 ghost use Rattle.html_construction.specs.Begun.{IsFounded};
 ghost use Rattle.html_construction.specs.Built.{Accepts, AcceptsRun};
-ghost use Rattle.html_modes.specs.Begun.{GivesIn, StaysOutIn};
+ghost use Rattle.html_modes.specs.Begun.{GivesIn, StaysOut};
 ghost use Rattle.html_modes.specs.Entering.{Enters};
 ghost use Rattle.html_modes.specs.Fitting.{Fits, is_loose};
 ghost use Rattle.html_modes.specs.Guards.{is_text, takes_runs};
@@ -39,7 +39,7 @@ pub fn take_front(
     ensures fits { OnOk result (Fits page.new) }
     ensures takes { IfOk result (λ n. AcceptsRun (take n text.now) page.old page.new) }
     ensures gives { OnOk result (GivesIn page.old page.new) }
-    ensures out { OnOk result (StaysOutIn page.old page.new) }
+    ensures out { OnOk result (StaysOut page.old.mode page.new.mode) }
     ensures founded { OnOk result (IsFounded page.new) }
     ensures count { IfOk result (λ n. (0 < n) × (n ≤ length text.now)) }
     ensures pays { OnOk result (Pays page.old page.new) }
@@ -66,7 +66,7 @@ fn take_char(page: &mut Construction, c: char, entries: &mut u64) -> Result<(), 
     ensures fits { OnOk result (Fits page.new) }
     ensures takes { OnOk result (Accepts (TokenKind.Char c) page.old page.new) }
     ensures gives { OnOk result (GivesIn page.old page.new) }
-    ensures out { OnOk result (StaysOutIn page.old page.new) }
+    ensures out { OnOk result (StaysOut page.old.mode page.new.mode) }
     ensures founded { OnOk result (IsFounded page.new) }
     ensures pays { OnOk result (Pays page.old page.new) }
     ensures enters { OnOk result (Enters 1 entries.old entries.new page.old page.new) }
@@ -90,7 +90,7 @@ fn take_run(page: &mut Construction, run: &[char]) -> Result<usize, Refusal>
     ensures fits { OnOk result (Fits page.new) }
     ensures takes { IfOk result (λ n. AcceptsRun (take n run.now) page.old page.new) }
     ensures gives { OnOk result (GivesIn page.old page.new) }
-    ensures out { OnOk result (StaysOutIn page.old page.new) }
+    ensures out { OnOk result (StaysOut page.old.mode page.new.mode) }
     ensures founded { OnOk result (IsFounded page.new) }
     ensures count { IfOk result (λ n. (0 < n) × (n ≤ length run.now)) }
     ensures pays { OnOk result (Pays page.old page.new) }

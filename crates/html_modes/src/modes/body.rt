@@ -7,6 +7,7 @@ ghost use Rattle.html_construction.specs.Built.{Takes, TakesRun};
 ghost use Rattle.html_construction.specs.Grown.{Grown};
 ghost use Rattle.html_construction.specs.Works.{Works};
 ghost use Rattle.html_construction.specs.Weights.{weight};
+ghost use Rattle.html_modes.specs.Begun.{TextStays};
 ghost use Rattle.html_modes.specs.Fitting.{Fits, Calls};
 ghost use Rattle.html_modes.specs.Plain.{IsPlainState, IsRunTurn, Turns, TurnsInBody};
 ghost use Rattle.html_modes.specs.Steps.{Falls, Grows, Steps, Worked};
@@ -24,7 +25,7 @@ use html_names::Tag;
 use html_tokens::TokenKind;
 
 /// The rules for the "in body" insertion mode (13.2.6.4.7).
-#[tactic(auto, using(crate::proofs::Settled::mode_rules, crate::proofs::RawText::open_rules))]
+#[tactic(auto, using(crate::proofs::Settled::mode_rules, crate::proofs::RawText::open_rules, crate::proofs::Begun::text_stays))]
 pub(crate) fn in_body(
     page: &mut Construction,
     token: &TokenKind,
@@ -38,6 +39,7 @@ pub(crate) fn in_body(
     ensures fits { OnOk result (Fits page.new) }
     ensures takes { IfOk result (λ o. Steps o token.now page.old page.new) }
     ensures falls { IfOk result (λ o. Falls o symbol page.old page.new) }
+    ensures out { OnOk result (TextStays symbol page.old.mode page.new.mode) }
     ensures grows { IfOk result (λ o. Grows o page.old page.new) }
     ensures works { IfOk result (λ o. Worked o token.now page.old page.new) }
     ensures plain { IfOk result (λ o. Turns o symbol token.now page.old page.new) }
@@ -63,7 +65,7 @@ pub(crate) fn in_body(
 }
 
 /// The rules of the mode in body that other modes share: all but those for the end tag of the root, which no other mode takes from it.
-#[tactic(auto, using(crate::proofs::Settled::body_rules, crate::proofs::RawText::open_rules))]
+#[tactic(auto, using(crate::proofs::Settled::body_rules, crate::proofs::RawText::open_rules, crate::proofs::Begun::text_stays))]
 pub(crate) fn body_rules(
     page: &mut Construction,
     token: &TokenKind,
@@ -75,6 +77,7 @@ pub(crate) fn body_rules(
     ensures fits { OnOk result (Fits page.new) }
     ensures takes { IfOk result (λ o. Steps o token.now page.old page.new) }
     ensures falls { IfOk result (λ o. Falls o symbol page.old page.new) }
+    ensures out { OnOk result (TextStays symbol page.old.mode page.new.mode) }
     ensures grows { IfOk result (λ o. Grows o page.old page.new) }
     ensures works { IfOk result (λ o. Worked o token.now page.old page.new) }
     ensures plain { IfOk result (λ o. TurnsInBody o symbol token.now page.old page.new) }

@@ -7,6 +7,7 @@ ghost use Rattle.html_construction.specs.Built.{Keeps, Takes};
 ghost use Rattle.html_construction.specs.Grown.{Grown};
 ghost use Rattle.html_construction.specs.Works.{Works};
 ghost use Rattle.html_construction.specs.Weights.{weight, weight_of};
+ghost use Rattle.html_modes.specs.Begun.{TextStays};
 ghost use Rattle.html_modes.specs.Fitting.{Fits, Calls};
 ghost use Rattle.html_modes.specs.Steps.{Falls, Grows, Steps, Worked};
 ghost use Rattle.html_modes.specs.declared.outcome.Outcome.TheVariants.{Done};
@@ -46,7 +47,7 @@ pub(crate) fn cell_start(
 }
 
 /// The rules for the "in cell" insertion mode (13.2.6.4.15).
-#[tactic(auto, using(crate::proofs::Settled::part_rules, crate::proofs::RawText::open_rules))]
+#[tactic(auto, using(crate::proofs::Settled::part_rules, crate::proofs::RawText::open_rules, crate::proofs::Begun::text_stays))]
 pub(crate) fn in_cell(
     page: &mut Construction,
     token: &TokenKind,
@@ -60,6 +61,7 @@ pub(crate) fn in_cell(
     ensures fits { OnOk result (Fits page.new) }
     ensures takes { IfOk result (λ o. Steps o token.now page.old page.new) }
     ensures falls { IfOk result (λ o. Falls o symbol page.old page.new) }
+    ensures out { OnOk result (TextStays symbol page.old.mode page.new.mode) }
     ensures grows { IfOk result (λ o. Grows o page.old page.new) }
     ensures works { IfOk result (λ o. Worked o token.now page.old page.new) }
     ensures opens { IfOk result (λ o. Opens o symbol page.new) }

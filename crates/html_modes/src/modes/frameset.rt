@@ -8,7 +8,7 @@ ghost use Rattle.html_construction.specs.Grown.{Grown};
 ghost use Rattle.html_construction.specs.Modes.{is_of_frames};
 ghost use Rattle.html_construction.specs.Works.{Works};
 ghost use Rattle.html_construction.specs.Weights.{weight};
-ghost use Rattle.html_modes.specs.Begun.{Ignores};
+ghost use Rattle.html_modes.specs.Begun.{Ignores, TextStays};
 ghost use Rattle.html_modes.specs.Fitting.{Fits, is_loose};
 ghost use Rattle.html_modes.specs.Steps.{Falls, Grows, Steps, Worked};
 ghost use Rattle.html_modes.specs.Ranks.{top_rank};
@@ -27,7 +27,7 @@ use html_tokens::TokenKind;
 use html_tree::Target;
 
 /// The rules for the "in frameset" insertion mode (13.2.6.4.20).
-#[tactic(auto, using(crate::proofs::Settled::mode_rules, crate::proofs::RawText::open_rules, crate::proofs::Begun::ignoring_rules))]
+#[tactic(auto, using(crate::proofs::Settled::mode_rules, crate::proofs::RawText::open_rules, crate::proofs::Begun::ignoring_rules, crate::proofs::Begun::text_stays))]
 pub(crate) fn in_frameset(
     page: &mut Construction,
     token: &TokenKind,
@@ -43,6 +43,7 @@ pub(crate) fn in_frameset(
     ensures fits { OnOk result (Fits page.new) }
     ensures takes { IfOk result (λ o. Steps o token.now page.old page.new) }
     ensures falls { IfOk result (λ o. Falls o symbol page.old page.new) }
+    ensures out { OnOk result (TextStays symbol page.old.mode page.new.mode) }
     ensures grows { IfOk result (λ o. Grows o page.old page.new) }
     ensures works { IfOk result (λ o. Worked o token.now page.old page.new) }
     ensures ignores { IfOk result (λ o. Ignores o symbol) }
@@ -100,7 +101,7 @@ fn close_frameset(page: &mut Construction)
 }
 
 /// The rules for the "after frameset" insertion mode (13.2.6.4.21).
-#[tactic(auto, using(crate::proofs::Settled::mode_rules, crate::proofs::RawText::open_rules, crate::proofs::Begun::ignoring_rules))]
+#[tactic(auto, using(crate::proofs::Settled::mode_rules, crate::proofs::RawText::open_rules, crate::proofs::Begun::ignoring_rules, crate::proofs::Begun::text_stays))]
 pub(crate) fn after_frameset(
     page: &mut Construction,
     token: &TokenKind,
@@ -116,6 +117,7 @@ pub(crate) fn after_frameset(
     ensures fits { OnOk result (Fits page.new) }
     ensures takes { IfOk result (λ o. Steps o token.now page.old page.new) }
     ensures falls { IfOk result (λ o. Falls o symbol page.old page.new) }
+    ensures out { OnOk result (TextStays symbol page.old.mode page.new.mode) }
     ensures grows { IfOk result (λ o. Grows o page.old page.new) }
     ensures works { IfOk result (λ o. Worked o token.now page.old page.new) }
     ensures ignores { IfOk result (λ o. Ignores o symbol) }
@@ -147,7 +149,7 @@ pub(crate) fn after_frameset(
 }
 
 /// The rules for the "after after frameset" insertion mode (13.2.6.4.23).
-#[tactic(auto, using(crate::proofs::Settled::mode_rules, crate::proofs::RawText::open_rules, crate::proofs::Begun::ignoring_rules))]
+#[tactic(auto, using(crate::proofs::Settled::mode_rules, crate::proofs::RawText::open_rules, crate::proofs::Begun::ignoring_rules, crate::proofs::Begun::text_stays))]
 pub(crate) fn after_after_frameset(
     page: &mut Construction,
     token: &TokenKind,
@@ -163,6 +165,7 @@ pub(crate) fn after_after_frameset(
     ensures fits { OnOk result (Fits page.new) }
     ensures takes { IfOk result (λ o. Steps o token.now page.old page.new) }
     ensures falls { IfOk result (λ o. Falls o symbol page.old page.new) }
+    ensures out { OnOk result (TextStays symbol page.old.mode page.new.mode) }
     ensures grows { IfOk result (λ o. Grows o page.old page.new) }
     ensures works { IfOk result (λ o. Worked o token.now page.old page.new) }
     ensures ignores { IfOk result (λ o. Ignores o symbol) }

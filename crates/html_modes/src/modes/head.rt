@@ -12,6 +12,7 @@ ghost use Rattle.html_construction.specs.Calls.{IsTree, is_first};
 ghost use Rattle.html_construction.specs.Grown.{Grown};
 ghost use Rattle.html_construction.specs.Works.{Works};
 ghost use Rattle.html_construction.specs.Weights.{weight};
+ghost use Rattle.html_modes.specs.Begun.{StaysOut, TextStays};
 ghost use Rattle.html_modes.specs.Fitting.{Fits, Calls, is_loose};
 ghost use Rattle.html_modes.specs.Plain.{Turns};
 ghost use Rattle.html_modes.specs.Steps.{Falls, Grows, Steps, Worked};
@@ -31,7 +32,7 @@ use html_tokens::TokenKind;
 use html_tree::{Group, Target};
 
 /// The rules for the "in head" insertion mode (13.2.6.4.4).
-#[tactic(auto, using(crate::proofs::Settled::mode_rules, crate::proofs::RawText::head_names))]
+#[tactic(auto, using(crate::proofs::Settled::mode_rules, crate::proofs::RawText::head_names, crate::proofs::Begun::text_stays, crate::proofs::Begun::text_leaves))]
 pub(crate) fn in_head(
     page: &mut Construction,
     token: &TokenKind,
@@ -45,6 +46,7 @@ pub(crate) fn in_head(
     ensures fits { OnOk result (Fits page.new) }
     ensures takes { IfOk result (λ o. Steps o token.now page.old page.new) }
     ensures falls { IfOk result (λ o. Falls o symbol page.old page.new) }
+    ensures out { OnOk result (TextStays symbol page.old.mode page.new.mode) }
     ensures grows { IfOk result (λ o. Grows o page.old page.new) }
     ensures works { IfOk result (λ o. Worked o token.now page.old page.new) }
     ensures plain { IfOk result (λ o. Turns o symbol token.now page.old page.new) }
@@ -89,6 +91,7 @@ pub(crate) fn in_head(
 }
 
 /// Closes the head and goes on after it. (In a real run the head is the current node; else the rules of the body go on.)
+#[tactic(auto, using(crate::proofs::Begun::out_rules))]
 fn leave_head(page: &mut Construction)
     requires mode { page.old.mode ≡ Mode.InHead }
     requires opened { 0 < length page.old.stack }
@@ -101,6 +104,7 @@ fn leave_head(page: &mut Construction)
     ensures falls { (s : Symbol) → weight page.new.stack + rank page.new.mode s < weight page.old.stack + rank page.old.mode s }
     ensures loose { is_loose page.new.mode ≡ true }
     ensures top { top_rank page.new.mode ≤ 6 }
+    ensures out { StaysOut page.old.mode page.new.mode }
     ensures closed { (nat_lt 1 (length page.old.stack) && is_first (group.Named tag.Head) page.old.stack) ≡ true → page.new ≡ record page.old { tree = page.new.tree; stack = drop 1 page.old.stack; mode = Mode.AfterHead } }
     ensures exact { (nat_lt 1 (length page.old.stack) && is_first (group.Named tag.Head) page.old.stack) ≡ true → IsTree (record page.old.tree { stack = popped page.old.tree.stack }) page.new }
 {
@@ -163,7 +167,7 @@ fn head_start_at(
 }
 
 /// The rules for the "in head noscript" insertion mode (13.2.6.4.5).
-#[tactic(auto, using(crate::proofs::Settled::mode_rules, crate::proofs::RawText::head_names))]
+#[tactic(auto, using(crate::proofs::Settled::mode_rules, crate::proofs::RawText::head_names, crate::proofs::Begun::text_stays, crate::proofs::Begun::text_leaves))]
 pub(crate) fn in_head_noscript(
     page: &mut Construction,
     token: &TokenKind,
@@ -177,6 +181,7 @@ pub(crate) fn in_head_noscript(
     ensures fits { OnOk result (Fits page.new) }
     ensures takes { IfOk result (λ o. Steps o token.now page.old page.new) }
     ensures falls { IfOk result (λ o. Falls o symbol page.old page.new) }
+    ensures out { OnOk result (TextStays symbol page.old.mode page.new.mode) }
     ensures grows { IfOk result (λ o. Grows o page.old page.new) }
     ensures works { IfOk result (λ o. Worked o token.now page.old page.new) }
     ensures opens { IfOk result (λ o. Opens o symbol page.new) }
@@ -215,6 +220,7 @@ pub(crate) fn in_head_noscript(
 }
 
 /// Closes the noscript and goes on in the head. (In a real run the noscript is the current node; else the rules of the body go on.)
+#[tactic(auto, using(crate::proofs::Begun::out_rules))]
 fn leave_noscript(page: &mut Construction)
     requires mode { page.old.mode ≡ Mode.InHeadNoscript }
     requires opened { 0 < length page.old.stack }
@@ -227,6 +233,7 @@ fn leave_noscript(page: &mut Construction)
     ensures falls { (s : Symbol) → weight page.new.stack + rank page.new.mode s < weight page.old.stack + rank page.old.mode s }
     ensures loose { is_loose page.new.mode ≡ true }
     ensures top { top_rank page.new.mode ≤ 3 }
+    ensures out { StaysOut page.old.mode page.new.mode }
 {
     if page.pop_if(Group::Named(Tag::Noscript)) {
         page.set_mode(Mode::InHead);
@@ -236,7 +243,7 @@ fn leave_noscript(page: &mut Construction)
 }
 
 /// The rules for the "after head" insertion mode (13.2.6.4.6).
-#[tactic(auto, using(crate::proofs::Settled::mode_rules, crate::proofs::RawText::head_names))]
+#[tactic(auto, using(crate::proofs::Settled::mode_rules, crate::proofs::RawText::head_names, crate::proofs::Begun::text_stays))]
 pub(crate) fn after_head(
     page: &mut Construction,
     token: &TokenKind,
@@ -250,6 +257,7 @@ pub(crate) fn after_head(
     ensures fits { OnOk result (Fits page.new) }
     ensures takes { IfOk result (λ o. Steps o token.now page.old page.new) }
     ensures falls { IfOk result (λ o. Falls o symbol page.old page.new) }
+    ensures out { OnOk result (TextStays symbol page.old.mode page.new.mode) }
     ensures grows { IfOk result (λ o. Grows o page.old page.new) }
     ensures works { IfOk result (λ o. Worked o token.now page.old page.new) }
     ensures plain { IfOk result (λ o. Turns o symbol token.now page.old page.new) }

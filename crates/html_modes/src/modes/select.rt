@@ -8,7 +8,7 @@ ghost use Rattle.html_construction.specs.Grown.{Grown};
 ghost use Rattle.html_construction.specs.Modes.{is_of_selects, is_reset};
 ghost use Rattle.html_construction.specs.Works.{Works};
 ghost use Rattle.html_construction.specs.Weights.{weight};
-ghost use Rattle.html_modes.specs.Begun.{Ignores, is_foreign};
+ghost use Rattle.html_modes.specs.Begun.{Ignores, is_foreign, TextStays};
 ghost use Rattle.html_modes.specs.Fitting.{Fits, Calls, is_loose};
 ghost use Rattle.html_modes.specs.Steps.{Falls, Grows, Steps, Worked};
 ghost use Rattle.html_modes.specs.Ranks.{rank};
@@ -31,7 +31,7 @@ use html_tokens::TokenKind;
 use html_tree::Group;
 
 /// The rules for the "in select" insertion mode (13.2.6.4.16).
-#[tactic(auto, using(crate::proofs::Settled::mode_rules, crate::proofs::RawText::open_rules))]
+#[tactic(auto, using(crate::proofs::Settled::mode_rules, crate::proofs::RawText::open_rules, crate::proofs::Begun::text_stays))]
 pub(crate) fn in_select(
     page: &mut Construction,
     token: &TokenKind,
@@ -47,6 +47,7 @@ pub(crate) fn in_select(
     ensures fits { OnOk result (Fits page.new) }
     ensures takes { IfOk result (λ o. Steps o token.now page.old page.new) }
     ensures falls { IfOk result (λ o. Falls o symbol page.old page.new) }
+    ensures out { OnOk result (TextStays symbol page.old.mode page.new.mode) }
     ensures grows { IfOk result (λ o. Grows o page.old page.new) }
     ensures works { IfOk result (λ o. Worked o token.now page.old page.new) }
     ensures ignores { IfOk result (λ o. Ignores o symbol) }
@@ -58,7 +59,7 @@ pub(crate) fn in_select(
 }
 
 /// The rules that both modes share.
-#[tactic(auto, using(crate::proofs::Settled::reset_rules, crate::proofs::RawText::open_rules, crate::proofs::Begun::ignoring_rules))]
+#[tactic(auto, using(crate::proofs::Settled::reset_rules, crate::proofs::RawText::open_rules, crate::proofs::Begun::ignoring_rules, crate::proofs::Begun::text_stays))]
 fn select_rules(
     page: &mut Construction,
     token: &TokenKind,
@@ -73,6 +74,7 @@ fn select_rules(
     ensures fits { OnOk result (Fits page.new) }
     ensures takes { IfOk result (λ o. Steps o token.now page.old page.new) }
     ensures falls { IfOk result (λ o. Falls o symbol page.old page.new) }
+    ensures out { OnOk result (TextStays symbol page.old.mode page.new.mode) }
     ensures grows { IfOk result (λ o. Grows o page.old page.new) }
     ensures works { IfOk result (λ o. Worked o token.now page.old page.new) }
     ensures ignores { IfOk result (λ o. Ignores o symbol) }
@@ -285,7 +287,7 @@ fn close_select(page: &mut Construction) -> bool
 }
 
 /// The rules for the "in select in table" insertion mode (13.2.6.4.17).
-#[tactic(auto, using(crate::proofs::Settled::select_rules, crate::proofs::RawText::open_rules, crate::proofs::Begun::ignoring_rules))]
+#[tactic(auto, using(crate::proofs::Settled::select_rules, crate::proofs::RawText::open_rules, crate::proofs::Begun::ignoring_rules, crate::proofs::Begun::text_stays))]
 pub(crate) fn in_select_in_table(
     page: &mut Construction,
     token: &TokenKind,
@@ -301,6 +303,7 @@ pub(crate) fn in_select_in_table(
     ensures fits { OnOk result (Fits page.new) }
     ensures takes { IfOk result (λ o. Steps o token.now page.old page.new) }
     ensures falls { IfOk result (λ o. Falls o symbol page.old page.new) }
+    ensures out { OnOk result (TextStays symbol page.old.mode page.new.mode) }
     ensures grows { IfOk result (λ o. Grows o page.old page.new) }
     ensures works { IfOk result (λ o. Worked o token.now page.old page.new) }
     ensures ignores { IfOk result (λ o. Ignores o symbol) }

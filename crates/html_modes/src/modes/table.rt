@@ -8,6 +8,7 @@ ghost use Rattle.html_construction.specs.Grown.{Grown};
 ghost use Rattle.html_construction.specs.Modes.{is_reset};
 ghost use Rattle.html_construction.specs.Works.{Works};
 ghost use Rattle.html_construction.specs.Weights.{weight};
+ghost use Rattle.html_modes.specs.Begun.{TextStays};
 ghost use Rattle.html_modes.specs.Fitting.{Fits, Calls, is_loose, is_table_mode};
 ghost use Rattle.html_modes.specs.Steps.{Falls, Grows, Steps, Worked};
 ghost use Rattle.html_modes.specs.declared.outcome.Outcome.TheVariants.{Done};
@@ -28,7 +29,7 @@ use html_tokens::TokenKind;
 use html_tree::TableContext;
 
 /// The rules for the "in table" insertion mode (13.2.6.4.9).
-#[tactic(auto, using(crate::proofs::Settled::table_rules, crate::proofs::RawText::table_names))]
+#[tactic(auto, using(crate::proofs::Settled::table_rules, crate::proofs::RawText::table_names, crate::proofs::Begun::text_stays))]
 pub(crate) fn in_table(
     page: &mut Construction,
     token: &TokenKind,
@@ -42,6 +43,7 @@ pub(crate) fn in_table(
     ensures fits { OnOk result (Fits page.new) }
     ensures takes { IfOk result (λ o. Steps o token.now page.old page.new) }
     ensures falls { IfOk result (λ o. Falls o symbol page.old page.new) }
+    ensures out { OnOk result (TextStays symbol page.old.mode page.new.mode) }
     ensures grows { IfOk result (λ o. Grows o page.old page.new) }
     ensures works { IfOk result (λ o. Worked o token.now page.old page.new) }
     ensures opens { IfOk result (λ o. Opens o symbol page.new) }
@@ -115,7 +117,7 @@ fn imply_section(page: &mut Construction) -> Result<(), Refusal>
 }
 
 /// The rules of the mode in table that the modes in table body and in row share.
-#[tactic(auto, using(crate::proofs::Settled::table_rules, crate::proofs::RawText::table_names))]
+#[tactic(auto, using(crate::proofs::Settled::table_rules, crate::proofs::RawText::table_names, crate::proofs::Begun::text_stays))]
 pub(crate) fn table_rules(
     page: &mut Construction,
     token: &TokenKind,
@@ -128,6 +130,7 @@ pub(crate) fn table_rules(
     ensures fits { OnOk result (Fits page.new) }
     ensures takes { IfOk result (λ o. Steps o token.now page.old page.new) }
     ensures falls { IfOk result (λ o. Falls o symbol page.old page.new) }
+    ensures out { OnOk result (TextStays symbol page.old.mode page.new.mode) }
     ensures grows { IfOk result (λ o. Grows o page.old page.new) }
     ensures works { IfOk result (λ o. Worked o token.now page.old page.new) }
     ensures opens { IfOk result (λ o. Opens o symbol page.new) }
@@ -162,7 +165,7 @@ pub(crate) fn table_rules(
     Ok(Outcome::Done)
 }
 
-#[tactic(auto, using(crate::proofs::Settled::table_rules))]
+#[tactic(auto, using(crate::proofs::Settled::table_rules, crate::proofs::Begun::text_stays))]
 fn table_rules_char(page: &mut Construction, token: &TokenKind, c: char) -> Result<Outcome, Refusal>
     requires mode { is_table_mode page.old.mode ≡ true }
     requires free { IsTrue (is_free page.old.ledger.history (Symbol.Char c)) }
@@ -171,6 +174,7 @@ fn table_rules_char(page: &mut Construction, token: &TokenKind, c: char) -> Resu
     ensures fits { OnOk result (Fits page.new) }
     ensures takes { IfOk result (λ o. Steps o token.now page.old page.new) }
     ensures falls { IfOk result (λ o. Falls o (Symbol.Char c) page.old page.new) }
+    ensures out { OnOk result (TextStays (Symbol.Char c) page.old.mode page.new.mode) }
     ensures grows { IfOk result (λ o. Grows o page.old page.new) }
     ensures works { IfOk result (λ o. Worked o token.now page.old page.new) }
     ensures refuses { IfErr result (λ e. Refuses token.now e page.old page.new) }
@@ -333,7 +337,7 @@ fn form_in_table(page: &mut Construction, token: &TokenKind) -> Result<(), Refus
 }
 
 /// The rules of the mode in body for what can't stand in a table: it is put before the table.
-#[tactic(auto, using(crate::proofs::Settled::foster_rules, crate::proofs::RawText::table_names))]
+#[tactic(auto, using(crate::proofs::Settled::foster_rules, crate::proofs::RawText::table_names, crate::proofs::Begun::text_stays))]
 fn foster_rules(
     page: &mut Construction,
     token: &TokenKind,
@@ -345,6 +349,7 @@ fn foster_rules(
     ensures fits { OnOk result (Fits page.new) }
     ensures takes { IfOk result (λ o. Steps o token.now page.old page.new) }
     ensures falls { IfOk result (λ o. Falls o symbol page.old page.new) }
+    ensures out { OnOk result (TextStays symbol page.old.mode page.new.mode) }
     ensures grows { IfOk result (λ o. Grows o page.old page.new) }
     ensures works { IfOk result (λ o. Worked o token.now page.old page.new) }
     ensures opens { IfOk result (λ o. Opens o symbol page.new) }

@@ -7,6 +7,7 @@ ghost use Rattle.html_construction.specs.Built.{Keeps};
 ghost use Rattle.html_construction.specs.Grown.{Grown};
 ghost use Rattle.html_construction.specs.Works.{Works};
 ghost use Rattle.html_construction.specs.Weights.{weight};
+ghost use Rattle.html_modes.specs.Begun.{TextStays};
 ghost use Rattle.html_modes.specs.Fitting.{Fits, Calls};
 ghost use Rattle.html_modes.specs.Steps.{Falls, Grows, Steps, Worked};
 ghost use Rattle.html_modes.specs.Ranks.{rank};
@@ -25,7 +26,7 @@ use html_tokens::TokenKind;
 use html_tree::Group;
 
 /// The rules for the "in caption" insertion mode (13.2.6.4.11).
-#[tactic(auto, using(crate::proofs::Settled::part_rules, crate::proofs::RawText::open_rules))]
+#[tactic(auto, using(crate::proofs::Settled::part_rules, crate::proofs::RawText::open_rules, crate::proofs::Begun::text_stays))]
 pub(crate) fn in_caption(
     page: &mut Construction,
     token: &TokenKind,
@@ -39,6 +40,7 @@ pub(crate) fn in_caption(
     ensures fits { OnOk result (Fits page.new) }
     ensures takes { IfOk result (λ o. Steps o token.now page.old page.new) }
     ensures falls { IfOk result (λ o. Falls o symbol page.old page.new) }
+    ensures out { OnOk result (TextStays symbol page.old.mode page.new.mode) }
     ensures grows { IfOk result (λ o. Grows o page.old page.new) }
     ensures works { IfOk result (λ o. Worked o token.now page.old page.new) }
     ensures opens { IfOk result (λ o. Opens o symbol page.new) }
@@ -104,7 +106,7 @@ fn close_caption(page: &mut Construction) -> bool
 }
 
 /// The rules for the "in column group" insertion mode (13.2.6.4.12).
-#[tactic(auto, using(crate::proofs::Settled::part_rules, crate::proofs::RawText::open_rules))]
+#[tactic(auto, using(crate::proofs::Settled::part_rules, crate::proofs::RawText::open_rules, crate::proofs::Begun::text_stays))]
 pub(crate) fn in_column_group(
     page: &mut Construction,
     token: &TokenKind,
@@ -118,6 +120,7 @@ pub(crate) fn in_column_group(
     ensures fits { OnOk result (Fits page.new) }
     ensures takes { IfOk result (λ o. Steps o token.now page.old page.new) }
     ensures falls { IfOk result (λ o. Falls o symbol page.old page.new) }
+    ensures out { OnOk result (TextStays symbol page.old.mode page.new.mode) }
     ensures grows { IfOk result (λ o. Grows o page.old page.new) }
     ensures works { IfOk result (λ o. Worked o token.now page.old page.new) }
     ensures opens { IfOk result (λ o. Opens o symbol page.new) }
@@ -193,7 +196,7 @@ fn close_column_group(page: &mut Construction) -> bool
 
 /// A token that closes the column group, and is dropped where none is open. (In a real run a col was made then, or the context is a
 /// column group, and the token came in this mode; else the rules of the body go on.)
-#[tactic(auto, using(crate::proofs::Settled::part_rules, crate::proofs::RawText::open_rules))]
+#[tactic(auto, using(crate::proofs::Settled::part_rules, crate::proofs::RawText::open_rules, crate::proofs::Begun::text_stays))]
 fn leave_column_group(
     page: &mut Construction,
     token: &TokenKind,
@@ -207,6 +210,7 @@ fn leave_column_group(
     ensures fits { OnOk result (Fits page.new) }
     ensures takes { IfOk result (λ o. Steps o token.now page.old page.new) }
     ensures falls { IfOk result (λ o. Falls o symbol page.old page.new) }
+    ensures out { OnOk result (TextStays symbol page.old.mode page.new.mode) }
     ensures grows { IfOk result (λ o. Grows o page.old page.new) }
     ensures works { IfOk result (λ o. Worked o token.now page.old page.new) }
     ensures opens { IfOk result (λ o. Opens o symbol page.new) }

@@ -7,6 +7,7 @@ ghost use Rattle.html_construction.specs.Built.{Keeps, Takes};
 ghost use Rattle.html_construction.specs.Grown.{Grown};
 ghost use Rattle.html_construction.specs.Works.{Works};
 ghost use Rattle.html_construction.specs.Weights.{weight};
+ghost use Rattle.html_modes.specs.Begun.{TextStays};
 ghost use Rattle.html_modes.specs.Fitting.{Fits, Calls};
 ghost use Rattle.html_modes.specs.declared.outcome.Outcome.TheVariants.{Done};
 ghost use Rattle.html_modes.specs.Steps.{Falls, Grows, Steps, Worked};
@@ -22,7 +23,7 @@ use html_tokens::TokenKind;
 use html_tree::{Group, TableContext};
 
 /// The rules for the "in table body" insertion mode (13.2.6.4.13).
-#[tactic(auto, using(crate::proofs::Settled::part_rules, crate::proofs::RawText::table_names))]
+#[tactic(auto, using(crate::proofs::Settled::part_rules, crate::proofs::RawText::table_names, crate::proofs::Begun::text_stays))]
 pub(crate) fn in_table_body(
     page: &mut Construction,
     token: &TokenKind,
@@ -36,6 +37,7 @@ pub(crate) fn in_table_body(
     ensures fits { OnOk result (Fits page.new) }
     ensures takes { IfOk result (λ o. Steps o token.now page.old page.new) }
     ensures falls { IfOk result (λ o. Falls o symbol page.old page.new) }
+    ensures out { OnOk result (TextStays symbol page.old.mode page.new.mode) }
     ensures grows { IfOk result (λ o. Grows o page.old page.new) }
     ensures works { IfOk result (λ o. Worked o token.now page.old page.new) }
     ensures opens { IfOk result (λ o. Opens o symbol page.new) }
@@ -156,7 +158,7 @@ fn close_section(page: &mut Construction) -> bool
 }
 
 /// The rules for the "in row" insertion mode (13.2.6.4.14).
-#[tactic(auto, using(crate::proofs::Settled::part_rules, crate::proofs::RawText::table_names))]
+#[tactic(auto, using(crate::proofs::Settled::part_rules, crate::proofs::RawText::table_names, crate::proofs::Begun::text_stays))]
 pub(crate) fn in_row(
     page: &mut Construction,
     token: &TokenKind,
@@ -170,6 +172,7 @@ pub(crate) fn in_row(
     ensures fits { OnOk result (Fits page.new) }
     ensures takes { IfOk result (λ o. Steps o token.now page.old page.new) }
     ensures falls { IfOk result (λ o. Falls o symbol page.old page.new) }
+    ensures out { OnOk result (TextStays symbol page.old.mode page.new.mode) }
     ensures grows { IfOk result (λ o. Grows o page.old page.new) }
     ensures works { IfOk result (λ o. Worked o token.now page.old page.new) }
     ensures opens { IfOk result (λ o. Opens o symbol page.new) }

@@ -7,6 +7,7 @@ ghost use Rattle.html_construction.specs.Built.{Keeps, Takes};
 ghost use Rattle.html_construction.specs.Grown.{Grown};
 ghost use Rattle.html_construction.specs.Works.{Works};
 ghost use Rattle.html_construction.specs.Weights.{weight};
+ghost use Rattle.html_modes.specs.Begun.{TextStays};
 ghost use Rattle.html_modes.specs.Fitting.{Fits};
 ghost use Rattle.html_modes.specs.Steps.{Counted, Counts, Falls, Settles, Spends, Steps};
 ghost use Rattle.html_modes.specs.RawText.{Opens};
@@ -18,7 +19,7 @@ use html_ledger::{Cause, Symbol, is_space};
 use html_tokens::TokenKind;
 
 /// The rules for the "in table text" insertion mode (13.2.6.4.10): code points are kept until another token comes.
-#[tactic(auto, using(crate::proofs::Settled::table_text_rules, crate::proofs::RawText::open_rules))]
+#[tactic(auto, using(crate::proofs::Settled::table_text_rules, crate::proofs::RawText::open_rules, crate::proofs::Begun::text_stays))]
 pub(crate) fn in_table_text(
     page: &mut Construction,
     token: &TokenKind,
@@ -30,6 +31,7 @@ pub(crate) fn in_table_text(
     ensures fits { OnOk result (Fits page.new) }
     ensures takes { IfOk result (λ o. Steps o token.now page.old page.new) }
     ensures falls { IfOk result (λ o. Falls o symbol page.old page.new) }
+    ensures out { OnOk result (TextStays symbol page.old.mode page.new.mode) }
     ensures spends { OnOk result (Spends 2 page.old page.new) }
     ensures counts { IfOk result (λ o. Counted o token.now page.old page.new) }
     ensures settles { IfOk result (λ o. Settles o symbol page.old page.new) }

@@ -8,6 +8,7 @@ ghost use Rattle.html_construction.specs.Grown.{Grown};
 ghost use Rattle.html_construction.specs.Modes.{is_reset};
 ghost use Rattle.html_construction.specs.Works.{Works};
 ghost use Rattle.html_construction.specs.Weights.{weight};
+ghost use Rattle.html_modes.specs.Begun.{TextStays};
 ghost use Rattle.html_modes.specs.Fitting.{Fits, Calls, is_loose};
 ghost use Rattle.html_modes.specs.Steps.{Falls, Grows, Steps, Worked};
 ghost use Rattle.html_modes.specs.Ranks.{rank};
@@ -90,7 +91,7 @@ fn close_template(page: &mut Construction) -> bool
 }
 
 /// The rules for the "in template" insertion mode (13.2.6.4.18).
-#[tactic(auto, using(crate::proofs::Settled::template_rules, crate::proofs::RawText::head_names))]
+#[tactic(auto, using(crate::proofs::Settled::template_rules, crate::proofs::RawText::head_names, crate::proofs::Begun::text_stays))]
 pub(crate) fn in_template(
     page: &mut Construction,
     token: &TokenKind,
@@ -104,6 +105,7 @@ pub(crate) fn in_template(
     ensures fits { OnOk result (Fits page.new) }
     ensures takes { IfOk result (λ o. Steps o token.now page.old page.new) }
     ensures falls { IfOk result (λ o. Falls o symbol page.old page.new) }
+    ensures out { OnOk result (TextStays symbol page.old.mode page.new.mode) }
     ensures grows { IfOk result (λ o. Grows o page.old page.new) }
     ensures works { IfOk result (λ o. Worked o token.now page.old page.new) }
     ensures opens { IfOk result (λ o. Opens o symbol page.new) }

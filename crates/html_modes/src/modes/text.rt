@@ -7,6 +7,7 @@ ghost use Rattle.html_construction.specs.Built.{Keeps, Takes};
 ghost use Rattle.html_construction.specs.Grown.{Grown};
 ghost use Rattle.html_construction.specs.Works.{Works};
 ghost use Rattle.html_construction.specs.Weights.{weight, weight_of};
+ghost use Rattle.html_modes.specs.Begun.{TextStays};
 ghost use Rattle.html_modes.specs.Fitting.{Fits, Calls};
 ghost use Rattle.html_modes.specs.Steps.{Falls, Grows, Steps, Worked};
 ghost use Rattle.html_modes.specs.declared.outcome.Outcome.TheVariants.{Done};
@@ -72,7 +73,7 @@ pub(crate) fn text_start_at(
 }
 
 /// The rules for the "text" insertion mode (13.2.6.4.8).
-#[tactic(auto, using(crate::proofs::Settled::text_rules, crate::proofs::RawText::text_texts))]
+#[tactic(auto, using(crate::proofs::Settled::text_rules, crate::proofs::RawText::text_texts, crate::proofs::Begun::text_stays))]
 pub(crate) fn text(
     page: &mut Construction,
     token: &TokenKind,
@@ -86,6 +87,7 @@ pub(crate) fn text(
     ensures fits { OnOk result (Fits page.new) }
     ensures takes { IfOk result (λ o. Steps o token.now page.old page.new) }
     ensures falls { IfOk result (λ o. Falls o symbol page.old page.new) }
+    ensures out { OnOk result (TextStays symbol page.old.mode page.new.mode) }
     ensures grows { IfOk result (λ o. Grows o page.old page.new) }
     ensures works { IfOk result (λ o. Worked o token.now page.old page.new) }
     ensures opens { IfOk result (λ o. Opens o symbol page.new) }

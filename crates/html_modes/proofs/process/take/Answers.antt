@@ -8,8 +8,8 @@ use Rattle.html_modes.proofs.Entering.{enters-done, enters-next}
 use Rattle.html_modes.proofs.Settled.{Entered, entered-next, toils-done}
 use Rattle.html_modes.proofs.Plain.{IsAlike, alike-begun, alike-counted, alike-then, goes-not, goes-on, next-alike}
 use Rattle.html_modes.proofs.RawText.{adds-done, adds-not, ends-done, leaving-on, opens-settled}
-use Rattle.html_modes.specs.Begun.{ignores_foreign}
-use Rattle.html_modes.proofs.Begun.{accepts-done, accepts-gives, accepts-out, began-own, begins-root, begun-refuses, done-foreign, done-not, first-entry, founded-begun}
+use Rattle.html_modes.specs.Begun.{TextStays, ignores_foreign}
+use Rattle.html_modes.proofs.Begun.{accepts-done, accepts-gives, began-own, begins-root, begun-refuses, done-foreign, done-not, first-entry, founded-begun, stays-settled, stays-then}
 use Rattle.html_modes.proofs.process.take.Goals as goal
 
 pub steps-preserved : goal.steps-preserved
@@ -26,6 +26,7 @@ steps-preserved c =
           (first-entry c.begin_call.new.self c.steps.page c.count_steps.new.self c.in_ok-step.field-0 c.args.symbol i.first c.count_steps.ensures.rest (began-own c.args.page.now c.begin_call.new.self _ _ c.begin_call.ensures.rest) c.in_ok-step.ensures.ignores k w z)
           c.in-Reprocess.is
           );
+      out = stays-then c.args.symbol c.begin_call.new.self.mode c.steps.page.mode c.count_steps.new.self.mode c.step.new.page.mode i.out (ap (λ (x : State). x.mode) c.count_steps.ensures.rest) c.in_ok-step.ensures.out;
       nodes = e.0;
       clones = e.1.0;
       implied = e.1.1.0;
@@ -105,10 +106,10 @@ returns-in-Done-clause-gives c = λ n. accepts-gives c.args.token.now c.args.pag
     c.count_steps.ensures.keeps c.in_ok-step.ensures.takes c.settle.ensures.keeps)
 
 pub returns-in-Done-clause-out : goal.returns-in-Done-clause-out
-returns-in-Done-clause-out c = λ n p. accepts-out c.args.token.now c.args.page.now c.settle.new.page
-    (accepts-done c.args.token.now c.in_ok-step.field-0 c.args.page.now c.begin_call.new.self c.steps.page c.count_steps.new.self c.step.new.page c.settle.new.page c.in-Done.is c.begin_call.ensures.begins c.steps.invariant.keeps
-    c.count_steps.ensures.keeps c.in_ok-step.ensures.takes c.settle.ensures.keeps)
-    (c.settle.ensures.out p)
+returns-in-Done-clause-out c = λ n.
+    subst (λ (x : State). TextStays c.args.symbol x.mode c.settle.new.page.mode) c.begin_call.ensures.rest
+    (stays-settled c.args.symbol c.begin_call.new.self.mode c.step.new.page.mode c.settle.new.page.mode
+    (stays-then c.args.symbol c.begin_call.new.self.mode c.steps.page.mode c.count_steps.new.self.mode c.step.new.page.mode c.steps.invariant.out (ap (λ (x : State). x.mode) c.count_steps.ensures.rest) c.in_ok-step.ensures.out) c.settle.ensures.out)
 
 pub returns-in-Foreign-clause-ignores : goal.returns-in-Foreign-clause-ignores
 returns-in-Foreign-clause-ignores c = λ w. elim (cases_bool (ignores_foreign c.args.page.now.mode)) [

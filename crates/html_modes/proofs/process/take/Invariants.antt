@@ -4,7 +4,7 @@ use Rattle.html_construction.specs.Built.{Keeps}
 use Rattle.html_construction.specs.Copies.{implied_count}
 use Rattle.html_construction.specs.Weights.{weight}
 use Rattle.html_construction.specs.Works.{reach_of, toll_of}
-use Rattle.html_modes.specs.Begun.{begins_foreign, ignores_foreign}
+use Rattle.html_modes.specs.Begun.{TextStays, begins_foreign, ignores_foreign}
 use Rattle.html_modes.specs.Fitting.{Fits}
 use Rattle.html_modes.specs.Guards.{is_text}
 use Rattle.html_modes.specs.Plain.{IsNext}
@@ -19,6 +19,7 @@ invariant-steps l = record {
   fits : Fits l.page;
   keeps : Keeps l.initial.page l.page;
   first : ignores_foreign l.initial.page.mode ≡ true → IsFounded l.initial.page → begins_foreign l.symbol ≡ true → l.page ≡ l.initial.page;
+  out : TextStays l.symbol l.initial.page.mode l.page.mode;
   nodes : length l.page.tree.tree.labels + 2 * (weight l.page.stack + rank l.page.mode l.symbol) + allowance (length l.initial.page.ledger.fates)
       ≤ length l.initial.page.tree.tree.labels + 2 * (weight l.initial.page.stack + rank l.initial.page.mode l.symbol) + allowance (length l.page.ledger.fates);
   clones : ClonesFew l.initial.page l.page;

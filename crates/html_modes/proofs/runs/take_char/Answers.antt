@@ -18,7 +18,7 @@ pub returns-clause-gives : goal.returns-clause-gives
 returns-clause-gives c = c.in_ok-take.ensures.gives (char-foreign c.args.c c.in_ok-take.field-0 c.in_ok-take.ensures.foreign)
 
 pub returns-clause-out : goal.returns-clause-out
-returns-clause-out c = c.in_ok-take.ensures.out (char-foreign c.args.c c.in_ok-take.field-0 c.in_ok-take.ensures.foreign) refl
+returns-clause-out c = (c.in_ok-take.ensures.out (char-foreign c.args.c c.in_ok-take.field-0 c.in_ok-take.ensures.foreign)).out refl
 
 pub returns-clause-founded : goal.returns-clause-founded
 returns-clause-founded c = c.in_ok-take.ensures.founded (char-foreign c.args.c c.in_ok-take.field-0 c.in_ok-take.ensures.foreign)
