@@ -3,12 +3,12 @@
 ghost use Rattle.std.specs.Prelude.{◌≡◌, ◌⊎◌, ◌∷◌, ◌++◌, [], true, MatchOption, OnErr};
 ghost use Rattle.std.specs.Str.{chars, encode_utf8_all};
 ghost use Rattle.std.specs.List.{flat_map};
+ghost use Rattle.html_output.specs.Putting.{Puts, held};
 ghost use Rattle.html_page.specs.Escaped.{escaped};
-ghost use Rattle.html_page.specs.Putting.{Puts, held};
 
-use crate::output::Output;
 use crate::profile::Profile;
 use html_device::{DeviceFault, Sink};
+use html_output::Output;
 
 /// Where an escaped text stands: in an element, or in the value of an attribute.
 #[derive(Clone, Copy, Debug, PartialEq, Eq)]
@@ -63,20 +63,4 @@ pub(crate) fn put_escaped<W: Sink>(
     }
     let run = &bytes[start..];
     output.put(writer, run)
-}
-
-/// Puts a text between two others.
-pub(crate) fn put_between<W: Sink>(
-    output: &mut Output,
-    writer: &mut W,
-    before: &str,
-    text: &str,
-    after: &str,
-) -> Result<(), DeviceFault>
-    ensures bytes { Puts (W.taken writer.old) (held output.old) (W.taken writer.new) (held output.new) result (before.now ++ (text.now ++ after.now)) }
-    ensures fault { OnErr result ((W.failed writer.new ≡ true) ⊎ (W.stalled writer.new ≡ true)) }
-{
-    output.put(writer, before.as_bytes())?;
-    output.put(writer, text.as_bytes())?;
-    output.put(writer, after.as_bytes())
 }

@@ -11,18 +11,18 @@ ghost use Rattle.html_arena.specs.Steps.{node_in};
 ghost use Rattle.html_arena.specs.Tree.{label_of};
 ghost use Rattle.html_arena.specs.Walking.{IsRoot};
 ghost use Rattle.html_names.specs.Names.{tag_of};
+ghost use Rattle.html_output.specs.Putting.{Puts, held};
 ghost use Rattle.html_page.specs.Html.{attribute, start_tag, closing, opening};
 ghost use Rattle.html_page.specs.Label.{Label, label_for};
-ghost use Rattle.html_page.specs.Putting.{Puts, held};
 ghost use Rattle.html_page.specs.Serialised.{HasNames, event_text, forest_below, html_below, is_raw_below, most_written};
 ghost use Rattle.html_page.specs.Shows.{Shows};
 
-use crate::escape::{Escape, put_between, put_escaped};
-use crate::output::Output;
+use crate::escape::{Escape, put_escaped};
 use crate::profile::Profile;
 use html_arena::{Arena, ElementData, Event, NodeData, NodeId, Show, Walk};
 use html_charref::Str;
 use html_device::{DeviceFault, Sink};
+use html_output::Output;
 use html_tokens::Attr;
 
 /// Puts an attribute.
@@ -35,7 +35,7 @@ fn put_attribute<W: Sink>(
     ensures bytes { Puts (W.taken writer.old) (held output.old) (W.taken writer.new) (held output.new) result (encode_utf8_all (attribute profile attr.now)) }
     ensures fault { OnErr result ((W.failed writer.new ≡ true) ⊎ (W.stalled writer.new ≡ true)) }
 {
-    put_between(output, writer, " ", attr.name.as_str(), "=\"")?;
+    output.put_between(writer, " ", attr.name.as_str(), "=\"")?;
     put_escaped(output, writer, Escape::Value(profile), attr.value.as_str())?;
     output.put(writer, b"\"")
 }
@@ -51,7 +51,7 @@ fn put_start_tag<W: Sink>(
     ensures bytes { Puts (W.taken writer.old) (held output.old) (W.taken writer.new) (held output.new) result (encode_utf8_all (start_tag profile name.now attrs.now)) }
     ensures fault { OnErr result ((W.failed writer.new ≡ true) ⊎ (W.stalled writer.new ≡ true)) }
 {
-    put_between(output, writer, "<", name.as_str(), "")?;
+    output.put_between(writer, "<", name.as_str(), "")?;
     for attr in attrs {
         put_attribute(output, writer, profile, attr)?;
     }
@@ -86,10 +86,10 @@ fn put_opening<W: Sink>(
             }
         }
         NodeData::Comment { text, .. } => {
-            put_between(output, writer, "<!--", text.as_str(), "-->")
+            output.put_between(writer, "<!--", text.as_str(), "-->")
         }
         NodeData::Doctype { name, .. } => match name {
-            Some(name) => put_between(output, writer, "<!DOCTYPE ", name.as_str(), ">"),
+            Some(name) => output.put_between(writer, "<!DOCTYPE ", name.as_str(), ">"),
             None => output.put(writer, b"<!DOCTYPE >"),
         },
     }
@@ -124,7 +124,7 @@ fn put_end_tag<W: Sink>(
     if element.tag.is_void() {
         return Ok(());
     }
-    put_between(output, writer, "</", element.name.as_str(), ">")
+    output.put_between(writer, "</", element.name.as_str(), ">")
 }
 
 /// Whether a text at this place is written as it is.
