@@ -1,3 +1,4 @@
+-- Claimed.
 -- The nodes below a node, as a forest, as serialising HTML fragments sees them (13.3): a template's contents stand below the template,
 -- in place of its own children, and nothing is written below a void element.
 use Rattle.std.specs.Prelude.{◌≡◌, ℕ, zero, suc, Bool, false, cond, List, [], ◌∷◌, length, Option, Some, None}

@@ -1,3 +1,4 @@
+-- Claimed, but for this crate's own functions: IsLone.
 -- What a node is, apart from its links: the kinds of nodes of the DOM, and template contents (4.12.3).
 use Rattle.std.specs.Prelude.{◌≡◌, ℕ, Bool, true, false, List, [], ◌∷◌, ◌++◌, Option, Some, None, slice_index_or}
 use Rattle.html_names.specs.declared.tag.Tag.{Tag}

@@ -1,3 +1,4 @@
+-- Claimed.
 -- Trees in a row, each with a label at its root (DOM 1.1, trees, in tree order).
 use Rattle.std.specs.Prelude.{List, [], ◌∷◌, ◌++◌}
 

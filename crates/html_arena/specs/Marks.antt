@@ -1,3 +1,4 @@
+-- Claimed.
 -- The marks of a node: presence on the stack of open elements and in the list of active formatting elements (13.2.4).
 use Rattle.std.specs.Prelude.{Bool, false}
 use Rattle.html_arena.specs.declared.marks.Mark.{Mark}

@@ -1,3 +1,4 @@
+-- Claimed.
 -- Attributes that an element gains from a later tag of its name (13.2.6.4.7, the start tags html and body).
 use Rattle.std.specs.Prelude.{ℕ, Bool, false, not, ◌||◌, List, [], ◌∷◌, ◌++◌, filter}
 use Rattle.std.specs.Str.{bytes_eq}

@@ -1,3 +1,4 @@
+-- For this crate's own functions.
 -- A link kept as one number: the greatest of 64 bits stands for none.
 use Rattle.std.specs.Prelude.{ℕ, ◌-◌, ◌^◌, ◌==◌, cond, Option, Some, None}
 

@@ -1,3 +1,4 @@
+-- Claimed.
 -- Attributes that are shared, as their list.
 use Rattle.std.specs.Prelude.{List, [], Option, Some, None}
 use Rattle.std.specs.Rc.{rc_slice_items}

@@ -1,3 +1,4 @@
+-- Claimed.
 -- Walks through a tree: a node is entered, then all below it is walked, then it is left.
 use Rattle.std.specs.Prelude.{◌≡◌, ℕ, zero, suc, ◌<◌, Bool, false, cond, eqb, List, [], ◌∷◌, length, Option, Some, None}
 use Rattle.html_arena.specs.Tree.{Tree, parent_of, sibling}

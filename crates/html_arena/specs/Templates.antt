@@ -1,3 +1,4 @@
+-- Claimed.
 -- Each template has one Contents node and each Contents node one template (4.12.3, the template element's contents).
 use Rattle.std.specs.Prelude.{◌≡◌, ℕ, ◌<◌, is_some, List, length, Some}
 use Rattle.html_names.specs.Sets.{is_template}

@@ -1,3 +1,4 @@
+-- Claimed, but for this crate's own functions: reparented, InPart.
 -- What callers see of an arena: a node tree of the DOM (4.2), as its nodes and, for each, its parent and the list of its children.
 use Rattle.std.specs.Prelude.{◌≡◌, ℕ, zero, suc, ◌+◌, ◌*◌, ◌<◌, ◌≤◌, Bool, true, false, cond, min, ◌^◌, ◌-◌, List, [], ◌∷◌, ◌++◌, length, Option, Some, None, slice_index_or, slice_set}
 use Rattle.html_names.specs.declared.tag.Tag.{Tag}

@@ -1,3 +1,4 @@
+-- Claimed.
 -- What is true of a walk on its way.
 use Rattle.std.specs.Prelude.{◌≡◌, ℕ, ◌<◌, ◌≤◌, List, length, None}
 use Rattle.html_arena.specs.Data.{host_in}

@@ -1,3 +1,4 @@
+-- Claimed.
 -- What callers see of a builder.
 use Rattle.std.specs.Prelude.{ℕ, Bool}
 use Rattle.html_construction.specs.States.{State}

@@ -1,3 +1,4 @@
+-- Claimed.
 -- The context of a fragment, and which names it may have (13.4).
 use Rattle.std.specs.Prelude.{ℕ, ◌≡◌, ◌==◌, Bool, true, false, not, ◌||◌, ◌&&◌, nat_lt, List, [], ◌∷◌}
 use Rattle.std.specs.List.{list_all}

@@ -1,3 +1,4 @@
+-- Claimed.
 -- What errors tell of what was refused.
 use Rattle.std.specs.Prelude.{ℕ, Option}
 use Rattle.html_arena.specs.declared.arena.ArenaError.TheVariants as arena

@@ -1,3 +1,4 @@
+-- Claimed.
 -- What callers know of a builder: what it was begun with, the tokens handed in, and what became of them.
 use Rattle.std.specs.Prelude.{◌≡◌, ℕ, ◌+◌, ◌*◌, ◌<◌, ◌≤◌, Bool, false, List, [], ◌∷◌, ◌++◌, length, Option, None, Some}
 use Rattle.std.specs.List.{sum_by}

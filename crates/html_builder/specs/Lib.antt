@@ -1,3 +1,4 @@
+-- Claimed.
 pub mod Builders
 pub mod Contexts
 pub mod Errors

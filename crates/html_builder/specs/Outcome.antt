@@ -1,3 +1,4 @@
+-- Claimed.
 -- What tree construction makes of the tokens of a page: its tree against the tokens and their fates (13.2.6).
 use Rattle.std.specs.Prelude.{◌≡◌, ◌≢◌, ℕ, ◌+◌, ◌*◌, ◌<◌, ◌≤◌, ◌⊎◌, true, List, length, Some, None}
 use Rattle.std.specs.List.{sum_by}

@@ -1,3 +1,4 @@
+-- Claimed.
 -- The tokens of a plain page, and what tree construction has made of them so far (13.2.6).
 use Rattle.std.specs.Prelude.{◌≡◌, ◌+◌, ◌⊎◌, ℕ, false, List, [], ◌∷◌, ◌++◌, length, reverse, codes, Some, None}
 use Rattle.std.specs.List.{AllByRecursion}

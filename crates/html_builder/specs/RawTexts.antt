@@ -1,3 +1,4 @@
+-- Claimed.
 -- Elements that hold text alone: RCDATA, raw text and scripts (13.2.6.2 and 13.2.6.4.4).
 use Rattle.std.specs.Prelude.{◌≡◌, ℕ, ◌⊎◌, Bool, true, false, List, [], ◌∷◌, length, Option, Some}
 use Rattle.html_arena.specs.Tree.{Tree}

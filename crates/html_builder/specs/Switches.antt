@@ -1,3 +1,4 @@
+-- Claimed, but for this crate's own functions: said_after.
 -- How the text after a token is read (13.2.6.2 and 13.2.6.4).
 use Rattle.std.specs.Prelude.{Bool, if◌then◌else◌, List, [], ◌∷◌, Option, Some, None}
 use Rattle.html_names.specs.declared.tag.Tag.{Tag}

@@ -1,3 +1,4 @@
+-- Claimed.
 -- The table that a file of entities holds, or what is wrong with it.
 use Rattle.std.specs.Prelude.{◌≡◌, ℕ, ◌-◌, ◌&&◌, ◌==◌, List, [], ◌∷◌, length, take, drop, codes, Bool, nat_eq, nat_lt, nat_le, if◌then◌else◌, Option, Some, None, option_map, option_and_then, Result, Ok, Err, slice_index}
 use Rattle.std.specs.List.{list_all}

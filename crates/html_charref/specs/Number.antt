@@ -1,3 +1,4 @@
+-- Claimed.
 -- The number that digits spell, and the character that a number stands for.
 use Rattle.std.specs.Prelude.{ℕ, ◌%◌, ◌&&◌, ◌||◌, ◌==◌, List, [], ◌∷◌, Bool, not, min, nat_lt, nat_le, if◌then◌else◌, Option, Some, None}
 use Rattle.std.specs.Int.Digits.{number_from_digits}

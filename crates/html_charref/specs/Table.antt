@@ -1,3 +1,4 @@
+-- Claimed, but for this crate's own functions: NamesFit, IsFront.
 -- The table of named references, and the longest of its names that begins a text.
 use Rattle.std.specs.Prelude.{◌≡◌, ℕ, ◌+◌, ◌-◌, ◌<◌, ◌≤◌, ◌⊎◌, ◌&&◌, List, [], ◌∷◌, ◌++◌, length, map, max, Bool, true, false, nat_eq, nat_lt, if◌then◌else◌, Option, Some, None, slice_get, slice_index}
 use Rattle.std.specs.Char.{is_ascii_alphanumeric}

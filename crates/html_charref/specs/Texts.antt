@@ -1,3 +1,4 @@
+-- Claimed, but for this crate's own functions: IsLong.
 -- Texts by where they are kept.
 use Rattle.std.specs.Prelude.{ℕ, List, ⊤, string_bytes}
 use Rattle.std.specs.Str.{chars}

@@ -1,3 +1,4 @@
+-- Claimed.
 -- The tree against the tokens and their fates.
 use Rattle.std.specs.Prelude.{◌≡◌, ◌≢◌, ℕ, ◌<◌, false, List, [], length, slice_get, Some}
 use Rattle.html_arena.specs.declared.data.NodeData.{NodeData}

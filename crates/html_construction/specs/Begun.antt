@@ -1,3 +1,4 @@
+-- Claimed.
 -- What a token may get of the insertion mode in which its call began (13.2.6).
 use Rattle.std.specs.Prelude.{◌≡◌, ◌++◌, Bool, true, List, Option, None, Some}
 use Rattle.std.specs.List.{list_all}

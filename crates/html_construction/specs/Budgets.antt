@@ -1,3 +1,4 @@
+-- Claimed.
 -- Where a budget is told: what was to be added next, and which limit that would pass. Nodes are looked at before held code points.
 use Rattle.std.specs.Prelude.{ℕ, ◌≡◌, ◌+◌, ◌≤◌, true, List, [], length, slice_index, Option, Err}
 use Rattle.html_names.specs.declared.tag.Tag.{Tag}

@@ -1,3 +1,4 @@
+-- Claimed.
 -- Tokens against what was built of them.
 use Rattle.std.specs.Prelude.{◌≡◌, ℕ, ◌<◌, ◌⊎◌, List, [], ◌∷◌, ◌++◌, length, Option, Some, None, Bool, false}
 use Rattle.html_arena.specs.declared.arena.Limits.{Limits}

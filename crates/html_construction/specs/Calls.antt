@@ -1,3 +1,4 @@
+-- Claimed.
 -- What one call makes of the tree and of the ledger.
 use Rattle.std.specs.Prelude.{◌==◌, ◌&&◌, ◌≡◌, ℕ, ◌+◌, List, [], ◌∷◌, Bool, cond, length}
 use Rattle.html_names.specs.declared.tag.Tag.{Tag}

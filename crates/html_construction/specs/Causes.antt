@@ -1,3 +1,4 @@
+-- Claimed.
 -- Why a call was refused.
 use Rattle.html_open.specs.declared.error.OpenError.{OpenError}
 use Rattle.html_open.specs.declared.error.OpenError.TheVariants as opened

@@ -1,3 +1,4 @@
+-- Claimed.
 -- What the labels of nodes tell of clones (13.2.4.3, 13.2.6.4.7), and of elements that no token asked for (13.2.6.1).
 use Rattle.std.specs.Prelude.{ℕ, Bool, false, ◌&&◌, cond, eqb, max, List, [], ◌∷◌}
 use Rattle.std.specs.List.{sum_by}

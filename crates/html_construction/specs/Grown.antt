@@ -1,3 +1,4 @@
+-- Claimed.
 -- How much calls add.
 use Rattle.std.specs.Prelude.{◌≡◌, ℕ, ◌+◌, ◌≤◌, length}
 use Rattle.html_construction.specs.Copies.{implied_count, most_clones}

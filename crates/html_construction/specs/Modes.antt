@@ -1,3 +1,4 @@
+-- Claimed.
 -- Kinds of insertion modes (13.2.4.1).
 use Rattle.std.specs.Prelude.{Bool, true, false}
 use Rattle.html_construction.specs.declared.mode.Mode.{Mode}

@@ -1,3 +1,4 @@
+-- Claimed.
 -- What each node comes from (13.2.6.1).
 use Rattle.std.specs.Prelude.{◌≡◌, ◌≢◌, ℕ, ◌<◌, Bool, true, false, cond, List, [], ◌∷◌, length, slice_get, Option, Some, None}
 use Rattle.html_names.specs.Groups.{is_outermost}

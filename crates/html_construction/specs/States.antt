@@ -1,3 +1,4 @@
+-- Claimed.
 -- What callers see of tree construction under way (13.2.4).
 use Rattle.std.specs.Prelude.{ℕ, Bool, List, Option}
 use Rattle.html_names.specs.declared.tag.Tag.{Tag}

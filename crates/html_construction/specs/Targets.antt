@@ -1,3 +1,4 @@
+-- Claimed.
 -- Where a new node may go (13.2.6.1).
 use Rattle.std.specs.Prelude.{◌<◌, List, length}
 use Rattle.html_names.specs.declared.tag.Tag.{Tag}

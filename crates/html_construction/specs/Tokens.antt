@@ -1,3 +1,4 @@
+-- Claimed.
 -- What a token says of its node (13.2.5).
 use Rattle.std.specs.Prelude.{ℕ, List, [], Option, None, if◌then◌else◌}
 use Rattle.html_names.specs.declared.tag.Tag.{Tag}

@@ -1,3 +1,4 @@
+-- Claimed.
 -- What is always true of tree construction under way.
 use Rattle.std.specs.Prelude.{ℕ, ◌≡◌, ◌≤◌, true, List}
 use Rattle.std.specs.List.{list_all}

@@ -1,3 +1,4 @@
+-- Claimed.
 -- What open elements count, so that a token can't be reprocessed without end (13.2.6).
 use Rattle.std.specs.Prelude.{ℕ, ◌+◌, if◌then◌else◌, List, [], ◌∷◌}
 use Rattle.html_names.specs.declared.tag.Tag.{Tag}

@@ -1,3 +1,4 @@
+-- Claimed.
 -- How many steps calls count.
 use Rattle.std.specs.Prelude.{ℕ, ◌+◌, ◌*◌, ◌≤◌, List, length}
 use Rattle.std.specs.List.{sum_by}

@@ -1,3 +1,4 @@
+-- Claimed.
 -- What a device in memory still lets pass.
 use Rattle.std.specs.Prelude.{ℕ}
 use Rattle.html_device.specs.declared.fail_at.FailAt.{FailAt}

@@ -1,3 +1,4 @@
+-- For this crate's own functions.
 -- A byte order mark at the front.
 use Rattle.std.specs.Prelude.{◌≡◌, ℕ, List, [], ◌∷◌}
 

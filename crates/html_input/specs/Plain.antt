@@ -1,3 +1,4 @@
+-- For this crate's own functions.
 -- Bytes that are their own text.
 use Rattle.std.specs.Prelude.{◌≢◌, ℕ, ◌<◌, List, All}
 

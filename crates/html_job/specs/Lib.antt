@@ -1,2 +1,3 @@
+-- Claimed.
 pub mod Line
 pub mod Read

@@ -1,3 +1,4 @@
+-- Claimed.
 -- The command line, as clap sees it.
 use Rattle.std.specs.Prelude.{Some, codes, true}
 use Rattle.clap.specs.Words.{App, Rule, Text, new_app, new_rule, with_rule, with_subcommand}

@@ -1,3 +1,4 @@
+-- Claimed.
 -- The ledger against the tokens handed in.
 use Rattle.std.specs.Prelude.{ℕ, ◌≡◌, ◌||◌, ◌&&◌, Bool, cond, List, [], ◌∷◌, ◌++◌, length}
 use Rattle.html_ledger.specs.declared.symbol.Symbol.{Symbol}

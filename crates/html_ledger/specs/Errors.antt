@@ -1,3 +1,4 @@
+-- Claimed.
 -- Which tokens have an error of tree construction (13.2.6: "parse error").
 use Rattle.std.specs.Prelude.{ℕ, ◌+◌, ◌≤◌, ◌==◌, ◌⊎◌, Bool, true, false, not, IsTrue, List, [], ◌∷◌, length}
 use Rattle.std.specs.List.{list_any}

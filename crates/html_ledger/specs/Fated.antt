@@ -1,3 +1,4 @@
+-- Claimed.
 -- Which fate each token may have, over the tokens before it and their fates (13.2.6).
 use Rattle.std.specs.Prelude.{ℕ, ◌≡◌, Bool, true, false, not, IsTrue, List, take, length, slice_get, Some, ◌==◌}
 use Rattle.html_names.specs.Groups.{is_outermost}

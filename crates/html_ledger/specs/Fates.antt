@@ -1,3 +1,4 @@
+-- Claimed.
 -- What the fate of a token says by itself.
 use Rattle.std.specs.Prelude.{Bool, true, false}
 use Rattle.html_ledger.specs.declared.fate.Cause.{Cause}

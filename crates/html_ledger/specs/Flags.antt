@@ -1,3 +1,4 @@
+-- Claimed.
 -- What has been seen of the tokens so far, as flags, and what the flags say of the fate of the next token.
 use Rattle.std.specs.Prelude.{ℕ, ◌==◌, Bool, true, false, ◌||◌, ◌&&◌, not, cond, List, [], ◌∷◌, Option, Some, None}
 use Rattle.std.specs.List.{list_all}

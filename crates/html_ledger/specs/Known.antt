@@ -1,3 +1,4 @@
+-- Claimed.
 -- What each flag says of all the tokens so far and their fates.
 use Rattle.std.specs.Prelude.{◌≡◌, ◌⊎◌, IsTrue, List, Decides, length}
 use Rattle.html_names.specs.declared.tag.Tag.TheVariants as tag

@@ -1,3 +1,4 @@
+-- Claimed.
 -- What each cause asks of a token that is dropped: over all the tokens before it and their fates (13.2.6).
 use Rattle.std.specs.Prelude.{ℕ, ◌≡◌, ◌<◌, ◌⊎◌, Bool, true, false, not, ◌&&◌, ◌||◌, IsTrue, List, slice_get, Some}
 use Rattle.std.specs.List.{list_all}

@@ -1,3 +1,4 @@
+-- Claimed.
 -- Fates in a row, equal neighbours once, each with its number.
 use Rattle.std.specs.Prelude.{◌-◌, ◌<◌, ◌≢◌, List, [], ◌∷◌, ◌++◌, length, replicate, slice_get, Option}
 use Rattle.html_ledger.specs.declared.fate.Fate.{Fate}

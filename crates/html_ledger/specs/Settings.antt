@@ -1,3 +1,4 @@
+-- Claimed.
 -- What is parsed: a document, or a fragment in its context (13.2 and 13.4).
 use Rattle.std.specs.Prelude.{Bool, true, false, ◌||◌}
 use Rattle.html_names.specs.declared.tag.Tag.{Tag}

@@ -1,3 +1,4 @@
+-- Claimed.
 -- White space (13.2.6: U+0009, U+000A, U+000C, U+000D and U+0020).
 use Rattle.std.specs.Prelude.{ℕ, Bool, ◌==◌, ◌||◌}
 

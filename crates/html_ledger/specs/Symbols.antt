@@ -1,3 +1,4 @@
+-- Claimed.
 -- Tokens as the rules of tree construction tell them apart (13.2.6).
 use Rattle.std.specs.Prelude.{ℕ, Bool, false, ◌==◌, not, List, [], ◌∷◌, Option, Some, None}
 use Rattle.html_names.specs.declared.tag.Tag.{Tag}

@@ -1,3 +1,4 @@
+-- Claimed.
 -- The text of a node, by the tokens and their fates (13.2.6.1: "insert a character").
 use Rattle.std.specs.Prelude.{ℕ, ◌==◌, Bool, false, cond, List, [], ◌∷◌, ◌++◌}
 use Rattle.html_ledger.specs.declared.symbol.Symbol.{Symbol}

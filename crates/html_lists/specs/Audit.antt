@@ -1,3 +1,4 @@
+-- Claimed.
 -- The lines of the tokens of a page, each with its fate.
 use Rattle.std.specs.Prelude.{ℕ, List, [], ◌∷◌, ◌++◌, codes, decimal}
 use Rattle.std.specs.Str.{encode_utf8_all}

@@ -1,3 +1,4 @@
+-- Claimed.
 -- The lines of the counts of a page.
 use Rattle.std.specs.Prelude.{ℕ, List, [], ◌∷◌, ◌++◌, length, codes, decimal}
 use Rattle.std.specs.List.{filter}

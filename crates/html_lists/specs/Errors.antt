@@ -1,3 +1,4 @@
+-- Claimed.
 -- The lines of the parse errors of a page.
 use Rattle.std.specs.Prelude.{ℕ, List, ◌++◌, codes, decimal}
 use Rattle.std.specs.List.{flat_map}

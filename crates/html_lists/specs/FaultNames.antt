@@ -1,3 +1,4 @@
+-- Claimed.
 -- The names of parse errors, as the standard has them (13.2.2); those of tree construction have one.
 use Rattle.std.specs.Prelude.{ℕ, List, codes}
 use Rattle.html_tokens.specs.declared.fault_name.FaultName.{FaultName}

@@ -1,3 +1,4 @@
+-- Claimed.
 pub mod Audit
 pub mod Counts
 pub mod Errors

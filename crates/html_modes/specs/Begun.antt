@@ -1,3 +1,4 @@
+-- Claimed, but for this crate's own functions: begins_foreign, Ignores, IgnoresIn, IgnoresFirst.
 -- What a call does of the insertion mode in which it begins (13.2.6).
 use Rattle.std.specs.Prelude.{◌≡◌, ◌||◌, ◌++◌, Bool, true, false, List}
 use Rattle.std.specs.List.{list_all}

@@ -1,3 +1,4 @@
+-- Claimed.
 -- How often tokens enter the rules of a mode (13.2.6).
 use Rattle.std.specs.Prelude.{ℕ, ◌+◌, ◌*◌, ◌≤◌}
 use Rattle.html_construction.specs.States.{State}

@@ -1,3 +1,4 @@
+-- Claimed, but for this crate's own functions: Calls.
 -- What a mode asks of the open elements and of the code points that are kept (13.2.6).
 use Rattle.std.specs.Prelude.{ℕ, ◌≡◌, ◌<◌, ◌≤◌, Bool, true, false, List, [], length}
 use Rattle.html_names.specs.declared.tag.Tag.{Tag}

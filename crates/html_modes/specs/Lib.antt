@@ -1,8 +1,9 @@
-pub mod Ranks
-pub mod Fitting
-pub mod Entering
-pub mod Steps
+-- Claimed.
 pub mod Begun
+pub mod Entering
+pub mod Fitting
 pub mod Guards
 pub mod Plain
+pub mod Ranks
 pub mod RawText
+pub mod Steps

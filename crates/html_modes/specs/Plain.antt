@@ -1,3 +1,4 @@
+-- Claimed, but for this crate's own functions: Turns, IsNextInBody, TurnsInBody, IsCurrent, IsClosed, IsRunTurn.
 -- The tokens of a plain page: what comes next, and what tree construction makes of it (13.2.6). Of such a page each start tag opens one element in the
 -- current node, each code point is text there, and each end tag closes the current node, but for those of the body and of the root.
 use Rattle.std.specs.Prelude.{ℕ, ◌≡◌, ◌==◌, Bool, true, false, not, cond, List, [], ◌∷◌, ◌++◌, ◌⊎◌, drop, length, map, None}

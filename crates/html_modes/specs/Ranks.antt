@@ -1,3 +1,4 @@
+-- Claimed, but for this crate's own functions: by_symbol, table_rank, table_text_rank, table_body_rank, row_rank, caption_rank, column_group_rank, after_body_rank, rank.
 -- How often a token may still be reprocessed in a mode, by the token (13.2.6): the weights of the open elements and this together fall each time.
 use Rattle.std.specs.Prelude.{ℕ, ◌+◌, if◌then◌else◌}
 use Rattle.html_names.specs.declared.tag.Tag.{Tag}

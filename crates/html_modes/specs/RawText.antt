@@ -1,3 +1,4 @@
+-- Claimed, but for this crate's own functions: is_body_text, Leaves, Ends.
 -- Elements that hold text alone: RCDATA, raw text and scripts (13.2.6.2, 13.2.6.4.4 and 13.2.6.4.8).
 use Rattle.std.specs.Prelude.{ℕ, ◌≡◌, ◌<◌, ◌||◌, ◌⊎◌, Bool, true, false, cond, List, [], ◌∷◌, ◌++◌, length, Some, None}
 use Rattle.html_names.specs.declared.tag.Tag.{Tag}

@@ -1,3 +1,4 @@
+-- Claimed.
 -- The sets of elements that single rules of tree construction take together (13.2.6.4 of the HTML standard).
 use Rattle.std.specs.Prelude.{Bool, true, false, not, ◌&&◌, ◌||◌}
 use Rattle.html_names.specs.declared.tag.Tag.{Tag}

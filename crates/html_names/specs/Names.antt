@@ -1,3 +1,4 @@
+-- Claimed.
 -- The names of the known elements, and the tag that a name has.
 use Rattle.std.specs.Prelude.{ℕ, Bool, true, false, List, [], ◌∷◌, codes, if◌then◌else◌, ◌==◌, length}
 use Rattle.std.specs.Str.{bytes_eq}

@@ -1,3 +1,4 @@
+-- Claimed.
 -- The sets of elements that tree construction and serialising tell apart (13.2.4, 13.2.6 and 13.3 of the HTML standard).
 use Rattle.std.specs.Prelude.{Bool, true, false, not, ◌||◌}
 use Rattle.html_names.specs.declared.tag.Tag.{Tag}

@@ -1,3 +1,5 @@
+-- Claimed.
+-- For this crate.s own functions.
 -- Tags by number, so that they can be compared.
 use Rattle.std.specs.Prelude.{ℕ, Bool, eqb}
 use Rattle.html_names.specs.declared.tag.Tag.{Tag}

@@ -1,3 +1,4 @@
+-- Claimed, but for this crate's own functions: IsFirstIndex, IsPlain, IsOutOfScope, IsOffStack, IsFound.
 -- What the adoption agency looks for (13.2.6.4.7): the formatting element, and the furthest block, which is the first special element after it.
 use Rattle.std.specs.Prelude.{◌≡◌, ℕ, ◌+◌, ◌<◌, Bool, true, false, eqb, List, length, drop, take, slice_index, Option, Some, None}
 use Rattle.std.specs.List.{list_any}

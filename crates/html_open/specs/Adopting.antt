@@ -1,3 +1,4 @@
+-- Claimed, but for this crate's own functions: IsRegrouped, IsKept, IsTurn.
 -- The adoption agency (13.2.6.4.7): what an end tag of a formatting name leaves of the stack, the list and the tree.
 use Rattle.std.specs.Prelude.{◌≡◌, ℕ, zero, suc, ◌+◌, ◌-◌, ◌<◌, ◌≤◌, Bool, true, false, cond, eqb, ◌&&◌, not, List, [], ◌∷◌, ◌++◌, length, map, filter, reverse, drop, take, slice_index, Option, Some, None}
 use Rattle.std.specs.List.{flat_map, list_any}

@@ -1,3 +1,4 @@
+-- Claimed.
 -- Equal sets of attributes (13.2.4.3, push onto the list of active formatting elements).
 use Rattle.std.specs.Prelude.{Bool, ◌&&◌, List}
 use Rattle.std.specs.List.{list_any, list_all}

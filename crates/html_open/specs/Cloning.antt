@@ -1,3 +1,4 @@
+-- Claimed, but for this crate's own functions: AreFormatting, AreCloned, HaveLeft, HaveEntered, IsCutShort.
 -- What a round of the adoption agency makes and marks (13.2.6.4.7).
 use Rattle.std.specs.Prelude.{◌≡◌, ℕ, ◌+◌, ◌<◌, true, false, cond, nat_le, nat_lt, ◌&&◌, List, [], ◌∷◌, ◌++◌, length, map, Result, Ok, Err}
 use Rattle.std.specs.List.{sum_by}

@@ -1,3 +1,4 @@
+-- Claimed, but for this crate's own functions: without_index, node_at, IsDisplaced, IsFirst, IsTaken.
 -- The list of active formatting elements (13.2.4.3): what its calls answer and leave.
 use Rattle.std.specs.Prelude.{◌≡◌, ℕ, ◌+◌, ◌*◌, ◌<◌, Bool, true, false, cond, eqb, nat_le, ◌&&◌, ◌||◌, List, [], ◌∷◌, ◌++◌, length, sum_by, count_by, slice_index_or, remove, Option, Some, None}
 use Rattle.std.specs.List.{list_any}

@@ -1,3 +1,4 @@
+-- Claimed, but for this crate's own functions: wrapped_parent, chain_children, chain_parent, StandAlone, Chained, hung_parent, Hung.
 -- The moves of a round of the adoption agency (13.2.6.4.7): the children of the furthest block go to the new element, which becomes its one
 -- child, and the furthest block hangs in a chain of clones.
 use Rattle.std.specs.Prelude.{◌≡◌, ℕ, ◌+◌, ◌-◌, ◌<◌, ◌≤◌, true, cond, eqb, nat_lt, nat_le, ◌&&◌, List, [], ◌∷◌, ◌++◌, Option, Some, None}

@@ -1,3 +1,4 @@
+-- Claimed.
 -- A new node at a place (13.2.6.1).
 use Rattle.std.specs.Prelude.{◌≡◌, ◌≢◌, ℕ, ◌<◌, true, false, List, length, Option, Some, None}
 use Rattle.html_arena.specs.declared.data.NodeData.{NodeData}

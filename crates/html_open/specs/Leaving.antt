@@ -1,3 +1,4 @@
+-- Claimed.
 -- What reopening and adoption cost: elements that leave the stack of open elements (13.2.4.2) or the list of active formatting elements
 -- (13.2.4.3), and the code points that clones hold.
 use Rattle.std.specs.Prelude.{ℕ, ◌+◌, ◌-◌, ◌≤◌, not, List, length, filter}

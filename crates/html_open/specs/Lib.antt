@@ -1,3 +1,4 @@
+-- Claimed.
 pub mod AdoptFinding
 pub mod Adopting
 pub mod Attributes
@@ -9,11 +10,12 @@ pub mod Leaving
 pub mod Lists
 pub mod Marking
 pub mod Opened
+pub mod Outcome
 pub mod Placing
 pub mod Refusals
 pub mod Reopening
-pub mod Reopenings
 pub mod Rooting
 pub mod Scopes
+-- For this crate's own functions.
+pub mod Reopenings
 pub mod Searches
-pub mod Outcome

@@ -1,3 +1,4 @@
+-- Claimed, but for this crate's own functions: IsBelow, steps_down, index_or_first, steps_after, removal.
 -- Lists that are read from their last element, as the stack of open elements is from the current node (13.2.4.2): what stands up to the
 -- last element that passes a test, and after it.
 use Rattle.std.specs.Prelude.{ℕ, ◌+◌, ◌-◌, ◌*◌, ◌<◌, Bool, cond, List, [], ◌∷◌, ◌++◌, length, Option, Some, None}

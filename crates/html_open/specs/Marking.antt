@@ -1,3 +1,4 @@
+-- Claimed.
 -- Trees in which only marks or the count of steps differ.
 use Rattle.std.specs.Prelude.{◌≡◌, ℕ, ◌+◌, ◌≤◌, false, List, [], ◌∷◌, Option, Some, None}
 use Rattle.html_arena.specs.declared.marks.Mark.{Mark}

@@ -1,3 +1,4 @@
+-- Claimed.
 -- The stack of open elements, the list of active formatting elements and the tree together: what is true of them between calls (13.2.4).
 use Rattle.std.specs.Prelude.{◌≡◌, ℕ, ◌<◌, true, false, List, [], ◌∷◌, length}
 use Rattle.html_names.specs.Sets.{is_formatting}

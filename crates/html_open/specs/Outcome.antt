@@ -1,3 +1,4 @@
+-- Claimed.
 -- What two runs of the adoption agency (13.2.6.4.7) from one state have in common.
 use Rattle.std.specs.Prelude.{◌≡◌}
 use Rattle.html_open.specs.Opened.{Open}

@@ -1,3 +1,4 @@
+-- Claimed.
 -- Why a call was refused.
 use Rattle.html_arena.specs.declared.arena.ArenaError.{ArenaError}
 use Rattle.html_arena.specs.declared.arena.ArenaError.TheVariants as arena

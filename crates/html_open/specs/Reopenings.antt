@@ -1,3 +1,4 @@
+-- For this crate's own functions.
 -- One entry that is opened anew: what the parts of reopening do.
 use Rattle.std.specs.Prelude.{◌≡◌, ◌≢◌, ℕ, ◌+◌, ◌<◌, Bool, true, false, cond, List, [], ◌∷◌, ◌++◌, length, slice_index_or, Option, Some, None, Ok, Err}
 use Rattle.html_arena.specs.declared.arena.ArenaError.TheVariants as arena

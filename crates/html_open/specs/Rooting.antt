@@ -1,3 +1,4 @@
+-- Claimed.
 -- Which nodes have a parent (DOM 4.4): what reopening and adoption leave of that.
 use Rattle.std.specs.Prelude.{◌≡◌, ◌≢◌, ℕ, ◌<◌, ◌≤◌, false, length, drop, None}
 use Rattle.html_arena.specs.Siblings.{has}

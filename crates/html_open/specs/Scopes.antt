@@ -1,3 +1,4 @@
+-- Claimed.
 -- Elements in scope, and implied end tags (13.2.4.2 and 13.2.6.3).
 use Rattle.std.specs.Prelude.{ℕ, ◌+◌, ◌*◌, Bool, false, cond, eqb, not, ◌||◌, ◌&&◌, List, length, Option, Some, None}
 use Rattle.std.specs.List.{list_any}

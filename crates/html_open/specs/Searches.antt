@@ -1,3 +1,4 @@
+-- For this crate's own functions.
 -- What the searches through the stack and the list stop at.
 use Rattle.std.specs.Prelude.{ℕ, ◌<◌, Bool, true, eqb, length}
 use Rattle.html_arena.specs.declared.marks.Mark.TheVariants.{OnStack}

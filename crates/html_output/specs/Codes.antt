@@ -1,3 +1,4 @@
+-- Claimed.
 -- The number of a code point in hexadecimal digits.
 use Rattle.std.specs.Prelude.{ℕ, ◌+◌, ◌/◌, ◌%◌, nat_lt, cond, List, [], ◌∷◌, drop}
 

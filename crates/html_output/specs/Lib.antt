@@ -1,3 +1,4 @@
+-- Claimed.
 pub mod Codes
 pub mod Pieces
 pub mod Putting

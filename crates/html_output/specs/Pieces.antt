@@ -1,3 +1,4 @@
+-- Claimed.
 -- Pieces of a text.
 use Rattle.std.specs.Prelude.{ℕ, List, decimal}
 use Rattle.std.specs.List.{flat_map}

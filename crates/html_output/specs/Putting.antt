@@ -1,3 +1,4 @@
+-- Claimed.
 -- Bytes that go to a writer through a buffer.
 use Rattle.std.specs.Prelude.{◌≡◌, ℕ, List, ◌++◌, take, Option, Result, MatchResult}
 use Rattle.std.specs.Io.KnownBytes.{Appends}

@@ -1,3 +1,4 @@
+-- Claimed.
 -- A page of which some tokens were read: the elements that they leave open, and what stands in them.
 use Rattle.std.specs.Prelude.{Bool, true, false, List, [], ◌∷◌}
 use Rattle.html_arena.specs.Forest.{Forest}

@@ -1,3 +1,4 @@
+-- Claimed.
 -- Refusals of the layers below, as `tokenize` tells them.
 use Rattle.html_input.specs.declared.error.InputError.{InputError}
 use Rattle.html_input.specs.declared.error.InputError.TheVariants as input

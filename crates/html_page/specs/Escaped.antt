@@ -1,3 +1,4 @@
+-- For this crate's own functions.
 -- How texts are escaped (HTML standard, 13.3, "Escaping a string").
 use Rattle.std.specs.Prelude.{ℕ, List}
 use Rattle.html_page.specs.declared.escape.Escape.{Escape}

@@ -1,3 +1,4 @@
+-- Claimed.
 -- What a node is to a reader of the tree (DOM, 4.2: documents, document types, elements, texts and comments).
 use Rattle.std.specs.Prelude.{ℕ, List, Option}
 use Rattle.html_tokens.specs.declared.attributes.Attr.{Attr}

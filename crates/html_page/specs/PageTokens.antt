@@ -1,3 +1,4 @@
+-- Claimed, but for this crate's own functions: kinds, prolog.
 -- The tokens of a plain page.
 use Rattle.std.specs.Prelude.{◌≡◌, ℕ, false, List, [], ◌∷◌, ◌++◌, map, slice_get, codes, None, Some}
 use Rattle.html_charref.specs.Entities.{core_rows}

@@ -1,3 +1,4 @@
+-- Claimed.
 -- Plain pages: their text has one tree, by rules that any reader of HTML knows.
 use Rattle.std.specs.Prelude.{◌≡◌, ◌≢◌, ℕ, Bool, true, false, ◌||◌, ◌==◌, not, List, [], codes, Some, None}
 use Rattle.std.specs.List.{AllByRecursion}

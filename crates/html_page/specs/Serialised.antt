@@ -1,3 +1,4 @@
+-- Claimed, but for this crate's own functions: is_raw_below, event_text.
 -- The text of all that stands below a root (HTML standard, 13.3, "Serializing HTML fragments"), and how long it is.
 use Rattle.std.specs.Prelude.{ℕ, ◌<◌, ◌+◌, ◌*◌, Bool, false, cond, List, [], length, Option, Some, None}
 use Rattle.std.specs.List.{AllByRecursion, sum_by}

@@ -1,3 +1,4 @@
+-- Claimed.
 -- Which trees the nodes of an arena are.
 use Rattle.std.specs.Prelude.{◌≡◌, ℕ, ◌<◌, List, [], ◌∷◌, length}
 use Rattle.html_arena.specs.Tree.{Tree, label_of}

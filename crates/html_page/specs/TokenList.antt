@@ -1,3 +1,4 @@
+-- Claimed, but for this crate's own functions: tokens_in.
 -- The tokens of an input that is read in one text mode throughout.
 use Rattle.std.specs.Prelude.{◌<◌, ◌+◌, ◌*◌, ℕ, List, [], ◌∷◌, length, map, Option, None}
 use Rattle.html_charref.specs.declared.table.Row.{Row}

@@ -1,3 +1,4 @@
+-- Claimed.
 -- Why an input was refused.
 use Rattle.std.specs.Prelude.{◌≡◌, ◌⊎◌, ℕ, ◌<◌, Bool, true, false, List, ◌∷◌, ◌++◌, length, Option, None, Some}
 use Rattle.html_input.specs.Decode.{decode, code_points}

@@ -1,3 +1,4 @@
+-- Claimed.
 -- The parse errors of a page, in order of their places.
 use Rattle.std.specs.Prelude.{ℕ, cond, nat_lt, List, [], ◌∷◌, ◌++◌, map, slice_index_or}
 use Rattle.html_tokens.specs.declared.faults.Fault.{Fault}

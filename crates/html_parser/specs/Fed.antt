@@ -1,3 +1,4 @@
+-- Claimed.
 -- A parser, and the bytes that it was fed, however they were cut.
 use Rattle.std.specs.Prelude.{◌≡◌, ℕ, true, false, List}
 use Rattle.html_parser.specs.Staged.{HasRead}

@@ -1,3 +1,4 @@
+-- Claimed.
 -- What was handed on of the bytes fed so far.
 use Rattle.std.specs.Prelude.{◌≡◌, ℕ, List, ◌++◌, length, Option, None}
 use Rattle.std.specs.List.{AllByRecursion}

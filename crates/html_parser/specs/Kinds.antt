@@ -1,3 +1,4 @@
+-- Claimed.
 -- What is said of tokens one by one.
 use Rattle.std.specs.Prelude.{ℕ, List, map}
 use Rattle.html_tokens.specs.declared.token.Token.{Token}

@@ -1,14 +1,16 @@
+-- Claimed.
 pub mod Causes
 pub mod Faults
 pub mod Fed
 pub mod Feeding
 pub mod Kinds
-pub mod Made
 pub mod Normalised
 pub mod Parsed
 pub mod Reading
-pub mod Saying
 pub mod Staged
 pub mod Start
+-- For this crate's own functions.
+pub mod Made
+pub mod Saying
 pub mod Stretches
 pub mod Tokenizing

@@ -1,3 +1,4 @@
+-- For this crate's own functions.
 -- An input that was ended, and what was made of it.
 use Rattle.std.specs.Prelude.{◌≡◌, ℕ, true, List}
 use Rattle.html_input.specs.Fed.{Fed as Decodes}

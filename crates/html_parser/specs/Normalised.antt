@@ -1,3 +1,4 @@
+-- Claimed.
 -- What is written of a page that was read.
 use Rattle.std.specs.Prelude.{◌≡◌, ◌≤◌, ◌⊎◌, ◌+◌, ◌*◌, ℕ, Bool, true, false, List, Option, length}
 use Rattle.std.specs.Str.{encode_utf8_all}

@@ -1,3 +1,4 @@
+-- Claimed.
 -- What parsing answers.
 use Rattle.std.specs.Prelude.{◌≡◌, ℕ, ◌≤◌, ◌+◌, ◌-◌, ◌*◌, ◌^◌, min, false, List, [], ◌∷◌, length, Some}
 use Rattle.std.specs.List.{sum_by}

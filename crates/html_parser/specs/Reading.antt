@@ -1,3 +1,4 @@
+-- Claimed.
 -- Why a page could not be had from a reader.
 use Rattle.std.specs.Prelude.{◌≡◌, ◌⊎◌, ℕ, Bool, true, List, Option}
 use Rattle.std.specs.Io.KnownBytes.{Consumes, IsAtEnd}

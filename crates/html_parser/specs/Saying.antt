@@ -1,3 +1,4 @@
+-- For this crate's own functions.
 -- Which tokens may say how the text after them is read.
 use Rattle.std.specs.Prelude.{Option, Some, None}
 use Rattle.html_tokens.specs.Given.{IsStart}

@@ -1,3 +1,4 @@
+-- Claimed, but for this crate's own functions: IsFurther, IsHandedOn, AreFewSteps, AreTooManySteps, IsEnded, AreStaged, HasTaken, IsBeginning.
 -- The stages of a parser, and the bytes that they were fed, however they were cut.
 use Rattle.std.specs.Prelude.{◌≡◌, ◌+◌, ◌-◌, ◌^◌, ◌<◌, ◌≤◌, ℕ, Bool, true, false, min, List, [], Option, Some}
 use Rattle.html_arena.specs.declared.arena.Limits.{Limits}

@@ -1,3 +1,4 @@
+-- Claimed.
 -- What a parser is made with.
 use Rattle.std.specs.Prelude.{ℕ, min, List, Option, Some, None}
 use Rattle.html_charref.specs.declared.table.Row.{Row}

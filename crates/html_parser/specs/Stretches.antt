@@ -1,3 +1,4 @@
+-- For this crate's own functions.
 -- Places of tokens, kept as stretches in each of which the places follow one another.
 use Rattle.std.specs.Prelude.{◌≡◌, ◌⊎◌, ℕ, ◌+◌, ◌-◌, ◌<◌, ◌≤◌, ◌^◌, List, [], ◌∷◌, ◌++◌}
 use Rattle.std.specs.List.{range_with_len}

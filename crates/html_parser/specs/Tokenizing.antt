@@ -1,3 +1,4 @@
+-- For this crate's own functions.
 -- What is always true of the stages, whatever they were fed.
 use Rattle.std.specs.Prelude.{◌≡◌, ℕ, ◌≤◌, false, List, length}
 use Rattle.html_tokens.specs.Given.{Fed, is_stopped}

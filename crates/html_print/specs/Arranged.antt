@@ -1,3 +1,4 @@
+-- Claimed.
 -- Trees whose elements have their attributes in order.
 use Rattle.std.specs.Prelude.{◌≡◌, List}
 use Rattle.html_arena.specs.Forest.{Forest}

@@ -1,4 +1,5 @@
-pub mod Order
-pub mod Lines
+-- Claimed.
 pub mod Arranged
+pub mod Lines
+pub mod Order
 pub mod Printed

@@ -1,3 +1,4 @@
+-- Claimed.
 -- The lines of a tree, in the form of the html5lib tests.
 use Rattle.std.specs.Prelude.{ℕ, ◌+◌, ◌*◌, List, [], ◌∷◌, ◌++◌, codes, replicate, Bool, false, cond}
 use Rattle.std.specs.List.{flat_map}

@@ -1,3 +1,4 @@
+-- Claimed.
 -- Attributes in order of the UTF-16 code units of their names, as the html5lib tests write them.
 use Rattle.std.specs.Prelude.{ℕ, List}
 use Rattle.std.specs.Char.Escape.{encode_utf16}

@@ -1,3 +1,4 @@
+-- Claimed.
 -- What is printed of all that stands below a root.
 use Rattle.std.specs.Prelude.{ℕ, List}
 use Rattle.html_arena.specs.Forest.{Forest}

@@ -1,2 +1,3 @@
+-- Claimed.
 pub mod Outcome
 pub mod Told

@@ -1,3 +1,4 @@
+-- Claimed.
 -- What the program tells where there is no page.
 use Rattle.std.specs.Prelude.{ℕ, ◌++◌, List, codes, decimal}
 use Rattle.std.specs.Str.{encode_utf8_all}

@@ -1,3 +1,4 @@
+-- Claimed, but for this crate's own functions: IsKeyTold.
 -- What reached the writer to which a line was told.
 use Rattle.std.specs.Prelude.{◌≡◌, ◌⊎◌, ℕ, Bool, true, List, Option, codes}
 use Rattle.std.specs.Io.KnownBytes.{Appends}

@@ -1,3 +1,4 @@
+-- Claimed.
 -- What a command writes of a page.
 use Rattle.std.specs.Prelude.{ℕ, List, [], Option}
 use Rattle.std.specs.Io.KnownBytes.{Consumes, IsAtEnd}

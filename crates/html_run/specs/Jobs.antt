@@ -1,3 +1,4 @@
+-- Claimed.
 -- What a job asks of the parser.
 use Rattle.std.specs.Prelude.{◌-◌, ◌^◌, ℕ, false, List, Option, Some, None, codes, option_map, unwrap_or}
 use Rattle.std.specs.Io.KnownBytes.{Consumes, IsAtEnd}

@@ -1,3 +1,4 @@
+-- Claimed.
 pub mod Answers
 pub mod Jobs
 pub mod Profiles

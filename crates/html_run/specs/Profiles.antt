@@ -1,3 +1,4 @@
+-- Claimed.
 -- The profile of a job is that of the serializer.
 use Rattle.html_job.specs.declared.jobs.Profile.{Profile as Named}
 use Rattle.html_job.specs.declared.jobs.Profile.TheVariants as named

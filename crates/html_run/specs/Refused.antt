@@ -1,3 +1,4 @@
+-- Claimed.
 -- Why a job was refused, and what was told of it.
 use Rattle.std.specs.Prelude.{◌≡◌, ◌⊎◌, ◌<◌, ℕ, Bool, true, false, List, Option, Err, Ok, MatchOption}
 use Rattle.std.specs.Borrow.{Bor}

@@ -1,2 +1,3 @@
+-- Claimed.
 pub mod Pieces
 pub mod Shown

@@ -1,3 +1,4 @@
+-- Claimed.
 -- Tokens as pieces: a stretch of text, or one token.
 use Rattle.std.specs.Prelude.{◌≡◌, ◌+◌, ◌<◌, ◌^◌, length, List, [], ◌∷◌, ◌++◌}
 use Rattle.html_tokens.specs.Runs.{plain_tokens}

@@ -1,3 +1,4 @@
+-- Claimed.
 -- Tokens that are lent.
 use Rattle.std.specs.Prelude.{◌+◌, List, [], Option, Some, None}
 use Rattle.std.specs.Borrow.{Bor}

@@ -1,3 +1,4 @@
+-- For this crate's own functions.
 -- How many errors are told, and how many attribute names are compared, by the places that were passed.
 use Rattle.std.specs.Prelude.{ℕ, ◌+◌, ◌*◌, ◌≤◌, length}
 use Rattle.html_tokens.specs.declared.faults.Faults.{Faults}

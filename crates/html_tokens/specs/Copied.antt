@@ -1,3 +1,4 @@
+-- For this crate's own functions.
 -- Code points that names, values and comments take as they stand: they end nothing, begin nothing, become nothing else and tell no error.
 use Rattle.std.specs.Prelude.{◌≡◌, ℕ, ◌+◌, ◌≤◌, List, [], ◌∷◌, ◌++◌, length, drop, Bool, true, not, ◌||◌, ◌==◌}
 use Rattle.html_tokens.specs.Cut.{Cut, ends_unquoted}

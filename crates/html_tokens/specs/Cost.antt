@@ -1,3 +1,4 @@
+-- Claimed.
 -- What tokens cost: their spans are in order and disjoint, and a token holds no more code points than its span. It is no rule of the standard, but what every layer above stands on that speaks of sizes.
 use Rattle.std.specs.Prelude.{◌≡◌, ℕ, ◌+◌, ◌<◌, ◌≤◌, List, [], ◌∷◌, length, Bool, true, false, Option, Some, None}
 use Rattle.std.specs.List.{AllByRecursion}

@@ -1,3 +1,4 @@
+-- Claimed.
 -- A text is cut at the first place where a mark stands.
 use Rattle.std.specs.Prelude.{ℕ, suc, List, [], ◌∷◌, Bool, false, ◌&&◌, ◌||◌, ◌==◌, cond, Option, slice_get, is_none}
 use Rattle.std.specs.Prelude.{Some, None}

@@ -1,3 +1,4 @@
+-- Claimed, but for this crate's own functions: keyword_len, new_doctype, ReadsPart, EndsPart, PassesIn, ReadsDoctype.
 -- A doctype: its name and ids, and where it closes (HTML 13.2.5.53 to 13.2.5.68). Each part runs to its first closing mark.
 use Rattle.std.specs.Prelude.{◌≡◌, ℕ, ◌+◌, ◌≤◌, ◌<◌, List, [], ◌∷◌, ◌++◌, length, map, drop, Bool, true, false, ◌||◌, ◌==◌, ◌&&◌, cond, not, Option, Some, None, slice_get}
 use Rattle.html_tokens.specs.Cut.{cut, is, mark_if, greater_mark, shown, stop_mark, is_space, ends_unquoted}

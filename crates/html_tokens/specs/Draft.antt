@@ -1,3 +1,4 @@
+-- Claimed, but for this crate's own functions: Reads.
 -- What a comment that is being read comes to.
 use Rattle.std.specs.Prelude.{◌≡◌, ℕ, suc, ◌≤◌, ◌<◌, List, ◌++◌, length, map, drop, Option}
 use Rattle.html_tokens.specs.Cut.{Cut, cut, comment_mark, greater_mark, shown}

@@ -1,3 +1,4 @@
+-- Claimed, but for this crate's own functions: SameCount, to_come_after, Steps, Skips, Passes, IsComment, IsTag, IsDoctype, EndsDoctype, BeginsDoctype, EndsComment, new_tag, BeginsTag, mode_after_tag, name_after_tag, read_tag, EndsTagAt, EndsTag, GivesChars.
 -- What a tokenizer has still to give, and what it was fed.
 use Rattle.std.specs.Prelude.{◌≡◌, ℕ, ◌+◌, ◌<◌, List, [], ◌∷◌, ◌++◌, length, drop, Bool, true, false, Option, Some, None}
 use Rattle.html_tokens.specs.Draft.{draft_cut}

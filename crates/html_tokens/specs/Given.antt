@@ -1,3 +1,4 @@
+-- Claimed.
 -- What callers of a tokenizer know of it: its run.
 use Rattle.std.specs.Prelude.{◌≡◌, ℕ, ◌+◌, ◌-◌, ◌^◌, min, List, [], length, Bool, true, false, cond, Option}
 use Rattle.html_tokens.specs.Stream.{Run, Start, IsAt, gave, answered, tokens_of}

@@ -1,3 +1,4 @@
+-- Claimed.
 -- What ends text: the end marks of RCDATA, RAWTEXT and script text, and the regions of script text.
 use Rattle.std.specs.Prelude.{ℕ, ◌+◌, List, [], ◌∷◌, length, Bool, true, false, not, ◌&&◌, ◌||◌, ◌==◌, cond, Option, Some, None, slice_get}
 use Rattle.std.specs.List.{list_all}

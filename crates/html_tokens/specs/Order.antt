@@ -1,3 +1,4 @@
+-- For this crate's own functions.
 -- The order of the parse errors: by their places, and at one place as they were told.
 use Rattle.std.specs.Prelude.{◌≡◌, ℕ, ◌≤◌, ◌<◌, List, length}
 use Rattle.std.specs.List.{AllWithin, insert}

@@ -1,3 +1,4 @@
+-- For this crate's own functions.
 -- How the attributes of a tag are looked for: among the first few, else by their names; and how many comparisons that counts.
 use Rattle.std.specs.Prelude.{◌≡◌, ℕ, suc, List, [], ◌∷◌, cond, take, true, false, ◌||◌, String, Some, is_some}
 use Rattle.std.specs.BTreeMap.{BTreeMap, get_by_text}

@@ -1,3 +1,4 @@
+-- For this crate's own functions.
 -- The unread code points of a queue.
 use Rattle.std.specs.Prelude.{ℕ, List}
 

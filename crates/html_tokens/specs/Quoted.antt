@@ -1,3 +1,4 @@
+-- For this crate's own functions.
 -- Attributes that were fed whole, and tell no error.
 use Rattle.std.specs.Prelude.{◌≡◌, ℕ, ◌≤◌, ◌<◌, List, length, take, drop, Some, slice_get}
 use Rattle.html_tokens.specs.Copied.{AllPass, is_copied}

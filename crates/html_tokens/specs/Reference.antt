@@ -1,3 +1,4 @@
+-- Claimed, but for this crate's own functions: opened_by.
 -- What a reference stands for, and its length.
 use Rattle.std.specs.Prelude.{ℕ, ◌+◌, List, [], ◌∷◌, map, drop, Bool, ◌||◌, cond, not, nat_lt, Option, Some, None, slice_get}
 use Rattle.std.specs.Char.{digit_value}

@@ -1,3 +1,4 @@
+-- Claimed.
 -- Runs of plain text: code points that are Chars whatever follows them.
 use Rattle.std.specs.Prelude.{ℕ, ◌+◌, List, [], ◌∷◌, Bool, true, false, ◌||◌, ◌==◌, cond, not, None}
 use Rattle.html_tokens.specs.Stream.{Run, gave}

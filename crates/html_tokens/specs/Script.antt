@@ -1,3 +1,4 @@
+-- Claimed.
 -- Where script text ends, over the whole of it: by the first mark of each region (HTML 13.2.5.4, 13.2.5.15 to 13.2.5.31).
 use Rattle.std.specs.Prelude.{◌≡◌, ℕ, zero, suc, ◌+◌, List, [], ◌∷◌, take, drop, Bool, ◌||◌, cond, Option, Some, None, option_map, IfSome}
 use Rattle.html_tokens.specs.Marks.{declares, leaves, opens_script, closes_script, is_end_mark}

@@ -1,3 +1,4 @@
+-- For this crate's own functions.
 -- Tags without attributes whose whole text was fed.
 use Rattle.std.specs.Prelude.{ℕ, ◌+◌, [], Bool, take, drop}
 use Rattle.html_tokens.specs.declared.machine.Machine.{Machine}

@@ -1,3 +1,4 @@
+-- Claimed, but for this crate's own functions: GoesOn.
 -- What a tokenizer was fed and has given, however the text was cut.
 use Rattle.std.specs.Prelude.{◌≡◌, ℕ, ◌+◌, ◌≤◌, List, [], ◌∷◌, ◌++◌, length, Bool, true, Option}
 use Rattle.std.specs.List.{AllByRecursion}

@@ -1,3 +1,4 @@
+-- Claimed, but for this crate's own functions: lowered, opened_len.
 -- The tokens of a text: it is cut into pieces, each a tag, a comment or a front of text.
 use Rattle.std.specs.Prelude.{ℕ, zero, suc, ◌+◌, ◌-◌, List, [], ◌∷◌, ◌++◌, length, map, drop, Bool, true, false, ◌&&◌, ◌||◌, cond, Option, Some, None, unwrap_or, slice_get, is_none}
 use Rattle.html_tokens.specs.Cut.{cut, is, comment_mark, greater_mark, shown, passes}

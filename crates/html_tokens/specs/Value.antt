@@ -1,3 +1,4 @@
+-- Claimed, but for this crate's own functions: is_taken, ref_len, Begins, IsValueRef, IsValueNamed.
 -- References in the values of attributes.
 use Rattle.std.specs.Prelude.{◌≡◌, ◌<◌, ◌≤◌, length, not, ℕ, zero, suc, ◌-◌, List, [], ◌∷◌, ◌++◌, Bool, ◌||◌, ◌==◌, cond, Option, Some, None, slice_get}
 use Rattle.std.specs.Char.{is_ascii_alphanumeric}

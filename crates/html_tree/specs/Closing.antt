@@ -1,3 +1,4 @@
+-- Claimed.
 -- What stays on the stack of open elements (13.2.4.2).
 use Rattle.std.specs.Prelude.{ℕ, ◌-◌, cond, eqb, List, length, min, max, take, Option, Some, None}
 use Rattle.html_arena.specs.Siblings.{first_of, is_in}

@@ -1,3 +1,4 @@
+-- Claimed.
 -- What rules look for among the open elements.
 use Rattle.std.specs.Prelude.{Bool, false}
 use Rattle.html_names.specs.declared.tag.Tag.{Tag}

@@ -1,3 +1,4 @@
+-- Claimed, but for this crate's own functions: rest_of, IsNew, IsFor, CanBeFirst.
 -- A new node (13.2.6.1).
 use Rattle.std.specs.Prelude.{◌≡◌, ℕ, ◌+◌, ◌∷◌, [], ◌++◌, List, length, ◌<◌, ◌≤◌, true, Bool, cond, Result, Ok, Err}
 use Rattle.html_names.specs.declared.tag.Tag.{Tag}

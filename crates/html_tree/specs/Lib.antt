@@ -1,12 +1,13 @@
-pub mod States
-pub mod Since
-pub mod Groups
-pub mod Searching
+-- Claimed.
 pub mod Closing
-pub mod OpenTags
-pub mod Paragraphs
-pub mod Seats
-pub mod Targets
+pub mod Groups
 pub mod Inserting
 pub mod Listing
+pub mod OpenTags
+pub mod Paragraphs
+pub mod Searching
+pub mod Seats
+pub mod Since
+pub mod States
+pub mod Targets
 pub mod Texts

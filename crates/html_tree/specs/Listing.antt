@@ -1,3 +1,4 @@
+-- Claimed.
 -- Reopening (13.2.4.3) and adoption (13.2.6.4.7) of a tree under construction.
 use Rattle.std.specs.Prelude.{◌≡◌, ℕ, ◌++◌, ◌<◌, Bool, true, List, length, map}
 use Rattle.std.specs.List.{sum_by}

@@ -1,3 +1,4 @@
+-- Claimed.
 -- What is open, by tags (13.2.4.2).
 use Rattle.std.specs.Prelude.{◌≡◌, ℕ, ◌+◌, ◌≤◌, true, List, ◌∷◌, ◌++◌, drop, map, reverse, Bool, false, cond, []}
 use Rattle.std.specs.List.{list_all, sum_by, position_or_len}

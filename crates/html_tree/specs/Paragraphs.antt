@@ -1,3 +1,4 @@
+-- Claimed, but for this crate's own functions: is_p.
 -- Where a p element in button scope is sought (13.2.4.2).
 use Rattle.std.specs.Prelude.{ℕ, Bool, true, false, ◌&&◌, ◌||◌, List, drop, filter, Option, Some, None}
 use Rattle.html_names.specs.declared.sets.Scope.{Scope}

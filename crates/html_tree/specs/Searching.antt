@@ -1,3 +1,4 @@
+-- Claimed, but for this crate's own functions: member_or_stop, is_sought_at, name_or_special.
 -- Searches from the current node down the stack of open elements (13.2.4.2).
 use Rattle.std.specs.Prelude.{ℕ, ◌==◌, Bool, cond, ◌||◌, List, Option, Some, None}
 use Rattle.std.specs.Cmp.Lexicographic.{pointwise}

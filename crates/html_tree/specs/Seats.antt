@@ -1,3 +1,4 @@
+-- Claimed.
 -- What parts of tables stand on (13.2.6.4.9 to 13.2.6.4.15).
 use Rattle.std.specs.Prelude.{◌≡◌, ℕ, Bool, true, false, cond, eqb, ◌||◌, List, [], ◌∷◌, Option, Some, None}
 use Rattle.html_names.specs.declared.tag.Tag.{Tag}

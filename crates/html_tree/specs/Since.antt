@@ -1,3 +1,4 @@
+-- Claimed.
 -- What calls keep of a tree under construction.
 use Rattle.std.specs.Prelude.{◌≡◌, ℕ, ◌+◌, ◌<◌, ◌≤◌, true, false, [], length, min, Some, None, ◌⊎◌}
 use Rattle.html_names.specs.declared.tag.Tag.TheVariants as tag

@@ -1,3 +1,4 @@
+-- Claimed, but for this crate's own functions: IsNode.
 -- What callers see of a tree under construction (13.2.4), and what is always true of it.
 use Rattle.std.specs.Prelude.{◌≡◌, ℕ, ◌<◌, true, List, [], ◌∷◌, length, Option, Some, None}
 use Rattle.html_names.specs.declared.tag.Tag.{Tag}

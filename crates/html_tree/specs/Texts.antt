@@ -1,3 +1,4 @@
+-- Claimed, but for this crate's own functions: IsNewTextLack, IsNewTextRefused, IsFree.
 -- Inserting characters (13.2.6.1).
 use Rattle.std.specs.Prelude.{◌≡◌, ℕ, ◌⊎◌, Bool, false, cond, List, length, Option, Some, None}
 use Rattle.html_arena.specs.declared.data.NewNode.TheVariants.{Text}

@@ -1,1 +1,2 @@
+-- For this crate's own functions.
 pub mod Pages

@@ -1,3 +1,4 @@
+-- For this crate's own functions.
 -- What is true of a page under way.
 use Rattle.std.specs.Prelude.{◌≡◌, ℕ, ◌+◌, ◌<◌, List, Option, Some, None}
 use Rattle.html_arena.specs.declared.data.Origin.TheVariants.{Token}

@@ -1,3 +1,4 @@
+-- For this crate's own functions.
 -- What is known of a page under way.
 use Rattle.std.specs.Prelude.{◌≡◌, ℕ, ◌≤◌, Bool, true, None}
 use Rattle.html_tree.specs.States.{State}
