@@ -6,7 +6,7 @@ use Rattle.html_charref.specs.declared.table.Row.{Row}
 use Rattle.html_tokens.specs.Copied.{AllPass, is_copied, copied_in, copied_by, CopiesTag, CopiesComment, cut_by}
 use Rattle.std.proofs.Common.{Result, Ok, Err}
 use Rattle.std.specs.Result.{IfOk}
-use Rattle.html_tokens.specs.Cut.{Cut, cut, shown, ends_unquoted}
+use Rattle.html_tokens.specs.Cut.{Cut, cut, null_replaced, ends_unquoted}
 use Rattle.html_tokens.specs.Draft.{draft_cut, mark_of, passed}
 use Rattle.html_tokens.specs.declared.comment.CommentDraft.{CommentDraft}
 use Rattle.html_tokens.specs.declared.comment.CommentKind.{CommentKind}
@@ -80,12 +80,12 @@ attr_name_one d c p h rows rest =
     let s = name_stands c h in
     rw (p, s.0, s.1, append_assoc) refl
 
-value_one : (end : ValueEnd) (d : TagDraft) (c : ℕ) → d.part ≡ parts.Inside end → ((rest : List ℕ) → end_mark end (c ∷ rest) ≡ None) → (c == 38) ≡ false → shown c ≡ c → (rows : List Row) (rest : List ℕ) →
+value_one : (end : ValueEnd) (d : TagDraft) (c : ℕ) → d.part ≡ parts.Inside end → ((rest : List ℕ) → end_mark end (c ∷ rest) ≡ None) → (c == 38) ≡ false → null_replaced c ≡ c → (rows : List Row) (rest : List ℕ) →
     draft_tag rows d (c ∷ rest) ≡ longer_tag (draft_tag rows (record d { attr_value = d.attr_value ++ c ∷ [] }) rest)
 unfolding value_cut tail
 value_one end d c p m a z rows rest = rw (p, m rest, a, z, append_assoc) refl
 
-not_null : (c : ℕ) → (c == 0) ≡ false → shown c ≡ c
+not_null : (c : ℕ) → (c == 0) ≡ false → null_replaced c ≡ c
 not_null c z = rw z refl
 
 double_one : (d : TagDraft) (c : ℕ) → d.part ≡ parts.Inside ends.DoubleQuote → is_copied copied.DoubleQuoted c ≡ true → (rows : List Row) (rest : List ℕ) →
@@ -184,7 +184,7 @@ cut_by_none after = rw zero-add refl
 cut_by_more : (k : ℕ) (after : Cut) → passed (cut_by k after) ≡ cut_by (suc k) after
 cut_by_more k after = let e : suc (k + after.len) ≡ suc k + after.len = omega arith in rw e refl
 
-comment_one : (kind : CommentKind) (c : ℕ) → is_copied (copied_by kind) c ≡ true → ((rest : List ℕ) → mark_of kind (c ∷ rest) ≡ None) × (shown c ≡ c)
+comment_one : (kind : CommentKind) (c : ℕ) → is_copied (copied_by kind) c ≡ true → ((rest : List ℕ) → mark_of kind (c ∷ rest) ≡ None) × (null_replaced c ≡ c)
 comment_one Declared c h =
     let a = neither (c == 0) _ h in
     let b = neither (c == 45) _ a.1 in

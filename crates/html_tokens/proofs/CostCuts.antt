@@ -12,7 +12,7 @@ use Rattle.html_charref.specs.declared.number.Base.{Base}
 use Rattle.html_charref.specs.declared.number.Base.TheVariants.{Decimal, Hex}
 use Rattle.html_charref.proofs.Maximum.{longest-IsLongest}
 use Rattle.html_tokens.proofs.RefLemmas.{found_short}
-use Rattle.html_tokens.specs.Cut.{Cut, cut, cut_or, longer, is, passes, mark_if, comment_mark, greater_mark, quote_mark, stop_mark, ends_unquoted, is_space, shown}
+use Rattle.html_tokens.specs.Cut.{Cut, cut, cut_or, longer, is, passes, mark_if, comment_mark, greater_mark, quote_mark, stop_mark, ends_unquoted, is_space, null_replaced}
 use Rattle.html_tokens.specs.Draft.{passed}
 use Rattle.html_tokens.specs.Reference.{Reference, literal, named_by, numeric_by, numbered, reference, reference_by, ref_opener, semicolon, ends_digits, opened_by, is_digit}
 use Rattle.html_tokens.specs.Tag.{value, after_name, after_some}
@@ -210,11 +210,11 @@ value_cut_fits rows end zero (c ∷ rest) t h =
     let f : RefFits found (suc (length rest)) = value_reference_fits rows (c ∷ rest) t (omega arith) in
     let b = f.some in let w = f.within in
     let whole = with_codes found.codes (value_cut rows end (found.len - 1) rest) in
-    let one = with_codes (shown c ∷ []) (value_cut rows end 0 rest) in
+    let one = with_codes (null_replaced c ∷ []) (value_cut rows end 0 rest) in
     goes_or (end_mark end (c ∷ rest)) (cond (c == 38) whole one) (suc (length rest)) (end_fits end (c ∷ rest))
     (cond_both (λ (x : Cut). GoesFits 0 x (suc (length rest))) (c == 38) whole one
     (λ e. goes_codes found (value_cut rows end (found.len - 1) rest) (length rest) f (value_cut_fits rows end (found.len - 1) rest t (omega arith)))
-    (λ e. goes_codes (record { codes = shown c ∷ []; len = 1 }) (value_cut rows end 0 rest) (length rest) (shown_fits (shown c) (length rest)) (value_cut_fits rows end 0 rest t (omega arith))))
+    (λ e. goes_codes (record { codes = null_replaced c ∷ []; len = 1 }) (value_cut rows end 0 rest) (length rest) (shown_fits (null_replaced c) (length rest)) (value_cut_fits rows end 0 rest t (omega arith))))
 value_cut_fits rows end (suc k) (c ∷ rest) t h = goes_past k (length rest) (value_cut rows end k rest) (value_cut_fits rows end k rest t (omega arith))
 
 goes_passed : (k n : ℕ) (c : Cut) → GoesFits k c n → GoesFits (suc k) (passed c) (suc n)

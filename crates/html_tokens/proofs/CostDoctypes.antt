@@ -4,7 +4,7 @@ use Rattle.std.proofs.lemmas.List.{length-map, length-drop}
 use Rattle.std.specs.Char.{to_ascii_lowercase}
 use Rattle.std.specs.List.{slice_get}
 use Rattle.html_tokens.specs.Cost.{optional_len}
-use Rattle.html_tokens.specs.Cut.{cut, is, passes, greater_mark, stop_mark, ends_unquoted, shown}
+use Rattle.html_tokens.specs.Cut.{cut, is, passes, greater_mark, stop_mark, ends_unquoted, null_replaced}
 use Rattle.html_tokens.specs.Doctype.{Ids, Doctype, no_ids, with_name, with_public, with_system, closes, longer_doctype, not_space, after_spaces, up_to, bad_rest, after_system, id_mark, id_end, system_end, system_id, is_quote, quoted, after_public, public_end, public_id, wanted, wanted_public, wanted_system, spells_word, public_word, system_word, keyword_at, keyword_len, after_keyword, after_name, name_end, named, name_or_end, doctype_of}
 use Rattle.html_tokens.specs.Marks.{is_lowered}
 use Rattle.html_tokens.specs.Tag.{name_char}
@@ -79,7 +79,7 @@ system_end_fits ids quote id text =
     id_end_fits quote more (after_spaces (after_system more)) held (omega arith) (spaces_fit held (after_system more) (after_system_fits more held (omega arith))) text
 
 system_fits : (ids : Ids) (quote : ℕ) (text : List ℕ) → DoctypeFits (ids_len ids) (system_id ids quote [] text) (length text)
-system_fits ids quote text = up_to_fits shown (id_mark quote) (ids_len ids) (system_end ids quote) (id_mark_fits quote) (system_end_fits ids quote) text
+system_fits ids quote text = up_to_fits null_replaced (id_mark quote) (ids_len ids) (system_end ids quote) (id_mark_fits quote) (system_end_fits ids quote) text
 
 quoted_fits : (id : ℕ → List ℕ → Doctype) (other : Doctype) (c held : ℕ) (rest : List ℕ) → ((quote : ℕ) (text : List ℕ) → DoctypeFits held (id quote text) (length text)) → DoctypeFits held other (suc (length rest)) →
     DoctypeFits held (quoted id other c rest) (suc (length rest))
@@ -101,7 +101,7 @@ public_end_fits ids quote id text =
     id_end_fits quote more (after_spaces (after_public more)) held (omega arith) (spaces_fit held (after_public more) (after_public_fits more held (omega arith))) text
 
 public_fits : (ids : Ids) (quote : ℕ) (text : List ℕ) → DoctypeFits (ids_len ids) (public_id ids quote [] text) (length text)
-public_fits ids quote text = up_to_fits shown (id_mark quote) (ids_len ids) (public_end ids quote) (id_mark_fits quote) (public_end_fits ids quote) text
+public_fits ids quote text = up_to_fits null_replaced (id_mark quote) (ids_len ids) (public_end ids quote) (id_mark_fits quote) (public_end_fits ids quote) text
 
 wanted_fits : (ids : Ids) (id : ℕ → List ℕ → Doctype) (held : ℕ) → ids_len ids ≤ held → ((quote : ℕ) (text : List ℕ) → DoctypeFits held (id quote text) (length text)) → (text : List ℕ) → DoctypeFits held (wanted ids id text) (length text)
 wanted_fits ids id held h f [] = closes_fits ids true 0 held 0 h (omega arith)

@@ -7,7 +7,7 @@ use Rattle.std.specs.Option.{IfSome}
 use Rattle.html_charref.specs.Table.{IsTable}
 use Rattle.html_charref.specs.declared.table.Row.{Row}
 use Rattle.html_tokens.specs.Cost.{attrs_len, is_eof, AreNamed, Fits, AreBetween, tokens_len, AreCosted}
-use Rattle.html_tokens.specs.Cut.{cut, is, passes, greater_mark, comment_mark, shown}
+use Rattle.html_tokens.specs.Cut.{cut, is, passes, greater_mark, comment_mark, null_replaced}
 use Rattle.html_tokens.specs.Marks.{begin_at, is_end_mark, is_stop, is_tag_name, front, region_in, spells}
 use Rattle.html_tokens.specs.Reference.{reference}
 use Rattle.html_tokens.specs.Fed.{to_come}
@@ -67,7 +67,7 @@ comment_fits_piece mark m opened place text s h =
     let f = cut_fits mark m rest in
     let a = f.0 in
     let b : data_cut.len ≤ length text - opened = rw (← length-drop opened text) f.1 in
-    let l : length (map shown data_cut.before) ≡ length data_cut.before = length-map data_cut.before shown in
+    let l : length (map null_replaced data_cut.before) ≡ length data_cut.before = length-map data_cut.before null_replaced in
     record { inside = (record { starts = omega arith; holds = omega arith; some = (λ e. omega arith); names = tt }, refl, omega arith); within = omega arith }
 
 tag_inside : (is_end closed : Bool) (t : Tag) (start end : ℕ) → start < end → start + (length t.name + attrs_len t.tail.attrs) ≤ end → AreNamed t.tail.attrs → AreInside start end (when closed (token (tag_kind is_end t) start end))

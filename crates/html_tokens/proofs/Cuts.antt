@@ -1,6 +1,6 @@
 use Rattle.std.proofs.Common.{◌≡◌, ℕ, ◌+◌, ◌<◌, List, [], ◌∷◌, ◌++◌, length, drop, Option, Some, None, refl, append-nil, append_assoc, arith, length-append}
 use Rattle.std.specs.List.{slice_get}
-use Rattle.html_tokens.specs.Cut.{cut, longer, shown}
+use Rattle.html_tokens.specs.Cut.{cut, longer, null_replaced}
 use Rattle.html_tokens.specs.Draft.{draft_cut, mark_of, passed}
 use Rattle.html_tokens.specs.declared.comment.CommentDraft.{CommentDraft}
 
@@ -24,7 +24,7 @@ pub ended_draft : (draft : CommentDraft) → draft_cut draft [] ≡ record { bef
 ended_draft draft = rw (cut_none (mark_of draft.kind), append-nil draft.«data») refl
 
 pub longer_draft : (draft : CommentDraft) (c : ℕ) (rest : List ℕ) → mark_of draft.kind (c ∷ rest) ≡ None →
-    draft_cut draft (c ∷ rest) ≡ passed (draft_cut (record draft { «data» = draft.«data» ++ shown c ∷ [] }) rest)
+    draft_cut draft (c ∷ rest) ≡ passed (draft_cut (record draft { «data» = draft.«data» ++ null_replaced c ∷ [] }) rest)
 longer_draft draft c rest e = rw (cut_longer (mark_of draft.kind) c rest e, append_assoc) refl
 
 pub empty_rest : (text : List ℕ) → slice_get text 0 ≡ None → text ≡ []
@@ -34,7 +34,7 @@ empty_rest (c ∷ rest) e = cc
 pub not_empty : (items more : List ℕ) → 0 < length items → 0 < length (items ++ more)
 not_empty items more h = omega (arith, length-append items more)
 
-pub longer_read : (draft : CommentDraft) (items items' more new : List ℕ) (c d : ℕ) → mark_of draft.kind (items ++ more) ≡ None → items ≡ c ∷ items' → d ≡ shown c → new ≡ draft.«data» ++ d ∷ [] →
+pub longer_read : (draft : CommentDraft) (items items' more new : List ℕ) (c d : ℕ) → mark_of draft.kind (items ++ more) ≡ None → items ≡ c ∷ items' → d ≡ null_replaced c → new ≡ draft.«data» ++ d ∷ [] →
     draft_cut draft (items ++ more) ≡ passed (draft_cut (record draft { «data» = new }) (items' ++ more))
 longer_read draft items items' more new c d none e f g =
     let none' = rw e at none in rw (e, g, f) (longer_draft draft c (items' ++ more) none')

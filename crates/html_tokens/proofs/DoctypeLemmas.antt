@@ -3,7 +3,7 @@ use Rattle.std.proofs.Common.{◌≡◌, ℕ, suc, ◌+◌, ◌<◌, ◌≤◌, 
 use Rattle.std.specs.List.{slice_get}
 use Rattle.std.proofs.lemmas.Bool.Decides.{nat_tests}
 use Rattle.std.proofs.lemmas.Bool.{ne_eqb}
-use Rattle.html_tokens.specs.Cut.{Cut, cut, is_space, ends_unquoted, stop_mark, greater_mark, shown}
+use Rattle.html_tokens.specs.Cut.{Cut, cut, is_space, ends_unquoted, stop_mark, greater_mark, null_replaced}
 use Rattle.html_tokens.specs.Tag.{name_char}
 use Rattle.html_tokens.specs.Doctype.{Ids, Doctype, closes, longer_doctype, not_space, after_spaces, up_to, bad_rest, id_mark, id_end, is_quote, ids_of, draft_doctype, part_doctype, with_name, with_public, with_system, after_name, after_public, after_system, name_or_end, name_end, public_end, system_end, ReadsPart, EndsPart}
 use Rattle.html_tokens.specs.declared.doctype.DoctypeDraft.{DoctypeDraft}
@@ -202,52 +202,52 @@ id_ends : (quote : ℕ) (ids : Ids) (next : List ℕ → Doctype) (rest : List �
 id_ends quote ids next rest = rw (same quote) refl
 
 -- a public id goes on, ends at its quote, is cut off by a `>`, or by the end
-pub public_more : (d : DoctypeDraft) (quote c : ℕ) (text : List ℕ) → d.part ≡ parts.Public quote → ¬ (c ≡ quote) → ¬ (c ≡ 62) → text ≡ d.text ++ shown c ∷ [] →
+pub public_more : (d : DoctypeDraft) (quote c : ℕ) (text : List ℕ) → d.part ≡ parts.Public quote → ¬ (c ≡ quote) → ¬ (c ≡ 62) → text ≡ d.text ++ null_replaced c ∷ [] →
     ReadsPart d c None (record d { text = text })
 public_more d quote c text e g h t =
     rw t (
-      (λ rest. at_part d (parts.Public quote) (c ∷ rest) e ∙ text_more shown (id_mark quote) (public_end (ids_of d) quote) d.text c rest (inside quote c rest g h)
-          ∙ ap (longer_doctype 1) (sym (ap (λ (p : DoctypePart). part_doctype p (ids_of d) (d.text ++ shown c ∷ []) rest) e))),
+      (λ rest. at_part d (parts.Public quote) (c ∷ rest) e ∙ text_more null_replaced (id_mark quote) (public_end (ids_of d) quote) d.text c rest (inside quote c rest g h)
+          ∙ ap (longer_doctype 1) (sym (ap (λ (p : DoctypePart). part_doctype p (ids_of d) (d.text ++ null_replaced c ∷ []) rest) e))),
       refl,
     )
 
 pub public_ends : (d : DoctypeDraft) (quote c : ℕ) (rest : List ℕ) → d.part ≡ parts.Public quote → c ≡ quote → draft_doctype d (c ∷ rest) ≡ longer_doctype 1 (after_spaces (after_public (with_public d.text (ids_of d))) rest)
 public_ends d quote c rest e g =
-    rw g (at_part d (parts.Public quote) (quote ∷ rest) e ∙ text_stop shown (id_mark quote) (public_end (ids_of d) quote) d.text quote rest (at_quote quote rest)
+    rw g (at_part d (parts.Public quote) (quote ∷ rest) e ∙ text_stop null_replaced (id_mark quote) (public_end (ids_of d) quote) d.text quote rest (at_quote quote rest)
     ∙ id_ends quote (with_public d.text (ids_of d)) (after_spaces (after_public (with_public d.text (ids_of d)))) rest)
 
 pub public_closes : (d : DoctypeDraft) (quote c : ℕ) (rest : List ℕ) → d.part ≡ parts.Public quote → ¬ (c ≡ quote) → c ≡ 62 → draft_doctype d (c ∷ rest) ≡ closes (with_public d.text (ids_of d)) true 1
 public_closes d quote c rest e h g =
     let h' = rw g at h in
-    rw g (at_part d (parts.Public quote) (62 ∷ rest) e ∙ text_stop shown (id_mark quote) (public_end (ids_of d) quote) d.text 62 rest (rw (differs 62 quote h') refl)
+    rw g (at_part d (parts.Public quote) (62 ∷ rest) e ∙ text_stop null_replaced (id_mark quote) (public_end (ids_of d) quote) d.text 62 rest (rw (differs 62 quote h') refl)
     ∙ id_closes quote (with_public d.text (ids_of d)) (after_spaces (after_public (with_public d.text (ids_of d)))) rest h')
 
 pub public_none : (d : DoctypeDraft) (quote : ℕ) → d.part ≡ parts.Public quote → draft_doctype d [] ≡ closes (with_public d.text (ids_of d)) true 0
-public_none d quote e = at_part d (parts.Public quote) [] e ∙ text_none shown (id_mark quote) (public_end (ids_of d) quote) d.text
+public_none d quote e = at_part d (parts.Public quote) [] e ∙ text_none null_replaced (id_mark quote) (public_end (ids_of d) quote) d.text
 
 -- the same of a system id
-pub system_more : (d : DoctypeDraft) (quote c : ℕ) (text : List ℕ) → d.part ≡ parts.System quote → ¬ (c ≡ quote) → ¬ (c ≡ 62) → text ≡ d.text ++ shown c ∷ [] →
+pub system_more : (d : DoctypeDraft) (quote c : ℕ) (text : List ℕ) → d.part ≡ parts.System quote → ¬ (c ≡ quote) → ¬ (c ≡ 62) → text ≡ d.text ++ null_replaced c ∷ [] →
     ReadsPart d c None (record d { text = text })
 system_more d quote c text e g h t =
     rw t (
-      (λ rest. at_part d (parts.System quote) (c ∷ rest) e ∙ text_more shown (id_mark quote) (system_end (ids_of d) quote) d.text c rest (inside quote c rest g h)
-          ∙ ap (longer_doctype 1) (sym (ap (λ (p : DoctypePart). part_doctype p (ids_of d) (d.text ++ shown c ∷ []) rest) e))),
+      (λ rest. at_part d (parts.System quote) (c ∷ rest) e ∙ text_more null_replaced (id_mark quote) (system_end (ids_of d) quote) d.text c rest (inside quote c rest g h)
+          ∙ ap (longer_doctype 1) (sym (ap (λ (p : DoctypePart). part_doctype p (ids_of d) (d.text ++ null_replaced c ∷ []) rest) e))),
       refl,
     )
 
 pub system_ends : (d : DoctypeDraft) (quote c : ℕ) (rest : List ℕ) → d.part ≡ parts.System quote → c ≡ quote → draft_doctype d (c ∷ rest) ≡ longer_doctype 1 (after_spaces (after_system (with_system d.text (ids_of d))) rest)
 system_ends d quote c rest e g =
-    rw g (at_part d (parts.System quote) (quote ∷ rest) e ∙ text_stop shown (id_mark quote) (system_end (ids_of d) quote) d.text quote rest (at_quote quote rest)
+    rw g (at_part d (parts.System quote) (quote ∷ rest) e ∙ text_stop null_replaced (id_mark quote) (system_end (ids_of d) quote) d.text quote rest (at_quote quote rest)
     ∙ id_ends quote (with_system d.text (ids_of d)) (after_spaces (after_system (with_system d.text (ids_of d)))) rest)
 
 pub system_closes : (d : DoctypeDraft) (quote c : ℕ) (rest : List ℕ) → d.part ≡ parts.System quote → ¬ (c ≡ quote) → c ≡ 62 → draft_doctype d (c ∷ rest) ≡ closes (with_system d.text (ids_of d)) true 1
 system_closes d quote c rest e h g =
     let h' = rw g at h in
-    rw g (at_part d (parts.System quote) (62 ∷ rest) e ∙ text_stop shown (id_mark quote) (system_end (ids_of d) quote) d.text 62 rest (rw (differs 62 quote h') refl)
+    rw g (at_part d (parts.System quote) (62 ∷ rest) e ∙ text_stop null_replaced (id_mark quote) (system_end (ids_of d) quote) d.text 62 rest (rw (differs 62 quote h') refl)
     ∙ id_closes quote (with_system d.text (ids_of d)) (after_spaces (after_system (with_system d.text (ids_of d)))) rest h')
 
 pub system_none : (d : DoctypeDraft) (quote : ℕ) → d.part ≡ parts.System quote → draft_doctype d [] ≡ closes (with_system d.text (ids_of d)) true 0
-system_none d quote e = at_part d (parts.System quote) [] e ∙ text_none shown (id_mark quote) (system_end (ids_of d) quote) d.text
+system_none d quote e = at_part d (parts.System quote) [] e ∙ text_none null_replaced (id_mark quote) (system_end (ids_of d) quote) d.text
 
 -- the input ends in the doctype
 pub read_ended : (d new : DoctypeDraft) (input : Input) (force_quirks : Bool) → Decided input (λ rest. slice_get rest 0) None → EndsPart d force_quirks new → ReadsDoctype d input (Closed force_quirks 0) new

@@ -1,6 +1,6 @@
 -- What each step gives, over plain variables.
 use Rattle.std.proofs.Common.{◌≡◌, ℕ, suc, ◌+◌, ◌<◌, ◌≤◌, List, [], ◌∷◌, ◌++◌, length, map, drop, Bool, Option, Some, None, true, false, refl, ap, sym, subst, ◌∙◌, arith, length-append}
-use Rattle.html_tokens.specs.Cut.{Cut, shown}
+use Rattle.html_tokens.specs.Cut.{Cut, null_replaced}
 use Rattle.html_tokens.specs.Draft.{draft_cut}
 use Rattle.html_tokens.specs.Tokens.{tokens_after, text_char, token, begun_piece}
 use Rattle.html_tokens.specs.Marks.{begin_at, is_stop, region_in}
@@ -77,7 +77,7 @@ pub comment_begins : (rows : List Row) (region : Region) (mode : TextMode) (kind
 comment_begins rows region mode kind opened name place items more switches e p h k =
     tokens_begun rows begins.Markup mode region name place (items ++ more) switches (comment_piece (mark_of kind) opened place (items ++ more)) e refl p (omega arith) (there items more (omega arith))
     ∙ rw (drop-append-le opened items more k)
-    (ap (λ (ts : List Token). token (kinds.Comment (map shown (cut (mark_of kind) (drop opened items ++ more)).before)) place (place + opened + (cut (mark_of kind) (drop opened items ++ more)).len) ∷ ts)
+    (ap (λ (ts : List Token). token (kinds.Comment (map null_replaced (cut (mark_of kind) (drop opened items ++ more)).before)) place (place + opened + (cut (mark_of kind) (drop opened items ++ more)).len) ∷ ts)
     (tokens_past rows opened (cut (mark_of kind) (drop opened items ++ more)).len mode name place items more (drop 1 switches) k))
 
 -- nothing is given

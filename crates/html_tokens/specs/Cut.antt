@@ -47,8 +47,8 @@ abbrev pub greater_mark : List ℕ → Option ℕ
 greater_mark text = mark_if (is 62 (slice_get text 0)) 1 None
 
 -- U+0000 becomes U+FFFD (HTML 13.2.5.3 and on).
-abbrev pub shown : ℕ → ℕ
-shown c = cond (c == 0) 65533 c
+abbrev pub null_replaced : ℕ → ℕ
+null_replaced c = cond (c == 0) 65533 c
 
 -- the code point is there, and of this kind
 abbrev pub passes : (ℕ → Bool) → Option ℕ → Bool

@@ -1,7 +1,7 @@
 -- Claimed, but for this crate's own functions: keyword_len, new_doctype, ReadsPart, EndsPart, PassesIn, ReadsDoctype.
 -- A doctype: its name and ids, and where it closes (HTML 13.2.5.53 to 13.2.5.68). Each part runs to its first closing mark.
 use Rattle.std.specs.Prelude.{◌≡◌, ℕ, ◌+◌, ◌≤◌, ◌<◌, List, [], ◌∷◌, ◌++◌, length, map, drop, Bool, true, false, ◌||◌, ◌==◌, ◌&&◌, cond, not, Option, Some, None, slice_get}
-use Rattle.html_tokens.specs.Cut.{cut, is, mark_if, greater_mark, shown, stop_mark, is_space, ends_unquoted}
+use Rattle.html_tokens.specs.Cut.{cut, is, mark_if, greater_mark, null_replaced, stop_mark, is_space, ends_unquoted}
 use Rattle.html_tokens.specs.Tag.{name_char}
 use Rattle.html_tokens.specs.Marks.{is_lowered}
 use Rattle.html_tokens.specs.Input.{MayFollow, IsShort}
@@ -80,7 +80,7 @@ system_end ids quote id text = id_end quote (with_system id ids) (after_spaces (
 
 -- The system id (HTML 13.2.5.65, 13.2.5.66), of which this front was read.
 abbrev pub system_id : Ids → ℕ → List ℕ → List ℕ → Doctype
-system_id ids quote front text = up_to shown (id_mark quote) (system_end ids quote) front text
+system_id ids quote front text = up_to null_replaced (id_mark quote) (system_end ids quote) front text
 
 abbrev pub is_quote : ℕ → Bool
 is_quote c = c == 34 || c == 39
@@ -100,7 +100,7 @@ public_end ids quote id text = id_end quote (with_public id ids) (after_spaces (
 
 -- The public id (HTML 13.2.5.59, 13.2.5.60), of which this front was read.
 abbrev pub public_id : Ids → ℕ → List ℕ → List ℕ → Doctype
-public_id ids quote front text = up_to shown (id_mark quote) (public_end ids quote) front text
+public_id ids quote front text = up_to null_replaced (id_mark quote) (public_end ids quote) front text
 
 -- after a keyword an id has to stand
 abbrev pub wanted : Ids → (ℕ → List ℕ → Doctype) → List ℕ → Doctype

@@ -1,7 +1,7 @@
 -- Claimed, but for this crate's own functions: Reads.
 -- What a comment that is being read comes to.
 use Rattle.std.specs.Prelude.{◌≡◌, ℕ, suc, ◌≤◌, ◌<◌, List, ◌++◌, length, map, drop, Option}
-use Rattle.html_tokens.specs.Cut.{Cut, cut, comment_mark, greater_mark, shown}
+use Rattle.html_tokens.specs.Cut.{Cut, cut, comment_mark, greater_mark, null_replaced}
 use Rattle.html_tokens.specs.Input.{MayFollow, IsShort}
 use Rattle.html_tokens.specs.declared.input.Input.{Input}
 use Rattle.html_tokens.specs.declared.comment.CommentKind.{CommentKind}
@@ -18,7 +18,7 @@ mark_of Bogus text = greater_mark text
 abbrev pub draft_cut : CommentDraft → List ℕ → Cut
 draft_cut draft rest =
     let after = cut (mark_of draft.kind) rest in
-    record { before = draft.data ++ map shown after.before; len = after.len }
+    record { before = draft.data ++ map null_replaced after.before; len = after.len }
 
 -- a code point more is passed
 abbrev pub passed : Cut → Cut

@@ -3,7 +3,7 @@
 use Rattle.std.specs.Prelude.{◌≡◌, ℕ, zero, suc, ◌+◌, ◌≤◌, ◌<◌, List, [], ◌∷◌, ◌++◌, length, map, drop, Bool, true, false, ◌&&◌, ◌||◌, ◌==◌, cond, nat_le, Option, IsTrue, slice_get, option_to_list}
 use Rattle.std.specs.List.{list_any}
 use Rattle.std.specs.Str.{bytes_eq}
-use Rattle.html_tokens.specs.Cut.{Cut, cut, is, shown, stop_mark, is_space}
+use Rattle.html_tokens.specs.Cut.{Cut, cut, is, null_replaced, stop_mark, is_space}
 use Rattle.html_tokens.specs.Reference.{is_digit}
 use Rattle.html_tokens.specs.Value.{value_cut, number_cut, Begins, ref_len}
 use Rattle.html_tokens.specs.declared.reference.ValueRef.{ValueRef}
@@ -22,7 +22,7 @@ between lo hi c = nat_le lo c && nat_le c hi
 
 -- capitals are lowered, and U+0000 becomes U+FFFD (HTML 13.2.5.8, 13.2.5.33)
 abbrev pub name_char : ℕ → ℕ
-name_char c = cond (between 65 90 c) (c + 32) (shown c)
+name_char c = cond (between 65 90 c) (c + 32) (null_replaced c)
 
 abbrev pub ends_name : ℕ → Bool
 ends_name c = is_space c || c == 47 || c == 62

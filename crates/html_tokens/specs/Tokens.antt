@@ -1,7 +1,7 @@
 -- Claimed, but for this crate's own functions: lowered, opened_len.
 -- The tokens of a text: it is cut into pieces, each a tag, a comment or a front of text.
 use Rattle.std.specs.Prelude.{ℕ, zero, suc, ◌+◌, ◌-◌, List, [], ◌∷◌, ◌++◌, length, map, drop, Bool, true, false, ◌&&◌, ◌||◌, cond, Option, Some, None, unwrap_or, slice_get, is_none}
-use Rattle.html_tokens.specs.Cut.{cut, is, comment_mark, greater_mark, shown, passes}
+use Rattle.html_tokens.specs.Cut.{cut, is, comment_mark, greater_mark, null_replaced, passes}
 use Rattle.html_tokens.specs.Tag.{Tag, tag_of, between}
 use Rattle.html_tokens.specs.Doctype.{Doctype, doctype_of, spells_word, doctype_word}
 use Rattle.html_tokens.specs.declared.token.Token.{Token}
@@ -53,10 +53,10 @@ opened_len opens.Doctype = 9
 -- U+0000 is kept in data, and becomes U+FFFD in other text (HTML 13.2.5.1 to 13.2.5.5).
 abbrev pub text_char : TextMode → ℕ → ℕ
 text_char Data c = c
-text_char Rcdata c = shown c
-text_char Rawtext c = shown c
-text_char Script c = shown c
-text_char Plaintext c = shown c
+text_char Rcdata c = null_replaced c
+text_char Rawtext c = null_replaced c
+text_char Script c = null_replaced c
+text_char Plaintext c = null_replaced c
 
 abbrev pub token : TokenKind → ℕ → ℕ → Token
 token kind start end = record { kind = kind; span = record { start = start; end = end } }
@@ -81,7 +81,7 @@ piece tokens len = record { tokens = tokens; len = len }
 abbrev pub comment_piece : (List ℕ → Option ℕ) → ℕ → ℕ → List ℕ → Piece
 comment_piece mark opened place text =
     let data_cut = cut mark (drop opened text) in
-    piece (token (kinds.Comment (map shown data_cut.before)) place (place + opened + data_cut.len) ∷ []) (opened + data_cut.len)
+    piece (token (kinds.Comment (map null_replaced data_cut.before)) place (place + opened + data_cut.len) ∷ []) (opened + data_cut.len)
 
 -- the token of a tag; attributes of an end tag are dropped (HTML 13.2.5, "emit the current tag token")
 abbrev pub tag_kind : Bool → Tag → TokenKind

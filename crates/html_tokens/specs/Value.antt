@@ -8,7 +8,7 @@ use Rattle.html_charref.specs.Entities.{codes_with}
 use Rattle.html_charref.specs.declared.table.Row.{Row}
 use Rattle.html_charref.specs.declared.table.RefText.{RefText}
 use Rattle.html_charref.specs.declared.number.Base.{Base}
-use Rattle.html_tokens.specs.Cut.{Cut, cut_or, is, shown, passes, stop_mark, ends_unquoted, quote_mark}
+use Rattle.html_tokens.specs.Cut.{Cut, cut_or, is, null_replaced, passes, stop_mark, ends_unquoted, quote_mark}
 use Rattle.html_tokens.specs.declared.tag.ValueEnd.{ValueEnd}
 use Rattle.html_tokens.specs.declared.tag.ValueEnd.TheVariants as ends
 use Rattle.html_tokens.specs.Reference.{Reference, literal, named_by, numeric_by, numbered, ref_opener}
@@ -56,7 +56,7 @@ value_cut rows end zero (c ∷ rest) =
     cut_or (end_mark end (c ∷ rest))
     (cond (c == 38)
     (let found = value_reference rows (c ∷ rest) in with_codes found.codes (value_cut rows end (found.len - 1) rest))
-    (with_codes (shown c ∷ []) (value_cut rows end 0 rest)))
+    (with_codes (null_replaced c ∷ []) (value_cut rows end 0 rest)))
 value_cut rows end (suc k) (c ∷ rest) = with_codes [] (value_cut rows end k rest)
 
 -- the same, in a number whose digits so far come to this value

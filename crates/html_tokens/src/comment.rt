@@ -1,12 +1,13 @@
 // Comments.
 ghost use Rattle.std.specs.Prelude.{◌≡◌, ℕ, ◌≤◌, ◌+◌, length, MatchOption, IfOk, OnErr};
 ghost use Rattle.html_tokens.specs.Copied.{copied_by, CopiesComment};
-ghost use Rattle.html_tokens.specs.Cut.{comment_mark, greater_mark, shown};
+ghost use Rattle.html_tokens.specs.Cut.{comment_mark, greater_mark};
 ghost use Rattle.html_tokens.specs.Draft.{Reads, mark_of};
 ghost use Rattle.html_tokens.specs.Input.{Decided, IsShort, Marks};
 
 use crate::copied::Copied;
 use crate::input::{Input, Peek};
+use crate::nulls::null_replaced;
 use html_charref::Str;
 use std::alloc::AllocError;
 
@@ -91,13 +92,6 @@ impl CommentKind {
     }
 }
 
-/// U+FFFD for U+0000.
-pub(crate) fn shown(c: char) -> char
-    ensures { result ≡ shown c }
-{
-    if c == '\0' { '\u{FFFD}' } else { c }
-}
-
 impl CommentDraft {
     /// Copies the longest front of the rest that the comment takes as it stands, and answers its length.
     pub(crate) fn copy_front(&mut self, rest: &[char]) -> Result<usize, AllocError>
@@ -121,7 +115,7 @@ impl CommentDraft {
             None => Ok(Reading::Wait),
             Some(Some(len)) => Ok(Reading::Closed(len)),
             Some(None) => {
-                self.data.push(shown(input.take()))?;
+                self.data.push(null_replaced(input.take()))?;
                 Ok(Reading::More)
             }
         }

@@ -3,9 +3,9 @@ ghost use Rattle.std.specs.Prelude.{◌≡◌, ℕ, ◌≤◌, ◌+◌, ◌<◌,
 ghost use Rattle.html_tokens.specs.Doctype.{spells_word, keyword_at, new_doctype, ReadsPart, EndsPart, ReadsDoctype, keyword_len, is_quote};
 ghost use Rattle.html_tokens.specs.Input.{Decided, IsShort};
 
-use crate::comment::shown;
 use crate::input::{Input, Peek};
 use crate::marks::begins_word;
+use crate::nulls::null_replaced;
 use crate::tag::{is_space, name_char};
 use html_charref::Str;
 use std::alloc::{AllocError, Global};
@@ -279,7 +279,7 @@ impl DoctypeDraft {
             self.public = Some(self.take_text());
             return Ok(Some(true));
         }
-        self.text.push(shown(c))?;
+        self.text.push(null_replaced(c))?;
         Ok(None)
     }
 
@@ -324,7 +324,7 @@ impl DoctypeDraft {
             self.system = Some(self.take_text());
             return Ok(Some(true));
         }
-        self.text.push(shown(c))?;
+        self.text.push(null_replaced(c))?;
         Ok(None)
     }
 

@@ -13,6 +13,7 @@ mod indexed;
 mod input;
 mod machine;
 mod marks;
+mod nulls;
 mod opener;
 mod queue;
 mod quoted;

@@ -9,9 +9,9 @@ ghost use Rattle.html_charref.specs.Entities.{codes_with};
 ghost use Rattle.html_tokens.specs.Fed.{new_tag};
 
 use crate::attributes::Attr;
-use crate::comment::shown;
 use crate::copied::Copied;
 use crate::indexed::IndexedAttrs;
+use crate::nulls::null_replaced;
 use crate::reference::{ValueRef, digit};
 use html_charref::{Base, Str, add_digit, numeric};
 use std::alloc::{AllocError, Global};
@@ -73,7 +73,7 @@ pub enum TagReading {
 pub(crate) fn name_char(c: char) -> char
     ensures { result ≡ name_char c }
 {
-    shown(c.to_ascii_lowercase())
+    null_replaced(c.to_ascii_lowercase())
 }
 
 pub(crate) fn is_space(c: char) -> bool
@@ -293,7 +293,7 @@ impl TagDraft {
         if c == '"' {
             self.add_attr()?;
         } else {
-            self.attr_value.push(shown(c))?;
+            self.attr_value.push(null_replaced(c))?;
         }
         Ok(TagReading::More)
     }
@@ -309,7 +309,7 @@ impl TagDraft {
         if c == '\'' {
             self.add_attr()?;
         } else {
-            self.attr_value.push(shown(c))?;
+            self.attr_value.push(null_replaced(c))?;
         }
         Ok(TagReading::More)
     }
@@ -326,7 +326,7 @@ impl TagDraft {
             self.add_attr()?;
             return self.read_attributes(c, after);
         }
-        self.attr_value.push(shown(c))?;
+        self.attr_value.push(null_replaced(c))?;
         Ok(TagReading::More)
     }
 

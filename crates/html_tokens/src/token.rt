@@ -3,7 +3,7 @@ ghost use Rattle.std.specs.Prelude.{chars, ◌≡◌, ℕ, ◌≤◌, ◌+◌, �
 ghost use Rattle.html_tokens.specs.Tokens.{text_char};
 
 use crate::attributes::Attrs;
-use crate::comment::shown;
+use crate::nulls::null_replaced;
 use html_charref::{Base, Str};
 use std::alloc::{AllocError, Global};
 use std::marker::Model;
@@ -132,7 +132,7 @@ impl TextMode {
         match self {
             TextMode::Data => c,
             TextMode::Rcdata | TextMode::Rawtext | TextMode::Script | TextMode::Plaintext => {
-                shown(c)
+                null_replaced(c)
             },
         }
     }

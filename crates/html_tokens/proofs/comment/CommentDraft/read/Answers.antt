@@ -17,4 +17,4 @@ pub returns-in_ok-push-in-Some-None-clause-reads : goal.returns-in_ok-push-in-So
 returns-in_ok-push-in-Some-None-clause-reads c =
     let first = rw c.in-Is-Some.field-0-is at c.in-Is-Some.ensures in
     let found = rw c.in-Some-None.field-0-is at c.in-Some-None.ensures in
-    ((λ more h. longer_read c.args.self.now _ _ more _ _ _ (found.0 more h) c.take.ensures.items c.shown.ensures c.in_ok-push-in-Some-None.ensures.ok), rest_of _ _ _ c.take.ensures.items, first.1, refl, c.take.ensures.finished)
+    ((λ more h. longer_read c.args.self.now _ _ more _ _ _ (found.0 more h) c.take.ensures.items c.null_replaced.ensures c.in_ok-push-in-Some-None.ensures.ok), rest_of _ _ _ c.take.ensures.items, first.1, refl, c.take.ensures.finished)

@@ -9,4 +9,4 @@ pub returns-then-c-eq62 : goal.returns-then-c-eq62
 returns-then-c-eq62 c = rw (c.take_text-then-c-eq62.ensures.text, c.take_text-then-c-eq62.ensures.rest) ((λ rest. public_closes c.args.self.now c.args.quote c.args.c rest c.requires c.if-c-quote.false c.if-c-eq62.true), refl)
 
 pub returns : goal.returns
-returns c = public_more c.args.self.now c.args.quote c.args.c c.push.new.self c.requires c.if-c-quote.false c.if-c-eq62.false (rw (c.in_ok-push.ensures.ok, c.shown.ensures) refl)
+returns c = public_more c.args.self.now c.args.quote c.args.c c.push.new.self c.requires c.if-c-quote.false c.if-c-eq62.false (rw (c.in_ok-push.ensures.ok, c.null_replaced.ensures) refl)
