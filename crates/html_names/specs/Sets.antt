@@ -222,15 +222,15 @@ is_void tag.Wbr = true
 is_void _ = false
 
 -- Elements whose texts are written without escapes (13.3, scripting disabled).
-abbrev pub is_raw_text : Tag → Bool
-is_raw_text tag.Iframe = true
-is_raw_text tag.Noembed = true
-is_raw_text tag.Noframes = true
-is_raw_text tag.Plaintext = true
-is_raw_text tag.Script = true
-is_raw_text tag.Style = true
-is_raw_text tag.Xmp = true
-is_raw_text _ = false
+abbrev pub holds_literal_text : Tag → Bool
+holds_literal_text tag.Iframe = true
+holds_literal_text tag.Noembed = true
+holds_literal_text tag.Noframes = true
+holds_literal_text tag.Plaintext = true
+holds_literal_text tag.Script = true
+holds_literal_text tag.Style = true
+holds_literal_text tag.Xmp = true
+holds_literal_text _ = false
 
 -- Elements whose start tag switches the tokenizer to RCDATA (13.2.6.2 and 13.2.6.4).
 abbrev pub is_rcdata : Tag → Bool

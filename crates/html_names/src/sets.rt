@@ -1,6 +1,6 @@
 // The sets of elements that tree construction and serialising tell apart.
 ghost use Rattle.std.specs.Prelude.{◌≡◌};
-ghost use Rattle.html_names.specs.Sets.{ends_default_scope, ends_scope, ends_table_scope, is_block, is_button, is_cell, is_formatting, is_fostering, is_heading, is_headish, is_implied, is_implied_thoroughly, is_list, is_option, is_raw_text, is_rawtext, is_rcdata, is_row_context, is_section, is_section_context, is_special, is_table_context, is_template, is_void};
+ghost use Rattle.html_names.specs.Sets.{ends_default_scope, ends_scope, ends_table_scope, is_block, is_button, is_cell, is_formatting, is_fostering, is_heading, is_headish, is_implied, is_implied_thoroughly, is_list, is_option, holds_literal_text, is_rawtext, is_rcdata, is_row_context, is_section, is_section_context, is_special, is_table_context, is_template, is_void};
 
 use crate::tag::Tag;
 
@@ -266,8 +266,8 @@ impl Tag {
     }
 
     /// An element in which a text is written as it is.
-    pub fn is_raw_text(self) -> bool
-        ensures { result ≡ is_raw_text self }
+    pub fn holds_literal_text(self) -> bool
+        ensures { result ≡ holds_literal_text self }
     {
         matches!(
             self,

@@ -3,7 +3,7 @@ use Rattle.std.proofs.Common.{◌≡◌, ◌≢◌, ℕ, ◌<◌, Bool, true, fa
 use Rattle.std.proofs.lemmas.Bool.Decides.{nat_tests}
 use Rattle.html_names.specs.declared.tag.Tag.{Tag}
 use Rattle.html_names.specs.Names.{tag_of}
-use Rattle.html_names.specs.Sets.{is_void as void, is_raw_text}
+use Rattle.html_names.specs.Sets.{is_void as void, holds_literal_text}
 use Rattle.html_arena.specs.Below.{above, above_of, hides, kids, or_self}
 use Rattle.html_arena.specs.Data.{contents_in, host_in, name_in, tag_in}
 use Rattle.html_arena.specs.Siblings.{has}
@@ -44,11 +44,11 @@ void_is (node.Text s) h = refl
 void_is (node.Comment s i) h = refl
 void_is (node.Doctype n p s i) h = refl
 
-pub raw_is : (d : NodeData) → tag_in d ≡ tag_of (name_in d) → is_raw_text (tag_in d) ≡ is_raw (label_for d)
+pub raw_is : (d : NodeData) → tag_in d ≡ tag_of (name_in d) → holds_literal_text (tag_in d) ≡ is_raw (label_for d)
 unfolding is_raw_name
 raw_is node.Document h = refl
 raw_is (node.Contents x) h = refl
-raw_is (node.Element e) h = ap is_raw_text h
+raw_is (node.Element e) h = ap holds_literal_text h
 raw_is (node.Text s) h = refl
 raw_is (node.Comment s i) h = refl
 raw_is (node.Doctype n p s i) h = refl

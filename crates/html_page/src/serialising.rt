@@ -133,7 +133,7 @@ fn is_raw_at(arena: &Arena, node: NodeId) -> bool
     ensures { result ≡ is_raw_below arena.now (above arena.now node) }
 {
     match arena.above(node) {
-        Some(above) => arena.tag(above).is_raw_text(),
+        Some(above) => arena.tag(above).holds_literal_text(),
         None => false,
     }
 }
