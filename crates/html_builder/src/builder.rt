@@ -71,6 +71,13 @@ impl Builder {
         })
     }
 
+    /// Asks for room for so many more nodes, which take no memory before they are made. A refusal changes nothing.
+    pub fn reserve(&mut self, count: usize)
+        ensures same { self.new ≡ self.old }
+    {
+        self.construction.reserve(count);
+    }
+
     /// Begins a document whose tree keeps to limits.
     ///
     /// # Errors

@@ -104,6 +104,13 @@ impl Construction {
         Ok(Construction::of_document(alloc, tree))
     }
 
+    /// Asks for room for so many more nodes, which take no memory before they are made. A refusal changes nothing.
+    pub fn reserve(&mut self, count: usize)
+        ensures same { self.new ≡ self.old }
+    {
+        self.tree.reserve(count);
+    }
+
     /// Begins a document whose tree keeps to limits.
     ///
     /// # Errors

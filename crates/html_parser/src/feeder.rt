@@ -76,6 +76,7 @@ impl<'a> Feeder<'a> {
             return Err(ParseError::Stopped);
         }
         self.is_stopped = true;
+        self.stages.expect(piece.len());
         self.stages.take(piece)?;
         self.is_stopped = false;
         Ok(())

@@ -46,6 +46,7 @@ impl Kept {
     }
 
     /// Adds a token.
+    #[inline(never)]
     pub(crate) fn push(&mut self, token: Token) -> Result<(), AllocError>
         ensures starts { OnOk result (self.new.starts ≡ self.old.starts ++ starts_of (token ∷ [])) }
         ensures either { (self.new.starts ≡ self.old.starts) ⊎ (self.new.starts ≡ self.old.starts ++ starts_of (token ∷ [])) }

@@ -33,6 +33,9 @@ use std::alloc::Global;
 /// How many bytes are decoded at once, so that the text on its way takes little room however long a piece is.
 pub(crate) const PIECE: usize = 4096;
 
+/// How many bytes of input a node has at least, in most pages.
+const BYTES_A_NODE: usize = 16;
+
 /// The stages, and the text that is on its way between them.
 #[derive(Drop)]
 pub(crate) struct Stages<'a> {
@@ -91,6 +94,14 @@ impl<'a> Stages<'a> {
         ensures value { result.now ≡ self.now.kept.tokens }
     {
         &self.kept.tokens
+    }
+
+    /// Asks for room for the nodes that so many bytes make, unless they are very short: it takes no memory before they are made.
+    pub(crate) fn expect(&mut self, bytes: usize)
+        ensures runs { (start : Start) (finished : Bool) (bytes : List ℕ) (run : Run) → IsRun start finished self.old bytes run → IsRun start finished self.new bytes run }
+        ensures kept { self.new.kept ≡ self.old.kept }
+    {
+        self.builder.reserve(bytes / BYTES_A_NODE);
     }
 
     /// Takes a piece of the input, bit by bit.
@@ -265,7 +276,13 @@ impl<'a> Stages<'a> {
         let Some(token) = self.tokenizer.next()? else {
             return Ok(false);
         };
-        let mode = build(&mut self.builder, &token, is_over)?;
+        let mode = match build(&mut self.builder, &token, is_over) {
+            Ok(mode) => mode,
+            Err(cause) => {
+                let_go(token);
+                return Err(cause);
+            }
+        };
         self.builder.counted();
         tell(&mut self.tokenizer, mode);
         self.kept.push(token)?;
@@ -350,6 +367,11 @@ fn passes(limits: Option<Limits>, steps: u128) -> bool
         Some(limits) => steps > limits.steps as u128,
     }
 }
+
+/// Lets a token go. Apart from its caller, which would else move the parts of each token.
+#[cold]
+#[inline(never)]
+fn let_go(_token: Token) {}
 
 /// Hands a token to tree construction, unless more steps were counted before it than the limit.
 fn build(

@@ -59,6 +59,11 @@ pub struct Machine<'a> {
     pub(crate) state: State,
 }
 
+/// Lets go what a step came to. Apart from its caller, which would else move the parts of each token.
+#[cold]
+#[inline(never)]
+fn let_go(_progress: Progress) {}
+
 pub(crate) fn token(kind: TokenKind, start: u64, end: u64) -> Token
     ensures { result ≡ token kind start end }
 {
@@ -199,6 +204,7 @@ impl<'a> Machine<'a> {
     }
 
     /// The same, code point by code point.
+    #[inline(never)]
     fn read_next(&mut self, faults: &mut Faults) -> Result<Option<Token>, AllocError>
         requires room { self.old.place + length self.old.input.queue.items < 2 ^ 64 }
         ensures given { IfOk result (λ answer. IfSome answer (λ token. (run : Run) → IsAt self.old run → (switch : Option TextMode) → IsAt (answered token switch self.new) (gave run token switch))) }
@@ -215,7 +221,10 @@ impl<'a> Machine<'a> {
                 return Ok(None);
             }
             let progress = self.step(faults)?;
-            faults.check()?;
+            if faults.is_lost() {
+                let_go(progress);
+                return Err(AllocError);
+            }
             match progress {
                 Progress::Given(token) => return Ok(Some(token)),
                 Progress::Wait => return Ok(None),

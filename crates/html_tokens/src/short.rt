@@ -1,5 +1,5 @@
 // Tags without attributes whose whole text was fed, which are read at once.
-ghost use Rattle.std.specs.Prelude.{◌≡◌, ℕ, ◌≤◌, ◌+◌, ◌<◌, ◌^◌, List, ◌++◌, drop, take, length, slice_get, Some, true, false, IfOk, OnErr, OnOk, IfSome, IfNone};
+ghost use Rattle.std.specs.Prelude.{chars, ◌≡◌, ℕ, ◌≤◌, ◌+◌, ◌<◌, ◌^◌, List, ◌++◌, drop, take, length, slice_get, Some, true, false, IfOk, OnErr, OnOk, IfSome, IfNone};
 ghost use Rattle.html_tokens.specs.Bounds.{IsBounded, IsWithin};
 ghost use Rattle.html_tokens.specs.Copied.{AllPass, is_copied};
 ghost use Rattle.html_tokens.specs.Fed.{EndsTagAt, Steps};
@@ -32,6 +32,31 @@ fn keep_name(last: &mut Option<Name>, alloc: Global, name: &[char]) -> Result<()
     Ok(())
 }
 
+/// Adds the code points of a text.
+fn add_chars(kept: &mut Vec<char>, text: &str) -> Result<(), AllocError>
+    ensures { OnOk result (kept.new.items ≡ kept.old.items ++ chars text.now) }
+{
+    kept.extend(text.chars())
+}
+
+/// The same, of a text.
+pub(crate) fn keep_text(
+    last: &mut Option<Name>,
+    alloc: Global,
+    text: &str,
+) -> Result<(), AllocError>
+    ensures { OnOk result (last.new ≡ Some (chars text.now)) }
+{
+    let mut kept = match last.take() {
+        Some(Name(chars)) => chars,
+        None => Vec::new(alloc),
+    };
+    kept.clear();
+    add_chars(&mut kept, text)?;
+    *last = Some(Name(kept));
+    Ok(())
+}
+
 impl<'a> Machine<'a> {
     /// Whether the `<` of markup stands at the front of the rest.
     fn is_at_markup(&self) -> bool
@@ -61,6 +86,7 @@ impl<'a> Machine<'a> {
     }
 
     /// Takes an end tag without attributes, whose name has this length.
+    #[inline(never)]
     fn take_end(&mut self, opened: usize, len: usize) -> Result<Token, AllocError>
         requires fit { opened + len < length self.old.input.queue.items }
         requires state { self.old.state ≡ State.Text Region.Plain }
@@ -77,6 +103,7 @@ impl<'a> Machine<'a> {
     }
 
     /// Takes a start tag without attributes, whose name has this length.
+    #[inline(never)]
     fn take_start(&mut self, opened: usize, len: usize) -> Result<Token, AllocError>
         requires fit { opened + len < length self.old.input.queue.items }
         requires state { self.old.state ≡ State.Text Region.Plain }

@@ -4,6 +4,7 @@ ghost use Rattle.std.specs.List.Sorted.{IsNonDecreasingBy};
 ghost use Rattle.std.specs.Str.{chars};
 ghost use Rattle.html_tokens.specs.Bounds.{IsBounded, IsWithin};
 ghost use Rattle.html_tokens.specs.Runs.{plain_tokens};
+ghost use Rattle.html_tokens.specs.Tokens.{token};
 
 use crate::faults::{Fault, Faults};
 use crate::machine::{Machine, token};
@@ -173,7 +174,7 @@ impl<'a> Tokenizer<'a> {
                 self.failed = true;
                 return Err(TokenError::OutOfMemory);
             }
-            return Ok(Some(token(TokenKind::Char(c), start, start + 1)));
+            return Ok(Some(char_token(c, start, start + 1)));
         }
         match self.machine.next(&mut self.faults) {
             Ok(answer) => Ok(answer),
@@ -255,4 +256,12 @@ impl<'a> Tokenizer<'a> {
             .compared
             .saturating_add(self.machine.place as u128)
     }
+}
+
+/// The token of a code point. Apart from its caller, which would else move the parts of each token.
+#[inline(never)]
+fn char_token(c: char, start: u64, end: u64) -> Token
+    ensures { result ≡ token (TokenKind.Char c) start end }
+{
+    token(TokenKind::Char(c), start, end)
 }

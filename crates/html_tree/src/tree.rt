@@ -91,6 +91,13 @@ impl OpenTree {
         OpenTree::over(alloc, Arena::within(alloc, limits))
     }
 
+    /// Asks for room for so many more nodes, which take no memory before they are made. A refusal changes nothing.
+    pub fn reserve(&mut self, count: usize)
+        ensures same { self.new ≡ self.old }
+    {
+        self.arena.reserve(count);
+    }
+
     /// A document in an arena without nodes.
     fn over(alloc: Global, arena: Arena) -> Result<OpenTree, OpenError>
         requires { (l : Option Limits) × (arena ≡ empty_tree l) }

@@ -15,12 +15,19 @@ use crate::data::{
     ElementData, NewNode, NodeData, Origin, clone_of, element_held, held_of, label_at,
 };
 use crate::links::NodeId;
-use crate::room::{push_node, reserve};
+use crate::room::{let_go, push_node, reserve};
 use html_charref::Str;
 use html_names::Tag;
 use html_tokens::Attrs;
 
 impl Arena {
+    /// Asks for room for so many more nodes, which take no memory before they are made. A refusal changes nothing.
+    pub fn reserve(&mut self, count: usize)
+        ensures same { self.new ≡ self.old }
+    {
+        let _ = reserve(&mut self.links, &mut self.nodes, &mut self.marks, count);
+    }
+
     /// Makes a node that stands alone; a template with its Contents node, the next one.
     pub fn make(&mut self, new: NewNode) -> Result<NodeId, ArenaError>
         requires { CanMake self.old new }
@@ -195,7 +202,10 @@ impl Arena {
         ensures refused { OnErr result (self.new ≡ self.old) }
         ensures cause { IfErr result (λ e. e ≡ ArenaError.OutOfMemory) }
     {
-        reserve(&mut self.links, &mut self.nodes, &mut self.marks, 1)?;
+        if reserve(&mut self.links, &mut self.nodes, &mut self.marks, 1).is_err() {
+            let_go(node);
+            return Err(ArenaError::OutOfMemory);
+        }
         let id = NodeId::at(self.nodes.len());
         push_node(&mut self.links, &mut self.nodes, &mut self.marks, node);
         self.held = self.held.saturating_add(held);

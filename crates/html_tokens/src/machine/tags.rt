@@ -10,8 +10,9 @@ use super::{Machine, Progress, State, token};
 use crate::faults::Faults;
 use crate::input::Peek;
 use crate::reference::value_ref;
+use crate::short::keep_text;
 use crate::tag::{TagDraft, TagReading};
-use crate::token::{Name, Region, TextMode, TokenKind};
+use crate::token::{Region, TextMode, TokenKind};
 use std::alloc::AllocError;
 use std::mem;
 
@@ -129,7 +130,7 @@ impl<'a> Machine<'a> {
                     let kind = TokenKind::End { name: draft.name };
                     return Ok(Progress::Given(token(kind, draft.start, self.place)));
                 }
-                self.last_name = Some(Name::of(self.alloc, draft.name.as_str())?);
+                keep_text(&mut self.last_name, self.alloc, draft.name.as_str())?;
                 let kind = TokenKind::Start {
                     name: draft.name,
                     attrs: draft.attrs.into_attrs(),

@@ -44,28 +44,26 @@ returns-in_default-clause-none c =
       all = λ end. whole run r.tokenized (r.ended ∙ end);
     }
 
-pub invariant_of-self-in-Break-branch-3 : goal.invariant_of-self-in-Break-branch-3
-invariant_of-self-in-Break-branch-3 c = record {
+pub invariant_of-self-in-Err-1 : goal.invariant_of-self-in-Err-1
+invariant_of-self-in-Err-1 c = record {
   tokenizing = one_either c.args.self.now.tokenizer c.next.new.self c.args.self.now.kept.starts c.args.self.now.kept.starts c.in-Some.token None
       (not_stopped c.next.result _ _ c.in_ok-token.was c.next.ensures.stopped) c.args.self.now.tokenizing
       (rw c.in-Some.is at c.in_ok-token.ensures.unsaid) (inl refl);
 }
 
-pub returns-in_err-mode-clause-cause : goal.returns-in_err-mode-clause-cause
-returns-in_err-mode-clause-cause c =
-    let p = err_from_is_err_and c.from_residual-in_err-mode.result c.from_residual-in_err-mode.ensures.1 in
-    rw (p.1, p.2) (λ start finished bytes run r. build_refused start finished c.args.self.now bytes run c.next.new.self c.in-Some.token
-    c.is_over-is_over.result c.in_err-mode.field-0.0 _ _ r (c.counted.ensures.counted start.setting start.limits (kinds run.given) r.handed)
+pub returns-in-Err-clause-cause : goal.returns-in-Err-clause-cause
+returns-in-Err-clause-cause c =
+    (λ start finished bytes run r. build_refused start finished c.args.self.now bytes run c.next.new.self c.in-Some.token
+    c.is_over-is_over.result c.in-Err.cause _ _ r (c.counted.ensures.counted start.setting start.limits (kinds run.given) r.handed)
     ((rw c.in-Some.is at c.in_ok-token.ensures.unsaid) run r.tokenized)
-    c.is_over-is_over.ensures.spent c.in_err-mode.ensures.cause)
+    c.is_over-is_over.ensures.spent c.in-Err.ensures.cause)
 
-pub returns-in_err-mode-clause-spent : goal.returns-in_err-mode-clause-spent
-returns-in_err-mode-clause-spent c =
-    let p = err_from_is_err_and c.from_residual-in_err-mode.result c.from_residual-in_err-mode.ensures.1 in
-    rw (p.1, p.2) (λ at told. build_spent c.is_over-is_over.result c.in_err-mode.field-0.0 at c.in-Some.token.span.start _ _ _ c.is_over-is_over.ensures.spent c.in_err-mode.ensures.cause told)
+pub returns-in-Err-clause-spent : goal.returns-in-Err-clause-spent
+returns-in-Err-clause-spent c =
+    (λ at told. build_spent c.is_over-is_over.result c.in-Err.cause at c.in-Some.token.span.start _ _ _ c.is_over-is_over.ensures.spent c.in-Err.ensures.cause told)
 
 pub returns-clause-in_time : goal.returns-clause-in_time
-returns-clause-in_time c = λ some. c.is_over-is_over.ensures.past c.in_ok-mode.ensures.in_time
+returns-clause-in_time c = λ some. c.is_over-is_over.ensures.past c.in-Ok.ensures.in_time
 
 pub returns-clause-further : goal.returns-clause-further
 returns-clause-further c =
@@ -76,16 +74,16 @@ returns-clause-further c =
     λ start finished bytes run r. one_further start finished bytes run c.args.self.now _ token
     (record {
       decoder = refl;
-      given = λ run fed. subst (λ m. Fed c.tell.new.tokenizer (gave run token m)) c.in_ok-mode.ensures.switch
-          (c.tell.ensures.told run token (unsaid run fed) (given run fed) (subst (MaySay token.kind) (sym c.in_ok-mode.ensures.switch) says));
-      takes = c.in_ok-mode.ensures.takes;
-      grows = c.in_ok-mode.ensures.grows;
+      given = λ run fed. subst (λ m. Fed c.tell.new.tokenizer (gave run token m)) c.in-Ok.ensures.switch
+          (c.tell.ensures.told run token (unsaid run fed) (given run fed) (subst (MaySay token.kind) (sym c.in-Ok.ensures.switch) says));
+      takes = c.in-Ok.ensures.takes;
+      grows = c.in-Ok.ensures.grows;
       starts = c.in_ok-push.ensures.starts;
       tokens = c.in_ok-push.ensures.tokens;
       keeps = c.push.ensures.keeps;
       running = c.tell.ensures.stopped ∙ c.in_ok-token.ensures.ok;
-      building = c.in_ok-mode.ensures.ok;
+      building = c.in-Ok.ensures.ok;
     })
     (c.counted.ensures.counted start.setting start.limits (kinds run.given) r.handed)
     (c.counted-2.ensures.counted start.setting start.limits (kinds run.given ++ token.kind ∷ [])
-    (c.in_ok-mode.ensures.takes start.setting start.limits (kinds run.given) r.handed)) r
+    (c.in-Ok.ensures.takes start.setting start.limits (kinds run.given) r.handed)) r
