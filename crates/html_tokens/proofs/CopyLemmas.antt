@@ -33,6 +33,10 @@ pub AllPass-push : (p : ℕ → Bool) (xs : List ℕ) (c : ℕ) → AllPass p xs
 AllPass-push p [] c a h = (h, tt)
 AllPass-push p (x ∷ xs) c a h = (a.0, AllPass-push p xs c a.1 h)
 
+pub AllPass-append : (p : ℕ → Bool) (xs ys : List ℕ) → AllPass p xs → AllPass p ys → AllPass p (xs ++ ys)
+AllPass-append p [] ys a b = b
+AllPass-append p (x ∷ xs) ys a b = (a.0, AllPass-append p xs ys a.1 b)
+
 tag_by_none : (t : WholeTag) → tag_by 0 t ≡ t
 tag_by_none t = rw zero-add refl
 

@@ -11,6 +11,9 @@ use crate::queue::Queue;
 use crate::token::TextMode;
 use std::alloc::AllocError;
 
+/// How many code points are looked at in a row.
+const BLOCK: usize = 8;
+
 /// What was fed and not yet read, and whether that is all.
 #[derive(Drop)]
 pub struct Input {
@@ -44,6 +47,33 @@ fn is_clean(c: char) -> bool
     c > '<' || !(c == '<' || c == '&' || c == '\0')
 }
 
+/// Whether each code point of a block is plain text in each mode, and tells no error.
+fn are_clean(block: &[char]) -> bool
+    ensures { (mode : TextMode) → result ≡ true → AllPass (is_plain mode) block.now }
+{
+    for c in block {
+        if !is_clean(*c) {
+            return false;
+        }
+    }
+    true
+}
+
+/// The length of the longest front without U+0000, `&` and `<`.
+fn clean_front(text: &[char]) -> usize
+    ensures fit { result ≤ length text.now }
+    ensures plain { (mode : TextMode) → AllPass (is_plain mode) (take result text.now) }
+{
+    let mut len = 0;
+    'skipping: while BLOCK <= text.len() - len && are_clean(&text[len..len + BLOCK]) {
+        len += BLOCK;
+    }
+    'rest: while len < text.len() && is_clean(text[len]) {
+        len += 1;
+    }
+    len
+}
+
 impl Input {
     /// The code point at a place of the rest.
     pub(crate) fn peek(&self, at: usize) -> Peek
@@ -67,19 +97,12 @@ impl Input {
         c
     }
 
-    /// The length of a front of the rest that is plain text and tells no error: the longest without U+0000, `&` and `<`.
+    /// The length of a front of the rest that is plain text and tells no error.
     pub(crate) fn clean_len(&self) -> usize
         ensures fit { result ≤ length self.now.queue.items }
         ensures plain { (mode : TextMode) → AllPass (is_plain mode) (take result self.now.queue.items) }
     {
-        let mut len = 0;
-        for c in self.queue.unread() {
-            if !is_clean(*c) {
-                return len;
-            }
-            len += 1;
-        }
-        len
+        clean_front(self.queue.unread())
     }
 
     /// Takes the first code point where it is plain text.

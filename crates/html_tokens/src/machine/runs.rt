@@ -122,6 +122,9 @@ impl<'a> Machine<'a> {
             return Ok(0);
         }
         let len = self.input.clean_len();
+        if len == 0 {
+            return Ok(0);
+        }
         out.extend_from_slice(&self.input.queue.unread()[..len])?;
         self.pass(len);
         Ok(len)
