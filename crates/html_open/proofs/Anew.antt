@@ -19,7 +19,7 @@ use Rattle.html_open.specs.Entries.{nodes_of}
 use Rattle.html_open.specs.Marking.{charged}
 use Rattle.html_open.specs.Opened.{AreNodes, AreOneByOrigin, IsOpen, IsOrdered, open_at, origin_at}
 use Rattle.html_open.specs.Placing.{CanPlace}
-use Rattle.html_open.specs.Reopenings.{IsInserted}
+use Rattle.html_open.specs.ReopenedEntry.{IsInserted}
 use Rattle.html_open.proofs.Inserted.{element-new, label-old, longer, origin-new, tag-new}
 use Rattle.html_open.proofs.Keeps.{Core, Distinct-remove, cases_bool, cases_eqb, core, core-charged, core-drop_list, core-list, core-push, core_by, eqb-self, has-insert, has-less, has-more, nodes-append, whole, whole_by}
 

@@ -13,7 +13,7 @@ use Rattle.html_arena.specs.Weight.{capped, weight}
 use Rattle.html_open.specs.declared.error.OpenError.{OpenError}
 use Rattle.html_open.specs.declared.error.OpenError.TheVariants.{OutOfMemory, NodeBudget, HeldBudget}
 use Rattle.html_open.specs.Cloning.{AreCloned, IsCut, IsCutShort, IsLacking, clone_budget}
-use Rattle.html_open.specs.Reopenings.{IsRefused}
+use Rattle.html_open.specs.ReopenedEntry.{IsRefused}
 use Rattle.html_open.proofs.Clones.{cloned-label}
 use Rattle.html_open.proofs.Rounds.{stepped}
 

@@ -15,7 +15,7 @@ use Rattle.html_open.specs.declared.places.Place.TheVariants.{Last, Before}
 use Rattle.html_open.specs.Marking.{charged}
 use Rattle.html_open.specs.Opened.{origin_at}
 use Rattle.html_open.specs.Placing.{AreTemplatesEmpty, IsPlace, parent_at, put}
-use Rattle.html_open.specs.Reopenings.{IsInserted}
+use Rattle.html_open.specs.ReopenedEntry.{IsInserted}
 use Rattle.html_open.specs.Rooting.{KeepsParents}
 use Rattle.html_open.proofs.Keeps.{has-tail}
 

@@ -27,7 +27,7 @@ use Rattle.html_open.specs.Marking.{bare, charged}
 use Rattle.html_open.specs.Opened.{IsMarked, IsOpen, Open, open_at}
 use Rattle.html_open.specs.Placing.{CanPlace, by_table, fosters, outside_table, place_of, place_steps, put, table, target_of, template}
 use Rattle.html_open.specs.Reopening.{IsCause, IsNextClone, IsPassed, IsTold, ClonedFirst, KeepsClosed, Reopened, ReopenedFirst, clone_steps, clones_of, closed, fresh, reopen_steps, search_steps, stands, with_clone, with_clones}
-use Rattle.html_open.specs.Reopenings.{IsCloneTold, IsRefused, IsTried, with_reopened}
+use Rattle.html_open.specs.ReopenedEntry.{IsCloneTold, IsRefused, IsTried, with_reopened}
 use Rattle.html_open.specs.Rooting.{KeepsParents}
 use Rattle.html_open.specs.Searches.{open_or_marker}
 use Rattle.html_open.proofs.Clones.{map-append}

@@ -5,7 +5,7 @@ use Rattle.html_open.specs.declared.entry.Entry.{Entry}
 use Rattle.html_open.specs.declared.entry.Entry.TheVariants.{Marker}
 use Rattle.html_open.specs.Lists.{above, after_index, last_index, last_where}
 use Rattle.html_open.specs.Reopening.{end_steps, search_steps}
-use Rattle.html_open.specs.Reopenings.{end_steps_at}
+use Rattle.html_open.specs.ReopenedEntry.{end_steps_at}
 use Rattle.html_open.proofs.Keeps.{cases_bool}
 use Rattle.html_open.proofs.Lists.{after-length, last_where-at, not_any}
 

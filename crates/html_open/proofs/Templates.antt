@@ -14,7 +14,7 @@ use Rattle.html_open.specs.declared.places.Place.{Place}
 use Rattle.html_open.specs.declared.places.Place.TheVariants.{Last}
 use Rattle.html_open.specs.Lists.{above, below, last_where}
 use Rattle.html_open.specs.Placing.{AreTemplatesEmpty, CanPlace, by_table, fostered, fosters, get, inside, outside_table, parent_at, place_at, place_of, table, target_of, template}
-use Rattle.html_open.specs.Reopenings.{IsInserted}
+use Rattle.html_open.specs.ReopenedEntry.{IsInserted}
 use Rattle.html_open.proofs.Hangs.{ge-of, lt-of}
 use Rattle.html_open.proofs.Inserted.{label-old, longer, tag-new}
 use Rattle.html_open.proofs.Keeps.{cases_bool}

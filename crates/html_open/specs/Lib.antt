@@ -17,5 +17,5 @@ pub mod Reopening
 pub mod Rooting
 pub mod Scopes
 -- For this crate's own functions.
-pub mod Reopenings
+pub mod ReopenedEntry
 pub mod Searches

@@ -2,6 +2,7 @@
 #![tactic(auto)]
 
 mod adoption;
+mod appropriate_place;
 mod attributes;
 mod entry;
 mod error;
@@ -9,18 +10,17 @@ mod inserting;
 mod keeping;
 mod list;
 mod places;
-mod placing;
 mod pushing;
 mod reopening;
 mod search;
 mod stack;
 
 pub use adoption::{AdoptEnd, adopt, adoption_has_one_outcome};
+pub use appropriate_place::place;
 pub use error::OpenError;
 pub use html_names::Scope;
 pub use inserting::insert;
 pub use keeping::{first_kept_by_edits, kept_by_edits};
 pub use list::FormattingList;
 pub use places::{Place, put};
-pub use placing::place;
 pub use stack::OpenStack;

@@ -11,14 +11,14 @@ ghost use Rattle.html_open.specs.Marking.{charged};
 ghost use Rattle.html_open.specs.Opened.{AreNodes};
 ghost use Rattle.html_open.specs.Placing.{CanPlace, place_of, place_steps};
 ghost use Rattle.html_open.specs.Reopening.{search_steps, with_clone};
-ghost use Rattle.html_open.specs.Reopenings.{IsCloneTold, IsInserted, IsRefused, IsTried, end_steps_at, with_reopened};
+ghost use Rattle.html_open.specs.ReopenedEntry.{IsCloneTold, IsInserted, IsRefused, IsTried, end_steps_at, with_reopened};
 ghost use Rattle.html_open.specs.Searches.{open_or_marker};
 
+use crate::appropriate_place::place;
 use crate::entry::Entry;
 use crate::error::OpenError;
 use crate::list::FormattingList;
 use crate::places::put;
-use crate::placing::place;
 use crate::search::{SoughtEntry, after, last_entry};
 use crate::stack::OpenStack;
 use html_arena::{Arena, Mark, NewNode, NodeId};

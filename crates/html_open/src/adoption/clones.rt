@@ -7,7 +7,7 @@ ghost use Rattle.html_open.specs.Adopting.{originals};
 ghost use Rattle.html_open.specs.Cloning.{AreCloned, AreFormatting, IsCut, IsCutShort};
 ghost use Rattle.html_open.specs.Marking.{IsCounted};
 ghost use Rattle.html_open.specs.Opened.{AreNodes};
-ghost use Rattle.html_open.specs.Reopenings.{IsRefused};
+ghost use Rattle.html_open.specs.ReopenedEntry.{IsRefused};
 
 use crate::error::OpenError;
 use html_arena::{Arena, Mark, NewNode, NodeId};

@@ -2,7 +2,7 @@ use Rattle.std.proofs.Common.{None, cond, ◌∙◌, ap, subst}
 use Rattle.html_arena.specs.Tree.{Tree, parent_of}
 use Rattle.html_open.specs.declared.places.Place.{Place}
 use Rattle.html_open.specs.Placing.{parent_at, place_steps}
-use Rattle.html_open.specs.Reopenings.{IsInserted}
+use Rattle.html_open.specs.ReopenedEntry.{IsInserted}
 use Rattle.html_open.proofs.Inserted.{grown-inserted, inserted-charged, place-as}
 use Rattle.html_open.proofs.Keeps.{eqb-self}
 use Rattle.html_open.proofs.reopening.insert_clone.Goals as goal

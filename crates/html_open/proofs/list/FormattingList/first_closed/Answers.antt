@@ -1,7 +1,7 @@
 use Rattle.std.proofs.Common.{◌+◌, ◌-◌, ◌*◌, length, ap, ◌∙◌}
 use Rattle.html_open.specs.Marking.{charged}
 use Rattle.html_open.specs.Reopening.{search_steps}
-use Rattle.html_open.specs.Reopenings.{end_steps_at}
+use Rattle.html_open.specs.ReopenedEntry.{end_steps_at}
 use Rattle.html_open.specs.Searches.{open_or_marker}
 use Rattle.html_open.proofs.Searching.{search-is}
 use Rattle.html_open.proofs.list.FormattingList.first_closed.Goals as goal

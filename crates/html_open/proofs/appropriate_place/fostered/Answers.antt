@@ -3,7 +3,7 @@ use Rattle.html_open.proofs.Fostering.{fostered-outside, fostered-template, in-a
 use Rattle.html_open.proofs.Lists.{looked-some}
 use Rattle.html_open.specs.Placing.{template}
 use Rattle.html_open.specs.declared.places.Place.TheVariants.{Last}
-use Rattle.html_open.proofs.placing.fostered.Goals as goal
+use Rattle.html_open.proofs.appropriate_place.fostered.Goals as goal
 
 pub last_index-requires : goal.last_index-requires
 last_index-requires c =

@@ -5,7 +5,7 @@ use Rattle.html_open.specs.Placing.{place_steps}
 use Rattle.html_open.proofs.Firsts.{place-fostered, place-inside, place-spares}
 use Rattle.html_open.proofs.Fostering.{steps-fostered}
 use Rattle.html_open.proofs.Keeps.{charged_keeps}
-use Rattle.html_open.proofs.placing.place.Goals as goal
+use Rattle.html_open.proofs.appropriate_place.place.Goals as goal
 
 pub returns-then-is_fostered-clause-steps : goal.returns-then-is_fostered-clause-steps
 returns-then-is_fostered-clause-steps c =

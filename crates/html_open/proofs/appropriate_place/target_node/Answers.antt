@@ -1,7 +1,7 @@
 use Rattle.std.proofs.Common.{◌-◌, length, arith, sym, ◌∙◌, ap}
 use Rattle.html_open.specs.Placing.{get, target_of}
 use Rattle.html_open.proofs.Fostering.{can-some, in-at, last_of-at}
-use Rattle.html_open.proofs.placing.target_node.Goals as goal
+use Rattle.html_open.proofs.appropriate_place.target_node.Goals as goal
 
 pub returns-in-None-clause-node : goal.returns-in-None-clause-node
 returns-in-None-clause-node c =

@@ -3,7 +3,7 @@ use Rattle.html_open.specs.declared.places.Place.TheVariants.{Last}
 use Rattle.html_open.proofs.Fostering.{can-some, in-at, index-positive, outside-before, outside-last}
 use Rattle.html_open.proofs.Lists.{last_index-le, looked-some}
 use Rattle.html_open.specs.Placing.{table}
-use Rattle.html_open.proofs.placing.outside_table.Goals as goal
+use Rattle.html_open.proofs.appropriate_place.outside_table.Goals as goal
 
 pub returns-in_default-clause-there : goal.returns-in_default-clause-there
 returns-in_default-clause-there c =
