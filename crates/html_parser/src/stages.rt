@@ -36,6 +36,9 @@ pub(crate) const PIECE: usize = 4096;
 /// How many bytes of input a node has at least, in most pages.
 const BYTES_A_NODE: usize = 16;
 
+/// For how many nodes room is asked at once at most, some 130 MB.
+const MOST_ROOM: usize = 1 << 20;
+
 /// The stages, and the text that is on its way between them.
 #[derive(Drop)]
 pub(crate) struct Stages<'a> {
@@ -101,7 +104,7 @@ impl<'a> Stages<'a> {
         ensures runs { (start : Start) (finished : Bool) (bytes : List ℕ) (run : Run) → IsRun start finished self.old bytes run → IsRun start finished self.new bytes run }
         ensures kept { self.new.kept ≡ self.old.kept }
     {
-        self.builder.reserve(bytes / BYTES_A_NODE);
+        self.builder.reserve((bytes / BYTES_A_NODE).min(MOST_ROOM));
     }
 
     /// Takes a piece of the input, bit by bit.

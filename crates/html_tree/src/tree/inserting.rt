@@ -259,14 +259,9 @@ impl OpenTree {
         ensures cause { IfErr result (λ e. IsTold self.old (Element (name_of tag.Html) attrs (Token token)) e) }
         ensures told { IfErr result (λ e. IsNodePassed self.old self.new (Element (name_of tag.Html) attrs (Token token)) e) }
     {
+        let origin = Origin::Token(token);
         let next = token as u128 + 1;
-        self.open_named(
-            Tag::Html,
-            attrs,
-            Origin::Token(token),
-            next,
-            Target::Document,
-        )
+        self.open_named(Tag::Html, attrs, origin, next, Target::Document)
     }
 
     /// Makes an html element that no token asked for, puts it last in the document, and opens it.
