@@ -34,7 +34,7 @@ use std::alloc::Global;
 pub(crate) const PIECE: usize = 4096;
 
 /// How many bytes of input a node has at least, in most pages.
-const BYTES_A_NODE: usize = 16;
+const BYTES_A_NODE: usize = 12;
 
 /// The stages, and the text that is on its way between them.
 #[derive(Drop)]
@@ -102,6 +102,9 @@ impl<'a> Stages<'a> {
         ensures kept { self.new.kept ≡ self.old.kept }
     {
         self.builder.reserve(bytes / BYTES_A_NODE);
+        self.kept
+            .starts
+            .reserve((bytes / BYTES_A_NODE).saturating_mul(2));
     }
 
     /// Takes a piece of the input, bit by bit.

@@ -1,5 +1,5 @@
 -- Fronts that are copied as they stand.
-use Rattle.std.proofs.Common.{◌≡◌, ℕ, suc, ◌+◌, ◌≤◌, List, [], ◌∷◌, ◌++◌, length, take, drop, Bool, true, false, not, ◌||◌, ◌==◌, None, refl, ap, sym, ◌∙◌, arith, append_assoc, append-nil, zero-add}
+use Rattle.std.proofs.Common.{◌≡◌, ℕ, suc, ◌+◌, ◌≤◌, List, [], ◌∷◌, ◌++◌, length, take, drop, Bool, true, false, not, ◌&&◌, ◌||◌, ◌==◌, None, refl, ap, sym, ◌∙◌, arith, append_assoc, append-nil, zero-add}
 use Rattle.std.proofs.lemmas.List.{take-append-drop, length-take-le}
 use Rattle.std.proofs.lemmas.Bool.{false≢true}
 use Rattle.html_charref.specs.declared.table.Row.{Row}
@@ -32,6 +32,14 @@ is_not false h = refl
 pub AllPass-push : (p : ℕ → Bool) (xs : List ℕ) (c : ℕ) → AllPass p xs → p c ≡ true → AllPass p (xs ++ c ∷ [])
 AllPass-push p [] c a h = (h, tt)
 AllPass-push p (x ∷ xs) c a h = (a.0, AllPass-push p xs c a.1 h)
+
+pub both-left : (a b : Bool) → a && b ≡ true → a ≡ true
+both-left true b e = refl
+both-left false b e = e
+
+pub both-right : (a b : Bool) → a && b ≡ true → b ≡ true
+both-right true b e = e
+both-right false b e = absurd (false≢true e)
 
 pub AllPass-append : (p : ℕ → Bool) (xs ys : List ℕ) → AllPass p xs → AllPass p ys → AllPass p (xs ++ ys)
 AllPass-append p [] ys a b = b

@@ -11,7 +11,7 @@ use crate::queue::Queue;
 use crate::token::TextMode;
 use std::alloc::AllocError;
 
-/// How many code points are looked at in a row.
+/// How many code points are looked at at once.
 const BLOCK: usize = 8;
 
 /// What was fed and not yet read, and whether that is all.
@@ -44,19 +44,19 @@ fn is_plain(mode: TextMode, c: char) -> bool
 fn is_clean(c: char) -> bool
     ensures { (mode : TextMode) → result ≡ true → is_plain mode c ≡ true }
 {
-    c > '<' || !(c == '<' || c == '&' || c == '\0')
+    (c != '<') & (c != '&') & (c != '\0')
 }
 
-/// Whether each code point of a block is plain text in each mode, and tells no error.
+/// Whether each code point of a block is plain text in each mode, and tells no error. It looks at each, so that no guess at where words end
+/// goes wrong.
 fn are_clean(block: &[char]) -> bool
     ensures { (mode : TextMode) → result ≡ true → AllPass (is_plain mode) block.now }
 {
+    let mut are_clean = true;
     for c in block {
-        if !is_clean(*c) {
-            return false;
-        }
+        are_clean = are_clean & is_clean(*c);
     }
-    true
+    are_clean
 }
 
 /// The length of the longest front without U+0000, `&` and `<`.

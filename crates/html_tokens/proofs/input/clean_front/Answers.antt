@@ -11,9 +11,9 @@ skipping-preserved c =
     record {
       fit = omega arith;
       plain = λ mode.
-        let block = c.are_clean.ensures mode c.if-are_clean.true in
-        let clean = rw eight at block in
-        rw (take-add c.skipping.len 8 c.args.text.now) (AllPass-append (is_plain mode) _ _ (c.skipping.invariant.plain mode) clean);
+          let block = c.are_clean.ensures mode c.if-are_clean.true in
+          let clean = rw eight at block in
+          rw (take-add c.skipping.len 8 c.args.text.now) (AllPass-append (is_plain mode) _ _ (c.skipping.invariant.plain mode) clean);
     }
 
 pub rest-preserved : goal.rest-preserved
