@@ -10,6 +10,7 @@ use std::alloc::{AllocError, Global};
 /// Follows a row from an empty arena, and writes what its words answer.
 pub(crate) fn answer(alloc: Global, row: &str, out: &mut String) -> Result<(), AllocError> {
     let mut arena = Arena::new(alloc);
+    arena.reserve(3);
     follow(&mut arena, alloc, row, out)
 }
 

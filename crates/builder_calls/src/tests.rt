@@ -213,7 +213,8 @@ fn limits(rt: HostRuntime) -> Result<(), Fail> {
 fn text(rt: HostRuntime) -> Result<(), Fail> {
     let alloc = rt.alloc();
     let text = [' ', 'a', ' ', '\0', 'b', 'c'];
-    let builder = Builder::document(alloc)?;
+    let mut builder = Builder::document(alloc)?;
+    builder.reserve(3);
     let (refused, mode, outcome) = built_of_text(alloc, builder, text.as_slice(), 0, 4)?;
     assert_eq!(rt; refused, None);
     assert_eq!(rt; mode, Mode::InBody);

@@ -38,6 +38,13 @@ impl Fates {
         }
     }
 
+    /// Asks for room for so many more runs of fates, which take no memory before they are added. A refusal changes nothing.
+    pub fn reserve(&mut self, count: usize)
+        ensures same { self.new ≡ self.old }
+    {
+        let _ = self.runs.reserve(count);
+    }
+
     /// Adds the fate of one more token, or leaves the list as it was. A list holds at most 2^64 - 1 fates.
     pub fn push(&mut self, fate: &Fate) -> Result<(), AllocError>
         ensures added { OnOk result (self.new ≡ self.old ++ fate.now ∷ []) }

@@ -51,6 +51,13 @@ impl Ledger {
         }
     }
 
+    /// Asks for room for so many more runs of fates, which take no memory before they are given. A refusal changes nothing.
+    pub fn reserve(&mut self, count: usize)
+        ensures same { self.new ≡ self.old }
+    {
+        self.fates.reserve(count);
+    }
+
     /// What the tokens so far settle about the fates of later ones.
     pub fn history(&self) -> History
         ensures value { result ≡ self.now.history }

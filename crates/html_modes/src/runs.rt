@@ -162,9 +162,23 @@ fn null_index(text: &[char]) -> usize
     ensures most { result ≤ length text.now }
     ensures some { (c : ℕ) → slice_get text.now 0 ≡ Some c → (c == 0) ≡ false → 0 < result }
 {
+    if is_without_null(text) {
+        return text.len();
+    }
     let mut index = 0;
     'looking: while index < text.len() && text[index] != '\0' {
         index += 1;
     }
     index
+}
+
+/// Whether there is no U+0000. It looks at each code point, so that many are looked at at once.
+fn is_without_null(text: &[char]) -> bool
+    ensures { result ≡ true → list_all is_not_null text.now ≡ true }
+{
+    let mut is_without = true;
+    for c in text {
+        is_without = is_without & (*c != '\0');
+    }
+    is_without
 }

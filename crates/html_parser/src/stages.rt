@@ -34,7 +34,7 @@ use std::alloc::Global;
 pub(crate) const PIECE: usize = 4096;
 
 /// How many bytes of input a node has at least, in most pages.
-const BYTES_A_NODE: usize = 16;
+const BYTES_A_NODE: usize = 12;
 
 /// For how many nodes room is asked at once at most, some 130 MB.
 const MOST_ROOM: usize = 1 << 20;
@@ -104,7 +104,9 @@ impl<'a> Stages<'a> {
         ensures runs { (start : Start) (finished : Bool) (bytes : List ℕ) (run : Run) → IsRun start finished self.old bytes run → IsRun start finished self.new bytes run }
         ensures kept { self.new.kept ≡ self.old.kept }
     {
-        self.builder.reserve((bytes / BYTES_A_NODE).min(MOST_ROOM));
+        let nodes = (bytes / BYTES_A_NODE).min(MOST_ROOM);
+        self.builder.reserve(nodes);
+        self.kept.starts.reserve(nodes.saturating_mul(2));
     }
 
     /// Takes a piece of the input, bit by bit.

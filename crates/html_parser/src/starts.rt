@@ -43,6 +43,13 @@ impl Starts {
         }
     }
 
+    /// Asks for room for so many more stretches, which take no memory before they are added. A refusal changes nothing.
+    pub(crate) fn reserve(&mut self, count: usize)
+        ensures same { self.new ≡ self.old }
+    {
+        let _ = self.stretches.reserve(count);
+    }
+
     /// The number of tokens.
     pub(crate) fn len(&self) -> u64
         ensures value { result ≡ length self.now }

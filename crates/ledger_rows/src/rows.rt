@@ -90,6 +90,7 @@ fn may_of(page: &mut Page, setting: Setting, words: &[&str], out: &mut String) -
 /// Adds what a ledger says after the tokens of a row.
 fn ledger(alloc: Global, setting: Setting, words: &[&str], out: &mut String) -> Result<()> {
     let mut ledger = Ledger::new(alloc, setting);
+    ledger.reserve(3);
     if enter_counted(alloc, &mut ledger, words, out)? {
         show(out, ledger)
     } else {

@@ -36,7 +36,8 @@ impl Model for Page {
 
 impl Page {
     pub(crate) fn document(alloc: Global) -> Result<Page, OpenError> {
-        let tree = OpenTree::document(alloc)?;
+        let mut tree = OpenTree::document(alloc)?;
+        tree.reserve(3);
         Ok(Page {
             tree,
             next: 0,
