@@ -152,6 +152,8 @@ impl Construction {
         ensures reset { IfOk result (λ b. is_reset b.mode ≡ true) }
         ensures founded { IfOk result (λ b. IsFounded b) }
         ensures stack { IfOk result (λ b. b.stack ≡ tag.Html ∷ []) }
+        ensures context { IfOk result (λ b. b.context ≡ Some context) }
+        ensures quirks { IfOk result (λ b. b.quirks ≡ quirks) }
         ensures quiet { IfOk result (λ b. b.ledger.kept ≡ []) }
         ensures listed { IfOk result (λ b. b.tree.list ≡ []) }
         ensures nodes { IfOk result (λ b. length b.tree.tree.labels ≡ 1) }
@@ -180,6 +182,8 @@ impl Construction {
         ensures reset { IfOk result (λ b. is_reset b.mode ≡ true) }
         ensures founded { IfOk result (λ b. IsFounded b) }
         ensures stack { IfOk result (λ b. b.stack ≡ tag.Html ∷ []) }
+        ensures context { IfOk result (λ b. b.context ≡ Some context) }
+        ensures quirks { IfOk result (λ b. b.quirks ≡ quirks) }
         ensures quiet { IfOk result (λ b. b.ledger.kept ≡ []) }
         ensures listed { IfOk result (λ b. b.tree.list ≡ []) }
         ensures nodes { IfOk result (λ b. length b.tree.tree.labels ≡ 1) }
@@ -282,6 +286,8 @@ impl Construction {
         ensures reset { IfOk result (λ b. is_reset b.mode ≡ true) }
         ensures founded { IfOk result (λ b. IsFounded b) }
         ensures stack { IfOk result (λ b. b.stack ≡ tag.Html ∷ []) }
+        ensures context { IfOk result (λ b. b.context ≡ Some context) }
+        ensures quirks { IfOk result (λ b. b.quirks ≡ quirks) }
         ensures quiet { IfOk result (λ b. b.ledger.kept ≡ []) }
         ensures listed { IfOk result (λ b. b.tree.list ≡ []) }
         ensures nodes { IfOk result (λ b. length b.tree.tree.labels ≡ 1) }

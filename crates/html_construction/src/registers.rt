@@ -46,6 +46,7 @@ impl Registers {
         ensures mode { result.mode ≡ Mode.Initial }
         ensures templates { result.templates.items ≡ [] }
         ensures context { result.context ≡ context }
+        ensures quirks { result.quirks ≡ quirks }
         ensures outer_form { result.outer_form ≡ outer_form }
         ensures fostering { result.fostering ≡ false }
     {

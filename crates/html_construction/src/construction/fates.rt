@@ -1,5 +1,5 @@
 // The fates of tokens, which the ledger keeps. Each call gives the next token its one fate, and asks that none is kept without one.
-ghost use Rattle.std.specs.Prelude.{◌≡◌, ◌+◌, ◌≤◌, ◌∷◌, [], ◌++◌, IfOk, IfSome, IsTrue, OnErr, OnOk, None, true, length, IfErr};
+ghost use Rattle.std.specs.Prelude.{◌≡◌, ◌+◌, ◌≤◌, ◌∷◌, [], ◌++◌, IfOk, IfSome, IsTrue, ◌≢◌, false, OnErr, OnOk, None, true, length, IfErr};
 ghost use Rattle.html_ledger.specs.Symbols.{symbol_of};
 ghost use Rattle.html_ledger.specs.Entries.{Takes as LedgerTakes, ended, given, number_of};
 ghost use Rattle.html_ledger.specs.Fated.{is_end};
@@ -136,6 +136,7 @@ impl Construction {
     /// Whether every token handed in has its fate.
     pub fn is_quiet(&self) -> bool
         ensures value { result ≡ true → self.now.ledger.kept ≡ [] }
+        ensures unsettled { result ≡ false → self.now.ledger.kept ≢ [] }
     {
         self.ledger.is_quiet()
     }

@@ -1,8 +1,8 @@
 // The element pointers (13.2.4.4), the body that a frameset takes the place of, and how many elements and nodes there were when the rules for a
 // token began.
-ghost use Rattle.std.specs.Prelude.{◌≡◌, ◌+◌, ◌<◌, ◌≤◌, ◌∷◌, [], IfSome, None, OnOk, false, length, slice_index, true, ◌||◌, Some, is_some, IfErr};
+ghost use Rattle.std.specs.Prelude.{◌≡◌, ◌≢◌, ◌+◌, ◌<◌, ◌≤◌, ◌∷◌, [], IfSome, None, OnOk, false, length, slice_index, true, ◌||◌, Some, is_some, IfErr};
 ghost use Rattle.html_names.specs.declared.tag.Tag.TheVariants as tag;
-ghost use Rattle.html_arena.specs.Tree.{named, tag_at};
+ghost use Rattle.html_arena.specs.Tree.{more, named, tag_at};
 ghost use Rattle.html_ledger.specs.Symbols.{symbol_of};
 ghost use Rattle.html_ledger.specs.declared.symbol.Symbol.TheVariants.{Start};
 ghost use Rattle.html_construction.specs.Budgets.{Refuses, RefusesAny};
@@ -184,6 +184,7 @@ impl Construction {
         ensures second { result ≡ true → 1 < length self.new.stack }
         ensures element { result ≡ true → 1 < length self.new.tree.stack }
         ensures body { result ≡ true → named self.new.tree.tree tag.Body (slice_index self.new.tree.stack 1) ≡ true }
+        ensures other { result ≡ false → 1 < length self.old.stack → named self.new.tree.tree tag.Body (slice_index self.new.tree.stack 1) ≡ false }
         ensures detached { self.new.tree.detached ≡ self.old.tree.detached }
         ensures same { IsTree self.old.tree self.new }
     {
@@ -200,6 +201,10 @@ impl Construction {
         ensures works { Works 1 0 3 self.old self.new }
         ensures lighter { weight self.new.stack ≤ weight self.old.stack }
         ensures opened { 0 < length self.new.stack }
+        ensures left { result ≡ false → self.new.stack ≡ self.old.stack }
+        ensures other { result ≡ false → self.old.tree.detached ≡ None → 1 < length self.old.stack
+            → named self.new.tree.tree tag.Body (slice_index self.new.tree.stack 1) ≡ false }
+        ensures alone { result ≡ true → length self.new.stack ≡ 1 }
     {
         if self.has_detached_body() || !self.has_body() {
             return false;
@@ -212,6 +217,7 @@ impl Construction {
     /// Whether a frameset took the place of the body before.
     fn has_detached_body(&self) -> bool
         ensures none { result ≡ false → self.now.tree.detached ≡ None }
+        ensures some { result ≡ true → self.now.tree.detached ≢ None }
     {
         self.tree.detached_body().is_some()
     }
@@ -275,6 +281,7 @@ impl Construction {
         ensures keeps { Keeps self.old self.new }
         ensures grown { Grown 0 0 0 0 0 self.old self.new }
         ensures works { Works 0 0 count self.old self.new }
+        ensures counted { self.new.tree.steps ≡ more self.old.tree.steps count }
         ensures same { IsTree self.old.tree self.new }
     {
         self.tree.charge(count as u128);

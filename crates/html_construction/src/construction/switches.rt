@@ -1,5 +1,5 @@
 // The registers of tree construction (13.2.4). Each call changes the one register of its name, and neither the tree nor the ledger.
-ghost use Rattle.std.specs.Prelude.{IfErr, ◌≡◌, ◌∷◌, [], ◌++◌, OnErr, OnOk, false, is_some, true};
+ghost use Rattle.std.specs.Prelude.{IfErr, ◌≡◌, ◌↔◌, ◌-◌, ◌∷◌, [], ◌++◌, OnErr, OnOk, false, is_some, length, take, true};
 ghost use Rattle.html_construction.specs.Budgets.{RefusesAny};
 ghost use Rattle.html_construction.specs.Built.{Keeps};
 ghost use Rattle.html_construction.specs.Modes.{is_reset};
@@ -125,8 +125,10 @@ impl Construction {
         Ok(())
     }
 
+    /// Takes the current template insertion mode off the stack of these, if there is one.
     pub fn pop_template_mode(&mut self)
         ensures rest { self.new ≡ record self.old { templates = self.new.templates } }
+        ensures popped { self.new.templates ≡ take (length self.old.templates - 1) self.old.templates }
         ensures keeps { Keeps self.old self.new }
     {
         let _ = self.registers.templates.pop();
@@ -136,6 +138,7 @@ impl Construction {
     pub fn replace_template_mode(&mut self, mode: Mode) -> Result<(), Refusal>
         requires reset { is_reset mode ≡ true }
         ensures rest { OnOk result (self.new ≡ record self.old { templates = self.new.templates }) }
+        ensures replaced { OnOk result (self.new.templates ≡ take (length self.old.templates - 1) self.old.templates ++ mode ∷ []) }
         ensures keeps { OnOk result (Keeps self.old self.new) }
         ensures memory { IfErr result (λ e. e ≡ Refusal.OutOfMemory) }
         ensures refuses { IfErr result (λ e. RefusesAny e self.old self.new) }
@@ -145,7 +148,10 @@ impl Construction {
         Ok(())
     }
 
-    pub fn has_template_mode(&self) -> bool {
+    /// Whether there is a template insertion mode.
+    pub fn has_template_mode(&self) -> bool
+        ensures value { (result ≡ false) ↔ (self.now.templates ≡ []) }
+    {
         !self.registers.templates.is_empty()
     }
 
