@@ -7,7 +7,7 @@ ghost use Rattle.html_arena.specs.Weight.{weight, attrs_weight, optional_weight,
 
 use crate::attributes::{SharedAttrs, attrs_held};
 use crate::links::NodeId;
-use html_charref::Str;
+use html_charref::{Str, WideStr};
 use html_names::Tag;
 use html_tokens::{Attr, Attrs};
 use std::alloc::AllocError;
@@ -54,7 +54,7 @@ pub enum NodeData {
     },
     Element(ElementData),
     Text {
-        text: Str,
+        text: WideStr,
     },
     Comment {
         text: Str,
@@ -291,7 +291,8 @@ impl NodeData {
         ensures { chars result.now ≡ text_in self.now }
     {
         match self {
-            NodeData::Text { text } | NodeData::Comment { text, .. } => text.as_str(),
+            NodeData::Text { text } => text.as_str(),
+            NodeData::Comment { text, .. } => text.as_str(),
             _ => no_text(),
         }
     }

@@ -1,12 +1,10 @@
 -- What the rule on names says of one.
-use Rattle.std.specs.Prelude.{◌==◌, slice_index, nat_lt, nat_le, if◌then◌else◌}
-use Rattle.std.specs.List.{list_all}
-use Rattle.std.specs.Char.{is_ascii_alphanumeric}
+use Rattle.std.specs.Prelude.{◌==◌, slice_index, nat_lt, nat_le}
 use Rattle.std.proofs.lemmas.Bool.{cond-true, cond-false}
 use Rattle.std.proofs.lemmas.Bool.Decides.{nat_tests}
 use Rattle.std.proofs.lemmas.List.{drop_all}
 use Rattle.std.proofs.Math.Seq.{drop-cons}
-use Rattle.std.proofs.Common.{inl, inr, ⊎_elim, get_or, ℕ, suc, ◌≡◌, ◌+◌, ◌-◌, ◌<◌, ◌≤◌, List, [], ◌∷◌, ◌++◌, length, take, drop, true, false, refl, sym, ap, ◌∙◌, subst, arith, append-nil, take-append-drop}
+use Rattle.std.proofs.Common.{inl, inr, ⊎_elim, get_or, ℕ, suc, ◌≡◌, ◌+◌, ◌-◌, ◌<◌, ◌≤◌, List, [], ◌∷◌, ◌++◌, length, take, drop, true, false, refl, sym, ap, ◌∙◌, arith, append-nil, take-append-drop}
 use Rattle.html_charref.specs.Entities.{is_name, letters_of}
 use Rattle.html_charref.specs.Table.{IsName}
 use Rattle.html_charref.proofs.LongestLemmas.{bool_cases, both}

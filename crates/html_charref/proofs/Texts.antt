@@ -1,5 +1,5 @@
 -- Texts by their bytes and by their code points.
-use Rattle.std.proofs.Common.{◌≡◌, Result, Ok, Err, OnOk, if◌then◌else◌, is_ok, ℕ, Bool, true, false, List, [], ◌∷◌, ◌++◌, refl, sym, ◌∙◌, ap, append-nil, length, ◌==◌, arith}
+use Rattle.std.proofs.Common.{◌≡◌, Result, Ok, Err, OnOk, if◌then◌else◌, is_ok, ℕ, List, [], ◌∷◌, ◌++◌, refl, sym, ◌∙◌, ap, append-nil, length, ◌==◌, arith}
 use Rattle.std.specs.Str.{IsUtf8, bytes_eq, chars, encode_utf8_all}
 use Rattle.std.specs.Bool.{Decides}
 use Rattle.std.specs.Char.{encode_utf8, IsScalar}

@@ -10,6 +10,7 @@ mod short;
 mod table;
 mod text;
 mod walk;
+mod wide;
 
 pub use key::Key;
 pub use number::{Base, RefFault, add_digit, numeric};
@@ -17,3 +18,4 @@ pub use read::EntityError;
 pub use table::{EntityTable, RefText, Row};
 pub use text::Str;
 pub use walk::{Step, Walk};
+pub use wide::WideStr;

@@ -1,35 +1,33 @@
 // Short texts of ASCII, which stand in a value of a fixed size.
-ghost use Rattle.std.specs.Prelude.{◌≡◌, ◌+◌, ◌≤◌, ◌++◌, [], IfOk, IfSome, length, string_bytes, take, true, false};
+ghost use Rattle.std.specs.Prelude.{◌≡◌, ◌+◌, ◌<◌, ◌≤◌, ◌++◌, [], IfOk, IfSome, length, string_bytes, take, true, false};
 ghost use Rattle.std.specs.Str.{IsAscii, chars};
 
 use crate::run::{is_all_ascii, narrow};
 use std::alloc::{AllocError, Global};
 use std::marker::Model;
 
-/// The greatest length of a short text.
-const MOST: usize = 14;
-
 /// A text of ASCII, no longer than `MOST`: the first `len` of the bytes.
 #[derive(Drop)]
-pub(crate) struct Short {
+pub(crate) struct Short<const MOST: usize> {
     len: u8,
     bytes: [u8; MOST],
 }
 
-impl Model for Short {
-    ghost use Rattle.std.specs.Prelude.{List, ℕ, ◌≤◌, take};
+impl<const MOST: usize> Model for Short<MOST> {
+    ghost use Rattle.std.specs.Prelude.{List, ℕ, ◌<◌, ◌≤◌, take};
     ghost use Rattle.std.specs.Str.{IsAscii};
 
     ghost Value = { List ℕ };
 
     ghost view = { λ s. take s.len s.bytes };
 
-    ghost invariant = { λ s. (s.len ≤ 14) × IsAscii (take s.len s.bytes) };
+    ghost invariant = { λ s. (s.len ≤ MOST) × (MOST < 256) × IsAscii (take s.len s.bytes) };
 }
 
-impl Short {
+impl<const MOST: usize> Short<MOST> {
     /// The empty text.
-    pub(crate) fn new() -> Short
+    pub(crate) fn new() -> Short<MOST>
+        requires { MOST < 256 }
         ensures { result ≡ [] }
     {
         Short {
@@ -39,7 +37,8 @@ impl Short {
     }
 
     /// A copy of a text, if it is short and ASCII.
-    pub(crate) fn of(text: &str) -> Option<Short>
+    pub(crate) fn of(text: &str) -> Option<Short<MOST>>
+        requires { MOST < 256 }
         ensures { IfSome result (λ short. short ≡ chars text.now) }
     {
         if text.len() > MOST || !text.is_ascii() {
@@ -54,7 +53,7 @@ impl Short {
     }
 
     /// The same text again.
-    pub(crate) fn copy(&self) -> Short
+    pub(crate) fn copy(&self) -> Short<MOST>
         ensures { result ≡ self.now }
     {
         Short {

@@ -16,10 +16,13 @@ pub struct Str {
     kept: Kept,
 }
 
+/// The greatest length of a short text.
+const MOST: usize = 14;
+
 /// Where a text is kept.
 #[derive(Drop)]
 pub(crate) enum Kept {
-    Short(Short),
+    Short(Short<MOST>),
     Long(Box<String>),
 }
 
@@ -153,7 +156,7 @@ impl Kept {
 }
 
 /// The number of code points of a text.
-fn char_count(text: &str) -> usize
+pub(crate) fn char_count(text: &str) -> usize
     ensures { result ≡ length (chars text.now) }
 {
     if text.is_ascii() {

@@ -160,7 +160,7 @@ fn rules(page: &mut Construction, token: &TokenKind, symbol: Symbol) -> Result<O
     ensures ends { IfOk result (λ o. Ends o symbol token.now page.old page.new) }
     ensures refuses { IfErr result (λ e. Refuses token.now e page.old page.new) }
 {
-    match page.mode() {
+    let outcome = match page.mode() {
         Mode::Initial => initial(page, token, symbol),
         Mode::BeforeHtml => before_html(page, token, symbol),
         Mode::BeforeHead => before_head(page, token, symbol),
@@ -184,5 +184,6 @@ fn rules(page: &mut Construction, token: &TokenKind, symbol: Symbol) -> Result<O
         Mode::AfterFrameset => after_frameset(page, token, symbol),
         Mode::AfterAfterBody => after_after_body(page, token, symbol),
         Mode::AfterAfterFrameset => after_after_frameset(page, token, symbol),
-    }
+    }?;
+    Ok(outcome)
 }

@@ -36,8 +36,8 @@ pub(crate) const PIECE: usize = 4096;
 /// How many bytes of input a node has at least, in most pages.
 const BYTES_A_NODE: usize = 12;
 
-/// For how many nodes room is asked at once at most, some 130 MB.
-const MOST_ROOM: usize = 1 << 20;
+/// For how many nodes room is asked at once at most, some 30 MB: of more, the system would give fresh pages to each parse.
+const MOST_ROOM: usize = 1 << 18;
 
 /// The stages, and the text that is on its way between them.
 #[derive(Drop)]

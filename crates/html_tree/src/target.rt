@@ -87,9 +87,15 @@ pub(crate) fn put_new(
 {
     arena.forest();
     let place = place_at(stack, arena, head, target);
-    let node = insert(arena, place, new);
+    let node = match insert(arena, place, new) {
+        Ok(node) => node,
+        Err(cause) => {
+            arena.forest();
+            return Err(cause);
+        }
+    };
     arena.forest();
-    node
+    Ok(node)
 }
 
 /// The text just before a place.

@@ -16,7 +16,7 @@ use crate::data::{
 };
 use crate::links::NodeId;
 use crate::room::{let_go, push_node, reserve};
-use html_charref::Str;
+use html_charref::{Str, WideStr};
 use html_names::Tag;
 use html_tokens::Attrs;
 
@@ -41,9 +41,9 @@ impl Arena {
         ensures cause { IfErr result (λ e. RefusedBy (budget self.old (nodes_made new) (made_weight self.old new)) e) }
     {
         self.forest();
-        let made = self.make_node(new);
+        let made = self.make_node(new)?;
         self.forest();
-        made
+        Ok(made)
     }
 
     /// Makes a node that stands alone; a template with its Contents node, the next one.
@@ -71,7 +71,7 @@ impl Arena {
             }
             NewNode::CloneOf(node) => self.make_clone(node),
             NewNode::Text => {
-                let text = Str::new(*self.links.allocator());
+                let text = WideStr::new(*self.links.allocator());
                 self.add(NodeData::Text { text })
             }
             NewNode::Comment { text, token } => self.add(NodeData::Comment { text, token }),

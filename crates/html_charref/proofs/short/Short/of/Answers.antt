@@ -3,6 +3,6 @@ use Rattle.std.proofs.lemmas.Str.{chars-IsAscii}
 use Rattle.html_charref.proofs.short.Short.of.Goals as goal
 
 pub returns : goal.returns
-returns c =
+returns g c =
     ap (λ (l : List ℕ). take (length l) c.copy_front.new.block) (sym c.as_bytes.ensures.value) ∙ c.copy_front.ensures.copied
     ∙ c.as_bytes.ensures.value ∙ sym (chars-IsAscii c.args.text.now c.if-not-is_ascii.ensures.cases)

@@ -1,4 +1,4 @@
-use Rattle.std.proofs.Common.{◌≡◌, ◌∙◌, ◌<◌, length, Some, ap, refl}
+use Rattle.std.proofs.Common.{◌≡◌, ◌∙◌, length, Some, ap, refl}
 use Rattle.std.specs.List.{slice_get}
 use Rattle.std.proofs.lemmas.Option.{slice_get_read}
 use Rattle.html_charref.proofs.RangeLemmas.{range_there}
