@@ -87,15 +87,9 @@ pub(crate) fn put_new(
 {
     arena.forest();
     let place = place_at(stack, arena, head, target);
-    let node = match insert(arena, place, new) {
-        Ok(node) => node,
-        Err(cause) => {
-            arena.forest();
-            return Err(cause);
-        }
-    };
+    let node = insert(arena, place, new);
     arena.forest();
-    Ok(node)
+    node
 }
 
 /// The text just before a place.
