@@ -74,16 +74,30 @@ fn pair(alloc: Global, name: &str, value: &str) -> Result<Attr, AllocError> {
     Ok(Attr { name, value })
 }
 
+/// `id="one"`, or none.
+fn id_one(alloc: Global, with_id: bool) -> Result<Attrs, AllocError> {
+    let mut list = Vec::new(alloc);
+    if with_id {
+        list.push(pair(alloc, "id", "one")?)?;
+    }
+    Attrs::from_vec(list)
+}
+
+/// `class="two" id="other"`.
+fn later_attrs(alloc: Global) -> Result<Attrs, AllocError> {
+    let mut list = Vec::new(alloc);
+    list.push(pair(alloc, "class", "two")?)?;
+    list.push(pair(alloc, "id", "other")?)?;
+    Attrs::from_vec(list)
+}
+
 fn make_element(
     arena: &mut Arena,
     alloc: Global,
     name: &str,
     with_id: bool,
 ) -> Result<(), Refusal> {
-    let mut attrs = Attrs::new(alloc);
-    if with_id {
-        attrs.push(pair(alloc, "id", "one")?)?;
-    }
+    let attrs = id_one(alloc, with_id)?;
     let name = Str::of(alloc, name)?;
     let origin = Origin::Token(7);
     arena.make(NewNode::Element {
@@ -173,10 +187,7 @@ fn merge(arena: &mut Arena, alloc: Global, node: NodeId) -> Result<(), Refusal> 
     if !is_element(arena, node) {
         return Err(Refusal::Condition);
     }
-    let mut attrs = Attrs::new(alloc);
-    attrs.push(pair(alloc, "class", "two")?)?;
-    attrs.push(pair(alloc, "id", "other")?)?;
-    arena.merge_attrs(node, attrs)?;
+    arena.merge_attrs(node, later_attrs(alloc)?)?;
     Ok(())
 }
 

@@ -5,7 +5,7 @@ ghost use Rattle.html_names.specs.Sets.{is_formatting};
 ghost use Rattle.html_arena.specs.Data.{IsText, IsElement, attrs_in, cloned, contents_in, host_in, is_clone_in, is_linkable, kind_in, label_in, name_in, origin_in, tag_in, text_in, with_attrs, with_char, with_run};
 ghost use Rattle.html_arena.specs.Weight.{weight, attrs_weight, optional_weight, capped};
 
-use crate::attributes::{SharedAttrs, attrs_held};
+use crate::attributes::attrs_held;
 use crate::links::NodeId;
 use html_charref::{Str, WideStr};
 use html_names::Tag;
@@ -37,7 +37,7 @@ pub struct ElementData {
     pub name: Str,
     /// The tag of the name.
     pub tag: Tag,
-    pub attrs: SharedAttrs,
+    pub attrs: Attrs,
     pub origin: Origin,
     pub is_clone: bool,
     /// The Contents node of a template.
@@ -168,14 +168,14 @@ fn push_run_to_text(node: &mut NodeData, run: &[char]) -> Result<(), AllocError>
 }
 
 /// Gives an element other attributes.
-pub(crate) fn set_attrs(nodes: &mut Vec<NodeData>, node: NodeId, attrs: SharedAttrs)
+pub(crate) fn set_attrs(nodes: &mut Vec<NodeData>, node: NodeId, attrs: Attrs)
     requires { node < length nodes.old.items }
     ensures { nodes.new.items ≡ slice_set nodes.old.items node (with_attrs (label_in nodes.old.items node) attrs) }
 {
     set_attrs_of(&mut nodes[node.index()], attrs);
 }
 
-fn set_attrs_of(node: &mut NodeData, attrs: SharedAttrs)
+fn set_attrs_of(node: &mut NodeData, attrs: Attrs)
     ensures { node.new ≡ with_attrs node.old attrs }
 {
     if let NodeData::Element(element) = node {

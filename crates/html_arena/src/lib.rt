@@ -10,7 +10,6 @@ mod room;
 mod walk;
 
 pub use arena::{Arena, ArenaError, Limits, Meter};
-pub use attributes::SharedAttrs;
 pub use data::{ElementData, Kind, NewNode, NodeData, Origin};
 pub use links::NodeId;
 pub use marks::{Mark, Marks};

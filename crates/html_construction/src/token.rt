@@ -8,7 +8,7 @@ ghost use Rattle.html_construction.specs.Tokens.{attrs_of, data_of, element_name
 
 use html_charref::Str;
 use html_names::Tag;
-use html_tokens::{Attr, Attrs, TokenKind};
+use html_tokens::{Attrs, TokenKind};
 use std::alloc::{AllocError, Global};
 
 /// The name of a tag, in memory of its own; another token has none.
@@ -42,11 +42,18 @@ pub(crate) fn copy_element_name(
     }
 }
 
-/// The attributes of a start tag, in memory of their own; another token has none.
+/// The attributes of a start tag, which the token shares; another token has none.
 pub(crate) fn copy_attrs(alloc: Global, token: &TokenKind) -> Result<Attrs, AllocError>
     ensures attrs { IfOk result (λ attrs. attrs ≡ attrs_of token.now) }
 {
-    Ok(Attrs::from_vec(attrs_of(token).to_vec(alloc)?))
+    match token {
+        TokenKind::Start { attrs, .. } => attrs.share(),
+        TokenKind::End { .. }
+        | TokenKind::Char(_)
+        | TokenKind::Comment(_)
+        | TokenKind::Doctype { .. }
+        | TokenKind::Eof => Ok(Attrs::new(alloc)),
+    }
 }
 
 /// The data of a comment, in memory of its own; another token has none.
@@ -60,20 +67,6 @@ pub(crate) fn copy_data(alloc: Global, token: &TokenKind) -> Result<Str, AllocEr
         TokenKind::Char(_) => Ok(Str::new(alloc)),
         TokenKind::Doctype { .. } => Ok(Str::new(alloc)),
         TokenKind::Eof => Ok(Str::new(alloc)),
-    }
-}
-
-/// The attributes of a start tag; another token has none.
-fn attrs_of(token: &TokenKind) -> &[Attr]
-    ensures attrs { result.now ≡ attrs_of token.now }
-{
-    match token {
-        TokenKind::Start { attrs, .. } => attrs.as_slice(),
-        TokenKind::End { .. }
-        | TokenKind::Char(_)
-        | TokenKind::Comment(_)
-        | TokenKind::Doctype { .. }
-        | TokenKind::Eof => &[],
     }
 }
 

@@ -10,6 +10,7 @@ pub mod Marks
 pub mod Reference
 pub mod Runs
 pub mod Script
+pub mod Shared
 pub mod Stream
 pub mod Tag
 pub mod Tokens

@@ -1,11 +1,12 @@
 // The attributes of a tag.
 ghost use Rattle.html_tokens.specs.Tag.{has_name};
 ghost use Rattle.html_tokens.specs.Places.{comparisons};
-ghost use Rattle.std.specs.Prelude.{◌≤◌, ◌≡◌, ◌∷◌, [], ◌++◌, IfOk, OnErr, OnOk, length};
+ghost use Rattle.std.specs.Prelude.{◌≡◌, [], IfOk, length};
 
 use html_charref::Str;
 use std::alloc::{AllocError, Global};
 use std::marker::Model;
+use std::rc::RcSlice;
 
 /// An attribute: its name, and its value, which is empty where none was written.
 #[derive(Debug, Drop)]
@@ -41,10 +42,10 @@ pub(crate) fn search(attrs: &[Attr], name: &Str) -> (bool, usize)
     (false, compared)
 }
 
-/// Attributes in order, seen as their list.
+/// Attributes in order, seen as their list. A share of them takes no memory of its own, nor does the empty list.
 #[derive(Debug, Drop)]
 pub struct Attrs {
-    pub list: Vec<Attr>,
+    list: Option<RcSlice<Attr>>,
 }
 
 impl Model for Attrs {
@@ -53,53 +54,57 @@ impl Model for Attrs {
 
     ghost Value = { List Attr };
 
-    ghost view = { λ a. a.list.items };
+    ghost use Rattle.html_tokens.specs.Shared.{items_in};
+
+    ghost view = { λ a. items_in a.list };
 }
 
 impl Attrs {
     /// No attributes, which takes no memory.
-    pub fn new(alloc: Global) -> Attrs
+    pub fn new(_alloc: Global) -> Attrs
         ensures { result ≡ [] }
     {
-        Attrs {
-            list: Vec::new(alloc),
+        Attrs { list: None }
+    }
+
+    /// The attributes of a `Vec`, which nothing shares yet.
+    pub fn from_vec(attrs: Vec<Attr>) -> Result<Attrs, AllocError>
+        ensures { IfOk result (λ shared. shared ≡ attrs.items) }
+    {
+        if attrs.is_empty() {
+            return Ok(Attrs { list: None });
         }
+        let list = RcSlice::from_vec(attrs)?;
+        Ok(Attrs { list: Some(list) })
     }
 
-    /// Adds an attribute at the end, or leaves the list as it was.
-    pub fn push(&mut self, attr: Attr) -> Result<(), AllocError>
-        ensures ok { OnOk result (self.new ≡ self.old ++ attr ∷ []) }
-        ensures err { OnErr result (self.new ≡ self.old) }
+    /// The same attributes, shared.
+    pub fn share(&self) -> Result<Attrs, AllocError>
+        ensures { IfOk result (λ shared. shared ≡ self.now) }
     {
-        self.list.push(attr)?;
-        Ok(())
-    }
-
-    /// The attributes of a `Vec`, which takes no memory.
-    pub fn from_vec(attrs: Vec<Attr>) -> Attrs
-        ensures { result ≡ attrs.items }
-    {
-        Attrs { list: attrs }
+        match &self.list {
+            None => Ok(Attrs { list: None }),
+            Some(list) => {
+                let list = list.clone()?;
+                Ok(Attrs { list: Some(list) })
+            }
+        }
     }
 
     /// How many there are.
     pub fn len(&self) -> usize
         ensures { result ≡ length self.now }
     {
-        self.list.len()
+        self.as_slice().len()
     }
 
     /// The attributes as a slice.
     pub fn as_slice(&self) -> &[Attr]
         ensures { result.now ≡ self.now }
     {
-        self.list.as_slice()
-    }
-
-    /// The attributes as a `Vec`.
-    pub fn into_vec(self) -> Result<Vec<Attr>, AllocError>
-        ensures { IfOk result (λ attrs. attrs.items ≡ self) }
-    {
-        Ok(self.list)
+        match &self.list {
+            None => &[],
+            Some(list) => list.as_slice(),
+        }
     }
 }

@@ -1,7 +1,7 @@
 // The attributes of a tag that is being read.
 ghost use Rattle.html_tokens.specs.Places.{comparisons, few};
 ghost use Rattle.html_tokens.specs.Tag.{has_name};
-ghost use Rattle.std.specs.Prelude.{◌≡◌, ◌≤◌, ◌+◌, ◌∷◌, [], ◌++◌, length, take, true, false, OnErr, OnOk};
+ghost use Rattle.std.specs.Prelude.{◌≡◌, ◌≤◌, ◌+◌, ◌∷◌, [], ◌++◌, length, take, true, false, IfOk, OnErr, OnOk};
 
 use crate::attributes::{Attr, Attrs, search};
 use html_charref::Str;
@@ -17,7 +17,7 @@ const FEW: usize = 16;
 #[derive(Drop)]
 pub struct IndexedAttrs {
     alloc: Global,
-    attrs: Attrs,
+    attrs: Vec<Attr>,
     places: BTreeMap<String, usize>,
 }
 
@@ -28,9 +28,9 @@ impl Model for IndexedAttrs {
 
     ghost Value = { List Attr };
 
-    ghost view = { λ a. a.attrs };
+    ghost view = { λ a. a.attrs.items };
 
-    ghost invariant = { λ a. AreFound a.attrs a.places × AreFirst a.attrs a.places };
+    ghost invariant = { λ a. AreFound a.attrs.items a.places × AreFirst a.attrs.items a.places };
 }
 
 /// The first few attributes.
@@ -59,13 +59,26 @@ fn search_at(attrs: &[Attr], place: usize, name: &Str) -> (bool, usize)
     search(attrs, name)
 }
 
+/// Adds one of the first attributes at the end, or leaves the list as it was. Most tags have but one, so there is room for the
+/// first alone.
+fn push_few(attrs: &mut Vec<Attr>, attr: Attr) -> Result<(), AllocError>
+    ensures ok { OnOk result (attrs.new.items ≡ attrs.old.items ++ attr ∷ []) }
+    ensures err { OnErr result (attrs.new.items ≡ attrs.old.items) }
+{
+    if attrs.is_empty() {
+        attrs.reserve_exact(1)?;
+    }
+    attrs.push(attr)?;
+    Ok(())
+}
+
 impl IndexedAttrs {
     pub(crate) fn new(alloc: Global) -> IndexedAttrs
         ensures { result ≡ [] }
     {
         IndexedAttrs {
             alloc,
-            attrs: Attrs::new(alloc),
+            attrs: Vec::new(alloc),
             places: BTreeMap::new(alloc),
         }
     }
@@ -77,8 +90,7 @@ impl IndexedAttrs {
         ensures err { OnErr result (self.new ≡ self.old) }
     {
         if self.attrs.len() < FEW {
-            self.attrs.push(attr)?;
-            return Ok(());
+            return push_few(&mut self.attrs, attr);
         }
         let name = attr.name.as_str().to_string(self.alloc)?;
         let place = self.attrs.len();
@@ -111,9 +123,9 @@ impl IndexedAttrs {
     }
 
     /// The attributes without the places of their names.
-    pub(crate) fn into_attrs(self) -> Attrs
-        ensures { result ≡ self }
+    pub(crate) fn into_attrs(self) -> Result<Attrs, AllocError>
+        ensures { IfOk result (λ attrs. attrs ≡ self) }
     {
-        self.attrs
+        Attrs::from_vec(self.attrs)
     }
 }

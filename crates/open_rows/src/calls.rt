@@ -4,12 +4,12 @@ use crate::markup::{read, tree};
 use crate::page::{Page, is_node};
 use crate::refusal::Refusal;
 use crate::shown::{push_bool, push_index, push_node, push_place};
-use crate::work::{adopt, reopen};
+use crate::work::{adopt, id, reopen};
 use html_arena::{Arena, Limits, NewNode, NodeId};
 use html_charref::Str;
 use html_names::{Scope, Tag};
 use html_open::{AdoptEnd, OpenError};
-use html_tokens::{Attr, Attrs};
+use html_tokens::Attrs;
 use std::alloc::{AllocError, Global};
 use std::mem;
 
@@ -107,12 +107,11 @@ fn make(page: &mut Page, alloc: Global, word: Word<'_>) -> Result<(), Refusal> {
 
 /// Makes an element, with the attribute `id="a"` or without.
 fn make_element(page: &mut Page, alloc: Global, name: &str, with_id: bool) -> Result<(), Refusal> {
-    let mut attrs = Attrs::new(alloc);
-    if with_id {
-        let name = Str::of(alloc, "id")?;
-        let value = Str::of(alloc, "a")?;
-        attrs.push(Attr { name, value })?;
-    }
+    let attrs = if with_id {
+        id(alloc, "a")?
+    } else {
+        Attrs::new(alloc)
+    };
     page.make(Str::of(alloc, name)?, attrs)?;
     Ok(())
 }

@@ -6,7 +6,7 @@ use html_charref::Str;
 use html_names::Tag;
 use html_open::{AdoptEnd, Scope};
 use html_tokens::{Attr, Attrs};
-use std::alloc::Global;
+use std::alloc::{AllocError, Global};
 use std::mem;
 
 /// Makes so many elements.
@@ -26,14 +26,20 @@ pub(crate) fn open_many(page: &mut Page, alloc: Global, count: u64) -> Result<()
     Ok(())
 }
 
+/// One attribute `id`.
+pub(crate) fn id(alloc: Global, value: &str) -> Result<Attrs, AllocError> {
+    let name = Str::of(alloc, "id")?;
+    let value = Str::of(alloc, value)?;
+    let mut list = Vec::new(alloc);
+    list.push(Attr { name, value })?;
+    Attrs::from_vec(list)
+}
+
 /// Lists so many elements, each with an attribute of its own value.
 pub(crate) fn list_many(page: &mut Page, alloc: Global, count: u64) -> Result<(), Refusal> {
     for index in 0..count {
-        let mut attrs = Attrs::new(alloc);
         let number = format!(in alloc; "{}", index)?;
-        let name = Str::of(alloc, "id")?;
-        let value = Str::of(alloc, number.as_str())?;
-        attrs.push(Attr { name, value })?;
+        let attrs = id(alloc, number.as_str())?;
         let node = page.make(Str::of(alloc, "b")?, attrs)?;
         page.enter(node)?;
     }

@@ -62,23 +62,23 @@ fn is_refused(t: &mut Tokenizer<'_>) -> bool {
     t.next().is_err()
 }
 
-/// Attributes stay in their order, in a `Vec` too.
+/// Attributes stay in their order, in a share too.
 fn attributes(alloc: Global, out: &mut String) -> Result<()> {
-    let mut attrs = Attrs::new(alloc);
-    fill(alloc, &mut attrs)?;
-    let count = attrs.len();
-    let again = Attrs::from_vec(attrs.into_vec()?);
-    show_names(out, count, &again)
+    let mut list = Vec::new(alloc);
+    fill(alloc, &mut list)?;
+    let attrs = Attrs::from_vec(list)?;
+    let again = attrs.share()?;
+    show_names(out, attrs.len(), &again)
 }
 
-fn fill(alloc: Global, attrs: &mut Attrs) -> Result<()> {
+fn fill(alloc: Global, attrs: &mut Vec<Attr>) -> Result<()> {
     for name in ["a", "b", "c", "d", "e"] {
         push(alloc, attrs, name)?;
     }
     Ok(())
 }
 
-fn push(alloc: Global, attrs: &mut Attrs, name: &str) -> Result<()> {
+fn push(alloc: Global, attrs: &mut Vec<Attr>, name: &str) -> Result<()> {
     let name = Str::of(alloc, name)?;
     let value = Str::new(alloc);
     attrs.push(Attr { name, value })?;

@@ -7,7 +7,7 @@ use crate::words::{Word, number};
 use html_arena::{Limits, NodeId};
 use html_charref::Str;
 use html_tokens::{Attr, Attrs};
-use std::alloc::Global;
+use std::alloc::{AllocError, Global};
 
 /// Makes the call that a word names, and writes its answer.
 pub(crate) fn make_call(
@@ -91,14 +91,14 @@ fn insert_named(page: &mut Page, alloc: Global, word: Word<'_>) -> Result<NodeId
 }
 
 /// One attribute of this name and no value, or none.
-fn attributes(alloc: Global, name: &str) -> Result<Attrs, Refusal> {
-    let mut attrs = Attrs::new(alloc);
+fn attributes(alloc: Global, name: &str) -> Result<Attrs, AllocError> {
+    let mut attrs = Vec::new(alloc);
     if name != "" {
         let name = Str::of(alloc, name)?;
         let value = Str::new(alloc);
         attrs.push(Attr { name, value })?;
     }
-    Ok(attrs)
+    Attrs::from_vec(attrs)
 }
 
 /// Adds a run: the text, and how many code points it took.

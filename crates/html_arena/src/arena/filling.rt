@@ -151,7 +151,7 @@ impl Arena {
         self.room_for(0, held)?;
         let own = label_at(&self.nodes, element).attrs();
         let compared = own.len() as u128 * attrs.len() as u128;
-        let all = merge(*self.links.allocator(), own, attrs)?;
+        let all = merge(*self.links.allocator(), own, attrs.as_slice())?;
         set_attrs(&mut self.nodes, element, all);
         self.held = self.held.saturating_add(held);
         self.steps = self.steps.saturating_add(compared);

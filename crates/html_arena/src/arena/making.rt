@@ -10,7 +10,6 @@ ghost use Rattle.html_arena.specs.Tree.{added, added_template, label_of, tag_at}
 ghost use Rattle.html_arena.specs.Weight.{capped, weight};
 
 use super::{Arena, ArenaError};
-use crate::attributes::SharedAttrs;
 use crate::data::{
     ElementData, NewNode, NodeData, Origin, clone_of, element_held, held_of, label_at,
 };
@@ -107,7 +106,6 @@ impl Arena {
     {
         let held = element_held(&name, attrs.as_slice());
         self.room_for(1, held)?;
-        let attrs = SharedAttrs::of(attrs)?;
         let element = NodeData::Element(ElementData {
             name,
             tag,
@@ -137,7 +135,6 @@ impl Arena {
     {
         let held = element_held(&name, attrs.as_slice());
         self.room_for(2, held)?;
-        let attrs = SharedAttrs::of(attrs)?;
         reserve(&mut self.links, &mut self.nodes, &mut self.marks, 2)?;
         let template = NodeId::at(self.nodes.len());
         let contents = NodeId::at(self.nodes.len() + 1);

@@ -133,7 +133,7 @@ impl<'a> Machine<'a> {
                 keep_text(&mut self.last_name, self.alloc, draft.name.as_str())?;
                 let kind = TokenKind::Start {
                     name: draft.name,
-                    attrs: draft.attrs.into_attrs(),
+                    attrs: draft.attrs.into_attrs()?,
                     self_closing,
                 };
                 Ok(Progress::Given(token(kind, draft.start, self.place)))

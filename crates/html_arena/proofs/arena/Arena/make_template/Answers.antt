@@ -19,7 +19,7 @@ invariant_of-self-2 c =
     let labels : c.push_node-2.new.nodes.items
     ≡ (c.self.inside.nodes.items ++ template_element (length c.self.inside.nodes.items) c.args.name c.args.tag c.args.attrs c.args.origin ∷ []) ++ Contents (length c.self.inside.nodes.items) ∷ [] =
     rw (c.push_node-2.ensures.nodes, c.push_node.ensures.nodes, c.reserve.ensures.nodes, n)
-    (ap (λ (d : NodeData). (c.self.inside.nodes.items ++ d ∷ []) ++ Contents (length c.self.inside.nodes.items) ∷ []) (element_is _ _ _ _ _ _ _ c.in_ok-attrs.ensures m)) in
+    (ap (λ (d : NodeData). (c.self.inside.nodes.items ++ d ∷ []) ++ Contents (length c.self.inside.nodes.items) ∷ []) (element_is _ _ _ _ _ _ _ refl m)) in
     let b = template_is _ _ _ _ _ c.self.inside.limits c.self.invariant _ host room _ c.self.view_is _ _ _ _ _
     (rw (c.push_node-2.ensures.links, c.push_node.ensures.links, c.reserve.ensures.links) refl)
     labels
@@ -39,7 +39,7 @@ returns-clause-made c =
     let labels : c.push_node-2.new.nodes.items
     ≡ (c.self.inside.nodes.items ++ template_element (length c.self.inside.nodes.items) c.args.name c.args.tag c.args.attrs c.args.origin ∷ []) ++ Contents (length c.self.inside.nodes.items) ∷ [] =
     rw (c.push_node-2.ensures.nodes, c.push_node.ensures.nodes, c.reserve.ensures.nodes, n)
-    (ap (λ (d : NodeData). (c.self.inside.nodes.items ++ d ∷ []) ++ Contents (length c.self.inside.nodes.items) ∷ []) (element_is _ _ _ _ _ _ _ c.in_ok-attrs.ensures m)) in
+    (ap (λ (d : NodeData). (c.self.inside.nodes.items ++ d ∷ []) ++ Contents (length c.self.inside.nodes.items) ∷ []) (element_is _ _ _ _ _ _ _ refl m)) in
     let b = template_is _ _ _ _ _ c.self.inside.limits c.self.invariant _ host room _ c.self.view_is _ _ _ _ _
     (rw (c.push_node-2.ensures.links, c.push_node.ensures.links, c.reserve.ensures.links) refl)
     labels

@@ -22,7 +22,7 @@ invariant_of-self c =
     (subst (λ (t : Tree). c.args.element < length t.labels) back c.requires.node_in)
     (subst (λ (t : Tree). IsElement (label_of t c.args.element)) back c.requires.is_element)
     (c.set_attrs.ensures
-    ∙ ap (λ l. set c.self.inside.nodes.items c.args.element (with_attrs (label_in c.self.inside.nodes.items c.args.element) l)) (c.in_ok-all.ensures ∙ ap (λ l. merged l c.args.attrs) own))
+    ∙ ap (λ l. set c.self.inside.nodes.items c.args.element (with_attrs (label_in c.self.inside.nodes.items c.args.element) l)) (c.in_ok-all.ensures ∙ ap (merged c.attrs-own.result.now) c.as_slice-2.ensures ∙ ap (λ l. merged l c.args.attrs) own))
     (c.saturating_add-self-inside.ensures ∙ ap (more c.self.inside.held) held)
     (within_at _ _ _ _ _ c.self.inside.limits _ c.self.view_is 0 _ (sym c.room_for.ensures ∙ c.in_ok-room_for.was) _ _ (omega arith) c.saturating_add-self-inside.ensures)
 

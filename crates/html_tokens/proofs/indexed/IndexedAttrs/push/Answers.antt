@@ -1,4 +1,4 @@
-use Rattle.std.proofs.Common.{◌≡◌, ◌≤◌, ◌∙◌, ap, false, length, arith}
+use Rattle.std.proofs.Common.{◌≡◌, ◌≤◌, ◌∷◌, [], ◌++◌, ◌∙◌, ap, false, length, arith, rules}
 use Rattle.std.proofs.lemmas.Map.Text.{btree_map_updates_text}
 use Rattle.std.specs.String.{string_bytes}
 use Rattle.std.specs.Str.{chars}
@@ -10,25 +10,28 @@ use Rattle.html_tokens.proofs.indexed.IndexedAttrs.push.Goals as goal
 pub invariant_of-self-in_err-insert : goal.invariant_of-self-in_err-insert
 invariant_of-self-in_err-insert c = rw c.in_err-insert.ensures.err c.self.invariant
 
-pub invariant_of-self-in_err-push-2 : goal.invariant_of-self-in_err-push-2
-invariant_of-self-in_err-push-2 c =
+pub invariant_of-self-in_err-push : goal.invariant_of-self-in_err-push
+invariant_of-self-in_err-push c =
     let bs = string_bytes c.in_ok-name.name in
     let more = btree_map_updates_text bs c.self.inside.places c.insert.new.self _ c.in_ok-insert.ensures.updates in
-    let none : has_name c.args.attr.name c.self.inside.attrs ≡ false = rw c.self.view_is c.requires.new in
-    rw c.in_err-push-2.ensures.err (
-      found_still c.self.inside.attrs c.len-place.result bs c.self.inside.places c.insert.new.self more c.self.invariant.0,
-      first_still c.self.inside.attrs c.args.attr.name c.len-place.result bs c.self.inside.places c.insert.new.self (c.in_ok-name.ensures.ok ∙ c.as_str.ensures.bytes)
+    let none : has_name c.args.attr.name c.self.inside.attrs.items ≡ false = rw c.self.view_is c.requires.new in
+    let pushed : c.push.new.self.items ≡ c.self.inside.attrs.items = search rules in
+    rw pushed (
+      found_still c.self.inside.attrs.items c.len-place.result bs c.self.inside.places c.insert.new.self more c.self.invariant.0,
+      first_still c.self.inside.attrs.items c.args.attr.name c.len-place.result bs c.self.inside.places c.insert.new.self (c.in_ok-name.ensures.ok ∙ c.as_str.ensures.bytes)
           (ap chars c.in_ok-name.ensures.ok ∙ c.as_str.ensures.code_points) none more c.self.invariant.1,
     )
 
 pub invariant_of-self-2 : goal.invariant_of-self-2
 invariant_of-self-2 c =
     let bs = string_bytes c.in_ok-name.name in
-    let many : few ≤ length c.self.inside.attrs = omega arith in
+    let many : few ≤ length c.self.inside.attrs.items = omega arith in
     let more = btree_map_updates_text bs c.self.inside.places c.insert.new.self _ c.in_ok-insert.ensures.updates in
-    let none : has_name c.args.attr.name c.self.inside.attrs ≡ false = rw c.self.view_is c.requires.new in
-    rw c.in_ok-push-2.ensures.ok (
-      found_more c.self.inside.attrs c.args.attr c.len-place.result bs c.self.inside.places c.insert.new.self many (c.in_ok-name.ensures.ok ∙ c.as_str.ensures.bytes) more c.self.invariant.0,
-      first_more c.self.inside.attrs c.args.attr c.len-place.result bs c.self.inside.places c.insert.new.self many (c.in_ok-name.ensures.ok ∙ c.as_str.ensures.bytes)
-          (ap chars c.in_ok-name.ensures.ok ∙ c.as_str.ensures.code_points) none c.len-place.ensures more c.self.invariant.1,
+    let none : has_name c.args.attr.name c.self.inside.attrs.items ≡ false = rw c.self.view_is c.requires.new in
+    let pushed : c.push.new.self.items ≡ c.self.inside.attrs.items ++ c.args.attr ∷ [] = search rules in
+    let place : c.len-place.result ≡ length c.self.inside.attrs.items = search rules in
+    rw pushed (
+      found_more c.self.inside.attrs.items c.args.attr c.len-place.result bs c.self.inside.places c.insert.new.self many (c.in_ok-name.ensures.ok ∙ c.as_str.ensures.bytes) more c.self.invariant.0,
+      first_more c.self.inside.attrs.items c.args.attr c.len-place.result bs c.self.inside.places c.insert.new.self many (c.in_ok-name.ensures.ok ∙ c.as_str.ensures.bytes)
+          (ap chars c.in_ok-name.ensures.ok ∙ c.as_str.ensures.code_points) none place more c.self.invariant.1,
     )
