@@ -104,12 +104,12 @@ impl Construction {
         Ok(Construction::of_document(alloc, tree))
     }
 
-    /// Asks for room for so many more nodes, and for the fates of twice as many tokens, which take no memory before they are made. A refusal changes nothing.
+    /// Asks for room for so many more nodes, and for the fates of as many tokens, which take no memory before they are made. A refusal changes nothing.
     pub fn reserve(&mut self, count: usize)
         ensures same { self.new ≡ self.old }
     {
         self.tree.reserve(count);
-        self.ledger.reserve(count.saturating_mul(2));
+        self.ledger.reserve(count);
     }
 
     /// Begins a document whose tree keeps to limits.

@@ -106,7 +106,7 @@ impl<'a> Stages<'a> {
     {
         let nodes = (bytes / BYTES_A_NODE).min(MOST_ROOM);
         self.builder.reserve(nodes);
-        self.kept.starts.reserve(nodes.saturating_mul(2));
+        self.kept.starts.reserve(nodes);
     }
 
     /// Takes a piece of the input, bit by bit.
