@@ -36,7 +36,7 @@ pub(crate) const PIECE: usize = 4096;
 /// How many bytes of input a node has at least, in most pages.
 const BYTES_A_NODE: usize = 12;
 
-/// For how many nodes room is asked at once at most, some 30 MB: of more, the system would give fresh pages to each parse.
+/// For how many nodes room is asked at once at most, with their tokens some 45 MB; a list of over 32 MB has fresh pages in each parse.
 const MOST_ROOM: usize = 1 << 18;
 
 /// The stages, and the text that is on its way between them.
