@@ -227,4 +227,5 @@ empty_arena ls ds ms o a b c =
         tagged = λ x. tag_of-nil;
       };
       within = within_none o;
+      few = omega arith;
     }

@@ -70,6 +70,7 @@ module _ (ls : List Links) (ds : List NodeData) (ms : List Marks) (h : ℕ) (o :
         };
         labelled = relabelled ls ds ms a.labelled x z b same.0 same.1 same.2 same.3;
         within = subst (λ m. AreWithin o m h') (sym n) room;
+        few = a.few;
       } in
       subst (λ (v : List NodeData). IsArena ls v ms h' o) (sym ed) whole
 

@@ -119,7 +119,7 @@ stays : (h k : ℕ) → h ≡ min k (2 ^ 128 - 1) → h ≡ min (h + 0) (2 ^ 128
 stays h k e = omega arith
 
 -- both in one edit
-module _ (ls : List Links) (ds : List NodeData) (ms : List Marks) (h s : ℕ) (l : Option Limits) (a : IsArena ls ds ms h l) (d : NodeData) (o : IsHost (length ds) d) (room : AreWithin l (length ds + 2) (more h (capped (weight d)))) where
+module _ (ls : List Links) (ds : List NodeData) (ms : List Marks) (h s : ℕ) (l : Option Limits) (a : IsArena ls ds ms h l) (d : NodeData) (o : IsHost (length ds) d) (room : AreWithin l (length ds + 2) (more h (capped (weight d)))) (few : length ls + 2 < 2 ^ 32) where
   one : IsWhole (ls ++ blank ∷ []) (ds ++ d ∷ []) (more h (capped (weight d)))
   one = made_whole ls ds h d (more h (capped (weight d))) refl a.whole
 
@@ -145,6 +145,7 @@ module _ (ls : List Links) (ds : List NodeData) (ms : List Marks) (h s : ℕ) (l
       whole = both;
       labelled = pair_labelled ls ds ms a.whole.same_length a.labelled d o;
       within = subst (λ n. AreWithin l n (more h (capped (weight d)))) (sym two_more) room;
+      few = (let a = length_push (ls ++ blank ∷ []) blank in let b = length_push ls blank in omega (arith, few));
     },
     rw (two_parents, two_children, append_assoc ds (d ∷ []) (Contents (length ds) ∷ []), append_assoc ms (no_marks ∷ []) (no_marks ∷ [])) refl,
   )

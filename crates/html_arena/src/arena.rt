@@ -162,9 +162,10 @@ impl Arena {
         let _ = &self.links;
     }
 
-    /// A law of every arena: it has no more nodes than its limits allow, and these hold no more code points.
+    /// A law of every arena: it has no more nodes than its limits allow, and these hold no more code points; and it has fewer than 2^32 nodes.
     pub fn limited(&self)
         ensures within { IsWithin self.now }
+        ensures few { length self.now.labels < 2 ^ 32 }
     {
         let _ = &self.limits;
     }

@@ -22,7 +22,7 @@ use crate::error::ParseError;
 use crate::kept::Kept;
 use crate::made::{Made, make};
 use crate::page::{Page, Tree};
-use html_arena::{Limits, NodeId};
+use html_arena::{Limits, NodeData, NodeId};
 use html_builder::Builder;
 use html_charref::EntityTable;
 use html_input::Decoder;
@@ -36,8 +36,9 @@ pub(crate) const PIECE: usize = 4096;
 /// How many bytes of input a node has at least, in most pages.
 const BYTES_A_NODE: usize = 12;
 
-/// For how many nodes room is asked at once at most, with their tokens some 45 MB; a list of over 32 MB has fresh pages in each parse.
-const MOST_ROOM: usize = 1 << 18;
+/// For how many nodes room is asked at once at most: their list is then just under 32 MB. A longer one has fresh pages in each parse, and
+/// all lists have where they are more than twice the longest.
+const MOST_ROOM: usize = (31 << 20) / size_of::<NodeData>();
 
 /// The stages, and the text that is on its way between them.
 #[derive(Drop)]

@@ -1,4 +1,4 @@
-// The links of one node in 40 bytes: no arena has a node of the greatest number, so that number stands for none.
+// The links of one node in 20 bytes: no arena has a node of the greatest number of 32 bits, so that number stands for none.
 ghost use Rattle.std.specs.Prelude.{◌≡◌, ◌-◌, ◌^◌, Option};
 ghost use Rattle.html_arena.specs.Links.{IsBelow, blank};
 ghost use Rattle.html_arena.specs.Packed.{unpacked};
@@ -7,16 +7,16 @@ use super::{Links, NodeId};
 use std::marker::Model;
 
 /// The number that stands for no node.
-const NONE: u64 = u64::MAX;
+const NONE: u32 = u32::MAX;
 
 /// Links as numbers, seen as links.
 #[derive(Drop)]
 pub(crate) struct PackedLinks {
-    parent: u64,
-    first_child: u64,
-    last_child: u64,
-    previous: u64,
-    next: u64,
+    parent: u32,
+    first_child: u32,
+    last_child: u32,
+    previous: u32,
+    next: u32,
 }
 
 impl Model for PackedLinks {
@@ -29,17 +29,17 @@ impl Model for PackedLinks {
     ghost view = { λ p. record { parent = unpacked p.parent; first_child = unpacked p.first_child; last_child = unpacked p.last_child; previous = unpacked p.previous; next = unpacked p.next } };
 }
 
-fn pack(link: Option<NodeId>) -> u64
-    requires { IsBelow (2 ^ 64 - 1) link }
+fn pack(link: Option<NodeId>) -> u32
+    requires { IsBelow (2 ^ 32 - 1) link }
     ensures { unpacked result ≡ link }
 {
     match link {
-        Some(node) => node.index() as u64,
+        Some(node) => node.index() as u32,
         None => NONE,
     }
 }
 
-fn unpack(packed: u64) -> Option<NodeId>
+fn unpack(packed: u32) -> Option<NodeId>
     ensures { result ≡ unpacked packed }
 {
     if packed == NONE {
@@ -76,35 +76,35 @@ impl PackedLinks {
     }
 
     pub(crate) fn set_parent(&mut self, to: Option<NodeId>)
-        requires { IsBelow (2 ^ 64 - 1) to }
+        requires { IsBelow (2 ^ 32 - 1) to }
         ensures { self.new ≡ record self.old { parent = to } }
     {
         self.parent = pack(to);
     }
 
     pub(crate) fn set_first_child(&mut self, to: Option<NodeId>)
-        requires { IsBelow (2 ^ 64 - 1) to }
+        requires { IsBelow (2 ^ 32 - 1) to }
         ensures { self.new ≡ record self.old { first_child = to } }
     {
         self.first_child = pack(to);
     }
 
     pub(crate) fn set_last_child(&mut self, to: Option<NodeId>)
-        requires { IsBelow (2 ^ 64 - 1) to }
+        requires { IsBelow (2 ^ 32 - 1) to }
         ensures { self.new ≡ record self.old { last_child = to } }
     {
         self.last_child = pack(to);
     }
 
     pub(crate) fn set_previous(&mut self, to: Option<NodeId>)
-        requires { IsBelow (2 ^ 64 - 1) to }
+        requires { IsBelow (2 ^ 32 - 1) to }
         ensures { self.new ≡ record self.old { previous = to } }
     {
         self.previous = pack(to);
     }
 
     pub(crate) fn set_next(&mut self, to: Option<NodeId>)
-        requires { IsBelow (2 ^ 64 - 1) to }
+        requires { IsBelow (2 ^ 32 - 1) to }
         ensures { self.new ≡ record self.old { next = to } }
     {
         self.next = pack(to);

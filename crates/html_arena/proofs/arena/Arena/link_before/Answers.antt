@@ -20,7 +20,7 @@ invariant_of-self c =
     let at : c.place_of-place.result.previous ≡ previous_at c.self.inside.links.items c.args.next = ap (λ l. l.previous) c.place_of-place.ensures in
     let r = subst (λ (o : Option _). Rejoined c.self.inside.links.items c.link.new.links.items c.args.child c.in-Some.parent o (Some c.args.next) (Some c.args.child) (Some c.args.child) (Some c.in-Some.parent) o (Some c.args.next)) at c.link.ensures in
     let b = insert_is _ _ _ _ _ c.self.inside.limits c.self.invariant.whole _ c.self.view_is _ _ _ _ _ up r c.saturating_add-self-inside.ensures c.requires.next_in c.requires.child_in c.requires.alone c.requires.not_above in
-    record { whole = b.0; labelled = relinked _ _ _ c.self.invariant.labelled _ c.args.child _ (linkable-host _ (ap (λ (t : Tree). is_linkable (label_of t c.args.child)) c.self.view_is ∙ c.requires.linkable)) r.parent_is; within = c.self.invariant.within }
+    record { whole = b.0; labelled = relinked _ _ _ c.self.invariant.labelled _ c.args.child _ (linkable-host _ (ap (λ (t : Tree). is_linkable (label_of t c.args.child)) c.self.view_is ∙ c.requires.linkable)) r.parent_is; within = c.self.invariant.within; few = omega (arith, r.same_length, c.self.invariant.few) }
 
 pub returns-in-Some : goal.returns-in-Some
 returns-in-Some c =

@@ -1,4 +1,4 @@
-use Rattle.std.proofs.Common.{◌≡◌, ◌+◌, ◌∙◌, List, [], ◌∷◌, ◌++◌, ap, length, refl, rules, sym}
+use Rattle.std.proofs.Common.{◌≡◌, ◌+◌, ◌<◌, ◌^◌, ◌∙◌, List, [], ◌∷◌, ◌++◌, ap, arith, length, refl, rules, sym}
 use Rattle.html_arena.specs.declared.data.NodeData.{NodeData}
 use Rattle.html_arena.specs.declared.data.NodeData.TheVariants.{Contents}
 use Rattle.html_arena.specs.Make.{template_element}
@@ -20,7 +20,8 @@ invariant_of-self-2 c =
     ≡ (c.self.inside.nodes.items ++ template_element (length c.self.inside.nodes.items) c.args.name c.args.tag c.args.attrs c.args.origin ∷ []) ++ Contents (length c.self.inside.nodes.items) ∷ [] =
     rw (c.push_node-2.ensures.nodes, c.push_node.ensures.nodes, c.reserve.ensures.nodes, n)
     (ap (λ (d : NodeData). (c.self.inside.nodes.items ++ d ∷ []) ++ Contents (length c.self.inside.nodes.items) ∷ []) (element_is _ _ _ _ _ _ _ refl m)) in
-    let b = template_is _ _ _ _ _ c.self.inside.limits c.self.invariant _ host room _ c.self.view_is _ _ _ _ _
+    let few : length c.self.inside.links.items + 2 < 2 ^ 32 = (let a = ap length c.reserve.ensures.links in omega (arith, c.in_ok-reserve.ensures.few)) in
+    let b = template_is _ _ _ _ _ c.self.inside.limits c.self.invariant _ host room few _ c.self.view_is _ _ _ _ _
     (rw (c.push_node-2.ensures.links, c.push_node.ensures.links, c.reserve.ensures.links) refl)
     labels
     (rw (c.push_node-2.ensures.marks, c.push_node.ensures.marks, c.reserve.ensures.marks) refl)
@@ -40,7 +41,8 @@ returns-clause-made c =
     ≡ (c.self.inside.nodes.items ++ template_element (length c.self.inside.nodes.items) c.args.name c.args.tag c.args.attrs c.args.origin ∷ []) ++ Contents (length c.self.inside.nodes.items) ∷ [] =
     rw (c.push_node-2.ensures.nodes, c.push_node.ensures.nodes, c.reserve.ensures.nodes, n)
     (ap (λ (d : NodeData). (c.self.inside.nodes.items ++ d ∷ []) ++ Contents (length c.self.inside.nodes.items) ∷ []) (element_is _ _ _ _ _ _ _ refl m)) in
-    let b = template_is _ _ _ _ _ c.self.inside.limits c.self.invariant _ host room _ c.self.view_is _ _ _ _ _
+    let few : length c.self.inside.links.items + 2 < 2 ^ 32 = (let a = ap length c.reserve.ensures.links in omega (arith, c.in_ok-reserve.ensures.few)) in
+    let b = template_is _ _ _ _ _ c.self.inside.limits c.self.invariant _ host room few _ c.self.view_is _ _ _ _ _
     (rw (c.push_node-2.ensures.links, c.push_node.ensures.links, c.reserve.ensures.links) refl)
     labels
     (rw (c.push_node-2.ensures.marks, c.push_node.ensures.marks, c.reserve.ensures.marks) refl)

@@ -1,4 +1,4 @@
-use Rattle.std.proofs.Common.{◌≡◌, List, [], ◌∷◌, ◌++◌, ◌∙◌, ap, length}
+use Rattle.std.proofs.Common.{◌≡◌, List, [], ◌∷◌, ◌++◌, ◌∙◌, ap, arith, length, rules}
 use Rattle.std.proofs.lemmas.List.{length_push}
 use Rattle.html_arena.specs.Links.{blank}
 use Rattle.html_arena.specs.Marks.{no_marks}
@@ -6,6 +6,7 @@ use Rattle.html_arena.specs.Tree.{more}
 use Rattle.html_arena.proofs.Made.{added_is}
 use Rattle.html_arena.proofs.Labels.{grown}
 use Rattle.html_arena.proofs.Limited.{within_at}
+use Rattle.html_arena.proofs.Refusals.{unrefused}
 use Rattle.html_arena.proofs.arena.Arena.place.Goals as goal
 
 pub invariant_of-self-2 : goal.invariant_of-self-2
@@ -24,6 +25,10 @@ invariant_of-self-2 c =
       within = within_at _ _ _ _ _ c.self.inside.limits _ c.self.view_is 1 _ c.requires.room _ _
           (ap length (c.push_node.ensures.nodes ∙ ap (λ v. v ++ c.args.node ∷ []) c.reserve.ensures.nodes) ∙ length_push c.self.inside.nodes.items c.args.node)
           (c.saturating_add-self-inside.ensures ∙ ap (more c.self.inside.held) c.requires.held);
+      few =
+          (let a = ap length c.push_node.ensures.links in
+          let b = length_push c.reserve.new.links.items blank in
+          omega (arith, unrefused c.reserve.result (search rules) c.reserve.ensures.few));
     }
 
 pub returns-clause-made : goal.returns-clause-made

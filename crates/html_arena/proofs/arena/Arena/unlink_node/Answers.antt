@@ -23,7 +23,7 @@ invariant_of-self c =
     let r = subst (λ (o : Option _). Rejoined c.self.inside.links.items c.unlink.new.links.items c.args.node c.in-Some.parent o (next_at c.self.inside.links.items c.args.node) (next_at c.self.inside.links.items c.args.node) o None None None) before
     (subst (λ (o : Option _). Rejoined c.self.inside.links.items c.unlink.new.links.items c.args.node c.in-Some.parent c.place_of-place.result.previous o o c.place_of-place.result.previous None None None) after c.unlink.ensures) in
     let b = detach_is _ _ _ _ _ c.self.inside.limits c.self.invariant.whole _ c.self.view_is _ _ _ _ up r c.saturating_add-self-inside.ensures in
-    record { whole = b.0; labelled = unlinked _ _ _ c.self.invariant.labelled _ c.args.node r.parent_is; within = c.self.invariant.within }
+    record { whole = b.0; labelled = unlinked _ _ _ c.self.invariant.labelled _ c.args.node r.parent_is; within = c.self.invariant.within; few = omega (arith, r.same_length, c.self.invariant.few) }
 
 pub returns-in-Some : goal.returns-in-Some
 returns-in-Some c =
