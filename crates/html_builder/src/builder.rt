@@ -7,6 +7,7 @@ ghost use Rattle.html_construction.specs.Built.{chars_of};
 ghost use Rattle.html_ledger.specs.Runs.{last_of};
 ghost use Rattle.html_ledger.specs.declared.setting.Setting.{Setting};
 ghost use Rattle.html_ledger.specs.declared.setting.Setting.TheVariants.{Document};
+ghost use Rattle.html_names.specs.Names.{tag_of};
 ghost use Rattle.html_tokens.specs.declared.token.TokenKind.{TokenKind};
 ghost use Rattle.html_page.specs.Label.{Label};
 ghost use Rattle.html_page.specs.PageTokens.{page_kinds};
@@ -106,6 +107,8 @@ impl Builder {
     #[tactic(auto, using(crate::proofs::Handing::begin_rules))]
     pub fn fragment(alloc: Global, context: &Context) -> Result<Builder, BuildError>
         ensures begun { IfOk result (λ b. Handed (setting_of context.now) None [] b) }
+        ensures context { IfOk result (λ b. b.page.context ≡ Some (tag_of context.now.name)) }
+        ensures quirks { IfOk result (λ b. b.page.quirks ≡ context.now.quirks) }
         ensures fates { IfOk result (λ b. fates_of b ≡ []) }
         ensures fresh { IfOk result (λ b. is_stopped b ≡ false) }
         ensures good { OnOk result (IsGood context.now) }
@@ -114,14 +117,9 @@ impl Builder {
         if !context.is_good() {
             return Err(BuildError::BadContext);
         }
-        let construction = Construction::fragment(
-            alloc,
-            context.tag(),
-            context.in_form,
-            context.quirks,
-        )?;
+        let begun = Construction::fragment(alloc, context.tag(), context.in_form, context.quirks)?;
         Ok(Builder {
-            construction,
+            construction: begun,
             entries: 0,
             stopped: false,
         })
@@ -140,6 +138,8 @@ impl Builder {
         limits: Limits,
     ) -> Result<Builder, BuildError>
         ensures begun { IfOk result (λ b. Handed (setting_of context.now) (Some limits) [] b) }
+        ensures context { IfOk result (λ b. b.page.context ≡ Some (tag_of context.now.name)) }
+        ensures quirks { IfOk result (λ b. b.page.quirks ≡ context.now.quirks) }
         ensures fates { IfOk result (λ b. fates_of b ≡ []) }
         ensures fresh { IfOk result (λ b. is_stopped b ≡ false) }
         ensures good { OnOk result (IsGood context.now) }

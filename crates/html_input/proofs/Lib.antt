@@ -1,4 +1,5 @@
 pub mod Endings
+pub mod Free
 pub mod Seams
 pub mod Counting
 pub mod IllFormed

@@ -1,7 +1,7 @@
-//! Runs of ASCII without carriage returns, which are their own text.
-ghost use Rattle.std.specs.Prelude.{◌≡◌, ◌≤◌, ◌++◌, ◌↔◌, length, take, OnOk, IsTrue};
+//! Runs of ASCII, and texts, without carriage returns, which are their own text.
+ghost use Rattle.std.specs.Prelude.{◌≡◌, ◌≤◌, ◌++◌, ◌↔◌, chars, length, take, OnOk, IsTrue};
 ghost use Rattle.html_input.specs.Added.{added};
-ghost use Rattle.html_input.specs.Plain.{IsPlain, IsPlainByte};
+ghost use Rattle.html_input.specs.Plain.{IsFree, IsPlain, IsPlainByte};
 
 use std::alloc::AllocError;
 
@@ -45,4 +45,19 @@ pub(crate) fn put_bytes(bytes: &[u8], out: &mut Vec<char>) -> Result<(), AllocEr
     ensures ok { OnOk result (added out.old.items out.new.items ≡ bytes.now) }
 {
     out.extend(bytes.iter().map(|&byte| char::from(byte)))
+}
+
+/// Whether a text has no carriage return.
+pub(crate) fn is_free(text: &str) -> bool
+    ensures { IsTrue result → IsFree (chars text.now) }
+{
+    !text.contains('\r')
+}
+
+/// Puts each character behind `out`. On an error some of them may be there.
+pub(crate) fn put_chars(text: &str, out: &mut Vec<char>) -> Result<(), AllocError>
+    ensures kept { out.new.items ≡ out.old.items ++ added out.old.items out.new.items }
+    ensures ok { OnOk result (added out.old.items out.new.items ≡ chars text.now) }
+{
+    out.extend(text.chars())
 }
