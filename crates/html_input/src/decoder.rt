@@ -7,7 +7,7 @@ use crate::error::InputError;
 use crate::normaliser::Normaliser;
 use crate::plain::plain_len;
 use crate::unsettled::Unsettled;
-use simdutf8::compat::from_utf8;
+use simdutf8::from_utf8_baseline;
 
 /// The greatest number of code points that is decoded, counted before ends of lines are normalised and without the mark.
 pub const LIMIT: u64 = 268_435_456;
@@ -191,7 +191,7 @@ impl Decoder {
         ensures cause { IfErr result (λ e. e ≢ InputError.Stopped) }
     {
         let block = &bytes[..bytes.len().min(reach)];
-        match from_utf8(block) {
+        match from_utf8_baseline(block) {
             Ok(text) => {
                 self.normaliser.read_all(text, out)?;
                 Ok(block.len())
@@ -255,7 +255,7 @@ impl Decoder {
         let mut buffer = [0; 4];
         let len = unsettled.copy_with(bytes[0], &mut buffer);
         let longer = &buffer[..len];
-        match from_utf8(longer) {
+        match from_utf8_baseline(longer) {
             Ok(text) => {
                 self.normaliser.read_all(text, out)?;
                 self.unsettled = Unsettled::new();
