@@ -1,5 +1,6 @@
 pub mod Texts
 pub mod Ascii
+pub mod Encoding
 pub mod NumberLemmas
 pub mod Names
 pub mod Rows

@@ -1,12 +1,15 @@
 // Runs of code points, added to a text at once.
-ghost use Rattle.std.specs.Prelude.{◌≡◌, ◌+◌, ◌<◌, ◌≤◌, [], ◌∷◌, ◌++◌, IfOk, OnErr, OnOk, if◌then◌else◌, is_ok, length, string_bytes, take, true};
-ghost use Rattle.std.specs.Char.{encode_utf8};
-ghost use Rattle.std.specs.Str.{IsAscii, chars};
+ghost use Rattle.std.specs.Prelude.{◌≡◌, ◌+◌, ◌*◌, ◌<◌, ◌≤◌, [], ◌∷◌, ◌++◌, IfOk, OnErr, OnOk, if◌then◌else◌, is_ok, length, string_bytes, take, true};
+ghost use Rattle.std.specs.Char.{IsScalar, encode_utf8};
+ghost use Rattle.std.specs.Str.{IsAscii, IsUtf8, chars};
 
 use std::alloc::AllocError;
 
-/// How many code points of ASCII are copied at once.
+/// How many code points are copied at once.
 const BLOCK: usize = 64;
+
+/// How many bytes they take at most.
+const BYTES: usize = 4 * BLOCK;
 
 /// Adds a run of code points at the end, or leaves the text as it was.
 pub(crate) fn extend(text: &mut String, run: &[char]) -> Result<(), AllocError>
@@ -28,7 +31,7 @@ pub(crate) fn extend(text: &mut String, run: &[char]) -> Result<(), AllocError>
     Ok(())
 }
 
-/// Adds a front of a run at the end, a block of ASCII or else its first code point, and answers its length.
+/// Adds a front of a run at the end, and answers its length.
 fn push_front(text: &mut String, run: &[char]) -> Result<usize, AllocError>
     requires { 0 < length run.now }
     ensures some { IfOk result (λ n. 0 < n) }
@@ -38,52 +41,79 @@ fn push_front(text: &mut String, run: &[char]) -> Result<usize, AllocError>
     ensures front { take (length (string_bytes text.old)) (string_bytes text.new) ≡ string_bytes text.old }
     ensures err { OnErr result (string_bytes text.new ≡ string_bytes text.old) }
 {
-    let mut block = [0; BLOCK];
-    let len = copy_ascii(run, &mut block);
-    if len == 0 {
-        push_one(text, run[0])?;
-        return Ok(1);
-    }
-    push_ascii(text, &block[..len])?;
-    Ok(len)
+    let most = run.len().min(BLOCK);
+    let mut block = [0; BYTES];
+    let len = encode(&run[..most], &mut block);
+    push_bytes(text, &block[..len])?;
+    Ok(most)
 }
 
-/// Adds a code point at the end.
-fn push_one(text: &mut String, c: char) -> Result<(), AllocError>
-    ensures ok { OnOk result (chars (string_bytes text.new) ≡ chars (string_bytes text.old) ++ c ∷ []) }
-    ensures bytes { string_bytes text.new ≡ (if is_ok result then string_bytes text.old ++ encode_utf8 c else string_bytes text.old) }
-{
-    text.push(c)
-}
-
-/// Copies the ASCII at the start of a run, as far as there is room, and answers how many code points that are.
-fn copy_ascii(run: &[char], block: &mut [u8]) -> usize
-    requires { 0 < length run.now }
-    ensures within { result ≤ length run.now }
-    ensures room { result ≤ length block.old }
+/// Writes code points as UTF-8 to the start of a block, and answers how many bytes they are.
+fn encode(front: &[char], block: &mut [u8]) -> usize
+    requires room { 4 * length front.now ≤ length block.old }
+    ensures within { result ≤ length block.new }
     ensures same_len { length block.new ≡ length block.old }
-    ensures copied { take result block.new ≡ take result run.now }
-    ensures ascii { IsAscii (take result run.now) }
+    ensures utf8 { IsUtf8 (take result block.new) }
+    ensures read { chars (take result block.new) ≡ front.now }
 {
-    if !run[0].is_ascii() {
-        return 0;
-    }
-    let most = run.len().min(block.len());
-    let front = &run[..most];
     if is_all_ascii(front) {
         narrow(front, block, 0);
-        return most;
+        return front.len();
     }
-    let mut len = 0;
-    'copying: while len < most {
-        let c = run[len];
-        if !c.is_ascii() {
-            break;
-        }
-        block[len] = c as u8;
-        len += 1;
+    encode_each(front, block)
+}
+
+/// The same, code point by code point.
+fn encode_each(front: &[char], block: &mut [u8]) -> usize
+    requires room { 4 * length front.now ≤ length block.old }
+    ensures within { result ≤ length block.new }
+    ensures same_len { length block.new ≡ length block.old }
+    ensures utf8 { IsUtf8 (take result block.new) }
+    ensures read { chars (take result block.new) ≡ front.now }
+{
+    let mut at = 0;
+    'encoding: for index in 0..front.len() {
+        at = encode_one(front[index], block, at);
     }
-    len
+    at
+}
+
+/// Writes a code point as UTF-8 to a place, and answers the place after it.
+fn encode_one(c: char, block: &mut [u8], at: usize) -> usize
+    requires room { at + 4 ≤ length block.old }
+    ensures same_len { length block.new ≡ length block.old }
+    ensures few { result ≤ at + 4 }
+    ensures scalar { IsScalar c }
+    ensures copied { take result block.new ≡ take at block.old ++ encode_utf8 c }
+{
+    let code = c as u32;
+    if code < 0x80 {
+        put(block, at, code)
+    } else if code < 0x800 {
+        let second = put(block, at, 0xC0 + code / 64);
+        put(block, second, 0x80 + code % 64)
+    } else if code < 0x10000 {
+        let second = put(block, at, 0xE0 + code / 4096);
+        let third = put(block, second, 0x80 + code / 64 % 64);
+        put(block, third, 0x80 + code % 64)
+    } else {
+        let second = put(block, at, 0xF0 + code / 262_144);
+        let third = put(block, second, 0x80 + code / 4096 % 64);
+        let fourth = put(block, third, 0x80 + code / 64 % 64);
+        put(block, fourth, 0x80 + code % 64)
+    }
+}
+
+/// Writes a byte to a place, and answers the place after it.
+fn put(block: &mut [u8], at: usize, byte: u32) -> usize
+    requires room { at < length block.old }
+    requires byte { byte < 256 }
+    ensures same_len { length block.new ≡ length block.old }
+    ensures next { result ≡ at + 1 }
+    ensures copied { take (at + 1) block.new ≡ take at block.old ++ byte ∷ [] }
+{
+    block[at] = byte as u8;
+    at + 1
 }
 
 /// Whether all code points are ASCII. It looks at each, so that many are looked at at once.
@@ -109,11 +139,11 @@ pub(crate) fn narrow(ascii: &[char], block: &mut [u8], at: usize)
     }
 }
 
-/// Adds ASCII at the end.
-fn push_ascii(text: &mut String, ascii: &[u8]) -> Result<(), AllocError>
-    requires { IsAscii ascii.now }
-    ensures ok { OnOk result (chars (string_bytes text.new) ≡ chars (string_bytes text.old) ++ ascii.now) }
-    ensures bytes { string_bytes text.new ≡ (if is_ok result then string_bytes text.old ++ ascii.now else string_bytes text.old) }
+/// Adds bytes that are UTF-8 at the end.
+fn push_bytes(text: &mut String, bytes: &[u8]) -> Result<(), AllocError>
+    requires { IsUtf8 bytes.now }
+    ensures ok { OnOk result (chars (string_bytes text.new) ≡ chars (string_bytes text.old) ++ chars bytes.now) }
+    ensures bytes { string_bytes text.new ≡ (if is_ok result then string_bytes text.old ++ bytes.now else string_bytes text.old) }
 {
-    text.push_str(unsafe { std::str::from_utf8_unchecked(ascii) })
+    text.push_str(unsafe { std::str::from_utf8_unchecked(bytes) })
 }
