@@ -8,7 +8,7 @@ use Rattle.html_builder.proofs.builder.Builder.fragment.Goals as goal
 
 pub returns-clause-begun : goal.returns-clause-begun
 returns-clause-begun c =
-    begun-fragment (tag_of c.args.context.now.name) c.args.context.now.in_form None (record { page = c.in_ok-construction.construction; entries = 0; stopped = false }) refl refl
-    (subst (λ t. IsBuilt (nothing_of (Fragment t c.args.context.now.in_form) None) c.in_ok-construction.construction) c.tag.ensures.value c.in_ok-construction.ensures.built)
-    c.in_ok-construction.ensures.reset c.in_ok-construction.ensures.stack c.in_ok-construction.ensures.nodes c.in_ok-construction.ensures.uncloned
-    c.in_ok-construction.ensures.implied c.in_ok-construction.ensures.counted c.in_ok-construction.ensures.founded
+    begun-fragment (tag_of c.args.context.now.name) c.args.context.now.in_form None (record { page = c.in_ok-begun.construction; entries = 0; stopped = false }) refl refl
+    (subst (λ t. IsBuilt (nothing_of (Fragment t c.args.context.now.in_form) None) c.in_ok-begun.construction) c.tag.ensures.value c.in_ok-begun.ensures.built)
+    c.in_ok-begun.ensures.reset c.in_ok-begun.ensures.stack c.in_ok-begun.ensures.nodes c.in_ok-begun.ensures.uncloned
+    c.in_ok-begun.ensures.implied c.in_ok-begun.ensures.counted c.in_ok-begun.ensures.founded
