@@ -8,7 +8,7 @@ use Rattle.html_builder.proofs.builder.Builder.fragment.Goals as goal
 
 pub returns-clause-begun : goal.returns-clause-begun
 returns-clause-begun c =
-    begun-fragment (tag_of c.args.context.now.name) c.args.context.now.in_form None (record { page = c.in_ok-begun.construction; entries = 0; stopped = false }) refl refl
-    (subst (λ t. IsBuilt (nothing_of (Fragment t c.args.context.now.in_form) None) c.in_ok-begun.construction) c.tag.ensures.value c.in_ok-begun.ensures.built)
+    begun-fragment (tag_of c.args.context.now.name) c.args.context.now.in_form None (record { page = c.in_ok-begun.begun; entries = 0; stopped = false }) refl refl
+    (subst (λ t. IsBuilt (nothing_of (Fragment t c.args.context.now.in_form) None) c.in_ok-begun.begun) c.tag.ensures.value c.in_ok-begun.ensures.built)
     c.in_ok-begun.ensures.reset c.in_ok-begun.ensures.stack c.in_ok-begun.ensures.nodes c.in_ok-begun.ensures.uncloned
     c.in_ok-begun.ensures.implied c.in_ok-begun.ensures.counted c.in_ok-begun.ensures.founded
