@@ -42,29 +42,32 @@ fn push_front(text: &mut String, run: &[char]) -> Result<usize, AllocError>
     ensures err { OnErr result (string_bytes text.new ≡ string_bytes text.old) }
 {
     let most = run.len().min(BLOCK);
-    let mut block = [0; BYTES];
-    let len = encode(&run[..most], &mut block);
-    push_bytes(text, &block[..len])?;
+    let front = &run[..most];
+    let mut block = [0; BLOCK];
+    if narrow(front, &mut block, 0) {
+        push_bytes(text, &block[..most])?;
+        return Ok(most);
+    }
+    push_each(text, front)?;
     Ok(most)
+}
+
+/// Adds code points at the end, of which there are no more than are copied at once.
+fn push_each(text: &mut String, front: &[char]) -> Result<(), AllocError>
+    requires { length front.now ≤ 64 }
+    ensures ok { OnOk result (chars (string_bytes text.new) ≡ chars (string_bytes text.old) ++ front.now) }
+    ensures longer { length (string_bytes text.old) ≤ length (string_bytes text.new) }
+    ensures front { take (length (string_bytes text.old)) (string_bytes text.new) ≡ string_bytes text.old }
+    ensures err { OnErr result (string_bytes text.new ≡ string_bytes text.old) }
+{
+    let mut block = [0; BYTES];
+    let len = encode(front, &mut block);
+    push_bytes(text, &block[..len])?;
+    Ok(())
 }
 
 /// Writes code points as UTF-8 to the start of a block, and answers how many bytes they are.
 fn encode(front: &[char], block: &mut [u8]) -> usize
-    requires room { 4 * length front.now ≤ length block.old }
-    ensures within { result ≤ length block.new }
-    ensures same_len { length block.new ≡ length block.old }
-    ensures utf8 { IsUtf8 (take result block.new) }
-    ensures read { chars (take result block.new) ≡ front.now }
-{
-    if is_all_ascii(front) {
-        narrow(front, block, 0);
-        return front.len();
-    }
-    encode_each(front, block)
-}
-
-/// The same, code point by code point.
-fn encode_each(front: &[char], block: &mut [u8]) -> usize
     requires room { 4 * length front.now ≤ length block.old }
     ensures within { result ≤ length block.new }
     ensures same_len { length block.new ≡ length block.old }
@@ -116,27 +119,22 @@ fn put(block: &mut [u8], at: usize, byte: u32) -> usize
     at + 1
 }
 
-/// Whether all code points are ASCII. It looks at each, so that many are looked at at once.
-pub(crate) fn is_all_ascii(run: &[char]) -> bool
-    ensures { result ≡ true → IsAscii run.now }
+/// Copies code points to a place, where all of them are ASCII: whether they are. Else what stands from there on is of no use. It goes through
+/// all, so that many are copied at once.
+pub(crate) fn narrow(run: &[char], block: &mut [u8], at: usize) -> bool
+    requires room { at + length run.now ≤ length block.old }
+    ensures same_len { length block.new ≡ length block.old }
+    ensures ascii { result ≡ true → IsAscii run.now }
+    ensures copied { result ≡ true → take (at + length run.now) block.new ≡ take at block.old ++ run.now }
+    ensures front { take at block.new ≡ take at block.old }
 {
     let mut is_ascii = true;
-    for c in run {
-        is_ascii = is_ascii & c.is_ascii();
+    for index in 0..run.len() {
+        let code = run[index] as u32;
+        is_ascii = is_ascii & (code < 128);
+        block[at + index] = (code % 128) as u8;
     }
     is_ascii
-}
-
-/// Copies ASCII to a place.
-pub(crate) fn narrow(ascii: &[char], block: &mut [u8], at: usize)
-    requires ascii { IsAscii ascii.now }
-    requires room { at + length ascii.now ≤ length block.old }
-    ensures same_len { length block.new ≡ length block.old }
-    ensures copied { take (at + length ascii.now) block.new ≡ take at block.old ++ ascii.now }
-{
-    for index in 0..ascii.len() {
-        block[at + index] = ascii[index] as u8;
-    }
 }
 
 /// Adds bytes that are UTF-8 at the end.

@@ -2,7 +2,7 @@
 ghost use Rattle.std.specs.Prelude.{◌≡◌, ◌+◌, ◌<◌, ◌≤◌, ◌++◌, [], IfOk, IfSome, length, string_bytes, take, true, false};
 ghost use Rattle.std.specs.Str.{IsAscii, chars};
 
-use crate::run::{is_all_ascii, narrow};
+use crate::run::narrow;
 use std::alloc::{AllocError, Global};
 use std::marker::Model;
 
@@ -95,10 +95,9 @@ impl<const MOST: usize> Short<MOST> {
         ensures no { result ≡ false → self.new ≡ self.old }
     {
         let len = self.len as usize;
-        if run.len() > MOST - len || !is_all_ascii(run) {
+        if run.len() > MOST - len || !narrow(run, &mut self.bytes, len) {
             return false;
         }
-        narrow(run, &mut self.bytes, len);
         self.len = (len + run.len()) as u8;
         true
     }

@@ -1,6 +1,6 @@
 use Rattle.std.proofs.Common.{◌≡◌, ◌*◌, ◌≤◌, chars, length, take}
 use Rattle.std.specs.Str.{IsUtf8}
-use Rattle.html_charref.proofs.run.encode_each.Given as goal
+use Rattle.html_charref.proofs.run.encode.Given as goal
 
 abbrev pub invariant-encoding : goal.invariant-encoding
 invariant-encoding l = record {
