@@ -7,7 +7,7 @@ use crate::refusal::Refusal;
 use crate::word::Word;
 use html_arena::{Arena, NewNode, NodeData, NodeId, Origin};
 use html_charref::Str;
-use html_tokens::{Attr, Attrs};
+use html_tokens::{Attr, Attrs, OptionalStr};
 use std::alloc::{AllocError, Global};
 
 /// Makes the call that a word names, and writes its answer, where it has one.
@@ -58,11 +58,11 @@ fn make(arena: &mut Arena, alloc: Global, word: Word<'_>) -> Result<(), Refusal>
 }
 
 fn make_doctype(arena: &mut Arena, alloc: Global, name: &str) -> Result<(), Refusal> {
-    let name = Some(Str::of(alloc, name)?);
+    let name = OptionalStr::some(alloc, Str::of(alloc, name)?)?;
     arena.make(NewNode::Doctype {
         name,
-        public: None,
-        system: None,
+        public: OptionalStr::none(),
+        system: OptionalStr::none(),
         token: 4,
     })?;
     Ok(())

@@ -9,7 +9,7 @@ use crate::attributes::attrs_held;
 use crate::links::NodeId;
 use html_charref::{Str, WideStr};
 use html_names::Tag;
-use html_tokens::{Attr, Attrs};
+use html_tokens::{Attr, Attrs, OptionalStr};
 use std::alloc::AllocError;
 
 /// Where a node comes from: the token of this number, a rule of tree construction, or neither.
@@ -61,9 +61,9 @@ pub enum NodeData {
         token: u64,
     },
     Doctype {
-        name: Option<Str>,
-        public: Option<Str>,
-        system: Option<Str>,
+        name: OptionalStr,
+        public: OptionalStr,
+        system: OptionalStr,
         token: u64,
     },
 }
@@ -86,9 +86,9 @@ pub enum NewNode {
         token: u64,
     },
     Doctype {
-        name: Option<Str>,
-        public: Option<Str>,
-        system: Option<Str>,
+        name: OptionalStr,
+        public: OptionalStr,
+        system: OptionalStr,
         token: u64,
     },
 }
@@ -184,10 +184,10 @@ fn set_attrs_of(node: &mut NodeData, attrs: Attrs)
 }
 
 /// The code points of a text that may be absent.
-fn optional_held(text: &Option<Str>) -> u128
+fn optional_held(text: &OptionalStr) -> u128
     ensures { result ≡ optional_weight text.now }
 {
-    match text {
+    match text.as_ref() {
         None => 0,
         Some(text) => text.len() as u128,
     }

@@ -8,7 +8,7 @@ ghost use Rattle.html_construction.specs.Tokens.{attrs_of, data_of, element_name
 
 use html_charref::Str;
 use html_names::Tag;
-use html_tokens::{Attrs, TokenKind};
+use html_tokens::{Attrs, OptionalStr, TokenKind};
 use std::alloc::{AllocError, Global};
 
 /// The name of a tag, in memory of its own; another token has none.
@@ -73,9 +73,9 @@ pub(crate) fn copy_data(alloc: Global, token: &TokenKind) -> Result<Str, AllocEr
 /// The name and the ids of a doctype, in memory of their own; another token has none.
 #[derive(Drop)]
 pub(crate) struct DoctypeIds {
-    pub name: Option<Str>,
-    pub public: Option<Str>,
-    pub system: Option<Str>,
+    pub name: OptionalStr,
+    pub public: OptionalStr,
+    pub system: OptionalStr,
 }
 
 /// The name and the ids of a doctype, in memory of their own; another token has none.
@@ -105,9 +105,9 @@ pub(crate) fn copy_doctype(token: &TokenKind) -> Result<DoctypeIds, AllocError>
         | TokenKind::Char(_)
         | TokenKind::Comment(_)
         | TokenKind::Eof => Ok(DoctypeIds {
-            name: None,
-            public: None,
-            system: None,
+            name: OptionalStr::none(),
+            public: OptionalStr::none(),
+            system: OptionalStr::none(),
         }),
     }
 }

@@ -1,7 +1,6 @@
 // Quirks mode, by the doctype (13.2.6.4.1, with a list of ids of this project's own).
 
-use html_charref::Str;
-use html_tokens::TokenKind;
+use html_tokens::{OptionalStr, TokenKind};
 
 /// Public ids that set quirks mode.
 const PUBLIC: [&str; 3] = [
@@ -38,7 +37,7 @@ pub(crate) fn sets_quirks(kind: &TokenKind) -> bool {
         } => {
             *force_quirks
                 || !is_html(name)
-                || has_quirky_public(public, system.is_none())
+                || has_quirky_public(public, system.as_ref().is_none())
                 || has_quirky_system(system)
         }
         TokenKind::Start { .. }
@@ -50,16 +49,16 @@ pub(crate) fn sets_quirks(kind: &TokenKind) -> bool {
 }
 
 /// Whether the name of a doctype is `html`.
-fn is_html(name: &Option<Str>) -> bool {
-    match name {
+fn is_html(name: &OptionalStr) -> bool {
+    match name.as_ref() {
         Some(name) => name.as_str() == "html",
         None => false,
     }
 }
 
 /// Whether a public id sets quirks mode, with a system id or alone.
-fn has_quirky_public(public: &Option<Str>, alone: bool) -> bool {
-    let Some(public) = public else {
+fn has_quirky_public(public: &OptionalStr, alone: bool) -> bool {
+    let Some(public) = public.as_ref() else {
         return false;
     };
     let id = public.as_str();
@@ -69,8 +68,8 @@ fn has_quirky_public(public: &Option<Str>, alone: bool) -> bool {
 }
 
 /// Whether a system id sets quirks mode.
-fn has_quirky_system(system: &Option<Str>) -> bool {
-    match system {
+fn has_quirky_system(system: &OptionalStr) -> bool {
+    match system.as_ref() {
         Some(system) => is_same(system.as_str(), SYSTEM),
         None => false,
     }

@@ -88,7 +88,7 @@ fn put_opening<W: Sink>(
         NodeData::Comment { text, .. } => {
             output.put_between(writer, "<!--", text.as_str(), "-->")
         }
-        NodeData::Doctype { name, .. } => match name {
+        NodeData::Doctype { name, .. } => match name.as_ref() {
             Some(name) => output.put_between(writer, "<!DOCTYPE ", name.as_str(), ">"),
             None => output.put(writer, b"<!DOCTYPE >"),
         },

@@ -15,10 +15,9 @@ ghost use Rattle.html_print.specs.Arranged.{IsOrdered};
 use crate::attributes::{arrange, put_attributes};
 use crate::line::put_line;
 use html_arena::{Arena, NodeData, NodeId};
-use html_charref::Str;
 use html_device::{DeviceFault, Sink};
 use html_output::Output;
-use html_tokens::Attr;
+use html_tokens::{Attr, OptionalStr};
 
 /// Puts the lines of a node: its own, those of its attributes in order, and that of its contents.
 pub(crate) fn put_node<'a, W: Sink>(
@@ -81,9 +80,9 @@ fn put_doctype<W: Sink>(
     output: &mut Output,
     writer: &mut W,
     depth: u128,
-    name: &Option<Str>,
-    public: &Option<Str>,
-    system: &Option<Str>,
+    name: &OptionalStr,
+    public: &OptionalStr,
+    system: &OptionalStr,
 ) -> Result<(), DeviceFault>
     requires low { depth < 2 ^ 100 }
     ensures bytes { Puts (W.taken writer.old) (held output.old) (W.taken writer.new) (held output.new) result
@@ -105,7 +104,7 @@ fn put_doctype<W: Sink>(
 }
 
 /// Whether neither id is there, or not empty.
-fn are_empty(public: &Option<Str>, system: &Option<Str>) -> bool
+fn are_empty(public: &OptionalStr, system: &OptionalStr) -> bool
     ensures none { result ≡ true → ids (text_or_empty public.now) (text_or_empty system.now) ≡ [] }
     ensures some { result ≡ false → ids (text_or_empty public.now) (text_or_empty system.now) ≡ quoted_ids (text_or_empty public.now) (text_or_empty system.now) }
 {
@@ -113,20 +112,20 @@ fn are_empty(public: &Option<Str>, system: &Option<Str>) -> bool
 }
 
 /// Whether there is no text, or the empty one.
-fn is_empty(text: &Option<Str>) -> bool
+fn is_empty(text: &OptionalStr) -> bool
     ensures { IsTrue result ↔ (text_or_empty text.now ≡ []) }
 {
-    match text {
+    match text.as_ref() {
         Some(text) => text.is_empty(),
         None => true,
     }
 }
 
 /// A text, or the empty one.
-fn or_empty(text: &Option<Str>) -> &str
+fn or_empty(text: &OptionalStr) -> &str
     ensures { result.now ≡ encode_utf8_all (text_or_empty text.now) }
 {
-    match text {
+    match text.as_ref() {
         Some(text) => text.as_str(),
         None => "",
     }

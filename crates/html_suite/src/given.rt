@@ -1,8 +1,7 @@
 //! The tokens of an input as entries.
 
 use crate::entry::{Attribute, Entry};
-use html_charref::Str;
-use html_tokens::{Attr, Token, TokenKind};
+use html_tokens::{Attr, OptionalStr, Token, TokenKind};
 use std::alloc::{AllocError, Global};
 
 /// The entries of tokens, the end of the input left out.
@@ -64,8 +63,8 @@ fn add(alloc: Global, entries: &mut Vec<Entry>, kind: &TokenKind) -> Result<(), 
     Ok(())
 }
 
-fn text(alloc: Global, from: &Option<Str>) -> Result<Option<String>, AllocError> {
-    match from {
+fn text(alloc: Global, from: &OptionalStr) -> Result<Option<String>, AllocError> {
+    match from.as_ref() {
         Some(text) => Ok(Some(text.as_str().to_string(alloc)?)),
         None => Ok(None),
     }

@@ -20,7 +20,7 @@ use Rattle.html_tokens.specs.declared.comment.CommentDraft.{CommentDraft}
 square_more : (p n : ℕ) → p * p + p ≤ (p + n) * (p + n) + (p + n)
 square_more p n = omega arith
 
-square_on : (p n : ℕ) → p * p + p + n ≤ (p + n) * (p + n) + (p + n)
+pub square_on : (p n : ℕ) → p * p + p + n ≤ (p + n) * (p + n) + (p + n)
 square_on p n = let f : p * p ≤ (p + n) * (p + n) = mul-le p p (p + n) (p + n) (omega arith) (omega arith) in omega arith
 
 square_one : (p : ℕ) → (p + 1) * (p + 1) ≡ p * p + p + (p + 1)

@@ -21,11 +21,11 @@ use Rattle.html_tokens.specs.declared.tag.Part.TheVariants as parts
 use Rattle.html_tokens.specs.declared.tag.ValueEnd.{ValueEnd}
 use Rattle.html_tokens.specs.declared.tag.ValueEnd.TheVariants as ends
 
-neither : (a b : Bool) → not (a || b) ≡ true → (a ≡ false) × (not b ≡ true)
+pub neither : (a b : Bool) → not (a || b) ≡ true → (a ≡ false) × (not b ≡ true)
 neither true b h = absurd (false≢true h)
 neither false b h = (refl, h)
 
-is_not : (b : Bool) → not b ≡ true → b ≡ false
+pub is_not : (b : Bool) → not b ≡ true → b ≡ false
 is_not true h = absurd (false≢true h)
 is_not false h = refl
 

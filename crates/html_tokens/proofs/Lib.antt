@@ -17,7 +17,7 @@ pub mod RunLemmas
 pub mod CopyLemmas
 pub mod PlaceLemmas
 pub mod ShortLemmas
-pub mod QuotedLemmas
+pub mod WholeLemmas
 pub mod OrderLemmas
 pub mod ComparisonLemmas
 pub mod ScriptLemmas

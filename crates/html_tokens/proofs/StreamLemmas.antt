@@ -1,7 +1,7 @@
 -- A run of the machine goes on.
 use Rattle.std.proofs.Common.{◌≡◌, ℕ, zero, suc, ◌+◌, ◌≤◌, List, [], ◌∷◌, ◌++◌, length, drop, Option, Some, None, Bool, true, false, refl, ap, ap₂, sym, ◌∙◌, ◌-◌, arith, append_assoc, append-nil}
 use Rattle.std.specs.List.{AllByRecursion}
-use Rattle.std.specs.Option.{IfSome}
+use Rattle.std.specs.Option.{IfNone, IfSome}
 use Rattle.html_tokens.specs.Tokens.{tokens_after, mode_after, name_after, tag_tokens, token, chars_at, next, text_or, text_after, begun_piece, ref_tokens, open_piece, opener, Piece, name_after_kind, when}
 use Rattle.html_tokens.specs.Marks.{begin_at, front}
 use Rattle.html_tokens.specs.Reference.{reference}
@@ -59,6 +59,21 @@ skips_trans a b c s t = (
 last_name-push : (ts : List Token) (t : Token) (name : Option (List ℕ)) → last_name (ts ++ t ∷ []) name ≡ name_after_kind t.kind (last_name ts name)
 last_name-push [] t name = refl
 last_name-push (u ∷ ts) t name = last_name-push ts t (name_after_kind u.kind name)
+
+-- what holds of what comes next after some was passed
+pub some_after : (old now new : Machine) (answer : Option Token) → Skips old now → IfSome answer (λ token. (run : Run) → IsAt now run → (switch : Option TextMode) → IsAt (answered token switch new) (gave run token switch)) →
+    IfSome answer (λ token. (run : Run) → IsAt old run → (switch : Option TextMode) → IsAt (answered token switch new) (gave run token switch))
+some_after old now new (Some token) s h = λ run i. h run (run_skips old now run s i)
+some_after old now new None s h = tt
+
+pub none_after : (old now new : Machine) (answer : Option Token) → Skips old now → IfNone answer ((run : Run) → IsAt now run → IsAt new run × IsPrompt run) → IfNone answer ((run : Run) → IsAt old run → IsAt new run × IsPrompt run)
+none_after old now new (Some token) s h = tt
+none_after old now new None s h = λ run i. h run (run_skips old now run s i)
+
+pub none_after_all : (old now : Machine) (answer : Option Token) → Skips old now → IfNone answer ((run : Run) → IsAt now run → run.finished ≡ true → tokens_of run.text run.switches run.start ≡ run.given) →
+    IfNone answer ((run : Run) → IsAt old run → run.finished ≡ true → tokens_of run.text run.switches run.start ≡ run.given)
+none_after_all old now (Some token) s h = tt
+none_after_all old now None s h = λ run i. h run (run_skips old now run s i)
 
 pub run_given : (old new : Machine) (run : Run) (given : Token) (switch : Option TextMode) → Steps old (Given given) new → IsAt old run → IsAt (answered given switch new) (gave run given switch)
 run_given old new run given switch s i = record {

@@ -21,5 +21,5 @@ pub mod Copied
 pub mod Order
 pub mod Places
 pub mod Queue
-pub mod Quoted
 pub mod Short
+pub mod Whole

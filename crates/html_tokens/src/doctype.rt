@@ -6,6 +6,7 @@ ghost use Rattle.html_tokens.specs.Input.{Decided, IsShort};
 use crate::input::{Input, Peek};
 use crate::marks::begins_word;
 use crate::nulls::null_replaced;
+use crate::optional::OptionalStr;
 use crate::tag::{is_space, name_char};
 use html_charref::Str;
 use std::alloc::{AllocError, Global};
@@ -44,9 +45,9 @@ pub enum Keyword {
 pub struct DoctypeDraft {
     pub alloc: Global,
     pub start: u64,
-    pub name: Option<Str>,
-    pub public: Option<Str>,
-    pub system: Option<Str>,
+    pub name: OptionalStr,
+    pub public: OptionalStr,
+    pub system: OptionalStr,
     pub text: Str,
     pub spaced: bool,
     pub part: DoctypePart,
@@ -88,9 +89,9 @@ impl DoctypeDraft {
         DoctypeDraft {
             alloc,
             start,
-            name: None,
-            public: None,
-            system: None,
+            name: OptionalStr::none(),
+            public: OptionalStr::none(),
+            system: OptionalStr::none(),
             text: Str::new(alloc),
             spaced: false,
             part: DoctypePart::BeforeName,
@@ -103,7 +104,10 @@ impl DoctypeDraft {
     {
         let c = match input.peek(0) {
             Peek::Wait => return Ok(DoctypeReading::Wait),
-            Peek::Is(None) => return Ok(DoctypeReading::Closed(self.end(), 0)),
+            Peek::Is(None) => {
+                let force_quirks = self.end()?;
+                return Ok(DoctypeReading::Closed(force_quirks, 0));
+            }
             Peek::Is(Some(c)) => c,
         };
         if let DoctypePart::AfterName = self.part {
@@ -118,20 +122,20 @@ impl DoctypeDraft {
     }
 
     /// The input ends in the doctype: whether it has force-quirks.
-    fn end(&mut self) -> bool
-        ensures { EndsPart self.old result self.new }
+    fn end(&mut self) -> Result<bool, AllocError>
+        ensures { IfOk result (λ force_quirks. EndsPart self.old force_quirks self.new) }
     {
-        match self.part {
+        Ok(match self.part {
             DoctypePart::Name => {
-                self.name = Some(self.take_text());
+                self.name = self.take_text()?;
                 true
             }
             DoctypePart::Public(_) => {
-                self.public = Some(self.take_text());
+                self.public = self.take_text()?;
                 true
             }
             DoctypePart::System(_) => {
-                self.system = Some(self.take_text());
+                self.system = self.take_text()?;
                 true
             }
             DoctypePart::BadRest(force_quirks) => force_quirks,
@@ -141,15 +145,16 @@ impl DoctypeDraft {
             DoctypePart::AfterPublic => true,
             DoctypePart::BeforeSystem => true,
             DoctypePart::AfterSystem => true,
-        }
+        })
     }
 
     /// The name or id that was being read.
-    fn take_text(&mut self) -> Str
-        ensures text { result ≡ self.old.text }
+    fn take_text(&mut self) -> Result<OptionalStr, AllocError>
+        ensures text { IfOk result (λ taken. taken ≡ Some self.old.text) }
         ensures rest { self.new ≡ record self.old { text = [] } }
     {
-        mem::replace(&mut self.text, Str::new(self.alloc))
+        let text = mem::replace(&mut self.text, Str::new(self.alloc));
+        OptionalStr::some(self.alloc, text)
     }
 
     /// Reads a code point after the name, or a keyword.
@@ -228,11 +233,11 @@ impl DoctypeDraft {
         ensures { IfOk result (λ closed. ReadsPart self.old c closed self.new) }
     {
         if c == '>' {
-            self.name = Some(self.take_text());
+            self.name = self.take_text()?;
             return Ok(Some(false));
         }
         if is_space(c) {
-            self.name = Some(self.take_text());
+            self.name = self.take_text()?;
             self.part = DoctypePart::AfterName;
             return Ok(None);
         }
@@ -271,12 +276,12 @@ impl DoctypeDraft {
         ensures { IfOk result (λ closed. ReadsPart self.old c closed self.new) }
     {
         if c == quote {
-            self.public = Some(self.take_text());
+            self.public = self.take_text()?;
             self.part = DoctypePart::AfterPublic;
             return Ok(None);
         }
         if c == '>' {
-            self.public = Some(self.take_text());
+            self.public = self.take_text()?;
             return Ok(Some(true));
         }
         self.text.push(null_replaced(c))?;
@@ -316,12 +321,12 @@ impl DoctypeDraft {
         ensures { IfOk result (λ closed. ReadsPart self.old c closed self.new) }
     {
         if c == quote {
-            self.system = Some(self.take_text());
+            self.system = self.take_text()?;
             self.part = DoctypePart::AfterSystem;
             return Ok(None);
         }
         if c == '>' {
-            self.system = Some(self.take_text());
+            self.system = self.take_text()?;
             return Ok(Some(true));
         }
         self.text.push(null_replaced(c))?;

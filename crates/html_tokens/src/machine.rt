@@ -194,7 +194,7 @@ impl<'a> Machine<'a> {
         ensures bounded { IsBounded self.old faults.old → OnOk result (IsBounded self.new faults.new) }
         ensures within { IsBounded self.old faults.old → OnErr result (IsWithin self.new.place faults.new) }
     {
-        match self.short_tag()? {
+        match self.whole_tag(faults)? {
             Some(token) => Ok(Some(token)),
             None => {
                 let answer = self.read_next(faults)?;

@@ -2,7 +2,7 @@
 ghost use Rattle.std.specs.Prelude.{chars, ◌≡◌, ℕ, ◌≤◌, ◌+◌, ◌<◌, ◌^◌, List, ◌++◌, drop, take, length, slice_get, Some, true, false, IfOk, OnErr, OnOk, IfSome, IfNone};
 ghost use Rattle.html_tokens.specs.Bounds.{IsBounded, IsWithin};
 ghost use Rattle.html_tokens.specs.Copied.{AllPass, is_copied};
-ghost use Rattle.html_tokens.specs.Fed.{EndsTagAt, Steps};
+ghost use Rattle.html_tokens.specs.Fed.{EndsTagAt, Skips, Steps};
 ghost use Rattle.html_tokens.specs.Input.{Decided, MayFollow};
 ghost use Rattle.html_tokens.specs.Marks.{begin_at};
 ghost use Rattle.html_tokens.specs.Short.{at_close, short_draft};
@@ -11,6 +11,7 @@ ghost use Rattle.html_tokens.specs.declared.faults.Faults.{Faults};
 
 use crate::attributes::Attrs;
 use crate::copied::{Copied, push_all};
+use crate::faults::Faults;
 use crate::input::Peek;
 use crate::machine::{Machine, Progress, State, token};
 use crate::opener::opener;
@@ -70,18 +71,19 @@ impl<'a> Machine<'a> {
         }
     }
 
-    /// The length of the name that stands after so many code points of the rest, where `>` follows it.
-    fn short_name(&self, opened: usize) -> Option<usize>
+    /// The length of the name that stands after so many code points of the rest, and whether `>` follows it.
+    fn name_len(&self, opened: usize) -> (usize, bool)
         requires fit { opened ≤ length self.now.input.queue.items }
-        ensures name { IfSome result (λ n. AllPass (is_copied Copied.Name) (take n (drop opened self.now.input.queue.items))) }
-        ensures close { IfSome result (λ n. slice_get (drop opened self.now.input.queue.items) n ≡ Some 62) }
-        ensures fit { IfSome result (λ n. opened + n < length self.now.input.queue.items) }
+        ensures name { AllPass (is_copied Copied.Name) (take result.0 (drop opened self.now.input.queue.items)) }
+        ensures close { result.1 ≡ true → slice_get (drop opened self.now.input.queue.items) result.0 ≡ Some 62 }
+        ensures fit { result.1 ≡ true → opened + result.0 < length self.now.input.queue.items }
+        ensures within { opened + result.0 ≤ length self.now.input.queue.items }
     {
         let rest = &self.input.queue.unread()[opened..];
         let len = Copied::Name.front(rest);
         match rest.get(len) {
-            Some('>') => Some(len),
-            _ => None,
+            Some('>') => (len, true),
+            _ => (len, false),
         }
     }
 
@@ -126,35 +128,72 @@ impl<'a> Machine<'a> {
         Ok(token(kind, start, self.place))
     }
 
-    /// The tag at the front of the rest, where it has no attributes and was fed whole.
-    pub(crate) fn short_tag(&mut self) -> Result<Option<Token>, AllocError>
+    /// The tag at the front of the rest, where it was fed whole and tells no error. A start tag that begins so is being read from then on.
+    pub(crate) fn whole_tag(&mut self, faults: &mut Faults) -> Result<Option<Token>, AllocError>
         requires room { self.old.place + length self.old.input.queue.items < 2 ^ 64 }
-        ensures steps { IfOk result (λ answer. IfSome answer (λ given. Steps self.old (Progress.Given given) self.new)) }
+        ensures given { IfOk result (λ answer. IfSome answer (λ given. Steps self.old (Progress.Given given) self.new)) }
+        ensures begun { IfOk result (λ answer. IfNone answer (Skips self.old self.new)) }
+        ensures room { self.new.place + length self.new.input.queue.items ≤ self.old.place + length self.old.input.queue.items }
+        ensures finished { self.new.input.finished ≡ self.old.input.finished }
+        ensures bounded { IsBounded self.old faults.old → OnOk result (IsBounded self.new faults.new) }
+        ensures within { IsBounded self.old faults.old → OnErr result (IsWithin self.new.place faults.new) }
+    {
+        if !self.is_at_markup() {
+            return Ok(None);
+        }
+        match opener(&self.input) {
+            Some(Opener::StartTag) => self.whole_start(faults),
+            Some(Opener::EndTag) => self.whole_end(),
+            _ => Ok(None),
+        }
+    }
+
+    /// The end tag at the front of the rest, where it has no attributes, was fed whole and tells no error.
+    fn whole_end(&mut self) -> Result<Option<Token>, AllocError>
+        requires state { self.old.state ≡ State.Text Region.Plain }
+        requires begun { Decided self.old.input (begin_at self.old.mode Region.Plain self.old.last_name) Begin.Markup }
+        requires start { (more : List ℕ) → MayFollow self.old.input.finished more
+            → begun_piece self.old.table.now Begin.Markup self.old.place (self.old.input.queue.items ++ more) ≡ tag_piece self.old.table.now true 2 self.old.place (self.old.input.queue.items ++ more) }
+        requires some { 2 ≤ length self.old.input.queue.items }
+        requires room { self.old.place + length self.old.input.queue.items < 2 ^ 64 }
+        ensures given { IfOk result (λ answer. IfSome answer (λ given. Steps self.old (Progress.Given given) self.new)) }
         ensures none { IfOk result (λ answer. IfNone answer (self.new ≡ self.old)) }
         ensures room { self.new.place + length self.new.input.queue.items ≤ self.old.place + length self.old.input.queue.items }
         ensures finished { self.new.input.finished ≡ self.old.input.finished }
         ensures bounded { (faults : Faults) → IsBounded self.old faults → OnOk result (IsBounded self.new faults) }
         ensures within { (faults : Faults) → IsBounded self.old faults → OnErr result (IsWithin self.new.place faults) }
     {
-        if !self.is_at_markup() {
+        let (len, closes) = self.name_len(2);
+        if !closes {
             return Ok(None);
         }
-        match opener(&self.input) {
-            Some(Opener::StartTag) => match self.short_name(1) {
-                None => Ok(None),
-                Some(len) => {
-                    let given = self.take_start(1, len)?;
-                    Ok(Some(given))
-                }
-            },
-            Some(Opener::EndTag) => match self.short_name(2) {
-                None => Ok(None),
-                Some(len) => {
-                    let given = self.take_end(2, len)?;
-                    Ok(Some(given))
-                }
-            },
-            _ => Ok(None),
+        let given = self.take_end(2, len)?;
+        Ok(Some(given))
+    }
+
+    /// The start tag at the front of the rest, where it was fed whole and tells no error. One that begins so is being read from then on.
+    fn whole_start(&mut self, faults: &mut Faults) -> Result<Option<Token>, AllocError>
+        requires state { self.old.state ≡ State.Text Region.Plain }
+        requires begun { Decided self.old.input (begin_at self.old.mode Region.Plain self.old.last_name) Begin.Markup }
+        requires start { (more : List ℕ) → MayFollow self.old.input.finished more
+            → begun_piece self.old.table.now Begin.Markup self.old.place (self.old.input.queue.items ++ more) ≡ tag_piece self.old.table.now false 1 self.old.place (self.old.input.queue.items ++ more) }
+        requires some { 1 ≤ length self.old.input.queue.items }
+        requires room { self.old.place + length self.old.input.queue.items < 2 ^ 64 }
+        ensures given { IfOk result (λ answer. IfSome answer (λ given. Steps self.old (Progress.Given given) self.new)) }
+        ensures begun { IfOk result (λ answer. IfNone answer (Skips self.old self.new)) }
+        ensures room { self.new.place + length self.new.input.queue.items ≤ self.old.place + length self.old.input.queue.items }
+        ensures finished { self.new.input.finished ≡ self.old.input.finished }
+        ensures bounded { IsBounded self.old faults.old → OnOk result (IsBounded self.new faults.new) }
+        ensures within { IsBounded self.old faults.old → OnErr result (IsWithin self.new.place faults.new) }
+    {
+        let (len, closes) = self.name_len(1);
+        if closes {
+            let given = self.take_start(1, len)?;
+            return Ok(Some(given));
         }
+        if !faults.is_quiet() {
+            return Ok(None);
+        }
+        self.read_start(len, faults)
     }
 }

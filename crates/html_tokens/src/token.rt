@@ -4,6 +4,7 @@ ghost use Rattle.html_tokens.specs.Tokens.{text_char};
 
 use crate::attributes::Attrs;
 use crate::nulls::null_replaced;
+use crate::optional::OptionalStr;
 use html_charref::{Base, Str};
 use std::alloc::{AllocError, Global};
 use std::marker::Model;
@@ -53,9 +54,9 @@ pub enum TokenKind {
     Comment(Str),
     /// A doctype: its name and ids, each where it is there, and its force-quirks flag.
     Doctype {
-        name: Option<Str>,
-        public: Option<Str>,
-        system: Option<Str>,
+        name: OptionalStr,
+        public: OptionalStr,
+        system: OptionalStr,
         force_quirks: bool,
     },
     /// The end of the text.

@@ -92,7 +92,7 @@ fn print_node(out: &mut String, arena: &Arena, node: NodeId) -> Result<(), Alloc
         NodeData::Text { text } => print_text(out, text.as_str())?,
         NodeData::Comment { text, .. } => write!(out, "<!--{text}-->")?,
         NodeData::Doctype { name, .. } => {
-            let name = match name {
+            let name = match name.as_ref() {
                 Some(name) => name.as_str(),
                 None => "",
             };

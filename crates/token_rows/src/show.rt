@@ -1,12 +1,11 @@
 //! Tokens and parse errors as words.
 
-use html_charref::Str;
-use html_tokens::{Fault, Span, Token, TokenKind};
+use html_tokens::{Fault, OptionalStr, Span, Token, TokenKind};
 use std::alloc::AllocError;
 
 /// A name or id of a doctype, in quotes where it is there.
-fn show_part(out: &mut String, part: &Option<Str>) -> Result<(), AllocError> {
-    match part {
+fn show_part(out: &mut String, part: &OptionalStr) -> Result<(), AllocError> {
+    match part.as_ref() {
         Some(text) => write!(out, " '{text}'")?,
         None => out.push_str(" -")?,
     }

@@ -6,7 +6,7 @@ use crate::shown::{push_bool, push_end, push_index, push_node, push_tag};
 use crate::words::{Word, number};
 use html_arena::{Limits, NodeId};
 use html_charref::Str;
-use html_tokens::{Attr, Attrs};
+use html_tokens::{Attr, Attrs, OptionalStr};
 use std::alloc::{AllocError, Global};
 
 /// Makes the call that a word names, and writes its answer.
@@ -84,7 +84,7 @@ fn insert_named(page: &mut Page, alloc: Global, word: Word<'_>) -> Result<NodeId
         "start" => page.insert(text, attrs, word.target()?),
         "void" => page.insert_void(text, attrs, word.target()?),
         "listed" => page.insert_listed(text, attrs, word.fosters()),
-        "doctype" => page.insert_doctype(text),
+        "doctype" => page.insert_doctype(OptionalStr::some(alloc, text)?),
         "comment" if word.second == "document" => page.insert_document_comment(text),
         _ => page.insert_comment(text, word.target()?),
     }

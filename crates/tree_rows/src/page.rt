@@ -6,7 +6,7 @@ use crate::refusal::Refusal;
 use html_arena::{Limits, NodeId};
 use html_charref::Str;
 use html_names::Tag;
-use html_tokens::Attrs;
+use html_tokens::{Attrs, OptionalStr};
 use html_tree::{AdoptEnd, Group, OpenError, OpenTree, Stop, TableContext, Target, is_part};
 use std::alloc::Global;
 use std::marker::Model;
@@ -243,10 +243,11 @@ impl Page {
     }
 
     /// The doctype of the next token.
-    pub(crate) fn insert_doctype(&mut self, name: Str) -> Result<NodeId, Refusal> {
+    pub(crate) fn insert_doctype(&mut self, name: OptionalStr) -> Result<NodeId, Refusal> {
         let token = next_token(self.next, self.known)?;
         self.known = false;
-        let node = self.tree.insert_doctype(Some(name), None, None, token)?;
+        let (public, system) = (OptionalStr::none(), OptionalStr::none());
+        let node = self.tree.insert_doctype(name, public, system, token)?;
         self.next = token + 1;
         self.known = true;
         Ok(node)

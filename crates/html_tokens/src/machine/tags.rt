@@ -124,19 +124,8 @@ impl<'a> Machine<'a> {
     {
         match mem::replace(&mut self.state, State::Text(Region::Plain)) {
             State::Tag(draft) => {
-                self.pass(len);
-                if draft.is_end {
-                    self.mode = TextMode::Data;
-                    let kind = TokenKind::End { name: draft.name };
-                    return Ok(Progress::Given(token(kind, draft.start, self.place)));
-                }
-                keep_text(&mut self.last_name, self.alloc, draft.name.as_str())?;
-                let kind = TokenKind::Start {
-                    name: draft.name,
-                    attrs: draft.attrs.into_attrs()?,
-                    self_closing,
-                };
-                Ok(Progress::Given(token(kind, draft.start, self.place)))
+                let given = self.give_tag(draft, self_closing, len)?;
+                Ok(Progress::Given(given))
             }
             _ => Ok(Progress::Wait),
         }

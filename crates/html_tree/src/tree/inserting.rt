@@ -25,7 +25,7 @@ use html_arena::{NewNode, NodeId, Origin};
 use html_charref::Str;
 use html_names::Tag;
 use html_open::OpenError;
-use html_tokens::Attrs;
+use html_tokens::{Attrs, OptionalStr};
 
 impl OpenTree {
     /// Makes the element of a start tag, puts it at a target, and opens it.
@@ -199,9 +199,9 @@ impl OpenTree {
     /// `NodeBudget` and `HeldBudget` where the node would pass that limit; else `OutOfMemory`.
     pub fn insert_doctype(
         &mut self,
-        name: Option<Str>,
-        public: Option<Str>,
-        system: Option<Str>,
+        name: OptionalStr,
+        public: OptionalStr,
+        system: OptionalStr,
         token: u64,
     ) -> Result<NodeId, OpenError>
         requires token { self.old.tokens ≤ token }

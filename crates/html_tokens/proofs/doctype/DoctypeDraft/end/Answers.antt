@@ -7,14 +7,14 @@ use Rattle.html_tokens.proofs.doctype.DoctypeDraft.end.Goals as goal
 pub returns-in-BadRest : goal.returns-in-BadRest
 returns-in-BadRest c = rest_ends c.args.self.now c.in-BadRest.force_quirks c.in-BadRest.is
 
-pub returns-in-Name : goal.returns-in-Name
-returns-in-Name c = rw (c.take_text.ensures.text, c.take_text.ensures.rest) (name_none c.args.self.now c.in-Name.is, refl)
+pub returns-in_ok-self-in-Name : goal.returns-in_ok-self-in-Name
+returns-in_ok-self-in-Name c = rw (c.in_ok-self-in-Name.ensures.text, c.take_text.ensures.rest) (name_none c.args.self.now c.in-Name.is, refl)
 
-pub returns-in-Public : goal.returns-in-Public
-returns-in-Public c = rw (c.take_text-in-Public.ensures.text, c.take_text-in-Public.ensures.rest) (public_none c.args.self.now c.in-Public.field-0 c.in-Public.is, refl)
+pub returns-in_ok-self-in-Public : goal.returns-in_ok-self-in-Public
+returns-in_ok-self-in-Public c = rw (c.in_ok-self-in-Public.ensures.text, c.take_text-in-Public.ensures.rest) (public_none c.args.self.now c.in-Public.field-0 c.in-Public.is, refl)
 
-pub returns-in-System : goal.returns-in-System
-returns-in-System c = rw (c.take_text-in-System.ensures.text, c.take_text-in-System.ensures.rest) (system_none c.args.self.now c.in-System.field-0 c.in-System.is, refl)
+pub returns-in_ok-self-in-System : goal.returns-in_ok-self-in-System
+returns-in_ok-self-in-System c = rw (c.in_ok-self-in-System.ensures.text, c.take_text-in-System.ensures.rest) (system_none c.args.self.now c.in-System.field-0 c.in-System.is, refl)
 
 pub returns-in-BeforeName : goal.returns-in-BeforeName
 returns-in-BeforeName c = reads_end c.args.self.now parts.BeforeName (name_or_end (ids_of c.args.self.now)) c.in-BeforeName.is (λ text. refl) refl
