@@ -10,6 +10,7 @@ HEADS = "html head body title style script base link meta noscript template fram
 OTHERS = "br hr img image wbr area embed param source track object applet marquee iframe xmp plaintext noembed ruby rb rp rt rtc x".split()
 NAMES = BLOCKS * 3 + INLINE * 4 + TABLES * 4 + FORMS * 2 + HEADS * 2 + OTHERS + ["svg"]
 ATTRIBUTES = ["", "", "", "", " a=b", " class='x y'", ' id="1" id=2', " href=&amp;&lt;x", " type=hidden", " a=b a=c B", " x='\n&notit;'", "/", " =x"]
+ATTRIBUTES += [' a="b"', " a=\"b\" c='d' e=f", ' a = b', ' a="b"c=d', " a='b'c", ' a="&amp;" b=c', ' a=b/', ' a="b" /', " /a='b' A=c", ' a="\0"', " a=`<\"'=", ' a="<>" b=\'"\' ']
 TEXTS = ["x", "yz", " ", "\n", "\t \r\n", "&", "&lt;", "&notit;", "&#x41;", "&#0;", "&#128;", "\0", "<", "</", "é", "\U0001f600", "]]>", "--", "a\rb"]
 OTHER_PIECES = ["<!--c-->", "<!-->", "<!--a--!>", "<!-- - -- -->", "<?pi?>", "</>", "</ x>", "<!x>", "<![CDATA[x]]>", "<!--"]
 DOCTYPES = ["<!DOCTYPE html>", "<!doctype>", '<!DOCTYPE html PUBLIC "-//W3C//DTD HTML 3.2//EN">', "<!DOCTYPE x SYSTEM 'about:legacy-compat'>"]
