@@ -4,6 +4,7 @@ use Rattle.std.specs.List.{slice_get}
 use Rattle.std.specs.Result.{OnErr}
 use Rattle.std.proofs.lemmas.List.{drop-drop}
 use Rattle.std.proofs.lemmas.Bool.{false≢true}
+use Rattle.std.proofs.lemmas.Option.{slice_get_within}
 use Rattle.html_charref.specs.declared.table.Row.{Row}
 use Rattle.html_tokens.specs.Bounds.{Bounded, IsBounded, IsWithin}
 use Rattle.html_tokens.specs.Copied.{AllPass, CopiesTag, copied_in, is_copied}
@@ -16,7 +17,7 @@ use Rattle.html_tokens.specs.Tag.{ReadsTag, Tail, add_first, after_name, after_s
 use Rattle.html_tokens.specs.Tag.{Tag as WholeTag}
 use Rattle.html_tokens.specs.Tokens.{begun_piece, name_after_kind, tag_piece}
 use Rattle.html_tokens.specs.Value.{value_cut}
-use Rattle.html_tokens.specs.Whole.{Closes, ClosesHere, IsNamed, IsValue, IsWholeAttr, KeepsBounds, quote_len, whole_len}
+use Rattle.html_tokens.specs.Whole.{ClosesValue, ClosesTag, IsNamed, IsValue, IsWholeAttr, KeepsBounds, quote_len, whole_len}
 use Rattle.html_tokens.specs.declared.attributes.Attr.{Attr}
 use Rattle.html_tokens.specs.declared.copied.Copied.TheVariants as copied
 use Rattle.html_tokens.specs.declared.faults.Faults.{Faults}
@@ -184,34 +185,29 @@ get_drop text zero c e = e
 get_drop [] (suc n) c e = e
 get_drop (x ∷ xs) (suc n) c e = get_drop xs n c e
 
-get_within : (text : List ℕ) (n c : ℕ) → slice_get text n ≡ Some c → n < length text
-get_within [] n c e = absurd cc
-get_within (x ∷ xs) zero c e = omega arith
-get_within (x ∷ xs) (suc n) c e = let h = get_within xs n c e in omega arith
-
 -- a value in quotes
 copies_quoted : (d opened front : TagDraft) (rest : List ℕ) (end : ValueEnd) (quote len : ℕ) → Takes d quote opened → opened.part ≡ parts.Inside end → Takes (record opened { attr_value = opened.attr_value ++ take len (drop 1 rest) }) quote front →
     slice_get rest 0 ≡ Some quote → AllPass (is_copied (copied_in end)) (take len (drop 1 rest)) → slice_get (drop 1 rest) len ≡ Some quote → CopiesTag d rest (1 + (len + 1)) front
 copies_quoted d opened front rest end quote len t p u first valued last =
     let inner = drop 1 rest in
-    let room = get_within inner len quote last in
+    let room = slice_get_within inner len quote last in
     copies_then d opened front rest 1 (len + 1) (copies_known d opened rest quote first t)
     (copies_then opened _ front inner len 1 (inside_front end opened inner len p (omega arith) valued) (copies_known _ front (drop len inner) quote (get_drop inner len quote last) u))
 
 copies_as : (a b : TagDraft) (text : List ℕ) (n m : ℕ) → n ≡ m → CopiesTag a text n b → CopiesTag a text m b
 copies_as a b text n m e c = rw e at c
 
-ends_within : (text : List ℕ) (n : ℕ) → Closes ends.Space (slice_get text n) → n < length text
+ends_within : (text : List ℕ) (n : ℕ) → ClosesValue ends.Space (slice_get text n) → n < length text
 ends_within [] n e = absurd cc
 ends_within (x ∷ xs) zero e = omega arith
 ends_within (x ∷ xs) (suc n) e = let h = ends_within xs n e in omega arith
 
-ends_drop : (text : List ℕ) (n : ℕ) → Closes ends.Space (slice_get text n) → Closes ends.Space (slice_get (drop n text) 0)
+ends_drop : (text : List ℕ) (n : ℕ) → ClosesValue ends.Space (slice_get text n) → ClosesValue ends.Space (slice_get (drop n text) 0)
 ends_drop text zero e = e
 ends_drop [] (suc n) e = e
 ends_drop (x ∷ xs) (suc n) e = ends_drop xs n e
 
-ends_here : (d front : TagDraft) (text : List ℕ) → d.part ≡ parts.Inside ends.Space → Closes ends.Space (slice_get text 0) → IsAfter d front → CopiesTag d text 0 front
+ends_here : (d front : TagDraft) (text : List ℕ) → d.part ≡ parts.Inside ends.Space → ClosesValue ends.Space (slice_get text 0) → IsAfter d front → CopiesTag d text 0 front
 ends_here d front [] p e a = absurd cc
 ends_here d front (c ∷ rest) p e a = let h : ends_unquoted c ≡ true = cc in copies_turn d front (c ∷ rest) (space_closes d front c rest p h a)
 
@@ -221,7 +217,7 @@ begins_here d [] (suc n) p s f a = absurd (omega arith)
 begins_here d (c ∷ rest) (suc n) p s f a = copies_turn d (record d { part = parts.Inside ends.Space }) (c ∷ rest) (opens_unquoted d c rest p a.0)
 
 -- a value without quotes
-copies_unquoted : (d front : TagDraft) (rest : List ℕ) (len : ℕ) → d.part ≡ parts.Value → 0 < len → AllPass (is_copied copied.Unquoted) (take len rest) → Closes ends.Space (slice_get rest len) →
+copies_unquoted : (d front : TagDraft) (rest : List ℕ) (len : ℕ) → d.part ≡ parts.Value → 0 < len → AllPass (is_copied copied.Unquoted) (take len rest) → ClosesValue ends.Space (slice_get rest len) →
     IsAfter (record d { part = parts.Inside ends.Space; attr_value = d.attr_value ++ take len rest }) front → CopiesTag d rest len front
 copies_unquoted d front rest len p s valued last a =
     let room = ends_within rest len last in
@@ -370,19 +366,19 @@ ends_as : (passed new : Machine) (d : TagDraft) (self_closing : Bool) (len : ℕ
 ends_as passed new d self_closing len given e = record { given = e.given; items = e.items; finished = e.finished; place = e.place; mode = e.mode; name = e.name; state = e.state; table = e.table }
 
 -- It closes where it was copied to.
-pub closes_whole : (old passed new : Machine) (d : TagDraft) (self_closing : Bool) (len : ℕ) (given : Token) → Skips old (record passed { state = Tag d }) → IsNamed d.part passed.input.queue.items → ClosesHere passed.input.queue.items self_closing len →
+pub closes_whole : (old passed new : Machine) (d : TagDraft) (self_closing : Bool) (len : ℕ) (given : Token) → Skips old (record passed { state = Tag d }) → IsNamed d.part passed.input.queue.items → ClosesTag passed.input.queue.items self_closing len →
     EndsTagAt passed d self_closing len (Given given) new → Steps old (Given given) new
 closes_whole old passed new d self_closing len given skips named (inl (first, sc, one)) ends =
     let m = record passed { state = Tag d } in
     let items = passed.input.queue.items in
-    let room = get_within items 0 62 first in
+    let room = slice_get_within items 0 62 first in
     let p = is_named d.part items 62 named first refl in
     let ends' : EndsTagAt m d false 1 (Given given) new = rw (sc, one) at (ends_as passed new d self_closing len given ends) in
     gives_after old m new given skips (tag_given_at m new d d 62 None false 1 (Given given) refl (closes_at d p) (λ more f. front_more items more 0 62 first) (λ h. absurd (false≢true (ap (λ (n : ℕ). n == 47) h))) (omega arith) ends')
 closes_whole old passed new d self_closing len given skips named (inr (first, second, sc, two)) ends =
     let m = record passed { state = Tag d } in
     let items = passed.input.queue.items in
-    let room = get_within items 1 62 second in
+    let room = slice_get_within items 1 62 second in
     let p = is_named d.part items 47 named first refl in
     let ends' : EndsTagAt m d true 2 (Given given) new = rw (sc, two) at (ends_as passed new d self_closing len given ends) in
     gives_after old m new given skips (tag_given_at m new d d 47 (Some 62) true 2 (Given given) refl (closes_itself d p) (λ more f. front_more items more 0 47 first) (λ h more f. front_more items more 1 62 second) (omega arith) ends')

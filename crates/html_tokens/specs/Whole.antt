@@ -1,10 +1,12 @@
 -- For this crate's own functions.
 -- Attributes and tags that were fed whole, and tell no error.
-use Rattle.std.specs.Prelude.{◌≡◌, ◌⊎◌, ℕ, ◌+◌, ◌≤◌, ◌<◌, Bool, true, false, List, Option, Some, drop, length, option_map, slice_get, take}
+use Rattle.std.specs.Prelude.{◌≡◌, ◌⊎◌, ℕ, ◌+◌, ◌≤◌, ◌<◌, Bool, true, false, List, [], ◌∷◌, ◌++◌, Option, Some, drop, length, option_map, slice_get, take}
 use Rattle.html_tokens.specs.Bounds.{Bounded}
 use Rattle.html_tokens.specs.Copied.{AllPass, copied_in, is_copied}
 use Rattle.html_tokens.specs.Cut.{ends_unquoted}
+use Rattle.html_tokens.specs.Places.{comparisons}
 use Rattle.html_tokens.specs.Tag.{ends_name}
+use Rattle.html_tokens.specs.declared.attributes.Attr.{Attr}
 use Rattle.html_tokens.specs.declared.copied.Copied.TheVariants.{Name}
 use Rattle.html_tokens.specs.declared.faults.Faults.{Faults}
 use Rattle.html_tokens.specs.declared.machine.State.TheVariants as state
@@ -16,10 +18,10 @@ use Rattle.html_tokens.specs.declared.tag.ValueEnd.TheVariants as ends
 use Rattle.html_tokens.specs.declared.whole_attr.WholeAttr.{WholeAttr}
 
 -- what a value begins with that closes so (HTML 13.2.5.35)
-abbrev pub Begins : ValueEnd → Option ℕ → Type 0
-Begins ends.DoubleQuote first = first ≡ Some 34
-Begins ends.SingleQuote first = first ≡ Some 39
-Begins ends.Space first = Unit {0}
+abbrev pub OpensValue : ValueEnd → Option ℕ → Type 0
+OpensValue ends.DoubleQuote first = first ≡ Some 34
+OpensValue ends.SingleQuote first = first ≡ Some 39
+OpensValue ends.Space first = Unit {0}
 
 -- the length of its quote
 abbrev pub quote_len : ValueEnd → ℕ
@@ -28,17 +30,17 @@ quote_len ends.SingleQuote = 1
 quote_len ends.Space = 0
 
 -- what closes it (HTML 13.2.5.36 to 13.2.5.38)
-abbrev pub Closes : ValueEnd → Option ℕ → Type 0
-Closes ends.DoubleQuote last = last ≡ Some 34
-Closes ends.SingleQuote last = last ≡ Some 39
-Closes ends.Space last = option_map ends_unquoted last ≡ Some true
+abbrev pub ClosesValue : ValueEnd → Option ℕ → Type 0
+ClosesValue ends.DoubleQuote last = last ≡ Some 34
+ClosesValue ends.SingleQuote last = last ≡ Some 39
+ClosesValue ends.Space last = option_map ends_unquoted last ≡ Some true
 
 -- A value stands at the front, closes so, has this length and is copied as it stands.
 pub record IsValue (rest : List ℕ) (end : ValueEnd) (len : ℕ) : Type 0 where
-  pub begins : Begins end (slice_get rest 0)
+  pub begins : OpensValue end (slice_get rest 0)
   pub some : 0 < quote_len end + len
   pub valued : AllPass (is_copied (copied_in end)) (take len (drop (quote_len end) rest))
-  pub close : Closes end (slice_get (drop (quote_len end) rest) len)
+  pub close : ClosesValue end (slice_get (drop (quote_len end) rest) len)
 
 -- An attribute with a value stands at the front, whose name is copied as it stands (HTML 13.2.5.33).
 pub record IsWholeAttr (text : List ℕ) (found : WholeAttr) : Type 0 where
@@ -52,9 +54,13 @@ pub record IsWholeAttr (text : List ℕ) (found : WholeAttr) : Type 0 where
 abbrev pub whole_len : WholeAttr → ℕ
 whole_len a = a.name + (1 + (quote_len a.end + (a.value + quote_len a.end)))
 
+-- One attribute more, at the end, whose name was compared with so many names of those before it.
+abbrev pub AddsOne : List Attr → ℕ → List Attr → Type 0
+AddsOne old compared new = (a : Attr) × (new ≡ old ++ a ∷ []) × (compared ≡ comparisons a.name old)
+
 -- what closes a tag stands at the front (HTML 13.2.5.32, 13.2.5.40)
-abbrev pub ClosesHere : List ℕ → Bool → ℕ → Type 0
-ClosesHere rest self_closing len =
+abbrev pub ClosesTag : List ℕ → Bool → ℕ → Type 0
+ClosesTag rest self_closing len =
     ((slice_get rest 0 ≡ Some 62) × (self_closing ≡ false) × (len ≡ 1))
     ⊎ ((slice_get rest 0 ≡ Some 47) × (slice_get rest 1 ≡ Some 62) × (self_closing ≡ true) × (len ≡ 2))
 

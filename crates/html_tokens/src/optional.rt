@@ -1,5 +1,5 @@
 // Texts that may be missing.
-ghost use Rattle.std.specs.Prelude.{◌≡◌, IfOk, None, Some, is_none, option_map};
+ghost use Rattle.std.specs.Prelude.{◌≡◌, IfOk, None, Some, option_map};
 
 use html_charref::Str;
 use std::alloc::{AllocError, Global};

@@ -1,9 +1,9 @@
 // Attributes with values that were fed whole, which are read at once.
-ghost use Rattle.std.specs.Prelude.{◌≡◌, ℕ, ◌≤◌, ◌+◌, ◌<◌, ◌^◌, length, slice_get, take, Some, true, false, IfOk, IfSome, IfNone, OnErr, OnOk};
-ghost use Rattle.html_tokens.specs.Bounds.{IsBounded, IsWithin, Told};
+ghost use Rattle.std.specs.Prelude.{◌≡◌, ℕ, ◌≤◌, ◌+◌, ◌-◌, ◌<◌, ◌^◌, length, min, slice_get, take, Some, true, IfOk, IfSome, IfNone, OnErr, OnOk};
+ghost use Rattle.html_tokens.specs.Bounds.{IsBounded, IsWithin};
 ghost use Rattle.html_tokens.specs.Copied.{AllPass, CopiesTag, copied_in, is_copied};
 ghost use Rattle.html_tokens.specs.Fed.{Skips};
-ghost use Rattle.html_tokens.specs.Whole.{Begins, Closes, IsValue, IsWholeAttr, quote_len, whole_len};
+ghost use Rattle.html_tokens.specs.Whole.{AddsOne, ClosesValue, IsValue, IsWholeAttr, OpensValue, quote_len, whole_len};
 
 use crate::attributes::Attr;
 use crate::copied::{Copied, push_all};
@@ -51,7 +51,7 @@ pub(crate) fn space_len(rest: &[char]) -> usize
 impl ValueEnd {
     /// How a value closes that begins with this code point.
     fn of(first: char) -> ValueEnd
-        ensures { Begins result (Some first) }
+        ensures { OpensValue result (Some first) }
     {
         match first {
             '"' => ValueEnd::DoubleQuote,
@@ -72,7 +72,7 @@ impl ValueEnd {
 
     /// Whether a code point closes it.
     fn closes(self, c: char) -> bool
-        ensures { result ≡ true → Closes self (Some c) }
+        ensures { result ≡ true → ClosesValue self (Some c) }
     {
         match self {
             ValueEnd::DoubleQuote => c == '"',
@@ -129,6 +129,7 @@ impl TagDraft {
         requires part { self.old.part ≡ Part.Attributes }
         requires whole { IsWholeAttr text.now whole }
         ensures copies { IfOk result (λ added. IfSome added (λ _. CopiesTag self.old text.now (whole_len whole) self.new)) }
+        ensures counted { IfOk result (λ added. IfSome added (λ compared. AddsOne self.old.attrs compared self.new.attrs)) }
         ensures compared { IfOk result (λ added. IfSome added (λ compared. compared ≤ length self.old.attrs)) }
         ensures none { IfOk result (λ added. IfNone added (self.new ≡ self.old)) }
         ensures attrs { OnOk result (length self.new.attrs ≤ length self.old.attrs + 1) }
@@ -154,6 +155,7 @@ impl TagDraft {
         ensures copies { IfOk result (λ taken. CopiesTag self.old rest.now taken.len self.new) }
         ensures attrs { OnOk result (length self.new.attrs ≤ length self.old.attrs + 1) }
         ensures part { OnOk result (self.new.part ≡ Part.Attributes) }
+        ensures counted { IfOk result (λ taken. 0 < taken.len → AddsOne self.old.attrs taken.compared self.new.attrs) }
         ensures compared { IfOk result (λ taken. taken.compared ≤ length self.old.attrs) }
         ensures none { IfOk result (λ taken. taken.len ≡ 0 → (self.new ≡ self.old) × (taken.compared ≡ 0)) }
     {
@@ -186,7 +188,7 @@ impl Faults {
     /// What was taken at once ends at this place.
     pub(crate) fn took(&mut self, taken: Taken, place: u64)
         ensures list { self.new.list ≡ self.old.list }
-        ensures compared { self.new.compared ≤ self.old.compared + taken.compared }
+        ensures compared { self.new.compared ≡ min (self.old.compared + taken.compared) (2 ^ 128 - 1) }
     {
         self.compared = self.compared.saturating_add(taken.compared);
         if taken.is_quoted {

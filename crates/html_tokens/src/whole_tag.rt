@@ -6,7 +6,7 @@ ghost use Rattle.html_tokens.specs.Fed.{EndsTagAt, Skips, Steps};
 ghost use Rattle.html_tokens.specs.Input.{Decided, MayFollow};
 ghost use Rattle.html_tokens.specs.Marks.{begin_at};
 ghost use Rattle.html_tokens.specs.Tokens.{begun_piece, tag_piece};
-ghost use Rattle.html_tokens.specs.Whole.{ClosesHere, IsNamed, KeepsBounds};
+ghost use Rattle.html_tokens.specs.Whole.{ClosesTag, IsNamed, KeepsBounds};
 
 use crate::copied::{Copied, push_all};
 use crate::faults::Faults;
@@ -19,7 +19,7 @@ use std::alloc::AllocError;
 
 /// Whether what closes a tag at the front closes the element too, and its length.
 fn closing(rest: &[char]) -> Option<(bool, usize)>
-    ensures { IfSome result (λ found. ClosesHere rest.now found.0 found.1) }
+    ensures { IfSome result (λ found. ClosesTag rest.now found.0 found.1) }
 {
     match (rest.get(0), rest.get(1)) {
         (Some('>'), _) => Some((false, 1)),

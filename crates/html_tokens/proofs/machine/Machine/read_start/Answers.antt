@@ -1,3 +1,4 @@
+use Rattle.std.proofs.Math.Nat.{min-le_left}
 use Rattle.std.proofs.Common.{◌≤◌, arith, length}
 use Rattle.std.proofs.lemmas.List.{drop-drop, take_rest}
 use Rattle.html_tokens.proofs.WholeLemmas.{begins_whole, closes_whole, fails_within, gives_bounded, on_refusal, whole_bounded}
@@ -14,7 +15,7 @@ returns-in-None-clause-begun c =
 pub returns-in-None-clause-bounded : goal.returns-in-None-clause-bounded
 returns-in-None-clause-bounded c = λ b.
     whole_bounded c.args.self.now c.pass.new.self c.new-draft.result c.take_front.new.self c.in_ok-taken.taken.len c.in_ok-taken.taken.compared c.args.faults.now c.took.new.self c.requires.state c.new-draft.ensures.3 c.in_ok-taken.ensures.bounds c.pass.ensures.place
-    c.took.ensures.list c.took.ensures.compared b
+    c.took.ensures.list (rw c.took.ensures.compared (min-le_left _ _)) b
 
 pub returns-in_ok-given-in-Some-clause-given : goal.returns-in_ok-given-in-Some-clause-given
 returns-in_ok-given-in-Some-clause-given c =
@@ -31,11 +32,11 @@ pub returns-in_ok-given-in-Some-clause-bounded : goal.returns-in_ok-given-in-Som
 returns-in_ok-given-in-Some-clause-bounded c = λ b.
     gives_bounded c.pass.new.self c.give_tag.new.self c.take_front.new.self c.in-Some.self_closing c.in-Some.len c.in_ok-given-in-Some.given c.took.new.self c.in_ok-given-in-Some.ensures.ends
     (whole_bounded c.args.self.now c.pass.new.self c.new-draft.result c.take_front.new.self c.in_ok-taken.taken.len c.in_ok-taken.taken.compared c.args.faults.now c.took.new.self c.requires.state c.new-draft.ensures.3 c.in_ok-taken.ensures.bounds c.pass.ensures.place
-    c.took.ensures.list c.took.ensures.compared b)
+    c.took.ensures.list (rw c.took.ensures.compared (min-le_left _ _)) b)
 
 pub returns-in_err-given-in-Some-clause-within : goal.returns-in_err-given-in-Some-clause-within
 returns-in_err-given-in-Some-clause-within c = λ b.
     on_refusal c.from_residual-in_err-given-in-Some.result
     (fails_within c.pass.new.self c.give_tag.new.self c.take_front.new.self c.in-Some.len c.took.new.self c.in_err-given-in-Some.ensures.place
     (whole_bounded c.args.self.now c.pass.new.self c.new-draft.result c.take_front.new.self c.in_ok-taken.taken.len c.in_ok-taken.taken.compared c.args.faults.now c.took.new.self c.requires.state c.new-draft.ensures.3 c.in_ok-taken.ensures.bounds c.pass.ensures.place
-    c.took.ensures.list c.took.ensures.compared b))
+    c.took.ensures.list (rw c.took.ensures.compared (min-le_left _ _)) b))
