@@ -12,6 +12,7 @@ const BLOCK: usize = 64;
 const BYTES: usize = 4 * BLOCK;
 
 /// Adds a run of code points at the end, or leaves the text as it was.
+#[inline(always)]
 pub(crate) fn extend(text: &mut String, run: &[char]) -> Result<(), AllocError>
     ensures ok { OnOk result (chars (string_bytes text.new) ≡ chars (string_bytes text.old) ++ run.now) }
     ensures err { OnErr result (string_bytes text.new ≡ string_bytes text.old) }

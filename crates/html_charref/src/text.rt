@@ -69,6 +69,7 @@ impl Str {
     }
 
     /// Adds a run of code points at the end, or leaves the text as it was.
+    #[inline(always)]
     pub fn push_run(&mut self, run: &[char]) -> Result<(), AllocError>
         ensures ok { OnOk result (self.new ≡ self.old ++ run.now) }
         ensures err { OnErr result (self.new ≡ self.old) }

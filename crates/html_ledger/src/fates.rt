@@ -54,6 +54,7 @@ impl Fates {
     }
 
     /// Adds the fate of so many more tokens in constant time, or leaves the list as it was.
+    #[inline(always)]
     pub fn push_run(&mut self, fate: &Fate, count: u64) -> Result<(), AllocError>
         ensures added { OnOk result (self.new ≡ self.old ++ replicate count fate.now) }
         ensures refused { OnErr result (self.new ≡ self.old) }

@@ -42,6 +42,7 @@ use html_tokens::TokenKind;
 /// `NodeBudget` and `HeldBudget` where a limit leaves no room for the next node or code point; `OutOfMemory`. Part of the rules may have been
 /// followed then.
 #[tactic(auto, using(crate::proofs::Settled::take_rules))]
+#[inline(always)]
 pub fn take(
     page: &mut Construction,
     token: &TokenKind,
@@ -136,6 +137,7 @@ fn step(page: &mut Construction, token: &TokenKind, symbol: Symbol) -> Result<Ou
 
 /// The rules of the mode that is set.
 #[tactic(auto, using(crate::proofs::Settled::rules_rules, crate::proofs::Plain::rules_plain, crate::proofs::RawText::other_rules, crate::proofs::Begun::modes_ignoring))]
+#[inline(always)]
 fn rules(page: &mut Construction, token: &TokenKind, symbol: Symbol) -> Result<Outcome, Refusal>
     requires symbol { symbol_of token.now ≡ symbol }
     requires fits { Fits page.old }

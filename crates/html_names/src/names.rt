@@ -30,6 +30,7 @@ impl Tag {
 
     /// The name of the tag; empty for `Other`.
     #[tactic(auto, unfolding(crate::specs::Names::tag_of))]
+    #[inline(always)]
     pub fn name(self) -> &'static str
         ensures value { result.now ≡ name_of self }
         ensures back { tag_of result.now ≡ self }

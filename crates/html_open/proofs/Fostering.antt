@@ -5,11 +5,11 @@ use Rattle.std.specs.List.{list_any}
 use Rattle.html_arena.specs.Siblings.{has, last_of, or_else}
 use Rattle.html_arena.specs.Tree.{Tree, parent_of}
 use Rattle.html_open.specs.declared.places.Place.TheVariants.{Last, Before}
-use Rattle.html_open.specs.Lists.{above, after_index, below, last_index, last_where, steps_down}
+use Rattle.html_open.specs.Lists.{above, after_index, below, last_index, last_where, looked}
 use Rattle.html_open.specs.Opened.{AreNodes}
 use Rattle.html_open.specs.Placing.{CanPlace, by_table, fostered, fosters, get, inside, outside_table, place_of, place_steps, table, target_of, template}
 use Rattle.html_open.proofs.Keeps.{cases_bool}
-use Rattle.html_open.proofs.Lists.{after-above, below-at, has-at, last_index-any, last_where-at, not_any, steps_index}
+use Rattle.html_open.proofs.Lists.{after-above, below-at, has-at, last_index-any, last_where-at, not_any}
 
 pub in-at : (t : Tree) (s : List ℕ) (k x d : ℕ) → AreNodes t s → k < length s → x ≡ get_or s k d → x < length t.labels
 in-at t s k x d h l e = h x (subst (λ (y : ℕ). has y s ≡ true) (sym e) (has-at s k d l))
@@ -107,12 +107,10 @@ module _ (t : Tree) (s : List ℕ) where
       let a : fosters t (target_of s o) f ≡ false = ap (λ v. fosters t v f) (sym e) ∙ sym h ∙ k in
       rw a (ap (λ v. Last (inside t v)) e)
 
-  pub steps-fostered : (o found : Option ℕ) (g : ℕ) (f b : Bool) → g ≡ target_of s o → b ≡ fosters t g f → b ≡ true → found ≡ last_index (table t) s
-      → 1 + steps_down (length s) found ≡ place_steps t s o f
-  steps-fostered o found g f b e h k i =
+  pub steps-fostered : (o : Option ℕ) (g : ℕ) (f b : Bool) → g ≡ target_of s o → b ≡ fosters t g f → b ≡ true → 1 + looked (table t) s ≡ place_steps t s o f
+  steps-fostered o g f b e h k =
       let a : fosters t (target_of s o) f ≡ true = ap (λ v. fosters t v f) (sym e) ∙ sym h ∙ k in
-      let n = steps_index (table t) s found (length s) refl i in
-      rw a (ap (λ v. 1 + v) n)
+      rw a refl
 
   pub steps-inside : (o : Option ℕ) (g : ℕ) (f b : Bool) → g ≡ target_of s o → b ≡ fosters t g f → b ≡ false → 1 ≡ place_steps t s o f
   steps-inside o g f b e h k =

@@ -4,7 +4,7 @@ ghost use Rattle.html_arena.specs.Tree.{named, tag_at};
 ghost use Rattle.html_names.specs.declared.tag.Tag.TheVariants as tag;
 ghost use Rattle.html_open.specs.declared.entry.Entry.{Entry};
 ghost use Rattle.html_open.specs.Inserting.{IsOpenTarget, SparesClosed};
-ghost use Rattle.html_open.specs.Lists.{IsBelow, last_index, last_where};
+ghost use Rattle.html_open.specs.Lists.{IsBelow, last_index, last_where, looked};
 ghost use Rattle.html_open.specs.Marking.{charged};
 ghost use Rattle.html_open.specs.Opened.{AreNodes, IsOpen, open_at};
 ghost use Rattle.html_open.specs.Placing.{CanPlace, IsPlace, IsTarget, fostered, fosters, inside, outside_table, place_of, place_steps, table, target_of};
@@ -32,14 +32,26 @@ pub fn place(stack: &OpenStack, arena: &mut Arena, target: Option<NodeId>, foste
     let nodes = stack.as_slice();
     let target = target_node(nodes, arena, target);
     if is_fostered(arena, target, foster) {
-        let found = last_index(nodes, arena, &Sought::Tag(Tag::Table));
-        let place = fostered(nodes, arena, found);
-        arena.charge(1 + steps_to(nodes.len(), found));
-        return place;
+        return foster_place(nodes, arena);
     }
     let inner = inside(arena, target);
     arena.charge(1);
     Place::Last(inner)
+}
+
+/// The place for a node that goes elsewhere. One step, and one for each element from the current node down to the last table.
+#[inline(never)]
+fn foster_place(nodes: &[NodeId], arena: &mut Arena) -> Place
+    requires nodes_in { AreNodes arena.old nodes.now }
+    requires can_place { CanPlace arena.old nodes.now }
+    ensures place { result ≡ fostered arena.old nodes.now }
+    ensures there { IsPlace arena.old result }
+    ensures steps { arena.new ≡ charged arena.old (1 + looked (table arena.old) nodes.now) }
+{
+    let found = last_index(nodes, arena, &Sought::Tag(Tag::Table));
+    let place = fostered(nodes, arena, found);
+    arena.charge(1 + steps_to(nodes.len(), found));
+    place
 }
 
 /// The target that is given, or else the current node.

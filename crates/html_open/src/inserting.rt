@@ -17,6 +17,7 @@ use html_arena::{Arena, ArenaError, NewNode, NodeId};
 
 /// Makes a node and puts it at a place; a template with its Contents node. Two steps. An element may then be pushed onto the stack, and
 /// after that, where it is a formatting element, onto the list.
+#[inline(always)]
 pub fn insert(arena: &mut Arena, place: Place, new: NewNode) -> Result<NodeId, ArenaError>
     requires place_in { IsPlace arena.old place }
     requires can_make { CanMake arena.old new }

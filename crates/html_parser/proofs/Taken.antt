@@ -1,5 +1,5 @@
 -- Where the tokens of plain text begin, and what they are.
-use Rattle.std.proofs.Common.{ℕ, ◌+◌, ◌≡◌, List, [], ◌∷◌, ◌++◌, ◌<◌, ◌≤◌, ◌∙◌, suc, arith, length, length-append, refl, ap}
+use Rattle.std.proofs.Common.{ℕ, ◌+◌, ◌≡◌, List, [], ◌∷◌, ◌++◌, ◌≤◌, ◌∙◌, arith, length, length-append, refl, ap}
 use Rattle.std.specs.List.{range_with_len}
 use Rattle.html_tokens.specs.Runs.{plain_tokens}
 use Rattle.html_tokens.specs.declared.token.Token.{Token}
@@ -18,22 +18,6 @@ kinds-plain place (c ∷ cs) = ap (λ r. Char c ∷ r) (kinds-plain (place + 1) 
 pub starts-append : (xs ys : List Token) → starts_of (xs ++ ys) ≡ starts_of xs ++ starts_of ys
 starts-append [] ys = refl
 starts-append (x ∷ xs) ys = ap (λ r. x.span.start ∷ r) (starts-append xs ys)
-
-starts-length : (xs : List Token) → length (starts_of xs) ≡ length xs
-starts-length [] = refl
-starts-length (x ∷ xs) = ap suc (starts-length xs)
-
-plain-length : (place : ℕ) (text : List ℕ) → length (plain_tokens place text) ≡ length text
-plain-length place [] = refl
-plain-length place (c ∷ cs) = ap suc (plain-length (place + 1) cs)
-
--- text that is not empty
-pub more_starts : (old new : List ℕ) (place : ℕ) (text : List ℕ) → new ≡ old ++ starts_of (plain_tokens place text) → 0 < length text → length old < length new
-more_starts old new place text e some =
-    let all : length new ≡ length old + length (starts_of (plain_tokens place text)) = ap length e ∙ length-append old (starts_of (plain_tokens place text)) in
-    let few : length (starts_of (plain_tokens place text)) ≡ length text = starts-length (plain_tokens place text) ∙ plain-length place text in
-    let least : 0 < length text = some in
-    omega arith
 
 pub same_starts : (old new more : List ℕ) → new ≡ old ++ more → length old ≤ length new
 same_starts old new more e =

@@ -46,14 +46,24 @@ impl Kept {
     }
 
     /// Adds a token.
-    #[inline(never)]
     pub(crate) fn push(&mut self, token: Token) -> Result<(), AllocError>
         ensures starts { OnOk result (self.new.starts ≡ self.old.starts ++ starts_of (token ∷ [])) }
         ensures either { (self.new.starts ≡ self.old.starts) ⊎ (self.new.starts ≡ self.old.starts ++ starts_of (token ∷ [])) }
         ensures tokens { OnOk result (self.old.keeps_tokens ≡ true → self.new.tokens ≡ self.old.tokens ++ token ∷ []) }
         ensures keeps { self.new.keeps_tokens ≡ self.old.keeps_tokens }
     {
-        self.starts.push_run(token.span.start, 1)?;
+        let start = self.starts.push_run(token.span.start, 1);
+        self.keep(token)?;
+        start
+    }
+
+    /// Keeps a token where the tokens are wanted, and else lets it go. Apart from its caller, which would else move the parts of each token.
+    #[inline(never)]
+    fn keep(&mut self, token: Token) -> Result<(), AllocError>
+        ensures starts { self.new.starts ≡ self.old.starts }
+        ensures tokens { OnOk result (self.old.keeps_tokens ≡ true → self.new.tokens ≡ self.old.tokens ++ token ∷ []) }
+        ensures keeps { self.new.keeps_tokens ≡ self.old.keeps_tokens }
+    {
         if self.keeps_tokens {
             self.tokens.push(token)?;
         }

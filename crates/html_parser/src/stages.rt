@@ -227,10 +227,7 @@ impl<'a> Stages<'a> {
             let any = self.hand_token()?;
             return Ok(any);
         }
-        let is_text = self.hand_run()?;
-        if is_text {
-            return Ok(true);
-        }
+        self.hand_run()?;
         let some = self.hand_token()?;
         Ok(some)
     }
@@ -242,10 +239,9 @@ impl<'a> Stages<'a> {
         let _ = &self.kept;
     }
 
-    /// Hands on the plain text that comes next: whether there was any.
-    fn hand_run(&mut self) -> Result<bool, ParseError>
+    /// Hands on the plain text that comes next, if any.
+    fn hand_run(&mut self) -> Result<(), ParseError>
         ensures further { OnOk result ((start : Start) (finished : Bool) (bytes : List ℕ) (run : Run) → IsRun start finished self.old bytes run → IsFurther start finished self.new bytes run.text) }
-        ensures more { IfOk result (λ some. some ≡ true → length self.old.kept.starts < length self.new.kept.starts) }
         ensures same { OnOk result (length self.old.kept.starts ≤ length self.new.kept.starts) }
         ensures cause { IfErr result (λ e. (start : Start) (finished : Bool) (bytes : List ℕ) (run : Run) → IsRun start finished self.old bytes run → IsTokenCause start finished run.text e) }
         ensures keeps { self.new.kept.keeps_tokens ≡ self.old.kept.keeps_tokens }
@@ -255,11 +251,11 @@ impl<'a> Stages<'a> {
         self.run.clear();
         self.builder.counted();
         let Some(place) = self.tokenizer.next_run(&mut self.run)? else {
-            return Ok(false);
+            return Ok(());
         };
         self.builder.process_text(self.run.as_slice(), place)?;
         self.kept.push_run(self.run.as_slice(), place)?;
-        Ok(!self.run.is_empty())
+        Ok(())
     }
 
     /// Hands on the token that comes next: whether there was one.

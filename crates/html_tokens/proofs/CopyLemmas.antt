@@ -3,7 +3,7 @@ use Rattle.std.proofs.Common.{◌≡◌, ℕ, suc, ◌+◌, ◌≤◌, List, [],
 use Rattle.std.proofs.lemmas.List.{take-append-drop, length-take-le}
 use Rattle.std.proofs.lemmas.Bool.{false≢true}
 use Rattle.html_charref.specs.declared.table.Row.{Row}
-use Rattle.html_tokens.specs.Copied.{AllPass, is_copied, copied_in, copied_by, CopiesTag, CopiesComment, cut_by}
+use Rattle.html_tokens.specs.Copied.{AllPass, is_copied, is_without, copied_in, copied_by, CopiesTag, CopiesComment, cut_by}
 use Rattle.std.proofs.Common.{Result, Ok, Err}
 use Rattle.std.specs.Result.{IfOk}
 use Rattle.html_tokens.specs.Cut.{Cut, cut, null_replaced, ends_unquoted}
@@ -15,6 +15,9 @@ use Rattle.html_tokens.proofs.Cuts.{longer_draft}
 use Rattle.html_tokens.specs.Value.{value_cut, end_mark}
 use Rattle.html_tokens.specs.Tag.{between, name_char, ends_name, ends_attr, tail, after_some, draft_tag, longer_tag, tag_by}
 use Rattle.html_tokens.specs.Tag.{Tag as WholeTag}
+use Rattle.html_tokens.specs.Runs.{is_plain}
+use Rattle.html_tokens.specs.declared.token.TextMode.{TextMode}
+use Rattle.html_tokens.specs.declared.token.TextMode.TheVariants.{Data, Rcdata, Rawtext, Script, Plaintext}
 use Rattle.html_tokens.specs.declared.copied.Copied.TheVariants as copied
 use Rattle.html_tokens.specs.declared.tag.TagDraft.{TagDraft}
 use Rattle.html_tokens.specs.declared.tag.Part.TheVariants as parts
@@ -32,6 +35,27 @@ is_not false h = refl
 pub AllPass-push : (p : ℕ → Bool) (xs : List ℕ) (c : ℕ) → AllPass p xs → p c ≡ true → AllPass p (xs ++ c ∷ [])
 AllPass-push p [] c a h = (h, tt)
 AllPass-push p (x ∷ xs) c a h = (a.0, AllPass-push p xs c a.1 h)
+
+AllPass-map : (p q : ℕ → Bool) → ((c : ℕ) → p c ≡ true → q c ≡ true) → (xs : List ℕ) → AllPass p xs → AllPass q xs
+AllPass-map p q h [] a = tt
+AllPass-map p q h (x ∷ xs) a = (h x a.0, AllPass-map p q h xs a.1)
+
+-- Without U+0000, `&` and `<`, all is plain text in each mode.
+clean_in : (mode : TextMode) (c : ℕ) → (c == 0) ≡ false → (c == 60) ≡ false → (c == 38) ≡ false → is_plain mode c ≡ true
+clean_in Data c a b d = rw (b, d) refl
+clean_in Rcdata c a b d = rw (b, d, a) refl
+clean_in Rawtext c a b d = rw (b, a) refl
+clean_in Script c a b d = rw (b, a) refl
+clean_in Plaintext c a b d = rw a refl
+
+clean_one : (mode : TextMode) (c : ℕ) → is_without 60 38 c ≡ true → is_plain mode c ≡ true
+clean_one mode c h =
+    let a = neither (c == 0) _ h in
+    let b = neither (c == 60) _ a.1 in
+    clean_in mode c a.0 b.0 (is_not (c == 38) b.1)
+
+pub clean_plain : (mode : TextMode) (text : List ℕ) → AllPass (is_without 60 38) text → AllPass (is_plain mode) text
+clean_plain mode text a = AllPass-map (is_without 60 38) (is_plain mode) (clean_one mode) text a
 
 pub both-left : (a b : Bool) → a && b ≡ true → a ≡ true
 both-left true b e = refl

@@ -88,6 +88,11 @@ run_given old new run given switch s i = record {
   drained = s.1.drained i.drained;
 }
 
+pub some_given : (old new : Machine) (answer : Option Token) → IfSome answer (λ given. Steps old (Given given) new) →
+    IfSome answer (λ token. (run : Run) → IsAt old run → (switch : Option TextMode) → IsAt (answered token switch new) (gave run token switch))
+some_given old new (Some token) s = λ run i switch. run_given old new run token switch s i
+some_given old new None s = tt
+
 abbrev Reaches : ℕ → Token → Type 0
 Reaches place t = place ≤ t.span.end
 

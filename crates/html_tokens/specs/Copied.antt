@@ -19,6 +19,10 @@ abbrev pub AllPass : (ℕ → Bool) → List ℕ → Type 0
 AllPass p [] = Unit {0}
 AllPass p (c ∷ cs) = (p c ≡ true) × AllPass p cs
 
+-- neither U+0000 nor one of these two
+abbrev pub is_without : ℕ → ℕ → ℕ → Bool
+is_without first second c = not (c == 0 || (c == first || c == second))
+
 abbrev pub is_copied : Copied → ℕ → Bool
 is_copied Name c = not (ends_attr c || (c == 0 || (c == 34 || (c == 39 || (c == 60 || between 65 90 c)))))
 is_copied DoubleQuoted c = not (c == 0 || (c == 34 || c == 38))

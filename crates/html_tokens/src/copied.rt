@@ -2,6 +2,7 @@
 ghost use Rattle.std.specs.Prelude.{◌≡◌, ◌≤◌, ◌++◌, length, take, IfOk, OnOk};
 ghost use Rattle.html_tokens.specs.Copied.{AllPass, is_copied};
 
+use crate::fronts::front_without;
 use crate::tag::{ends_attr, ends_unquoted};
 use html_charref::Str;
 use std::alloc::AllocError;
@@ -42,6 +43,19 @@ impl Copied {
         ensures fit { result ≤ length rest.now }
         ensures passes { AllPass (is_copied self) (take result rest.now) }
     {
+        match self {
+            Copied::DoubleQuoted => front_without('"', '&', rest),
+            Copied::SingleQuoted => front_without('\'', '&', rest),
+            Copied::Comment => front_without('-', '<', rest),
+            Copied::Name | Copied::Unquoted | Copied::Bogus => self.front_one_by_one(rest),
+        }
+    }
+
+    /// The same, where more code points end the text, or names, which are short.
+    fn front_one_by_one(self, rest: &[char]) -> usize
+        ensures fit { result ≤ length rest.now }
+        ensures passes { AllPass (is_copied self) (take result rest.now) }
+    {
         let mut len = 0;
         for c in rest {
             if !self.takes(*c) {
@@ -65,6 +79,7 @@ impl Copied {
 }
 
 /// Adds code points at the end of a text.
+#[inline(always)]
 pub(crate) fn push_all(text: &mut Str, run: &[char]) -> Result<(), AllocError>
     ensures ok { OnOk result (text.new ≡ text.old ++ run.now) }
 {

@@ -7,12 +7,10 @@ ghost use Rattle.html_tokens.specs.declared.token.TextMode.{TextMode};
 ghost use Rattle.std.specs.Prelude.{take};
 ghost use Rattle.std.specs.Prelude.{MatchOption, true, []};
 
+use crate::fronts::front_without;
 use crate::queue::Queue;
 use crate::token::TextMode;
 use std::alloc::AllocError;
-
-/// How many code points are looked at at once.
-const BLOCK: usize = 8;
 
 /// What was fed and not yet read, and whether that is all.
 #[derive(Drop)]
@@ -40,40 +38,6 @@ fn is_plain(mode: TextMode, c: char) -> bool
     }
 }
 
-/// Whether a code point is plain text in each mode, and tells no error.
-fn is_clean(c: char) -> bool
-    ensures { (mode : TextMode) → result ≡ true → is_plain mode c ≡ true }
-{
-    (c != '<') & (c != '&') & (c != '\0')
-}
-
-/// Whether each code point of a block is plain text in each mode, and tells no error. It looks at each, so that no guess at where words end
-/// goes wrong.
-fn are_clean(block: &[char]) -> bool
-    ensures { (mode : TextMode) → result ≡ true → AllPass (is_plain mode) block.now }
-{
-    let mut are_clean = true;
-    for c in block {
-        are_clean = are_clean & is_clean(*c);
-    }
-    are_clean
-}
-
-/// The length of the longest front without U+0000, `&` and `<`.
-fn clean_front(text: &[char]) -> usize
-    ensures fit { result ≤ length text.now }
-    ensures plain { (mode : TextMode) → AllPass (is_plain mode) (take result text.now) }
-{
-    let mut len = 0;
-    'skipping: while BLOCK <= text.len() - len && are_clean(&text[len..len + BLOCK]) {
-        len += BLOCK;
-    }
-    'rest: while len < text.len() && is_clean(text[len]) {
-        len += 1;
-    }
-    len
-}
-
 impl Input {
     /// The code point at a place of the rest.
     pub(crate) fn peek(&self, at: usize) -> Peek
@@ -98,11 +62,12 @@ impl Input {
     }
 
     /// The length of a front of the rest that is plain text and tells no error.
+    #[inline(always)]
     pub(crate) fn clean_len(&self) -> usize
         ensures fit { result ≤ length self.now.queue.items }
         ensures plain { (mode : TextMode) → AllPass (is_plain mode) (take result self.now.queue.items) }
     {
-        clean_front(self.queue.unread())
+        front_without('<', '&', self.queue.unread())
     }
 
     /// Takes the first code point where it is plain text.

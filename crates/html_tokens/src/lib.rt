@@ -9,6 +9,7 @@ mod doctype_faults;
 mod fault_list;
 mod fault_name;
 mod faults;
+mod fronts;
 mod indexed;
 mod input;
 mod machine;

@@ -195,11 +195,11 @@ impl<'a> Machine<'a> {
         ensures within { IsBounded self.old faults.old → OnErr result (IsWithin self.new.place faults.new) }
     {
         match self.whole_tag(faults)? {
-            Some(token) => Ok(Some(token)),
             None => {
                 let answer = self.read_next(faults)?;
                 Ok(answer)
             }
+            found => Ok(found),
         }
     }
 

@@ -12,6 +12,7 @@ use crate::token::Opener;
 const DOCTYPE: [char; 7] = ['d', 'o', 'c', 't', 'y', 'p', 'e'];
 
 /// What the `<` at the front of the rest begins; nothing where more input is wanted.
+#[inline(always)]
 pub(crate) fn opener(input: &Input) -> Option<Opener>
     requires { 0 < length input.now.queue.items }
     ensures { MatchOption result (IsShort input.now 8) (λ found. Decided input.now opener found × (0 < opened_len found) × (opened_len found ≤ length input.now.queue.items)) }

@@ -88,7 +88,6 @@ impl<'a> Machine<'a> {
     }
 
     /// Takes an end tag without attributes, whose name has this length.
-    #[inline(never)]
     fn take_end(&mut self, opened: usize, len: usize) -> Result<Token, AllocError>
         requires fit { opened + len < length self.old.input.queue.items }
         requires state { self.old.state ≡ State.Text Region.Plain }
@@ -105,7 +104,6 @@ impl<'a> Machine<'a> {
     }
 
     /// Takes a start tag without attributes, whose name has this length.
-    #[inline(never)]
     fn take_start(&mut self, opened: usize, len: usize) -> Result<Token, AllocError>
         requires fit { opened + len < length self.old.input.queue.items }
         requires state { self.old.state ≡ State.Text Region.Plain }
@@ -149,6 +147,7 @@ impl<'a> Machine<'a> {
     }
 
     /// The end tag at the front of the rest, where it has no attributes, was fed whole and tells no error.
+    #[inline(never)]
     fn whole_end(&mut self) -> Result<Option<Token>, AllocError>
         requires state { self.old.state ≡ State.Text Region.Plain }
         requires begun { Decided self.old.input (begin_at self.old.mode Region.Plain self.old.last_name) Begin.Markup }
@@ -172,6 +171,7 @@ impl<'a> Machine<'a> {
     }
 
     /// The start tag at the front of the rest, where it was fed whole and tells no error. One that begins so is being read from then on.
+    #[inline(never)]
     fn whole_start(&mut self, faults: &mut Faults) -> Result<Option<Token>, AllocError>
         requires state { self.old.state ≡ State.Text Region.Plain }
         requires begun { Decided self.old.input (begin_at self.old.mode Region.Plain self.old.last_name) Begin.Markup }

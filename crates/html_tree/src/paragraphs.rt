@@ -62,6 +62,7 @@ pub(crate) fn is_last_p(ends: &[NodeId], arena: &Arena) -> bool
 }
 
 /// Opens an element; where that is refused nothing is changed. One step.
+#[inline(always)]
 pub(crate) fn open_node(
     stack: &mut OpenStack,
     ends: &mut Vec<NodeId>,

@@ -61,6 +61,7 @@ fn first_of(stack: &OpenStack, arena: &mut Arena) -> NodeId
 }
 
 /// Makes a node and puts it at a target.
+#[inline(always)]
 pub(crate) fn put_new(
     stack: &OpenStack,
     arena: &mut Arena,

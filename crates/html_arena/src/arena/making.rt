@@ -1,5 +1,5 @@
 // New nodes.
-ghost use Rattle.std.specs.Prelude.{◌≡◌, ◌+◌, ◌<◌, length, OnOk, OnErr, IfOk, IfErr, Ok, false, true};
+ghost use Rattle.std.specs.Prelude.{◌≡◌, ◌+◌, ◌<◌, [], length, OnOk, OnErr, IfOk, IfErr, Ok, false, true};
 ghost use Rattle.html_names.specs.Names.{tag_of};
 ghost use Rattle.html_names.specs.Sets.{is_formatting, is_template};
 ghost use Rattle.html_arena.specs.Budget.{RefusedBy, budget};
@@ -17,7 +17,7 @@ use crate::links::NodeId;
 use crate::room::{let_go, push_node, reserve};
 use html_charref::{Str, WideStr};
 use html_names::Tag;
-use html_tokens::Attrs;
+use html_tokens::{Attrs, OptionalStr};
 
 impl Arena {
     /// Asks for room for so many more nodes, which take no memory before they are made. A refusal changes nothing.
@@ -28,6 +28,7 @@ impl Arena {
     }
 
     /// Makes a node that stands alone; a template with its Contents node, the next one.
+    #[inline(always)]
     pub fn make(&mut self, new: NewNode) -> Result<NodeId, ArenaError>
         requires { CanMake self.old new }
         ensures id { IfOk result (λ id. id ≡ length self.old.labels) }
@@ -46,6 +47,7 @@ impl Arena {
     }
 
     /// Makes a node that stands alone; a template with its Contents node, the next one.
+    #[inline(always)]
     fn make_node(&mut self, new: NewNode) -> Result<NodeId, ArenaError>
         requires { CanMake self.old new }
         ensures id { IfOk result (λ id. id ≡ length self.old.labels) }
@@ -55,7 +57,7 @@ impl Arena {
         ensures cause { IfErr result (λ e. RefusedBy (budget self.old (nodes_made new) (made_weight self.old new)) e) }
     {
         match new {
-            NewNode::Document => self.add(NodeData::Document),
+            NewNode::Document => self.make_document(),
             NewNode::Element {
                 name,
                 attrs,
@@ -69,26 +71,81 @@ impl Arena {
                 }
             }
             NewNode::CloneOf(node) => self.make_clone(node),
-            NewNode::Text => {
-                let text = WideStr::new(*self.links.allocator());
-                self.add(NodeData::Text { text })
-            }
-            NewNode::Comment { text, token } => self.add(NodeData::Comment { text, token }),
+            NewNode::Text => self.make_text(),
+            NewNode::Comment { text, token } => self.make_comment(text, token),
             NewNode::Doctype {
                 name,
                 public,
                 system,
                 token,
-            } => self.add(NodeData::Doctype {
-                name,
-                public,
-                system,
-                token,
-            }),
+            } => self.make_doctype(name, public, system, token),
         }
     }
 
+    /// Makes an empty text.
+    #[inline(always)]
+    fn make_text(&mut self) -> Result<NodeId, ArenaError>
+        ensures id { IfOk result (λ id. id ≡ length self.old.labels) }
+        ensures within { OnOk result (budget self.old 1 (capped (weight (NodeData.Text []))) ≡ Ok tt) }
+        ensures made { OnOk result (self.new ≡ added self.old (NodeData.Text []) (capped (weight (NodeData.Text [])))) }
+        ensures refused { OnErr result (self.new ≡ self.old) }
+        ensures cause { IfErr result (λ e. RefusedBy (budget self.old 1 (capped (weight (NodeData.Text [])))) e) }
+    {
+        self.room_for(1, 0)?;
+        let text = WideStr::new(*self.links.allocator());
+        self.place(NodeData::Text { text }, 0)
+    }
+
+    /// Makes a document. This, comments, doctypes and templates are rare, and stand apart from `make_node`, which would else set room to zero
+    /// for each of them.
+    #[inline(never)]
+    fn make_document(&mut self) -> Result<NodeId, ArenaError>
+        ensures id { IfOk result (λ id. id ≡ length self.old.labels) }
+        ensures within { OnOk result (budget self.old 1 (capped (weight NodeData.Document)) ≡ Ok tt) }
+        ensures made { OnOk result (self.new ≡ added self.old NodeData.Document (capped (weight NodeData.Document))) }
+        ensures refused { OnErr result (self.new ≡ self.old) }
+        ensures cause { IfErr result (λ e. RefusedBy (budget self.old 1 (capped (weight NodeData.Document))) e) }
+    {
+        self.add(NodeData::Document)
+    }
+
+    /// Makes a comment.
+    #[inline(never)]
+    fn make_comment(&mut self, text: Str, token: u64) -> Result<NodeId, ArenaError>
+        ensures id { IfOk result (λ id. id ≡ length self.old.labels) }
+        ensures within { OnOk result (budget self.old 1 (capped (weight (NodeData.Comment text token))) ≡ Ok tt) }
+        ensures made { OnOk result (self.new ≡ added self.old (NodeData.Comment text token) (capped (weight (NodeData.Comment text token)))) }
+        ensures refused { OnErr result (self.new ≡ self.old) }
+        ensures cause { IfErr result (λ e. RefusedBy (budget self.old 1 (capped (weight (NodeData.Comment text token)))) e) }
+    {
+        self.add(NodeData::Comment { text, token })
+    }
+
+    /// Makes a doctype.
+    #[inline(never)]
+    fn make_doctype(
+        &mut self,
+        name: OptionalStr,
+        public: OptionalStr,
+        system: OptionalStr,
+        token: u64,
+    ) -> Result<NodeId, ArenaError>
+        ensures id { IfOk result (λ id. id ≡ length self.old.labels) }
+        ensures within { OnOk result (budget self.old 1 (capped (weight (NodeData.Doctype name public system token))) ≡ Ok tt) }
+        ensures made { OnOk result (self.new ≡ added self.old (NodeData.Doctype name public system token) (capped (weight (NodeData.Doctype name public system token)))) }
+        ensures refused { OnErr result (self.new ≡ self.old) }
+        ensures cause { IfErr result (λ e. RefusedBy (budget self.old 1 (capped (weight (NodeData.Doctype name public system token)))) e) }
+    {
+        self.add(NodeData::Doctype {
+            name,
+            public,
+            system,
+            token,
+        })
+    }
+
     /// Makes an element that is no template.
+    #[inline(always)]
     fn make_element(
         &mut self,
         name: Str,
@@ -118,6 +175,7 @@ impl Arena {
     }
 
     /// Makes a template and its contents.
+    #[inline(never)]
     fn make_template(
         &mut self,
         name: Str,
@@ -190,6 +248,7 @@ impl Arena {
     }
 
     /// Adds a node that stands alone and holds so many code points, for which the limits have room.
+    #[inline(always)]
     fn place(&mut self, node: NodeData, held: u128) -> Result<NodeId, ArenaError>
         requires lone { IsLone node }
         requires held { held ≡ capped (weight node) }

@@ -109,6 +109,7 @@ impl<'a> Machine<'a> {
     }
 
     /// Appends a front of the rest that is plain text, where no error waits for it, and answers its length.
+    #[inline(always)]
     fn take_clean(&mut self, faults: &Faults, out: &mut Vec<char>) -> Result<usize, AllocError>
         requires room { self.old.place + length self.old.input.queue.items < 2 ^ 64 }
         ensures fit { IfOk result (λ n. n ≤ length self.old.input.queue.items) }

@@ -408,6 +408,7 @@ impl OpenTree {
 
 impl OpenTree {
     /// Makes an element, puts it at a target, and opens it.
+    #[inline(always)]
     fn open_new(
         &mut self,
         name: Str,

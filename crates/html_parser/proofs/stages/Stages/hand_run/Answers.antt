@@ -1,12 +1,11 @@
-use Rattle.std.proofs.Common.{◌≡◌, ◌⊎◌, ◌++◌, ◌∙◌, ap, arith, inl, refl, subst}
-use Rattle.std.proofs.lemmas.Bool.Decides.{nat_tests}
+use Rattle.std.proofs.Common.{◌≡◌, ◌⊎◌, ◌++◌, ◌∙◌, ap, inl, refl, subst}
 use Rattle.std.proofs.lemmas.Result.{err_from_is_err_and}
 use Rattle.html_builder.specs.Handed.{HandsIn, IsTextCause, fates_of}
 use Rattle.html_construction.specs.Built.{chars_of}
 use Rattle.html_parser.specs.Kinds.{kinds}
 use Rattle.html_parser.proofs.Causing.{text_refused}
 use Rattle.html_parser.proofs.Further.{text_further}
-use Rattle.html_parser.proofs.Taken.{more_starts, same_starts}
+use Rattle.html_parser.proofs.Taken.{same_starts}
 use Rattle.html_parser.specs.Kinds.{starts_of}
 use Rattle.html_tokens.specs.Given.{plain_next}
 use Rattle.html_tokens.specs.Runs.{plain_tokens}
@@ -68,11 +67,6 @@ returns-clause-further c =
       building = c.in_ok-process_text.ensures.ok;
     })
     (c.counted.ensures.counted start.setting start.limits (kinds run.given) r.handed) r
-
-pub returns-clause-more : goal.returns-clause-more
-returns-clause-more c = λ some.
-    more_starts c.args.self.now.kept.starts c.push_run.new.self.starts c.in-Some.place c.as_slice-2.result.now c.in_ok-push_run.ensures.starts
-    (grind (arith, nat_tests, some, c.is_empty.ensures, c.as_slice-2.ensures.len))
 
 pub returns-clause-same : goal.returns-clause-same
 returns-clause-same c =

@@ -1,13 +1,11 @@
 use Rattle.std.proofs.Common.{◌-◌, ◌≤◌, length, take}
-use Rattle.html_tokens.specs.Copied.{AllPass}
-use Rattle.html_tokens.specs.Runs.{is_plain}
-use Rattle.html_tokens.specs.declared.token.TextMode.{TextMode}
-use Rattle.html_tokens.proofs.input.clean_front.Given as goal
+use Rattle.html_tokens.specs.Copied.{AllPass, is_without}
+use Rattle.html_tokens.proofs.fronts.front_without.Given as goal
 
 abbrev pub invariant-skipping : goal.invariant-skipping
 invariant-skipping l = record {
   fit : l.len ≤ length l.text;
-  plain : (mode : TextMode) → AllPass (is_plain mode) (take l.len l.text);
+  passes : AllPass (is_without l.first l.second) (take l.len l.text);
 }
 
 abbrev pub decreases-skipping : goal.decreases-skipping
@@ -16,7 +14,7 @@ decreases-skipping l = length l.text - l.len
 abbrev pub invariant-rest : goal.invariant-rest
 invariant-rest l = record {
   fit : l.len ≤ length l.text;
-  plain : (mode : TextMode) → AllPass (is_plain mode) (take l.len l.text);
+  passes : AllPass (is_without l.first l.second) (take l.len l.text);
 }
 
 abbrev pub decreases-rest : goal.decreases-rest
