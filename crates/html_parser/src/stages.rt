@@ -166,7 +166,10 @@ impl<'a> Stages<'a> {
         ensures spent { result ≡ true → AreTooManySteps self.now.builder.page.tree.tree.limits (steps_taken self.now.tokenizer) self.now.builder.page.tree.steps }
         ensures few { result ≡ false → AreFewSteps self.now.builder.page.tree.tree.limits (steps_taken self.now.tokenizer) self.now.builder.page.tree.steps }
     {
-        passes(self.builder.limits(), self.steps())
+        match self.builder.limits() {
+            None => false,
+            limits => passes(limits, self.steps()),
+        }
     }
 
     /// Whether the next token is to be refused: more steps than the limit were counted when the last one had been taken.
@@ -223,11 +226,7 @@ impl<'a> Stages<'a> {
         ensures running { OnOk result (tokenizer_stopped self.new.tokenizer ≡ false) }
         ensures count { OnOk result (fed_len self.new.tokenizer ≤ fed_len self.old.tokenizer) }
     {
-        if self.counts_steps() {
-            let any = self.hand_token()?;
-            return Ok(any);
-        }
-        self.hand_run()?;
+        self.hand_text()?;
         let some = self.hand_token()?;
         Ok(some)
     }
@@ -237,6 +236,20 @@ impl<'a> Stages<'a> {
         ensures few { tokenizer_stopped self.now.tokenizer ≡ false → length self.now.kept.starts ≤ fed_len self.now.tokenizer + 1 }
     {
         let _ = &self.kept;
+    }
+
+    /// Hands on the plain text that comes next, if any, unless the tokens are to be counted for one by one.
+    fn hand_text(&mut self) -> Result<(), ParseError>
+        ensures further { OnOk result ((start : Start) (finished : Bool) (bytes : List ℕ) (run : Run) → IsRun start finished self.old bytes run → IsFurther start finished self.new bytes run.text) }
+        ensures same { OnOk result (length self.old.kept.starts ≤ length self.new.kept.starts) }
+        ensures cause { IfErr result (λ e. (start : Start) (finished : Bool) (bytes : List ℕ) (run : Run) → IsRun start finished self.old bytes run → IsTokenCause start finished run.text e) }
+        ensures keeps { self.new.kept.keeps_tokens ≡ self.old.kept.keeps_tokens }
+        ensures count { OnOk result (fed_len self.new.tokenizer ≤ fed_len self.old.tokenizer) }
+    {
+        if !self.counts_steps() {
+            self.hand_run()?;
+        }
+        Ok(())
     }
 
     /// Hands on the plain text that comes next, if any.
