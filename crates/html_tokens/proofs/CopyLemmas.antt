@@ -32,6 +32,10 @@ pub is_not : (b : Bool) → not b ≡ true → b ≡ false
 is_not true h = absurd (false≢true h)
 is_not false h = refl
 
+pub not-false : (b : Bool) → not b ≡ false → b ≡ true
+not-false true h = refl
+not-false false h = absurd (false≢true (sym h))
+
 pub AllPass-push : (p : ℕ → Bool) (xs : List ℕ) (c : ℕ) → AllPass p xs → p c ≡ true → AllPass p (xs ++ c ∷ [])
 AllPass-push p [] c a h = (h, tt)
 AllPass-push p (x ∷ xs) c a h = (a.0, AllPass-push p xs c a.1 h)
@@ -64,6 +68,10 @@ both-left false b e = e
 pub both-right : (a b : Bool) → a && b ≡ true → b ≡ true
 both-right true b e = e
 both-right false b e = absurd (false≢true e)
+
+pub AllPass-pushed : (p : ℕ → Bool) (xs : List ℕ) (c : ℕ) → AllPass p (xs ++ c ∷ []) → AllPass p xs × (p c ≡ true)
+AllPass-pushed p [] c a = (tt, a.0)
+AllPass-pushed p (x ∷ xs) c a = let rest = AllPass-pushed p xs c a.1 in ((a.0, rest.0), rest.1)
 
 pub AllPass-append : (p : ℕ → Bool) (xs ys : List ℕ) → AllPass p xs → AllPass p ys → AllPass p (xs ++ ys)
 AllPass-append p [] ys a b = b

@@ -1,6 +1,7 @@
 -- For this crate's own functions.
 -- Code points that names, values and comments take as they stand: they end nothing, begin nothing, become nothing else and tell no error.
-use Rattle.std.specs.Prelude.{◌≡◌, ℕ, ◌+◌, ◌≤◌, List, [], ◌∷◌, ◌++◌, length, drop, Bool, true, not, ◌||◌, ◌==◌}
+use Rattle.std.specs.Prelude.{◌≡◌, ℕ, ◌+◌, ◌≤◌, List, [], ◌∷◌, ◌++◌, length, drop, Bool, true, false, not, ◌||◌, ◌==◌, Some}
+use Rattle.std.specs.List.{slice_get}
 use Rattle.html_tokens.specs.Cut.{Cut, ends_unquoted}
 use Rattle.html_tokens.specs.Draft.{draft_cut}
 use Rattle.html_tokens.specs.Tag.{between, ends_attr, draft_tag, tag_by}
@@ -18,6 +19,10 @@ use Rattle.html_tokens.specs.declared.copied.Copied.TheVariants.{Name, DoubleQuo
 abbrev pub AllPass : (ℕ → Bool) → List ℕ → Type 0
 AllPass p [] = Unit {0}
 AllPass p (c ∷ cs) = (p c ≡ true) × AllPass p cs
+
+-- the code point after so many, if there is one, does not pass
+abbrev pub EndsAt : (ℕ → Bool) → List ℕ → ℕ → Type 0
+EndsAt p text n = (c : ℕ) → slice_get text n ≡ Some c → p c ≡ false
 
 -- neither U+0000 nor one of these two
 abbrev pub is_without : ℕ → ℕ → ℕ → Bool

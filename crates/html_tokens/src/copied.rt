@@ -1,6 +1,6 @@
 // Fronts of the rest that are copied as they stand.
 ghost use Rattle.std.specs.Prelude.{◌≡◌, ◌≤◌, ◌++◌, length, take, IfOk, OnOk};
-ghost use Rattle.html_tokens.specs.Copied.{AllPass, is_copied};
+ghost use Rattle.html_tokens.specs.Copied.{AllPass, EndsAt, is_copied};
 
 use crate::fronts::front_without;
 use crate::tag::{ends_attr, ends_unquoted};
@@ -42,6 +42,7 @@ impl Copied {
     pub(crate) fn front(self, rest: &[char]) -> usize
         ensures fit { result ≤ length rest.now }
         ensures passes { AllPass (is_copied self) (take result rest.now) }
+        ensures ended { EndsAt (is_copied self) rest.now result }
     {
         match self {
             Copied::DoubleQuoted => front_without('"', '&', rest),
@@ -55,6 +56,7 @@ impl Copied {
     fn front_one_by_one(self, rest: &[char]) -> usize
         ensures fit { result ≤ length rest.now }
         ensures passes { AllPass (is_copied self) (take result rest.now) }
+        ensures ended { EndsAt (is_copied self) rest.now result }
     {
         let mut len = 0;
         for c in rest {
@@ -70,6 +72,7 @@ impl Copied {
     pub(crate) fn copy(self, rest: &[char], text: &mut Str) -> Result<usize, AllocError>
         ensures fit { IfOk result (λ n. n ≤ length rest.now) }
         ensures passes { IfOk result (λ n. AllPass (is_copied self) (take n rest.now)) }
+        ensures ended { IfOk result (λ n. EndsAt (is_copied self) rest.now n) }
         ensures text { IfOk result (λ n. text.new ≡ text.old ++ take n rest.now) }
     {
         let len = self.front(rest);

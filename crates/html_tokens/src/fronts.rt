@@ -1,6 +1,6 @@
 // Fronts of a text without some code points, many of which are looked at at once.
-ghost use Rattle.std.specs.Prelude.{◌≡◌, ◌≤◌, ◌==◌, length, take, false, true};
-ghost use Rattle.html_tokens.specs.Copied.{AllPass, is_without};
+ghost use Rattle.std.specs.Prelude.{◌≡◌, ◌≤◌, ◌==◌, length, not, take, true};
+ghost use Rattle.html_tokens.specs.Copied.{AllPass, EndsAt, is_without};
 
 /// How many code points are looked at at once.
 const BLOCK: usize = 8;
@@ -14,7 +14,7 @@ fn is_without(first: char, second: char, c: char) -> bool
 
 /// A number that is 0 for U+0000 and these two code points alone: with one comparison, and not three, eight code points are eight of one kind.
 fn least(first: char, second: char, c: char) -> u32
-    ensures { (result == 0) ≡ false → is_without first second c ≡ true }
+    ensures { (result == 0) ≡ not (is_without first second c) }
 {
     let code = c as u32;
     let to_first = code ^ first as u32;
@@ -24,7 +24,8 @@ fn least(first: char, second: char, c: char) -> u32
 
 /// Whether a block is without these code points. It looks at each, so that no guess at where words end goes wrong.
 fn are_without(first: char, second: char, block: &[char]) -> bool
-    ensures { result ≡ true → AllPass (is_without first second) block.now }
+    ensures passes { result ≡ true → AllPass (is_without first second) block.now }
+    ensures all { AllPass (is_without first second) block.now → result ≡ true }
 {
     let mut are_without = true;
     for c in block {
@@ -38,6 +39,7 @@ fn are_without(first: char, second: char, block: &[char]) -> bool
 pub(crate) fn front_without(first: char, second: char, text: &[char]) -> usize
     ensures fit { result ≤ length text.now }
     ensures passes { AllPass (is_without first second) (take result text.now) }
+    ensures ended { EndsAt (is_without first second) text.now result }
 {
     match text.get(0) {
         Some(c) if is_without(first, second, *c) => {}

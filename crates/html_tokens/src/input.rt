@@ -1,7 +1,7 @@
 // The unread input.
 ghost use Rattle.std.specs.Prelude.{◌≡◌, ℕ, ◌≤◌, ◌+◌, length, drop, ◌<◌, ◌∷◌, ◌++◌, OnOk};
 ghost use Rattle.html_tokens.specs.Input.{Peeks};
-ghost use Rattle.html_tokens.specs.Copied.{AllPass};
+ghost use Rattle.html_tokens.specs.Copied.{AllPass, EndsAt, is_without};
 ghost use Rattle.html_tokens.specs.Runs.{is_plain, plain_front};
 ghost use Rattle.html_tokens.specs.declared.token.TextMode.{TextMode};
 ghost use Rattle.std.specs.Prelude.{take};
@@ -61,11 +61,12 @@ impl Input {
         c
     }
 
-    /// The length of a front of the rest that is plain text and tells no error.
+    /// The length of the longest front of the rest that is plain text in each state and tells no error: it ends before U+0000, `<` or `&`.
     #[inline(always)]
     pub(crate) fn clean_len(&self) -> usize
         ensures fit { result ≤ length self.now.queue.items }
         ensures plain { (mode : TextMode) → AllPass (is_plain mode) (take result self.now.queue.items) }
+        ensures ended { EndsAt (is_without 60 38) self.now.queue.items result }
     {
         front_without('<', '&', self.queue.unread())
     }

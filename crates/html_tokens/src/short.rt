@@ -1,7 +1,7 @@
 // Tags without attributes whose whole text was fed, which are read at once.
 ghost use Rattle.std.specs.Prelude.{chars, ◌≡◌, ℕ, ◌≤◌, ◌+◌, ◌<◌, ◌^◌, List, ◌++◌, drop, take, length, slice_get, Some, true, false, IfOk, OnErr, OnOk, IfSome, IfNone};
 ghost use Rattle.html_tokens.specs.Bounds.{IsBounded, IsWithin};
-ghost use Rattle.html_tokens.specs.Copied.{AllPass, is_copied};
+ghost use Rattle.html_tokens.specs.Copied.{AllPass, EndsAt, is_copied};
 ghost use Rattle.html_tokens.specs.Fed.{EndsTagAt, Skips, Steps};
 ghost use Rattle.html_tokens.specs.Input.{Decided, MayFollow};
 ghost use Rattle.html_tokens.specs.Marks.{begin_at};
@@ -75,6 +75,7 @@ impl<'a> Machine<'a> {
     fn name_len(&self, opened: usize) -> (usize, bool)
         requires fit { opened ≤ length self.now.input.queue.items }
         ensures name { AllPass (is_copied Copied.Name) (take result.0 (drop opened self.now.input.queue.items)) }
+        ensures ended { EndsAt (is_copied Copied.Name) (drop opened self.now.input.queue.items) result.0 }
         ensures close { result.1 ≡ true → slice_get (drop opened self.now.input.queue.items) result.0 ≡ Some 62 }
         ensures fit { result.1 ≡ true → opened + result.0 < length self.now.input.queue.items }
         ensures within { opened + result.0 ≤ length self.now.input.queue.items }

@@ -1,7 +1,7 @@
 // Attributes with values that were fed whole, which are read at once.
 ghost use Rattle.std.specs.Prelude.{◌≡◌, ℕ, ◌≤◌, ◌+◌, ◌-◌, ◌<◌, ◌^◌, length, min, slice_get, take, Some, true, IfOk, IfSome, IfNone, OnErr, OnOk};
 ghost use Rattle.html_tokens.specs.Bounds.{IsBounded, IsWithin};
-ghost use Rattle.html_tokens.specs.Copied.{AllPass, CopiesTag, copied_in, is_copied};
+ghost use Rattle.html_tokens.specs.Copied.{AllPass, CopiesTag, EndsAt, copied_in, is_copied};
 ghost use Rattle.html_tokens.specs.Fed.{Skips};
 ghost use Rattle.html_tokens.specs.Whole.{AddsOne, ClosesValue, IsValue, IsWholeAttr, OpensValue, quote_len, whole_len};
 
@@ -85,6 +85,7 @@ impl ValueEnd {
     fn front(self, rest: &[char]) -> usize
         ensures fit { result ≤ length rest.now }
         ensures passes { AllPass (is_copied (copied_in self)) (take result rest.now) }
+        ensures ended { EndsAt (is_copied (copied_in self)) rest.now result }
     {
         match self {
             ValueEnd::DoubleQuote => Copied::DoubleQuoted.front(rest),

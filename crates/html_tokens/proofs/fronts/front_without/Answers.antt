@@ -11,7 +11,7 @@ skipping-preserved c =
     record {
       fit = omega arith;
       passes =
-          let block = c.are_without.ensures c.if-are_without.true in
+          let block = c.are_without.ensures.passes c.if-are_without.true in
           let clean = rw eight at block in
           rw (take-add c.skipping.len 8 c.args.text.now) (AllPass-append (is_without c.args.first c.args.second) _ _ c.skipping.invariant.passes clean);
     }
