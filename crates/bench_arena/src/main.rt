@@ -11,44 +11,70 @@ use std::env;
 use std::time::Instant;
 
 fn main(rt: HostRuntime) -> anyhow::Result<()> {
-    let words: Vec<String> = env::args(&rt)?.collect(rt.alloc())?;
-    let given = words
-        .get(1)
-        .and_then(|word| word.as_str().parse::<u64>().ok());
-    let elements = given.unwrap_or(1_000);
-    let start = Instant::now(&rt)?;
-    let arena = build(rt.alloc(), elements)?;
-    let built = start.elapsed(&rt)?.as_micros();
-    let walking = Instant::now(&rt)?;
-    let counts = count(&arena);
-    let walked = walking.elapsed(&rt)?.as_micros();
-    let nodes = arena.len();
-    println!(rt; "nodes            {nodes:>12}")?;
-    let held = arena.held();
-    println!(rt; "held             {held:>12}")?;
-    let steps = arena.meter().steps;
-    println!(rt; "steps            {steps:>12}")?;
-    let entered = counts.entered;
-    println!(rt; "entered          {entered:>12}")?;
-    let depth = counts.depth;
-    println!(rt; "depth            {depth:>12}")?;
-    let bytes = Arena::NODE_BYTES;
-    println!(rt; "bytes a node     {bytes:>12}")?;
+    let given = elements_given(&rt)?;
+    show_tree(&rt, given.unwrap_or(1_000), given.is_some())?;
     if given.is_some() {
-        println!(rt; "built, us        {built:>12}")?;
-        println!(rt; "walked, us       {walked:>12}")?;
-        let start = Instant::now(&rt)?;
-        let text = in_runs(rt.alloc())?;
-        let took = start.elapsed(&rt)?.as_micros();
-        let held = text.held();
-        println!(rt; "held in runs     {held:>12}")?;
-        println!(rt; "in runs, us      {took:>12}")?;
-        let start = Instant::now(&rt)?;
-        let text = one_by_one(rt.alloc())?;
-        let took = start.elapsed(&rt)?.as_micros();
-        let held = text.held();
-        println!(rt; "held one by one  {held:>12}")?;
-        println!(rt; "one by one, us   {took:>12}")?;
+        show_text_in_runs(&rt)?;
+        show_text_one_by_one(&rt)?;
     }
     Ok(())
+}
+
+/// The number of elements, where the first word is one.
+fn elements_given(rt: &HostRuntime) -> anyhow::Result<Option<u64>> {
+    let words: Vec<String> = env::args(rt)?.collect(rt.alloc())?;
+    Ok(
+        words
+            .get(1)
+            .and_then(|word| word.as_str().parse::<u64>().ok()),
+    )
+}
+
+/// Writes a line: what the number is of, and the number.
+fn show(rt: &HostRuntime, label: &str, number: u128) -> anyhow::Result<()> {
+    println!(rt; "{label}{number:>12}")?;
+    Ok(())
+}
+
+/// Builds the tree and walks it.
+fn show_tree(rt: &HostRuntime, elements: u64, is_timed: bool) -> anyhow::Result<()> {
+    let start = Instant::now(rt)?;
+    let arena = build(rt.alloc(), elements)?;
+    let built = start.elapsed(rt)?.as_micros();
+    let walking = Instant::now(rt)?;
+    let counts = count(&arena);
+    let walked = walking.elapsed(rt)?.as_micros();
+    show_counts(rt, &arena, counts)?;
+    if is_timed {
+        show(rt, "built, us        ", built)?;
+        show(rt, "walked, us       ", walked)?;
+    }
+    Ok(())
+}
+
+fn show_counts(rt: &HostRuntime, arena: &Arena, counts: Counts) -> anyhow::Result<()> {
+    show(rt, "nodes            ", u128::from(arena.len()))?;
+    show(rt, "held             ", arena.held())?;
+    show(rt, "steps            ", arena.meter().steps)?;
+    show(rt, "entered          ", u128::from(counts.entered))?;
+    show(rt, "depth            ", u128::from(counts.depth))?;
+    show(rt, "bytes a node     ", Arena::NODE_BYTES as u128)
+}
+
+/// Adds a text of 16 MB in runs.
+fn show_text_in_runs(rt: &HostRuntime) -> anyhow::Result<()> {
+    let start = Instant::now(rt)?;
+    let text = in_runs(rt.alloc())?;
+    let took = start.elapsed(rt)?.as_micros();
+    show(rt, "held in runs     ", text.held())?;
+    show(rt, "in runs, us      ", took)
+}
+
+/// Adds the same text one code point after another.
+fn show_text_one_by_one(rt: &HostRuntime) -> anyhow::Result<()> {
+    let start = Instant::now(rt)?;
+    let text = one_by_one(rt.alloc())?;
+    let took = start.elapsed(rt)?.as_micros();
+    show(rt, "held one by one  ", text.held())?;
+    show(rt, "one by one, us   ", took)
 }
