@@ -1,9 +1,9 @@
 //! The command line, for clap.
 
 ghost use Rattle.std.specs.Prelude.{◌≡◌, IfOk, codes, true, false};
-ghost use Rattle.clap.specs.Words.{app_of, rule_of};
+ghost use Rattle.clap.specs.Words.{app_of, rule_of, with_subcommand};
 ghost use Rattle.clap.specs.declared.builder.command.Command.TheViews.{out-Command as fields_of};
-ghost use Rattle.html_job.specs.Line.{option_rule, input_rule, files_rule, page_app, normalise_app, suite_app, line};
+ghost use Rattle.html_job.specs.Line.{option_rule, input_rule, files_rule, page_app, normalise_app, suite_app, empty_line, line};
 
 use clap::{Arg, ArgAction, Command};
 use std::alloc::{AllocError, Global};
@@ -157,25 +157,46 @@ fn suite<'a>(alloc: Global) -> Result<Command<'a>, AllocError>
         .arg(files(alloc))
 }
 
+/// A program with a command on one page more.
+fn with_page_command<'a>(
+    program: Command<'a>,
+    alloc: Global,
+    name: &'a str,
+    about: &'a str,
+) -> Result<Command<'a>, AllocError>
+    requires local { (fields_of program).has_globals ≡ false }
+    ensures app { IfOk result (λ c. app_of c ≡ with_subcommand (app_of program.entry) (page_app name.entry.now).top) }
+    ensures local { IfOk result (λ c. (fields_of c).has_globals ≡ false) }
+{
+    program.subcommand(page_command(alloc, name, about)?)
+}
+
+/// The program, with no command.
+fn empty_line<'a>(alloc: Global) -> Command<'a>
+    ensures app { app_of result ≡ empty_line }
+    ensures local { (fields_of result).has_globals ≡ false }
+{
+    Command::new(alloc, "html_cmd")
+        .about("Reads HTML pages")
+        .subcommand_required(true)
+        .disable_help_subcommand(true)
+}
+
 /// The whole command line.
 pub(crate) fn line<'a>(alloc: Global) -> Result<Command<'a>, AllocError>
     ensures app { IfOk result (λ c. app_of c ≡ line) }
     ensures local { IfOk result (λ c. (fields_of c).has_globals ≡ false) }
 {
-    let tree = page_command(alloc, "tree", "Print the tree of a page")?;
-    let errors = page_command(alloc, "errors", "Print the parse errors of a page")?;
-    let audit = page_command(alloc, "audit", "Print what became of each token of a page")?;
-    let normalise = normalise(alloc)?;
-    let counts = page_command(alloc, "counts", "Print how large a page is")?;
-    let suite = suite(alloc)?;
-    Command::new(alloc, "html_cmd")
-        .about("Reads HTML pages")
-        .subcommand_required(true)
-        .disable_help_subcommand(true)
-        .subcommand(tree)?
-        .subcommand(errors)?
-        .subcommand(audit)?
-        .subcommand(normalise)?
-        .subcommand(counts)?
-        .subcommand(suite)
+    let program = empty_line(alloc);
+    let program = with_page_command(program, alloc, "tree", "Print the tree of a page")?;
+    let program = with_page_command(program, alloc, "errors", "Print the parse errors of a page")?;
+    let program = with_page_command(
+        program,
+        alloc,
+        "audit",
+        "Print what became of each token of a page",
+    )?;
+    let program = program.subcommand(normalise(alloc)?)?;
+    let program = with_page_command(program, alloc, "counts", "Print how large a page is")?;
+    program.subcommand(suite(alloc)?)
 }

@@ -1,41 +1,20 @@
-use Rattle.std.proofs.Common.{◌∙◌, ap, true}
+use Rattle.std.proofs.Common.{◌∙◌, ap}
+use Rattle.std.specs.Prelude.{codes}
 use Rattle.std.proofs.lemmas.Result.{IfOk-weaker}
-use Rattle.clap.specs.Simple.{app_of_fields, on_top}
-use Rattle.html_job.proofs.Building.{Is, is, subcommand_added}
-use Rattle.html_job.specs.Line.{empty_line, line}
+use Rattle.clap.specs.Words.{App, Text, with_subcommand}
+use Rattle.html_job.proofs.Building.{is, subcommand_added}
+use Rattle.html_job.specs.Line.{line, page_app}
 use Rattle.html_job.proofs.line.line.Goals as goal
+
+abbrev with : Text → App → App
+with name a = with_subcommand a (page_app name).top
 
 pub returns-clause-app : goal.returns-clause-app
 unfolding line
 returns-clause-app c =
-    let named : Is c.disable_help_subcommand.result empty_line = record {
-      app = ap app_of_fields c.disable_help_subcommand.ensures
-          ∙ ap (on_top (λ s. record s { disable_help_subcommand = true }))
-          (ap app_of_fields c.subcommand_required.ensures
-          ∙ ap (on_top (λ s. record s { subcommand_required = true })) (ap app_of_fields c.about.ensures ∙ c.new.ensures.app));
-      local = ap (λ f. f.has_globals) c.disable_help_subcommand.ensures
-          ∙ ap (λ f. f.has_globals) c.subcommand_required.ensures ∙ ap (λ f. f.has_globals) c.about.ensures ∙ c.new.ensures.local;
-    } in
-    let tree = subcommand_added _ _ _ _ _ named (is _ _ c.in_ok-tree.ensures.app c.in_ok-tree.ensures.local) c.in_ok-subcommand.ensures in
-    let errors = subcommand_added _ _ _ _ _ tree (is _ _ c.in_ok-errors.ensures.app c.in_ok-errors.ensures.local) c.in_ok-subcommand-2.ensures in
-    let audit = subcommand_added _ _ _ _ _ errors (is _ _ c.in_ok-audit.ensures.app c.in_ok-audit.ensures.local) c.in_ok-subcommand-3.ensures in
-    let normalise = subcommand_added _ _ _ _ _ audit (is _ _ c.in_ok-normalise.ensures.app c.in_ok-normalise.ensures.local) c.in_ok-subcommand-4.ensures in
-    let counts = subcommand_added _ _ _ _ _ normalise (is _ _ c.in_ok-counts.ensures.app c.in_ok-counts.ensures.local) c.in_ok-subcommand-5.ensures in
-    IfOk-weaker c.subcommand-6.result _ _ (λ r h. (subcommand_added _ _ r _ _ counts (is _ _ c.in_ok-suite.ensures.app c.in_ok-suite.ensures.local) h).app) c.subcommand-6.ensures
-
-pub returns-clause-local : goal.returns-clause-local
-returns-clause-local c =
-    let named : Is c.disable_help_subcommand.result empty_line = record {
-      app = ap app_of_fields c.disable_help_subcommand.ensures
-          ∙ ap (on_top (λ s. record s { disable_help_subcommand = true }))
-          (ap app_of_fields c.subcommand_required.ensures
-          ∙ ap (on_top (λ s. record s { subcommand_required = true })) (ap app_of_fields c.about.ensures ∙ c.new.ensures.app));
-      local = ap (λ f. f.has_globals) c.disable_help_subcommand.ensures
-          ∙ ap (λ f. f.has_globals) c.subcommand_required.ensures ∙ ap (λ f. f.has_globals) c.about.ensures ∙ c.new.ensures.local;
-    } in
-    let tree = subcommand_added _ _ _ _ _ named (is _ _ c.in_ok-tree.ensures.app c.in_ok-tree.ensures.local) c.in_ok-subcommand.ensures in
-    let errors = subcommand_added _ _ _ _ _ tree (is _ _ c.in_ok-errors.ensures.app c.in_ok-errors.ensures.local) c.in_ok-subcommand-2.ensures in
-    let audit = subcommand_added _ _ _ _ _ errors (is _ _ c.in_ok-audit.ensures.app c.in_ok-audit.ensures.local) c.in_ok-subcommand-3.ensures in
-    let normalise = subcommand_added _ _ _ _ _ audit (is _ _ c.in_ok-normalise.ensures.app c.in_ok-normalise.ensures.local) c.in_ok-subcommand-4.ensures in
-    let counts = subcommand_added _ _ _ _ _ normalise (is _ _ c.in_ok-counts.ensures.app c.in_ok-counts.ensures.local) c.in_ok-subcommand-5.ensures in
-    IfOk-weaker c.subcommand-6.result _ _ (λ r h. (subcommand_added _ _ r _ _ counts (is _ _ c.in_ok-suite.ensures.app c.in_ok-suite.ensures.local) h).local) c.subcommand-6.ensures
+    let tree = c.in_ok-program.ensures.app ∙ ap (with (codes "tree")) c.empty_line-program.ensures.app in
+    let errors = c.in_ok-program-2.ensures.app ∙ ap (with (codes "errors")) tree in
+    let audit = c.in_ok-program-3.ensures.app ∙ ap (with (codes "audit")) errors in
+    let normalise = subcommand_added _ _ _ _ _ (is _ _ audit c.in_ok-program-3.ensures.local) (is _ _ c.in_ok-normalise.ensures.app c.in_ok-normalise.ensures.local) c.in_ok-program-4.ensures in
+    let counts = c.in_ok-program-5.ensures.app ∙ ap (with (codes "counts")) normalise.app in
+    IfOk-weaker c.subcommand-2.result _ _ (λ r h. (subcommand_added _ _ r _ _ (is _ _ counts c.in_ok-program-5.ensures.local) (is _ _ c.in_ok-suite.ensures.app c.in_ok-suite.ensures.local) h).app) c.subcommand-2.ensures
