@@ -1,5 +1,5 @@
 -- The ancestors of every node after an edit.
-use Rattle.std.proofs.Common.{◌≡◌, ◌≢◌, ℕ, zero, suc, ◌+◌, ◌<◌, ◌≤◌, Bool, true, false, cond, eqb, List, [], ◌∷◌, ◌++◌, length, get_or, set, Option, Some, None, ◌⊎◌, inl, inr, refl, sym, ◌∙◌, ap, subst, arith}
+use Rattle.std.proofs.Common.{◌≡◌, ◌≢◌, ℕ, zero, suc, ◌+◌, ◌<◌, ◌≤◌, Bool, true, false, cond, eqb, List, [], ◌∷◌, ◌++◌, length, get_or, set, Option, Some, None, inl, inr, refl, sym, ◌∙◌, ap, subst, arith}
 use Rattle.std.specs.Prelude.{Err, IfOk, IfSome, Ok, OnErr, OnOk, Result}
 use Rattle.html_names.specs.Names.{tag_of}
 use Rattle.html_names.specs.Sets.{is_template}
@@ -14,7 +14,7 @@ use Rattle.html_arena.specs.Make.{CanMake, has_contents, label_for, made, made_w
 use Rattle.html_arena.specs.Merge.{merged}
 use Rattle.html_arena.specs.Laws.{IsGrown, IsLinked, IsMoved, IsRelabelled, IsUnlinked}
 use Rattle.html_arena.specs.Marks.{has_mark, no_marks}
-use Rattle.html_arena.specs.Siblings.{has, put_before, without}
+use Rattle.html_arena.specs.Siblings.{has, put_before}
 use Rattle.html_arena.specs.Tree.{Tree, WellFormed, Climbs, added, added_template, ancestors, ancestors_within, appended, children_of, detached, inserted, label_of, moved, parent_of, texted, texted_run, with_merged}
 use Rattle.html_arena.proofs.Labels.{formatting-element}
 use Rattle.html_arena.proofs.Made.{get_or-default_push}

@@ -1,16 +1,16 @@
 -- Each operation of an arena is one edit of the tree that callers see.
-use Rattle.std.proofs.Common.{◌≡◌, ◌≢◌, ℕ, zero, suc, ◌+◌, ◌<◌, ◌≤◌, Bool, true, false, cond, eqb, List, [], ◌∷◌, ◌++◌, length, map, get_or, set, Option, Some, None, ◌⊎◌, inl, inr, refl, sym, ◌∙◌, ap, subst, arith, rules, tests}
+use Rattle.std.proofs.Common.{◌≡◌, ℕ, ◌<◌, false, List, [], ◌∷◌, ◌++◌, length, get_or, Option, Some, None, ◌⊎◌, inl, inr, refl, sym, ◌∙◌, ap, subst, arith}
 use Rattle.std.proofs.lemmas.List.{append-nil}
 use Rattle.html_arena.specs.declared.links.Links.{Links}
 use Rattle.html_arena.specs.declared.data.NodeData.{NodeData}
 use Rattle.html_arena.specs.declared.marks.Marks.{Marks}
 use Rattle.html_arena.specs.declared.arena.Limits.{Limits}
-use Rattle.html_arena.specs.Siblings.{has, Distinct, or_else, is_in, first_of, last_of, after, before, without, put_before}
-use Rattle.html_arena.specs.Links.{blank, parent_at, first_at, last_at, previous_at, next_at, at_end, IsBelow, Rejoined}
-use Rattle.html_arena.specs.Shape.{Shape, with_kids, walk, kids_of, Ascends, Acyclic}
-use Rattle.html_arena.specs.Tree.{Tree, ancestors, ancestors_within, parent_of, children_of, more, placed, appended, inserted, detached, sibling}
+use Rattle.html_arena.specs.Siblings.{has, Distinct, first_of, last_of, after, before, without, put_before}
+use Rattle.html_arena.specs.Links.{parent_at, first_at, last_at, previous_at, next_at, IsBelow, Rejoined}
+use Rattle.html_arena.specs.Shape.{kids_of}
+use Rattle.html_arena.specs.Tree.{Tree, ancestors, ancestors_within, parent_of, children_of, more, appended, inserted, detached, sibling}
 use Rattle.html_arena.specs.Whole.{parents_in, children_in, tree_of, IsWhole}
-use Rattle.html_arena.proofs.Siblings.{cases_eqb, cases_bool, eqb-apart, eqb-self, has-first, has-last, has-insert, split_at, without-split, put_before-split, after-here, before-here, has-after, has-before, has-tail, Distinct-remove, has-append}
+use Rattle.html_arena.proofs.Siblings.{has-first, split_at, without-split, put_before-split, after-here, before-here, has-after, has-before, has-tail, Distinct-remove}
 use Rattle.html_arena.proofs.Whole.{parents_in-at, children_in-at, linked_whole, linked_children, linked_parents, unlinked_whole, unlinked_children, unlinked_parents, ascent, below_option}
 use Rattle.html_arena.proofs.Climb.{Ascends-same}
 

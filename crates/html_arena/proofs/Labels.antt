@@ -1,5 +1,5 @@
 -- What is said of the nodes' labels, kept by every edit.
-use Rattle.std.proofs.Common.{◌≡◌, ◌≢◌, ℕ, zero, suc, ◌+◌, ◌<◌, ◌≤◌, Bool, true, false, cond, eqb, List, [], ◌∷◌, ◌++◌, length, get_or, set, Option, Some, None, is_some, ◌⊎◌, inl, inr, refl, sym, ◌∙◌, ap, subst, arith}
+use Rattle.std.proofs.Common.{◌≡◌, ℕ, zero, suc, ◌<◌, true, false, cond, eqb, List, [], ◌∷◌, ◌++◌, length, get_or, set, Option, Some, None, is_some, ◌⊎◌, inl, inr, refl, sym, ◌∙◌, ap, subst, arith}
 use Rattle.std.proofs.lemmas.List.{length-set, length_push, get_or-set_same, get_or-set_other}
 use Rattle.html_names.specs.declared.tag.Tag.{Tag}
 use Rattle.html_names.specs.declared.tag.Tag.TheVariants as tag
@@ -13,11 +13,10 @@ use Rattle.html_arena.specs.declared.data.NodeData.{NodeData}
 use Rattle.html_arena.specs.declared.data.NodeData.TheVariants.{Document, Contents, Element, Text, Comment, Doctype}
 use Rattle.html_arena.specs.Data.{label_in, tag_in, name_in, contents_in, host_in, is_linkable, IsElement, IsText, IsLone, cloned, with_char, with_run, with_attrs}
 use Rattle.html_arena.specs.Links.{blank, parent_at}
-use Rattle.html_arena.specs.Templates.{Templates}
 use Rattle.html_arena.specs.Whole.{IsLabelled, IsArena}
 use Rattle.html_arena.proofs.Limited.{within_none}
-use Rattle.html_arena.proofs.Siblings.{cases_eqb, eqb-self}
-use Rattle.html_arena.proofs.Made.{get_or-default_push, grown_parent}
+use Rattle.html_arena.proofs.Siblings.{cases_eqb}
+use Rattle.html_arena.proofs.Made.{grown_parent}
 
 -- a node that may be linked has no host
 pub linkable-host : (d : NodeData) → is_linkable d ≡ true → host_in d ≡ None

@@ -1,10 +1,8 @@
 -- Attributes that are looked for and added one by one.
-use Rattle.std.proofs.Common.{◌≡◌, ℕ, ◌+◌, ◌<◌, Bool, true, false, cond, not, List, [], ◌∷◌, ◌++◌, ◌⊎◌, inl, inr, length, get_or, take, drop, refl, sym, ◌∙◌, ap, arith, add-one, drop-cons, append_assoc, append-nil}
+use Rattle.std.proofs.Common.{◌≡◌, ℕ, ◌+◌, ◌<◌, Bool, true, false, cond, not, List, [], ◌∷◌, ◌++◌, inl, inr, length, get_or, drop, refl, ◌∙◌, ap, arith, add-one, drop-cons}
 use Rattle.std.specs.Prelude.{filter}
 use Rattle.std.specs.Str.{bytes_eq}
-use Rattle.std.specs.List.{sum_by}
 use Rattle.std.proofs.lemmas.List.Sums.{sum_by-append}
-use Rattle.std.proofs.Math.Seq.{take-suc}
 use Rattle.html_tokens.specs.declared.attributes.Attr.{Attr}
 use Rattle.html_arena.specs.Merge.{has_name, lacking}
 use Rattle.html_arena.specs.Weight.{attr_weight, attrs_weight}

@@ -1,5 +1,5 @@
 -- What is read of a link is a node.
-use Rattle.std.proofs.Common.{◌≡◌, ℕ, ◌<◌, true, length, Option, Some, None, refl, sym, ◌∙◌, ap}
+use Rattle.std.proofs.Common.{◌≡◌, ℕ, ◌<◌, true, length, Option, Some, None, refl, sym, ◌∙◌}
 use Rattle.std.specs.Prelude.{IfSome}
 use Rattle.html_arena.specs.Data.{contents_in, host_in}
 use Rattle.html_arena.specs.Siblings.{after, before, first_of, has, last_of}

@@ -1,5 +1,5 @@
 -- Why a node or code points are refused.
-use Rattle.std.proofs.Common.{◌≡◌, false, refl, sym, ◌∙◌}
+use Rattle.std.proofs.Common.{◌≡◌, false, refl}
 use Rattle.std.specs.Prelude.{Result, Ok, Err, OnOk}
 use Rattle.std.specs.Result.{is_err}
 use Rattle.html_arena.specs.declared.arena.ArenaError.{ArenaError}

@@ -1,5 +1,5 @@
 -- A new template and its Contents node.
-use Rattle.std.proofs.Common.{◌≡◌, ◌≢◌, ℕ, ◌+◌, ◌-◌, ◌^◌, min, ◌<◌, ◌≤◌, Bool, true, false, cond, eqb, List, [], ◌∷◌, ◌++◌, length, get_or, Option, Some, None, is_some, ◌⊎◌, inl, inr, refl, sym, ◌∙◌, ap, subst, arith}
+use Rattle.std.proofs.Common.{◌≡◌, ◌≢◌, ℕ, ◌+◌, ◌-◌, ◌^◌, min, ◌<◌, ◌≤◌, true, false, cond, eqb, List, [], ◌∷◌, ◌++◌, length, Option, Some, None, is_some, inl, inr, refl, sym, ◌∙◌, ap, subst, arith}
 use Rattle.std.proofs.lemmas.List.{append_assoc, get_or_append_left, get_or_past, get_or_push, length_push}
 use Rattle.std.proofs.lemmas.Bool.{cases_lt}
 use Rattle.html_names.specs.declared.tag.Tag.{Tag}
@@ -22,7 +22,7 @@ use Rattle.html_arena.specs.Weight.{capped, weight}
 use Rattle.html_arena.specs.Whole.{IsArena, IsLabelled, IsWhole, children_in, parents_in, tree_of}
 use Rattle.html_arena.proofs.Labels.{tag_of-nil}
 use Rattle.html_arena.proofs.Made.{grown_parent, made_children, made_parents, made_whole}
-use Rattle.html_arena.proofs.Siblings.{cases_eqb, eqb-apart, eqb-self}
+use Rattle.html_arena.proofs.Siblings.{cases_eqb}
 
 -- a label in a list with one more
 push-at : (ds : List NodeData) (d : NodeData) (z : ℕ) → label_in (ds ++ d ∷ []) z ≡ cond (eqb z (length ds)) d (label_in ds z)

@@ -1,12 +1,12 @@
 -- Claimed, but for this crate's own functions: reparented, InPart.
 -- What callers see of an arena: a node tree of the DOM (4.2), as its nodes and, for each, its parent and the list of its children.
-use Rattle.std.specs.Prelude.{◌≡◌, ℕ, zero, suc, ◌+◌, ◌*◌, ◌<◌, ◌≤◌, Bool, true, false, cond, min, ◌^◌, ◌-◌, List, [], ◌∷◌, ◌++◌, length, Option, Some, None, slice_index_or, slice_set}
+use Rattle.std.specs.Prelude.{◌≡◌, ℕ, zero, suc, ◌+◌, ◌*◌, ◌<◌, Bool, true, min, ◌^◌, ◌-◌, List, [], ◌∷◌, ◌++◌, length, Option, Some, None, slice_index_or, slice_set}
 use Rattle.html_names.specs.declared.tag.Tag.{Tag}
 use Rattle.html_names.specs.Tags.{is_same}
 use Rattle.html_names.specs.Names.{tag_of}
 use Rattle.html_tokens.specs.declared.attributes.Attr.{Attr}
 use Rattle.html_arena.specs.declared.data.NodeData.{NodeData}
-use Rattle.html_arena.specs.declared.data.NodeData.TheVariants.{Document, Contents}
+use Rattle.html_arena.specs.declared.data.NodeData.TheVariants.{Contents}
 use Rattle.html_arena.specs.declared.marks.Mark.{Mark}
 use Rattle.html_arena.specs.declared.marks.Marks.{Marks}
 use Rattle.html_arena.specs.declared.arena.Limits.{Limits}

@@ -1,5 +1,5 @@
 -- A name that has a known tag is that tag's name, and so is ASCII.
-use Rattle.std.proofs.Common.{◌≡◌, ℕ, Bool, true, false, cond, ◌==◌, List, [], ◌∷◌, ◌⊎◌, inl, inr, refl, sym, ◌∙◌, ap, subst, ◌&&◌, length, ◌++◌, ◌<◌, arith}
+use Rattle.std.proofs.Common.{◌≡◌, ℕ, Bool, true, false, ◌==◌, List, [], ◌∷◌, ◌⊎◌, inl, inr, refl, sym, ◌∙◌, ap, ◌&&◌, length, ◌++◌, ◌<◌, arith}
 use Rattle.std.specs.Prelude.{nat_lt}
 use Rattle.std.proofs.lemmas.Bool.Decides.{nat_tests}
 use Rattle.std.specs.Str.{bytes_eq, chars, encode_utf8_all, IsUtf8}
@@ -7,7 +7,7 @@ use Rattle.std.proofs.lemmas.Slice.Eq.{bytes_eq-Decides}
 use Rattle.std.proofs.lemmas.Str.{chars_from_encodes, encode_ascii, encodes-chars}
 use Rattle.html_names.specs.declared.tag.Tag.{Tag}
 use Rattle.html_names.specs.declared.tag.Tag.TheVariants as tag
-use Rattle.html_names.specs.Names.{Row, row, name_of, is_known, look_up, rows_of, tag_of}
+use Rattle.html_names.specs.Names.{Row, name_of, is_known, look_up, rows_of, tag_of}
 
 cases_bool : (b : Bool) → (b ≡ true) ⊎ (b ≡ false)
 cases_bool true = inl refl

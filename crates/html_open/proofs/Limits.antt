@@ -1,5 +1,5 @@
 -- What calls make of the limits: they stay.
-use Rattle.std.proofs.Common.{◌≡◌, ℕ, zero, suc, Bool, List, [], ◌∷◌, ◌++◌, length, Option, Some, None, refl, sym, ◌∙◌, ap}
+use Rattle.std.proofs.Common.{◌≡◌, ℕ, Bool, List, [], ◌∷◌, ◌++◌, length, Option, Some, None, refl, ◌∙◌, ap}
 use Rattle.html_names.specs.declared.tag.Tag.{Tag}
 use Rattle.html_arena.specs.declared.data.NewNode.TheVariants.{CloneOf}
 use Rattle.html_arena.specs.Make.{made}
@@ -7,7 +7,7 @@ use Rattle.html_arena.specs.Tree.{Tree, inserted, parent_of}
 use Rattle.html_open.specs.declared.adoption.AdoptEnd.{AdoptEnd}
 use Rattle.html_open.specs.declared.places.Place.{Place}
 use Rattle.html_open.specs.declared.places.Place.TheVariants.{Before, Last}
-use Rattle.html_open.specs.Adopting.{Adopted, Ends, Round, Rounds, closes, eight, fewer, forgets, no_entry, no_round, one_more, out_of_scope, popped}
+use Rattle.html_open.specs.Adopting.{Adopted, Ends, Rounds, closes, eight, fewer, forgets, no_entry, no_round, one_more, out_of_scope, popped}
 use Rattle.html_open.specs.Opened.{Open}
 use Rattle.html_open.specs.Placing.{place_of, put}
 use Rattle.html_open.specs.Reopening.{Reopened, closed, with_clone, with_clones}

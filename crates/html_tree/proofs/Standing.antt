@@ -1,5 +1,5 @@
 -- Parts of tables keep their parents, and templates hold nothing: where nodes are made, moved, or relabelled.
-use Rattle.std.proofs.Common.{◌≡◌, ◌≢◌, ℕ, zero, suc, ◌+◌, ◌-◌, ◌<◌, ◌≤◌, nat_lt, nat_le, Bool, true, false, cond, eqb, ◌&&◌, ◌||◌, List, [], ◌∷◌, ◌++◌, length, get_or, map, take, drop, Option, Some, None, ◌⊎◌, inl, inr, refl, sym, ◌∙◌, ap, subst, arith, length-append, Result, Ok, Err, IfOk, IfErr}
+use Rattle.std.proofs.Common.{◌≡◌, ℕ, zero, suc, ◌+◌, ◌-◌, ◌<◌, ◌≤◌, nat_lt, nat_le, Bool, true, false, cond, eqb, ◌&&◌, List, [], ◌∷◌, ◌++◌, length, get_or, map, take, drop, Option, Some, None, ◌⊎◌, inl, inr, refl, sym, ◌∙◌, ap, subst, arith, length-append, Result, Ok, Err, IfOk, IfErr}
 use Rattle.std.proofs.lemmas.Bool.{false≢true}
 use Rattle.std.proofs.lemmas.List.{length-map as length_map, take-append-drop}
 use Rattle.html_names.specs.declared.tag.Tag.{Tag}
@@ -11,7 +11,7 @@ use Rattle.html_arena.specs.declared.data.NewNode.{NewNode}
 use Rattle.html_arena.specs.declared.data.NodeData.{NodeData}
 use Rattle.html_arena.specs.declared.data.NodeData.TheVariants as node
 use Rattle.html_arena.specs.declared.marks.Mark.{Mark}
-use Rattle.html_arena.specs.Data.{IsElement, cloned, contents_in, host_in, label_in, tag_in}
+use Rattle.html_arena.specs.Data.{IsElement, cloned, host_in, label_in, tag_in}
 use Rattle.html_arena.specs.Laws.{IsRelabelled, IsUnlinked}
 use Rattle.html_arena.specs.Make.{has_contents, label_for, made}
 use Rattle.html_arena.specs.Siblings.{first_of, has, is_in, last_of, or_else, put_before, without}
@@ -23,10 +23,9 @@ use Rattle.html_open.specs.declared.error.OpenError.{OpenError}
 use Rattle.html_open.specs.declared.places.Place.{Place}
 use Rattle.html_open.specs.declared.places.Place.TheVariants.{Before, Last}
 use Rattle.html_open.specs.Adopting.{Adopted, Ends, IsRefusal, MadeClones, Round, Rounds, closes, eight, fewer, forgets, no_entry, no_round, one_more, out_of_scope, popped}
-use Rattle.html_open.specs.Cloning.{with_cloned}
 use Rattle.html_open.specs.Hanging.{chain_top, chained, with_put, wrapped_children}
 use Rattle.html_open.specs.Opened.{IsOpen, Open, open_at}
-use Rattle.html_open.specs.Placing.{AreTemplatesEmpty, CanPlace, IsPlace, fosters, get, inside, parent_at, place_at as place_on, place_of, table, target_of, template}
+use Rattle.html_open.specs.Placing.{AreTemplatesEmpty, CanPlace, IsPlace, get, inside, parent_at, place_at as place_on, place_of, template}
 use Rattle.html_open.specs.Rooting.{KeepsParents}
 use Rattle.html_arena.proofs.Siblings.{has-last}
 use Rattle.html_open.proofs.Descending.{label-kept}
@@ -35,7 +34,7 @@ use Rattle.html_open.proofs.Hangs.{ge-of, le-of, lt-of}
 use Rattle.html_open.proofs.Inserted.{get-before}
 use Rattle.html_open.proofs.Keeps.{cases_bool, cases_eqb, eqb-self}
 use Rattle.html_open.proofs.SafePlaces.{no-template, same-tag}
-use Rattle.html_open.proofs.Templates.{at-free, inside-plain, place-free, plain-tag}
+use Rattle.html_open.proofs.Templates.{at-free, place-free}
 use Rattle.html_tree.specs.declared.groups.Target.{Target}
 use Rattle.html_tree.specs.declared.groups.Target.TheVariants as target
 use Rattle.html_tree.specs.Inserting.{IsNew}

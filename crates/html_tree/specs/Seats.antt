@@ -9,7 +9,7 @@ use Rattle.html_names.specs.Tags.{is_same}
 use Rattle.html_arena.specs.declared.data.NodeData.{NodeData}
 use Rattle.html_arena.specs.declared.data.NodeData.TheVariants.{Document, Contents, Element, Text, Comment, Doctype}
 use Rattle.html_arena.specs.Siblings.{last_of}
-use Rattle.html_arena.specs.Tree.{Tree, label_of, named, parent_of, tag_at}
+use Rattle.html_arena.specs.Tree.{Tree, label_of, parent_of, tag_at}
 use Rattle.html_open.specs.Placing.{AreTemplatesEmpty}
 use Rattle.html_tree.specs.declared.groups.Target.{Target}
 use Rattle.html_tree.specs.declared.groups.Target.TheVariants as target

@@ -1,4 +1,4 @@
-use Rattle.std.proofs.Common.{ℕ, ◌+◌, List, ◌∙◌, ap}
+use Rattle.std.proofs.Common.{ℕ, List, ◌∙◌, ap}
 use Rattle.html_open.specs.declared.places.Place.TheVariants.{Last}
 use Rattle.html_open.specs.Marking.{charged}
 use Rattle.html_open.specs.Placing.{place_steps}

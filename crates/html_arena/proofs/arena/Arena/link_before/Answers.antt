@@ -1,5 +1,5 @@
-use Rattle.std.proofs.Common.{◌≡◌, List, [], ◌∷◌, Option, Some, None, refl, sym, ◌∙◌, ap, subst, arith, rules, length}
-use Rattle.html_arena.specs.Links.{IsBelow, Rejoined, last_at, previous_at, next_at}
+use Rattle.std.proofs.Common.{◌≡◌, Option, Some, sym, ◌∙◌, ap, subst, arith}
+use Rattle.html_arena.specs.Links.{Rejoined, previous_at}
 use Rattle.html_arena.proofs.Edits.{insert_is, previous_below, parent_below}
 use Rattle.html_arena.specs.Data.{is_linkable}
 use Rattle.html_arena.specs.Tree.{Tree, label_of}

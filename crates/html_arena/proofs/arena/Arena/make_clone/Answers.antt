@@ -1,9 +1,8 @@
-use Rattle.std.proofs.Common.{◌≡◌, ◌∙◌, ap, subst, sym, true}
+use Rattle.std.proofs.Common.{◌∙◌, ap, subst, sym}
 use Rattle.html_names.specs.Sets.{is_formatting}
-use Rattle.html_arena.specs.declared.data.NodeData.{NodeData}
 use Rattle.html_arena.specs.Data.{IsLone, cloned, label_in}
 use Rattle.html_arena.specs.Tree.{Tree, tag_at}
-use Rattle.html_arena.proofs.Labels.{cloned-lone, formatting-element}
+use Rattle.html_arena.proofs.Labels.{cloned-lone}
 use Rattle.html_arena.proofs.arena.Arena.make_clone.Goals as goal
 
 pub place-requires-clause-lone : goal.place-requires-clause-lone

@@ -1,4 +1,4 @@
-use Rattle.std.proofs.Common.{◌≡◌, List, [], ◌∷◌, ◌++◌, ◌∙◌, ap, arith, length, rules}
+use Rattle.std.proofs.Common.{[], ◌∷◌, ◌++◌, ◌∙◌, ap, arith, length, rules}
 use Rattle.std.proofs.lemmas.List.{length_push}
 use Rattle.html_arena.specs.Links.{blank}
 use Rattle.html_arena.specs.Marks.{no_marks}

@@ -1,5 +1,5 @@
-use Rattle.std.proofs.Common.{◌≡◌, List, [], ◌∷◌, Option, Some, None, refl, sym, ◌∙◌, ap, subst, arith, rules, length}
-use Rattle.html_arena.specs.Links.{IsBelow, Rejoined, last_at, previous_at, next_at}
+use Rattle.std.proofs.Common.{◌≡◌, Option, None, sym, ◌∙◌, ap, subst, arith}
+use Rattle.html_arena.specs.Links.{Rejoined, previous_at, next_at}
 use Rattle.html_arena.proofs.Edits.{detach_is, previous_below, next_below, parent_below}
 use Rattle.html_arena.proofs.Labels.{unlinked}
 use Rattle.html_arena.proofs.arena.Arena.unlink_node.Goals as goal

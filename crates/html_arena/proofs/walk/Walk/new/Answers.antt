@@ -1,4 +1,4 @@
-use Rattle.std.proofs.Common.{List, ◌<◌, length, subst, sym}
+use Rattle.std.proofs.Common.{◌<◌, length, subst, sym}
 use Rattle.std.specs.List.{All}
 use Rattle.html_arena.specs.declared.walk.Event.{Event}
 use Rattle.html_arena.specs.Steps.{node_in}

@@ -1,4 +1,4 @@
-use Rattle.std.proofs.Common.{◌≡◌, ◌∷◌, ◌∙◌, List, ap, arith, length, subst, sym}
+use Rattle.std.proofs.Common.{◌∷◌, ◌∙◌, ap, arith, length, subst, sym}
 use Rattle.html_arena.specs.declared.walk.Event.{Event}
 use Rattle.html_arena.specs.Steps.{rest}
 use Rattle.html_arena.specs.Walking.{IsUnderWay}

@@ -1,4 +1,4 @@
-use Rattle.std.proofs.Common.{◌+◌, ap, arith, length, length-append}
+use Rattle.std.proofs.Common.{ap, arith, length, length-append}
 use Rattle.html_device.proofs.tests.CollectedPieces.feed.Goals as goal
 
 pub returns-clause-bounded : goal.returns-clause-bounded

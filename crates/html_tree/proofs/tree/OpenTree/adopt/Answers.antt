@@ -9,10 +9,9 @@ use Rattle.html_open.proofs.Limits.{adopted-limits}
 use Rattle.html_tree.proofs.Inserted.{on-ok, under-way-place}
 use Rattle.html_tree.proofs.Spelled.{if-err}
 use Rattle.html_tree.proofs.OpenTags.{adopted-lighter}
-use Rattle.html_tree.specs.OpenTags.{IsLighterBesides, open_tags}
+use Rattle.html_tree.specs.OpenTags.{IsLighterBesides}
 use Rattle.html_tree.proofs.SearchEnds.{ends-survived}
 use Rattle.html_tree.proofs.Seating.{adopted-seated}
-use Rattle.html_tree.specs.Seats.{AreSeated}
 use Rattle.html_open.specs.Opened.{open_at}
 use Rattle.html_tree.proofs.Standing.{adopted-seats}
 use Rattle.html_tree.proofs.tree.OpenTree.adopt.Goals as goal

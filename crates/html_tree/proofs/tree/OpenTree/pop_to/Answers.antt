@@ -11,7 +11,6 @@ use Rattle.html_tree.proofs.Kept.{all_unmarked-steps, first-few, more-most, popp
 use Rattle.html_tree.proofs.OpenTags.{few-tags, few-weigh-less}
 use Rattle.html_tree.specs.Paragraphs.{p_ends_of}
 use Rattle.html_tree.proofs.SearchEnds.{ends-labels}
-use Rattle.html_tree.proofs.Seating.{few-seated}
 use Rattle.html_tree.proofs.Standing.{all_unmarked-parents, seats-taken}
 use Rattle.html_tree.specs.Seats.{HasSeats}
 use Rattle.html_tree.proofs.tree.OpenTree.pop_to.Goals as goal
