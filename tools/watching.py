@@ -1,5 +1,7 @@
-"""What the checks below this process take, by crate, as seen once a second."""
+"""What the checks below this process take, by crate, as seen once a second; and their end, where they stand still."""
+import contextlib
 import os
+import signal
 import threading
 import time
 from pathlib import Path
@@ -7,6 +9,8 @@ from typing import NamedTuple
 
 TICKS = os.sysconf("SC_CLK_TCK")
 KINDS = ("proof", "tests", "edits")
+# a check that has used no processor time for so many seconds waits for a process that the system has ended
+STILL = 600
 
 
 class Process(NamedTuple):
@@ -53,6 +57,8 @@ class Watch(threading.Thread):
     def __init__(self):
         super().__init__(daemon=True)
         self.took, self.used, self.loads, self.ended = {}, {}, [], threading.Event()
+        # by check: the processor time of it and of the processes below it, and since when it is that
+        self.moved = {}
 
     def run(self):
         while not self.ended.wait(1):
@@ -68,6 +74,21 @@ class Watch(threading.Thread):
             # what a check has forked to go side by side takes no time of its own
             if check and not (it.parent in below and check_of(below[it.parent])):
                 self.took[pid, it.began] = check, now - it.began
+                self.end_if_still(pid, it, below, now)
+
+    def end_if_still(self, pid, it, below, now):
+        """Ends a check that stands still."""
+        parts = {pid}
+        while more := {other for other, found in below.items() if found.parent in parts} - parts:
+            parts |= more
+        used = sorted((part, below[part].used) for part in parts)
+        was, since = self.moved.get((pid, it.began), (None, now))
+        if used != was:
+            self.moved[pid, it.began] = used, now
+        elif now - since > STILL:
+            print(f"gate: a check of {check_of(it)[0]} has stood still for {STILL} seconds, and is ended", flush=True)
+            with contextlib.suppress(OSError):
+                os.kill(pid, signal.SIGKILL)
 
     def stop(self):
         self.ended.set()
