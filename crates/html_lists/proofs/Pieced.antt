@@ -1,5 +1,5 @@
 -- The line of a token, as it is put piece by piece.
-use Rattle.std.proofs.Common.{◌≡◌, ℕ, List, [], ◌∷◌, ◌++◌, sym, ap, ◌∙◌, append_assoc}
+use Rattle.std.proofs.Common.{◌≡◌, ℕ, List, ◌∷◌, ◌++◌, sym, ap, ◌∙◌, append_assoc}
 use Rattle.std.specs.Prelude.{codes}
 use Rattle.html_ledger.specs.declared.fate.Fate.{Fate}
 use Rattle.html_tokens.specs.declared.token.Token.{Token}

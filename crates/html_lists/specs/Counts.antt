@@ -1,6 +1,6 @@
 -- Claimed.
 -- The lines of the counts of a page.
-use Rattle.std.specs.Prelude.{ℕ, List, [], ◌∷◌, ◌++◌, length, codes, decimal}
+use Rattle.std.specs.Prelude.{ℕ, List, [], ◌++◌, length, codes, decimal}
 use Rattle.std.specs.List.{filter}
 use Rattle.html_arena.specs.Data.{is_clone_in}
 use Rattle.html_arena.specs.Tree.{Tree as Nodes}

@@ -1,6 +1,6 @@
 -- Claimed, but for this crate's own functions: IsKeyTold.
 -- What reached the writer to which a line was told.
-use Rattle.std.specs.Prelude.{◌≡◌, ◌⊎◌, ℕ, Bool, true, List, Option, codes}
+use Rattle.std.specs.Prelude.{◌≡◌, ◌⊎◌, ℕ, Bool, true, List, Option}
 use Rattle.std.specs.Io.KnownBytes.{Appends}
 use Rattle.std.specs.Str.{encode_utf8_all}
 use Rattle.html_charref.specs.declared.read.EntityError.{EntityError}

@@ -1,5 +1,4 @@
 use Rattle.std.proofs.Common.{◌∙◌, ◌++◌, ◌∷◌, [], None, inl, refl, subst, sym}
-use Rattle.std.proofs.lemmas.Result.{err_from_is_err_and}
 use Rattle.html_builder.specs.Handed.{fates_of}
 use Rattle.html_ledger.specs.Runs.{last_of}
 use Rattle.html_tokens.specs.Given.{Fed}
