@@ -1,0 +1,143 @@
+"""The crates' proofs and edits: the longest chain of crates, step by step, and what is done beside it."""
+import os
+import shutil
+import subprocess
+import tempfile
+from concurrent.futures import ThreadPoolExecutor
+from pathlib import Path
+
+from kit import rt
+
+TOOLS = Path(__file__).resolve().parent
+# the longest chain of crates, in the steps in which it is proved before others take processors from it
+CHAIN = (
+    ("html_names",),
+    ("html_charref", "html_tokens"),
+    ("html_arena",),
+    ("html_open", "html_tree"),
+    ("html_construction", "html_modes"),
+    ("html_builder", "html_parser"),
+)
+# what `rt ci` says of crates that it was asked for, where a later run does not prove them again
+KEPT = "passed, and that is kept"
+
+
+def run_shown(*words):
+    """Runs a command, prints what it writes as it comes, and returns its status and text."""
+    with subprocess.Popen(words, stdout=subprocess.PIPE, stdin=subprocess.DEVNULL, text=True, errors="replace") as ran:
+        lines = []
+        for line in ran.stdout:
+            print(line, end="", flush=True)
+            lines.append(line)
+    return ran.returncode, "".join(lines)
+
+
+def run_aside(*words, **more):
+    """Runs a command, prints what it wrote once it has ended, and returns its status and text."""
+    words = [*map(str, words)]
+    how = {"stdout": subprocess.PIPE, "stderr": subprocess.STDOUT, "stdin": subprocess.DEVNULL, "text": True, "errors": "replace"}
+    ran = subprocess.run(words, **how, **more)
+    print(f"== {' '.join(Path(it).name for it in words)}\n{ran.stdout}", end="", flush=True)
+    return ran.returncode, ran.stdout
+
+
+def steps_of(every):
+    """Yields the steps of the longest chain, each as its crates and those outside of the chain that stand on earlier steps and one another alone."""
+    chain, proved = {name for step in CHAIN for name in step}, set()
+    for names in CHAIN:
+        beside = []
+        for it in every:
+            if it.name not in chain and it not in proved and proved.union(beside).issuperset(it.below()):
+                beside.append(it)
+        step = [it for it in every if it.name in names]
+        yield step, beside
+        proved.update(step, beside)
+
+
+def copy_up_to(crate, room):
+    """Copies a crate and those below it into a folder, as a repository of their own."""
+    every = [*crate.below(), crate]
+    for it in every:
+        shutil.copytree(it.folder, f"{room}/crates/{it.name}", ignore=shutil.ignore_patterns("out"))
+    names = [it.name for it in every]
+    lines = [it for it in Path("crates.txt").read_text().splitlines(True) if it.partition(":")[0] in names]
+    Path(room, "crates.txt").write_text("".join(lines))
+    shutil.copyfile("HANDLES", f"{room}/HANDLES")
+
+
+class Work:
+    """Proofs by `rt ci` and edits by the judge, a crate at a time; whether `rt ci` keeps what it proves, so that nothing is proved twice; and what
+    it wrote."""
+
+    def __init__(self):
+        self.is_kept, self.texts = True, []
+
+    def prove_all(self):
+        status, text = run_shown("rt", "ci")
+        self.texts.append(text)
+        return status, text
+
+    def prove_shown(self, crate):
+        """Proves a crate on the processors that are free, and notes whether that is kept."""
+        status, text = run_shown("rt", "ci", crate.name)
+        self.texts.append(text)
+        self.is_kept = not status and KEPT in text
+
+    def prove(self, crate, jobs=1, before=()):
+        """Proves a crate beside other work, and returns status and text."""
+        status, text = run_aside(*before, "rt", "ci", crate.name, env=os.environ | ({"RT_JOBS": "1"} if jobs == 1 else {}))
+        self.texts.append(text)
+        return status, text
+
+    def judge(self, crate, jobs=1, before=()):
+        """Tries the edits of a crate that is proved, where that is kept in a copy, so that `rt ci` can go on here. Returns status and text."""
+        with tempfile.TemporaryDirectory(prefix="gate-") as room:
+            if self.is_kept:
+                copy_up_to(crate, room)
+                status, text = run_aside(*before, "rt", "ci", cwd=room)
+                if status:
+                    return status, text
+            Path(room, "built").write_text("".join(self.texts))
+            words = [TOOLS / "judge", crate.name, "--as-built", f"{room}/built", "--jobs", jobs]
+            return run_aside(*before, *words, cwd=room if self.is_kept else None)
+
+
+class Beside:
+    """Work beside the longest chain, on half of the processors, in the time that it leaves. A piece is a call that takes a crate, and that crate."""
+
+    def __init__(self):
+        self.workers = max(1, rt.processors() // 2)
+        self.pool, self.begun = ThreadPoolExecutor(self.workers), {}
+
+    def begin(self, step, pieces):
+        """Begins what was not begun of these pieces, in their order, where memory allows it beside a step of the chain."""
+        room = (rt.free() - max(map(rt.need, step))) / self.workers
+        for call, crate in pieces:
+            if (call, crate) not in self.begun and rt.need(crate) <= room:
+                self.begun[call, crate] = self.pool.submit(call, crate, before=["nice"])
+
+    def end(self):
+        """Takes back what no worker has begun."""
+        self.begun = {it: given for it, given in self.begun.items() if not given.cancel()}
+
+    def did(self, call, crate):
+        """Returns whether this piece is done, and well."""
+        given = self.begun.get((call, crate))
+        return bool(given and given.done() and not given.result()[0])
+
+
+def prove_chain(work, every, tried):
+    """Proves the longest chain of crates as long as that is kept, and beside it what else can be proved by then, first what the chain stands on, and
+    the edits of the crates `tried`. Returns what it proved of the chain, and what was begun beside it."""
+    beside, proved, others = Beside(), [], []
+    needed = {below for it in every if it.name == CHAIN[-1][-1] for below in it.below()}
+    for step, more in steps_of(every):
+        others = sorted([*others, *more], key=lambda it: it not in needed)
+        known = [*proved, *[it for it in others if beside.did(work.prove, it)]]
+        beside.begin(step, [(work.prove, it) for it in others] + [(work.judge, it) for it in tried if it in known])
+        work.prove_shown(step[-1])
+        beside.end()
+        if not work.is_kept:
+            break
+        proved += step
+    return proved, beside
