@@ -3,6 +3,7 @@ import os
 import shutil
 import subprocess
 import tempfile
+import threading
 from concurrent.futures import ThreadPoolExecutor
 from pathlib import Path
 
@@ -103,22 +104,36 @@ class Work:
 
 
 class Beside:
-    """Work beside the longest chain, on half of the processors, in the time that it leaves. A piece is a call that takes a crate, and that crate."""
+    """Work beside the longest chain, on half of the processors, in the time that it leaves. A piece is a call that takes a crate, and that crate: its
+    proof, or the edits of a crate of `tried`, which can follow its proof."""
 
-    def __init__(self):
-        self.workers = max(1, rt.processors() // 2)
-        self.pool, self.begun = ThreadPoolExecutor(self.workers), {}
+    def __init__(self, work, tried):
+        self.work, self.tried, self.workers = work, tried, max(1, rt.processors() // 2)
+        self.pool, self.lock, self.begun, self.room = ThreadPoolExecutor(self.workers), threading.Lock(), {}, 0
 
     def begin(self, step, pieces):
         """Begins what was not begun of these pieces, in their order, where memory allows it beside a step of the chain."""
-        room = (rt.free() - max(map(rt.need, step))) / self.workers
-        for call, crate in pieces:
-            if (call, crate) not in self.begun and rt.need(crate) <= room:
-                self.begun[call, crate] = self.pool.submit(call, crate, before=["nice"])
+        with self.lock:
+            self.room = (rt.free() - max(map(rt.need, step))) / self.workers
+            for call, crate in pieces:
+                self.begin_piece(call, crate)
+
+    def begin_piece(self, call, crate):
+        if (call, crate) not in self.begun and rt.need(crate) <= self.room:
+            self.begun[call, crate] = self.pool.submit(self.do, call, crate)
+
+    def do(self, call, crate):
+        status, text = call(crate, before=["nice"])
+        if not status and call == self.work.prove and crate in self.tried:
+            with self.lock:
+                self.begin_piece(self.work.judge, crate)
+        return status, text
 
     def end(self):
-        """Takes back what no worker has begun."""
-        self.begun = {it: given for it, given in self.begun.items() if not given.cancel()}
+        """Takes back what no worker has begun, and begins no more."""
+        with self.lock:
+            self.room = 0
+            self.begun = {it: given for it, given in self.begun.items() if not given.cancel()}
 
     def did(self, call, crate):
         """Returns whether this piece is done, and well."""
@@ -129,7 +144,7 @@ class Beside:
 def prove_chain(work, every, tried):
     """Proves the longest chain of crates as long as that is kept, and beside it what else can be proved by then, first what the chain stands on, and
     the edits of the crates `tried`. Returns what it proved of the chain, and what was begun beside it."""
-    beside, proved, others = Beside(), [], []
+    beside, proved, others = Beside(work, tried), [], []
     needed = {below for it in every if it.name == CHAIN[-1][-1] for below in it.below()}
     for step, more in steps_of(every):
         others = sorted([*others, *more], key=lambda it: it not in needed)
