@@ -45,24 +45,35 @@ fn within(nodes: u64, held: u64) -> Limits {
     }
 }
 
-/// What a builder hands out, as a test compares it.
-#[derive(Drop)]
-struct Outcome {
+/// What a builder hands out: how many nodes, the text of one of them, the fates and the places of errors.
+#[derive(Clone, Copy)]
+struct Expected<'a> {
     nodes: u64,
-    text: String,
-    fates: Vec<Fate>,
-    errors: Vec<u64>,
+    node: usize,
+    text: &'a str,
+    fates: &'a [Fate],
+    errors: &'a [u64],
 }
 
-/// What a builder hands out, with the text of one of its nodes.
-fn handed_out(alloc: Global, builder: Builder, node: usize) -> Result<Outcome, AllocError> {
+/// Whether a builder hands out what is expected.
+fn hands_out(alloc: Global, builder: Builder, expected: Expected<'_>) -> Result<bool, AllocError> {
     let (arena, fates, errors) = builder.finish();
-    Ok(Outcome {
-        nodes: arena.len(),
-        text: text_of(alloc, &arena, node)?,
-        fates: listed(alloc, &fates)?,
-        errors,
-    })
+    let are_same = arena.len() == expected.nodes && errors.as_slice() == expected.errors;
+    Ok(
+        are_same
+            && has_text(alloc, &arena, expected.node, expected.text)?
+            && are_fates(alloc, &fates, expected.fates)?,
+    )
+}
+
+/// Whether a node has this text; no node has none.
+fn has_text(alloc: Global, arena: &Arena, node: usize, text: &str) -> Result<bool, AllocError> {
+    Ok(text_of(alloc, arena, node)?.as_str() == text)
+}
+
+/// Whether these are the fates.
+fn are_fates(alloc: Global, fates: &Fates, expected: &[Fate]) -> Result<bool, AllocError> {
+    Ok(listed(alloc, fates)?.as_slice() == expected)
 }
 
 /// The text of a node, and of no node where there is none of that number.
@@ -98,43 +109,40 @@ fn answered(builder: &mut Builder, token: &Token) -> Answer {
     }
 }
 
-/// What a builder answers for tokens, one after the other.
-fn answers(
-    alloc: Global,
-    builder: &mut Builder,
-    tokens: &[Token],
-) -> Result<Vec<Answer>, AllocError> {
-    let mut answers = Vec::new(alloc);
-    for token in tokens {
-        answers.push(answered(builder, token))?;
+/// Whether a builder answers so for tokens, one after the other.
+fn answers(builder: &mut Builder, tokens: &[Token], expected: &[Answer]) -> bool {
+    let mut are_same = tokens.len() == expected.len();
+    for (token, answer) in tokens.iter().zip(expected.iter()) {
+        are_same = answered(builder, token) == *answer && are_same;
     }
-    Ok(answers)
+    are_same
 }
 
-/// What a builder answers for tokens, and what it then hands out, with the text of one of its nodes.
-fn built(
+/// Whether a builder answers so for tokens, and then hands out what is expected.
+fn builds(
     alloc: Global,
     builder: Builder,
     tokens: &[Token],
-    node: usize,
-) -> Result<(Vec<Answer>, Outcome), AllocError> {
+    answered: &[Answer],
+    expected: Expected<'_>,
+) -> Result<bool, AllocError> {
     let mut builder = builder;
-    let answers = answers(alloc, &mut builder, tokens)?;
-    Ok((answers, handed_out(alloc, builder, node)?))
+    let are_same = answers(&mut builder, tokens, answered);
+    Ok(hands_out(alloc, builder, expected)? && are_same)
 }
 
-/// What a builder answers for a text, in which mode it then is, and what it hands out, with the text of one of its nodes.
+/// What a builder answers for a text, and whether it then hands out what is expected.
 fn built_of_text(
     alloc: Global,
     builder: Builder,
     text: &[char],
     start: u64,
-    node: usize,
-) -> Result<(Option<BuildError>, Mode, Outcome), AllocError> {
+    expected: Expected<'_>,
+) -> Result<(Option<BuildError>, Mode, bool), AllocError> {
     let mut builder = builder;
     let refused = builder.process_text(text, start).err();
     let mode = builder.mode();
-    Ok((refused, mode, handed_out(alloc, builder, node)?))
+    Ok((refused, mode, hands_out(alloc, builder, expected)?))
 }
 
 /// An answer without a refusal.
@@ -146,29 +154,48 @@ fn taken(switch: Option<TextMode>, mode: Mode) -> Answer {
     }
 }
 
+/// An answer that refuses a token, in the mode of a fragment.
+fn refused(error: BuildError) -> Answer {
+    Answer {
+        switch: None,
+        refused: Some(error),
+        mode: Mode::InBody,
+    }
+}
+
 #[test]
 fn document(rt: HostRuntime) -> Result<(), Fail> {
     let alloc = rt.alloc();
+    let builder = Builder::document(alloc)?;
+    let answers = [
+        taken(None, Mode::Initial),
+        taken(Some(TextMode::Rcdata), Mode::Text),
+        taken(None, Mode::InBody),
+    ];
+    let expected = Expected {
+        nodes: 5,
+        node: 3,
+        text: "",
+        fates: &[
+            Fate::Dropped(Cause::PrologSpace),
+            Fate::Made(NodeId::at(3)),
+            Fate::Ended,
+        ],
+        errors: &[1],
+    };
     let tokens = [
         token(0, TokenKind::Char('\n')),
         token(1, start(alloc, "title")?),
         token(2, TokenKind::Eof),
     ];
-    let (answers, outcome) = built(alloc, Builder::document(alloc)?, tokens.as_slice(), 4)?;
-    let expected = [
-        taken(None, Mode::Initial),
-        taken(Some(TextMode::Rcdata), Mode::Text),
-        taken(None, Mode::InBody),
-    ];
-    assert_eq!(rt; answers.as_slice(), expected.as_slice());
-    assert_eq!(rt; outcome.nodes, 5);
-    let fates = [
-        Fate::Dropped(Cause::PrologSpace),
-        Fate::Made(NodeId::at(3)),
-        Fate::Ended,
-    ];
-    assert_eq!(rt; outcome.fates.as_slice(), fates.as_slice());
-    assert_eq!(rt; outcome.errors.as_slice(), [1].as_slice());
+    let is_so = builds(
+        alloc,
+        builder,
+        tokens.as_slice(),
+        answers.as_slice(),
+        expected,
+    )?;
+    assert!(rt; is_so);
     Ok(())
 }
 
@@ -177,59 +204,81 @@ fn fragment(rt: HostRuntime) -> Result<(), Fail> {
     let alloc = rt.alloc();
     let context = context(alloc, "textarea")?;
     assert_eq!(rt; context.text_mode(), TextMode::Rcdata);
-    let tokens = [token(0, TokenKind::Char('x')), token(1, TokenKind::Eof)];
     let builder = Builder::fragment(alloc, &context)?;
-    let (answers, outcome) = built(alloc, builder, tokens.as_slice(), 1)?;
-    let expected = [taken(None, Mode::InBody), taken(None, Mode::InBody)];
-    assert_eq!(rt; answers.as_slice(), expected.as_slice());
-    assert_eq!(rt; outcome.nodes, 2);
-    assert_eq!(rt; outcome.text.as_str(), "x");
-    let fates = [Fate::Text(NodeId::at(1)), Fate::Ended];
-    assert_eq!(rt; outcome.fates.as_slice(), fates.as_slice());
-    assert!(rt; outcome.errors.is_empty());
+    let answers = [taken(None, Mode::InBody), taken(None, Mode::InBody)];
+    let expected = Expected {
+        nodes: 2,
+        node: 1,
+        text: "x",
+        fates: &[Fate::Text(NodeId::at(1)), Fate::Ended],
+        errors: &[],
+    };
+    let tokens = [token(0, TokenKind::Char('x')), token(1, TokenKind::Eof)];
+    let is_so = builds(
+        alloc,
+        builder,
+        tokens.as_slice(),
+        answers.as_slice(),
+        expected,
+    )?;
+    assert!(rt; is_so);
     Ok(())
 }
 
 #[test]
 fn limits(rt: HostRuntime) -> Result<(), Fail> {
     let alloc = rt.alloc();
-    let context = context(alloc, "div")?;
-    let tokens = [token(7, TokenKind::Char('x')), token(8, TokenKind::Eof)];
-    let builder = Builder::fragment_within(alloc, &context, within(1, 100))?;
-    let (answers, outcome) = built(alloc, builder, tokens.as_slice(), 0)?;
-    let refused: Vec<Option<BuildError>> = answers.iter().map(|it| it.refused).collect(alloc)?;
-    let expected = [
-        Some(BuildError::NodeBudget { at: 7 }),
-        Some(BuildError::Stopped),
-    ];
-    assert_eq!(rt; refused.as_slice(), expected.as_slice());
-    assert_eq!(rt; outcome.nodes, 1);
     let none = Builder::document_within(alloc, within(0, 100));
     assert_eq!(rt; none.err(), Some(BuildError::NodeBudget { at: 0 }));
+    let context = context(alloc, "div")?;
+    let builder = Builder::fragment_within(alloc, &context, within(1, 100))?;
+    let answers = [
+        refused(BuildError::NodeBudget { at: 7 }),
+        refused(BuildError::Stopped),
+    ];
+    let expected = Expected {
+        nodes: 1,
+        node: 1,
+        text: "",
+        fates: &[],
+        errors: &[],
+    };
+    let tokens = [token(7, TokenKind::Char('x')), token(8, TokenKind::Eof)];
+    let is_so = builds(
+        alloc,
+        builder,
+        tokens.as_slice(),
+        answers.as_slice(),
+        expected,
+    )?;
+    assert!(rt; is_so);
     Ok(())
 }
 
 #[test]
 fn text(rt: HostRuntime) -> Result<(), Fail> {
     let alloc = rt.alloc();
-    let text = [' ', 'a', ' ', '\0', 'b', 'c'];
     let mut builder = Builder::document(alloc)?;
     builder.reserve(3);
-    let (refused, mode, outcome) = built_of_text(alloc, builder, text.as_slice(), 0, 4)?;
+    let text = [' ', 'a', ' ', '\0', 'b', 'c'];
+    let expected = Expected {
+        nodes: 5,
+        node: 4,
+        text: "a bc",
+        fates: &[
+            Fate::Dropped(Cause::PrologSpace),
+            Fate::Text(NodeId::at(4)),
+            Fate::Text(NodeId::at(4)),
+            Fate::Dropped(Cause::Null),
+            Fate::Text(NodeId::at(4)),
+            Fate::Text(NodeId::at(4)),
+        ],
+        errors: &[1, 3],
+    };
+    let (refused, mode, is_so) = built_of_text(alloc, builder, text.as_slice(), 0, expected)?;
     assert_eq!(rt; refused, None);
     assert_eq!(rt; mode, Mode::InBody);
-    assert_eq!(rt; outcome.nodes, 5);
-    assert_eq!(rt; outcome.text.as_str(), "a bc");
-    let fates = [
-        Fate::Dropped(Cause::PrologSpace),
-        Fate::Text(NodeId::at(4)),
-        Fate::Text(NodeId::at(4)),
-        Fate::Dropped(Cause::Null),
-        Fate::Text(NodeId::at(4)),
-        Fate::Text(NodeId::at(4)),
-    ];
-    assert_eq!(rt; outcome.fates.as_slice(), fates.as_slice());
-    assert_eq!(rt; outcome.errors.as_slice(), [1, 3].as_slice());
+    assert!(rt; is_so);
     Ok(())
 }
 
@@ -238,8 +287,16 @@ fn held_within_a_run(rt: HostRuntime) -> Result<(), Fail> {
     let alloc = rt.alloc();
     let text = ['a', 'b', 'c', 'd'];
     let builder = Builder::document_within(alloc, within(10, 14))?;
-    let (refused, _, outcome) = built_of_text(alloc, builder, text.as_slice(), 7, 4)?;
+    let expected = Expected {
+        nodes: 5,
+        node: 4,
+        text: "ab",
+        fates: &[Fate::Text(NodeId::at(4)), Fate::Text(NodeId::at(4))],
+        errors: &[0],
+    };
+    let (refused, mode, is_so) = built_of_text(alloc, builder, text.as_slice(), 7, expected)?;
     assert_eq!(rt; refused, Some(BuildError::HeldBudget { at: 9 }));
-    assert_eq!(rt; outcome.fates.len(), 2);
+    assert_eq!(rt; mode, Mode::InBody);
+    assert!(rt; is_so);
     Ok(())
 }

@@ -1,7 +1,7 @@
 // Pages that grow in four ways: what their trees hold, and their steps against what is proved.
 
 use html_parser::{EntityTable, NodeId, Tree, parse_tree};
-use std::alloc::Global;
+use std::alloc::{AllocError, Global};
 use std::fmt::Write;
 use std::test::Fail;
 
@@ -42,58 +42,75 @@ fn grows_to(alloc: Global, page: &str, expected: [u128; 5]) -> bool {
     }
 }
 
-#[test]
-fn elements_one_in_the_other(rt: HostRuntime) -> Result<(), Fail> {
-    let alloc = rt.alloc();
+/// A `span` so many times.
+fn spans(alloc: Global, count: u32) -> Result<String, AllocError> {
     let mut page = String::new(alloc);
-    for _ in 0..100_000 {
+    for _ in 0..count {
         page.push_str("<span>")?;
     }
-    assert!(rt;
-        grows_to(
-            alloc,
-            page.as_str(),
-            [600_000, 100_001, 100_004, 0, 400_012]
-        )
-    );
+    Ok(page)
+}
+
+#[test]
+fn elements_one_in_the_other(rt: HostRuntime) -> Result<(), Fail> {
+    let page = spans(rt.alloc(), 100_000)?;
+    let expected = [600_000, 100_001, 100_004, 0, 400_012];
+    assert!(rt; grows_to(rt.alloc(), page.as_str(), expected));
     Ok(())
+}
+
+/// A `p` of so many attributes.
+fn wide(alloc: Global, count: u32) -> Result<String, AllocError> {
+    let mut page = String::new(alloc);
+    page.push_str("<p")?;
+    for index in 0..count {
+        write!(page, " a{index}")?;
+    }
+    page.push_str(">")?;
+    Ok(page)
 }
 
 #[test]
 fn attributes_of_one_element(rt: HostRuntime) -> Result<(), Fail> {
-    let alloc = rt.alloc();
-    let mut page = String::new(alloc);
-    page.push_str("<p")?;
-    for index in 0..10_000 {
-        write!(page, " a{index}")?;
-    }
-    page.push_str(">")?;
-    assert!(rt; grows_to(alloc, page.as_str(), [58_893, 2, 5, 0, 48_903]));
+    let page = wide(rt.alloc(), 10_000)?;
+    assert!(rt; grows_to(rt.alloc(), page.as_str(), [58_893, 2, 5, 0, 48_903]));
     Ok(())
+}
+
+/// So many `b` of different attributes in a `p`, and as many paragraphs after it.
+fn reopened(alloc: Global, count: u32) -> Result<String, AllocError> {
+    let mut page = String::new(alloc);
+    page.push_str("<p>")?;
+    for index in 0..count {
+        write!(page, "<b id={index}>")?;
+    }
+    for _ in 0..count {
+        page.push_str("<p>x")?;
+    }
+    Ok(page)
 }
 
 #[test]
 fn formatting_elements_in_each_paragraph(rt: HostRuntime) -> Result<(), Fail> {
-    let alloc = rt.alloc();
-    let mut page = String::new(alloc);
-    page.push_str("<p>")?;
-    for index in 0..100 {
-        write!(page, "<b id={index}>")?;
-    }
-    for _ in 0..100 {
-        page.push_str("<p>x")?;
-    }
-    assert!(rt; grows_to(alloc, page.as_str(), [1_293, 302, 10_305, 10_000, 49_703]));
+    let page = reopened(rt.alloc(), 100)?;
+    let expected = [1_293, 302, 10_305, 10_000, 49_703];
+    assert!(rt; grows_to(rt.alloc(), page.as_str(), expected));
     Ok(())
+}
+
+/// A `b` and a `p`, crossed, so many times.
+fn crossed(alloc: Global, count: u32) -> Result<String, AllocError> {
+    let mut page = String::new(alloc);
+    for _ in 0..count {
+        page.push_str("<b><p>x</b></p>")?;
+    }
+    Ok(page)
 }
 
 #[test]
 fn paragraphs_across_formatting_elements(rt: HostRuntime) -> Result<(), Fail> {
-    let alloc = rt.alloc();
-    let mut page = String::new(alloc);
-    for _ in 0..1_000 {
-        page.push_str("<b><p>x</b></p>")?;
-    }
-    assert!(rt; grows_to(alloc, page.as_str(), [15_000, 5_001, 4_004, 1_000, 4_012]));
+    let page = crossed(rt.alloc(), 1_000)?;
+    let expected = [15_000, 5_001, 4_004, 1_000, 4_012];
+    assert!(rt; grows_to(rt.alloc(), page.as_str(), expected));
     Ok(())
 }

@@ -30,52 +30,70 @@ fn opened(
     Ok(node)
 }
 
-// A document with a `p` before a `div`, and a text in the `div`.
-#[test]
-fn new_nodes_stand_at_their_places(rt: HostRuntime) -> Result<(), Fail> {
-    let alloc = rt.alloc();
-    let mut arena = Arena::new(alloc);
+/// Makes a document with a `p` before a `div`, and a text in the `div`. Answers whether each stands at its place, after so many steps.
+fn has_new_nodes(alloc: Global, arena: &mut Arena) -> Result<bool, Fail> {
     let root = arena.make(NewNode::Document)?;
     let div = NewNode::Element {
         name: Str::of(alloc, "div")?,
         attrs: Attrs::new(alloc),
         origin: Origin::Token(0),
     };
-    let div = insert(&mut arena, Place::Last(root), div)?;
+    let div = insert(arena, Place::Last(root), div)?;
     let p = NewNode::Element {
         name: Str::of(alloc, "p")?,
         attrs: Attrs::new(alloc),
         origin: Origin::Token(1),
     };
-    let p = insert(&mut arena, Place::Before(div), p)?;
+    let p = insert(arena, Place::Before(div), p)?;
     let text = arena.make(NewNode::Text)?;
-    put(&mut arena, Place::Last(div), text);
-    assert_eq!(rt; arena.first_child(root), Some(p));
-    assert_eq!(rt; arena.next(p), Some(div));
-    assert_eq!(rt; arena.next(div), None);
-    assert_eq!(rt; arena.first_child(div), Some(text));
-    assert_eq!(rt; arena.parent(text), Some(div));
-    assert_eq!(rt; arena.meter().steps, 7);
+    put(arena, Place::Last(div), text);
+    let of_root = arena.first_child(root) == Some(p) && arena.next(p) == Some(div);
+    let of_div = arena.next(div).is_none() && arena.first_child(div) == Some(text);
+    Ok(of_root && of_div && arena.parent(text) == Some(div) && arena.meter().steps == 7)
+}
+
+#[test]
+fn new_nodes_stand_at_their_places(rt: HostRuntime) -> Result<(), Fail> {
+    let mut arena = Arena::new(rt.alloc());
+    let is_so = has_new_nodes(rt.alloc(), &mut arena)?;
+    assert!(rt; is_so);
     Ok(())
 }
 
-// An `html`, a `table`, which ends the scope, and a `p`.
+/// Opens an `html`, a `table`, which ends the scope, and a `p`. Answers whether the last two alone are in scope, whether the `table` is found by
+/// its name and a `b` is not, and whether the `html` is the current node once the others are closed, after so many steps each.
+fn has_scopes(alloc: Global, arena: &mut Arena, stack: &mut OpenStack) -> Result<bool, Fail>
+    requires { AreNodes arena.old stack.old }
+{
+    let html = opened(stack, arena, alloc, "html", 0)?;
+    let table = opened(stack, arena, alloc, "table", 1)?;
+    let p = opened(stack, arena, alloc, "p", 2)?;
+    let in_scope = [
+        stack.is_in_scope(arena, html),
+        stack.is_in_scope(arena, table),
+        stack.is_in_scope(arena, p),
+    ];
+    let after_scopes = arena.meter().steps;
+    if stack.index_named(arena, Tag::Table) != Some(1) {
+        return Ok(false);
+    }
+    let b = stack.index_named(arena, Tag::B);
+    let after_names = arena.meter().steps;
+    stack.pop_to(arena, 1);
+    Ok(
+        in_scope == [false, true, true]
+            && after_scopes == 6 + 2 + 2 + 1
+            && b.is_none()
+            && after_names == 11 + 2 + 3
+            && stack.current(arena) == Some(html),
+    )
+}
+
 #[test]
 fn this_very_element_is_in_scope(rt: HostRuntime) -> Result<(), Fail> {
-    let alloc = rt.alloc();
-    let mut arena = Arena::new(alloc);
-    let mut stack = OpenStack::new(alloc);
-    let html = opened(&mut stack, &mut arena, alloc, "html", 0)?;
-    let table = opened(&mut stack, &mut arena, alloc, "table", 1)?;
-    let p = opened(&mut stack, &mut arena, alloc, "p", 2)?;
-    assert!(rt; !stack.is_in_scope(&mut arena, html));
-    assert!(rt; stack.is_in_scope(&mut arena, table));
-    assert!(rt; stack.is_in_scope(&mut arena, p));
-    assert_eq!(rt; arena.meter().steps, 6 + 2 + 2 + 1);
-    assert_eq!(rt; stack.index_named(&mut arena, Tag::Table), Some(1));
-    assert_eq!(rt; stack.index_named(&mut arena, Tag::B), None);
-    assert_eq!(rt; arena.meter().steps, 11 + 2 + 3);
-    stack.pop_to(&mut arena, 1);
-    assert_eq!(rt; stack.current(&mut arena), Some(html));
+    let mut arena = Arena::new(rt.alloc());
+    let mut stack = OpenStack::new(rt.alloc());
+    let is_so = has_scopes(rt.alloc(), &mut arena, &mut stack)?;
+    assert!(rt; is_so);
     Ok(())
 }
