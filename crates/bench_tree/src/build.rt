@@ -1,4 +1,4 @@
-// Trees to be written.
+// Trees to be walked and written, and a text of 16 MB.
 ghost use Rattle.std.specs.Prelude.{◌≡◌, ◌<◌, ◌≤◌, IfOk, length, true};
 ghost use Rattle.html_arena.specs.Data.{IsText};
 ghost use Rattle.html_arena.specs.Make.{CanMake, label_for, makes_child};
@@ -92,4 +92,30 @@ pub(crate) fn is_root(arena: &Arena, node: NodeId) -> bool
         return false;
     }
     arena.host(node).is_none()
+}
+
+/// How many code points a run has.
+const RUN: usize = 4_096;
+/// How many runs there are in 16 MB of ASCII.
+const RUNS: u64 = 4_096;
+
+/// A text of 16 MB, added in runs.
+pub(crate) fn in_runs(alloc: Global) -> Result<Arena, ArenaError> {
+    let mut arena = Arena::new(alloc);
+    let node = arena.make(NewNode::Text)?;
+    let run = ['a'; RUN];
+    for _ in 0..RUNS {
+        arena.append_run(node, &run)?;
+    }
+    Ok(arena)
+}
+
+/// The same text, added one code point after another.
+pub(crate) fn one_by_one(alloc: Global) -> Result<Arena, ArenaError> {
+    let mut arena = Arena::new(alloc);
+    let node = arena.make(NewNode::Text)?;
+    for _ in 0..RUNS * RUN as u64 {
+        arena.append_text(node, 'a')?;
+    }
+    Ok(arena)
 }

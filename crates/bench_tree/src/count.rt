@@ -1,4 +1,5 @@
 // What a walk meets.
+use crate::build::is_root;
 use html_arena::{Arena, Event, NodeId, Show, Walk};
 
 #[derive(Clone, Copy)]
@@ -9,17 +10,13 @@ pub struct Counts {
     pub depth: u64,
 }
 
-/// Walks through all that stands below the first node, which is to be a root.
-pub(crate) fn count(arena: &Arena) -> Counts {
+/// Walks through all that stands below a node, if that is a root.
+pub(crate) fn count(arena: &Arena, root: NodeId) -> Counts {
     let mut counts = Counts {
         entered: 0,
         depth: 0,
     };
-    if arena.is_empty() {
-        return counts;
-    }
-    let root = NodeId::at(0);
-    if arena.parent(root).is_some() || arena.host(root).is_some() {
+    if !is_root(arena, root) {
         return counts;
     }
     let mut open: u64 = 0;
