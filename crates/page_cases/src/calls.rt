@@ -4,18 +4,18 @@ ghost use Rattle.std.specs.Prelude.{◌≡◌, true};
 ghost use Rattle.html_arena.specs.Walking.{IsRoot};
 
 use crate::audit::{summarise_page, summarise_tree};
-use crate::cuts::{print_answer, print_input, print_refusal};
-use crate::page::{Ask, Reading, context_of, page_of};
+use crate::cuts::{gives, print_refusal};
+use crate::page::{Ask, Reading};
 use anyhow::Result;
 use html_arena::{Arena, NodeId};
 use html_charref::EntityTable;
 use html_parser::{
-    OverRead, OverWrite, Page, ParseError, Parser, Profile, Tree, normalise, parse, parse_fragment,
-    parse_from, parse_tree, parse_tree_from, parse_within, serialise,
+    OverRead, OverWrite, Page, ParseError, Parser, Profile, Tree, normalise, parse, parse_tree,
+    parse_tree_from, serialise,
 };
 use std::alloc::{AllocError, Global};
 
-/// Where the bytes of a page come from.
+/// Where the bytes of a tree come from.
 #[derive(Clone, Copy, Debug)]
 enum Way {
     /// A slice.
@@ -26,117 +26,29 @@ enum Way {
     FedReader,
 }
 
-/// What a call makes another page of than a parser that is fed the whole of it, if one does.
+/// What a call makes another page of than a parser that is fed the whole of it, of which this text comes, if one does.
 pub(crate) fn other_call(
     alloc: Global,
     table: &EntityTable,
     ask: Ask<'_>,
     bytes: &[u8],
+    whole: &str,
 ) -> Result<Option<&'static str>> {
-    if !is_same_whole(alloc, table, ask, bytes)? {
+    if !gives(alloc, table, Reading::Call, ask, bytes, whole)? {
         return Ok(Some("in one call"));
     }
     if ask.context.is_some() || ask.limits.is_some() {
         return Ok(None);
     }
-    if !are_same_pages(alloc, table, bytes)? {
+    if !gives(alloc, table, Reading::Reader, ask, bytes, whole)?
+        || !gives(alloc, table, Reading::Fed, ask, bytes, whole)?
+    {
         return Ok(Some("from a reader"));
     }
     if !are_same_trees(alloc, table, bytes)? {
         return Ok(Some("without a ledger"));
     }
     Ok(None)
-}
-
-/// Whether the call that takes a whole input gives the same page as a parser.
-fn is_same_whole(alloc: Global, table: &EntityTable, ask: Ask<'_>, bytes: &[u8]) -> Result<bool> {
-    let mut fed = String::new(alloc);
-    let mut whole = String::new(alloc);
-    print_input(alloc, table, Reading::Whole, ask, bytes, &mut fed)?;
-    print_whole_call(alloc, table, ask, bytes, &mut whole)?;
-    Ok(whole.as_str() == fed.as_str())
-}
-
-fn print_whole_call(
-    alloc: Global,
-    table: &EntityTable,
-    ask: Ask<'_>,
-    bytes: &[u8],
-    out: &mut String,
-) -> Result<()> {
-    let page = whole_page(alloc, table, ask, bytes);
-    print_answer(out, &page)
-}
-
-/// The page of an input, by the call that takes it whole.
-fn whole_page(
-    alloc: Global,
-    table: &EntityTable,
-    ask: Ask<'_>,
-    bytes: &[u8],
-) -> Result<Page, ParseError> {
-    match (ask.context, ask.limits) {
-        (None, None) => parse(alloc, table, bytes),
-        (None, Some(limits)) => parse_within(alloc, table, limits, bytes),
-        (Some(name), None) => {
-            let context = context_of(alloc, ask, name)?;
-            parse_fragment(alloc, table, &context, bytes)
-        }
-        (Some(_), Some(_)) => page_of(alloc, table, Reading::Whole, ask, bytes),
-    }
-}
-
-/// Whether a document read from a reader is the same page.
-fn are_same_pages(alloc: Global, table: &EntityTable, bytes: &[u8]) -> Result<bool> {
-    let mut slice = String::new(alloc);
-    print_page_by(alloc, table, Way::Slice, bytes, &mut slice)?;
-    Ok(
-        is_page_by(alloc, table, Way::Reader, bytes, slice.as_str())?
-            && is_page_by(alloc, table, Way::FedReader, bytes, slice.as_str())?,
-    )
-}
-
-/// Whether a page has this text.
-fn is_page_by(
-    alloc: Global,
-    table: &EntityTable,
-    way: Way,
-    bytes: &[u8],
-    wanted: &str,
-) -> Result<bool> {
-    let mut text = String::new(alloc);
-    print_page_by(alloc, table, way, bytes, &mut text)?;
-    Ok(text.as_str() == wanted)
-}
-
-fn print_page_by(
-    alloc: Global,
-    table: &EntityTable,
-    way: Way,
-    bytes: &[u8],
-    out: &mut String,
-) -> Result<()> {
-    let page = page_by(alloc, table, way, bytes);
-    print_answer(out, &page)
-}
-
-fn page_by(alloc: Global, table: &EntityTable, way: Way, bytes: &[u8]) -> Result<Page, ParseError> {
-    let mut reader = OverRead::new(bytes);
-    match way {
-        Way::Slice => parse(alloc, table, bytes),
-        Way::Reader => parse_from(alloc, table, &mut reader),
-        Way::FedReader => fed_page(alloc, table, &mut reader),
-    }
-}
-
-fn fed_page(
-    alloc: Global,
-    table: &EntityTable,
-    reader: &mut OverRead<&[u8]>,
-) -> Result<Page, ParseError> {
-    let mut parser = Parser::document(alloc, table)?;
-    parser.feed_from(reader)?;
-    parser.finish()
 }
 
 /// Whether a document without its ledger is the same tree, with the same errors and counts.

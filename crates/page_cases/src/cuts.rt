@@ -8,20 +8,11 @@ use html_charref::EntityTable;
 use html_parser::{Page, ParseError};
 use std::alloc::{AllocError, Global};
 
-/// Whether the same comes of an input whole, in two pieces for every cut, and byte by byte.
-pub(crate) fn is_same_cut(
-    alloc: Global,
-    table: &EntityTable,
-    ask: Ask<'_>,
-    input: &[u8],
-) -> Result<bool> {
-    let mut whole = String::new(alloc);
-    print_input(alloc, table, Reading::Whole, ask, input, &mut whole)?;
-    are_same_pieces(alloc, table, ask, input, whole.as_str())
-}
+/// How the text of a refusal begins.
+const REFUSED: &str = "refused: ";
 
-/// Whether this text comes of an input in two pieces for every cut, and byte by byte.
-fn are_same_pieces(
+/// Of an input of which this text comes whole: whether the same comes of it in two pieces for every cut, and byte by byte.
+pub(crate) fn is_same_cut(
     alloc: Global,
     table: &EntityTable,
     ask: Ask<'_>,
@@ -43,35 +34,37 @@ pub(crate) fn odd_front(
     table: &EntityTable,
     ask: Ask<'_>,
     input: &[u8],
+    whole: &str,
 ) -> Result<Option<usize>> {
-    if !is_page_or_foreign(alloc, table, ask, input) {
+    if !is_page_or_foreign(whole) {
         return Ok(None);
     }
     for end in 0..input.len() {
-        let front = &input[..end];
-        if !is_page_or_foreign(alloc, table, ask, front)
-            || !is_same_by_bytes(alloc, table, ask, front)?
-        {
+        if is_odd(alloc, table, ask, &input[..end])? {
             return Ok(Some(end));
         }
     }
     Ok(None)
 }
 
-/// Whether the same comes of an input whole and byte by byte.
-fn is_same_by_bytes(
-    alloc: Global,
-    table: &EntityTable,
-    ask: Ask<'_>,
-    input: &[u8],
-) -> Result<bool> {
+/// Whether an input has no page and is not refused for foreign content, or something else comes of it byte by byte.
+fn is_odd(alloc: Global, table: &EntityTable, ask: Ask<'_>, input: &[u8]) -> Result<bool> {
     let mut whole = String::new(alloc);
     print_input(alloc, table, Reading::Whole, ask, input, &mut whole)?;
-    gives(alloc, table, Reading::Bytes, ask, input, whole.as_str())
+    let is_same = gives(alloc, table, Reading::Bytes, ask, input, whole.as_str())?;
+    Ok(!is_same || !is_page_or_foreign(whole.as_str()))
+}
+
+/// Whether this text came of a page, or of a refusal for foreign content.
+fn is_page_or_foreign(text: &str) -> bool {
+    match text.strip_prefix(REFUSED) {
+        Some(cause) => cause.starts_with("foreign content "),
+        None => true,
+    }
 }
 
 /// Whether this text comes of an input.
-fn gives(
+pub(crate) fn gives(
     alloc: Global,
     table: &EntityTable,
     reading: Reading,
@@ -82,14 +75,6 @@ fn gives(
     let mut text = String::new(alloc);
     print_input(alloc, table, reading, ask, input, &mut text)?;
     Ok(text.as_str() == wanted)
-}
-
-/// Whether an input has a page, or is refused for foreign content.
-fn is_page_or_foreign(alloc: Global, table: &EntityTable, ask: Ask<'_>, bytes: &[u8]) -> bool {
-    match page_of(alloc, table, Reading::Whole, ask, bytes) {
-        Ok(_) | Err(ParseError::ForeignContent { .. }) => true,
-        Err(_) => false,
-    }
 }
 
 /// Adds the tree and the ledger of an input's page, or why there is none.
@@ -106,7 +91,7 @@ pub(crate) fn print_input(
 }
 
 /// Adds the tree and the ledger of a page, or why there is none.
-pub(crate) fn print_answer(out: &mut String, page: &Result<Page, ParseError>) -> Result<()> {
+fn print_answer(out: &mut String, page: &Result<Page, ParseError>) -> Result<()> {
     match page {
         Ok(page) => print_whole(out, page)?,
         Err(error) => print_refusal(out, *error)?,
@@ -121,5 +106,5 @@ fn print_whole(out: &mut String, page: &Page) -> Result<(), AllocError> {
 }
 
 pub(crate) fn print_refusal(out: &mut String, error: ParseError) -> Result<(), AllocError> {
-    writeln!(out, "refused: {error}")
+    writeln!(out, "{REFUSED}{error}")
 }

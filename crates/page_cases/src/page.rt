@@ -1,18 +1,27 @@
 // A page, from its bytes in pieces to its tree.
 
 use html_charref::{EntityTable, Str};
-use html_parser::{Context, Limits, Page, ParseError, Parser};
+use html_parser::{
+    Context, Limits, OverRead, Page, ParseError, Parser, parse, parse_fragment, parse_from,
+    parse_within,
+};
 use std::alloc::{AllocError, Global};
 
-/// Where an input is cut into pieces.
+/// How an input comes to its page.
 #[derive(Clone, Copy, Debug)]
 pub(crate) enum Reading {
-    /// Nowhere.
+    /// A parser is fed all of it.
     Whole,
-    /// After each byte.
+    /// A parser is fed each byte.
     Bytes,
-    /// After so many bytes, once.
+    /// A parser is fed so many bytes, and then the others.
     Cut(usize),
+    /// A parser takes all of a reader.
+    Fed,
+    /// By the call that takes all of it.
+    Call,
+    /// By the call that takes a reader.
+    Reader,
 }
 
 /// What is asked for besides the input.
@@ -45,6 +54,47 @@ pub(crate) fn page_of(
     ask: Ask<'_>,
     bytes: &[u8],
 ) -> Result<Page, ParseError> {
+    match reading {
+        Reading::Call => called(alloc, table, ask, bytes),
+        Reading::Reader => parse_from(alloc, table, &mut OverRead::new(bytes)),
+        Reading::Fed => fed_from(alloc, table, bytes),
+        _ => fed_page(alloc, table, reading, ask, bytes),
+    }
+}
+
+/// The page of an input, by the call that takes it whole.
+fn called(
+    alloc: Global,
+    table: &EntityTable,
+    ask: Ask<'_>,
+    bytes: &[u8],
+) -> Result<Page, ParseError> {
+    match (ask.context, ask.limits) {
+        (None, None) => parse(alloc, table, bytes),
+        (None, Some(limits)) => parse_within(alloc, table, limits, bytes),
+        (Some(name), None) => {
+            let context = context_of(alloc, ask, name)?;
+            parse_fragment(alloc, table, &context, bytes)
+        }
+        (Some(_), Some(_)) => fed_page(alloc, table, Reading::Whole, ask, bytes),
+    }
+}
+
+/// The page of a document, by a parser that takes all of a reader.
+fn fed_from(alloc: Global, table: &EntityTable, bytes: &[u8]) -> Result<Page, ParseError> {
+    let mut parser = Parser::document(alloc, table)?;
+    parser.feed_from(&mut OverRead::new(bytes))?;
+    parser.finish()
+}
+
+/// The page of an input, by a parser that is fed pieces.
+fn fed_page(
+    alloc: Global,
+    table: &EntityTable,
+    reading: Reading,
+    ask: Ask<'_>,
+    bytes: &[u8],
+) -> Result<Page, ParseError> {
     let mut parser = parser_of(alloc, table, ask)?;
     feed(&mut parser, reading, bytes)?;
     parser.finish()
@@ -63,7 +113,6 @@ fn feed(parser: &mut Parser<'_>, reading: Reading, bytes: &[u8]) -> Result<(), P
 
 fn fed(parser: &mut Parser<'_>, reading: Reading, bytes: &[u8]) -> Result<(), ParseError> {
     match reading {
-        Reading::Whole => parser.feed(bytes),
         Reading::Bytes => {
             for byte in bytes {
                 parser.feed(&[*byte])?;
@@ -75,6 +124,7 @@ fn fed(parser: &mut Parser<'_>, reading: Reading, bytes: &[u8]) -> Result<(), Pa
             parser.feed(first)?;
             parser.feed(rest)
         }
+        _ => parser.feed(bytes),
     }
 }
 

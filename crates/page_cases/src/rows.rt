@@ -3,7 +3,7 @@
 use crate::audit::print_audit;
 use crate::brackets::print_brackets;
 use crate::calls::{html_text, other_call, tokens_in_hand};
-use crate::cuts::{is_same_cut, odd_front};
+use crate::cuts::{is_same_cut, odd_front, print_input};
 use crate::page::{Ask, Reading, page_of};
 use anyhow::{Result, bail};
 use html_charref::EntityTable;
@@ -61,17 +61,25 @@ fn print_asked(
     input: &[u8],
 ) -> Result<()> {
     print_answer(rt, table, name, has_word(words, "audit"), ask, input)?;
-    if !is_same_cut(rt.alloc(), table, ask, input)? {
-        println!(rt; "  something else in pieces")?;
-    }
-    if let Some(length) = odd_front(rt.alloc(), table, ask, input)? {
-        println!(rt; "  something else of the first {length} bytes")?;
-    }
-    if let Some(call) = other_call(rt.alloc(), table, ask, input)? {
-        println!(rt; "  something else {call}")?;
-    }
+    print_others(rt, table, ask, input)?;
     if has_word(words, "html") {
         print_html(rt, table, input)?;
+    }
+    Ok(())
+}
+
+/// Says where something else comes of an input or of a front of it than of the whole of it.
+fn print_others(rt: &HostRuntime, table: &EntityTable, ask: Ask<'_>, input: &[u8]) -> Result<()> {
+    let mut whole = String::new(rt.alloc());
+    print_input(rt.alloc(), table, Reading::Whole, ask, input, &mut whole)?;
+    if !is_same_cut(rt.alloc(), table, ask, input, whole.as_str())? {
+        println!(rt; "  something else in pieces")?;
+    }
+    if let Some(length) = odd_front(rt.alloc(), table, ask, input, whole.as_str())? {
+        println!(rt; "  something else of the first {length} bytes")?;
+    }
+    if let Some(call) = other_call(rt.alloc(), table, ask, input, whole.as_str())? {
+        println!(rt; "  something else {call}")?;
     }
     Ok(())
 }
