@@ -1,15 +1,12 @@
 -- The tokens of a text after none of which anything is said of the mode.
-use Rattle.std.proofs.Common.{◌≡◌, ℕ, zero, suc, ◌+◌, ◌-◌, ◌≤◌, List, [], ◌∷◌, ◌++◌, length, drop, Option, None, true, refl, ap, sym, subst, ◌∙◌, arith, length-append}
+use Rattle.std.proofs.Common.{◌≡◌, ℕ, zero, suc, ◌+◌, ◌-◌, List, [], ◌∷◌, ◌++◌, length, drop, Option, None, true, refl, ap, sym, ◌∙◌}
 use Rattle.std.proofs.Math.Seq.{drop-nil}
 use Rattle.std.specs.List.{AllByRecursion}
 use Rattle.html_charref.specs.declared.table.Row.{Row}
-use Rattle.html_tokens.specs.Cost.{AreCosted}
-use Rattle.html_tokens.specs.Given.{Fed}
-use Rattle.html_tokens.specs.Stream.{Start, Run, gave, tokens_of}
+use Rattle.html_tokens.specs.Stream.{Start, Run, tokens_of}
 use Rattle.html_tokens.specs.Tokens.{tokens_after, next, mode_after, mode_after_kind, name_after, switch_of}
 use Rattle.html_tokens.specs.declared.token.TextMode.{TextMode}
 use Rattle.html_tokens.specs.declared.token.Token.{Token}
-use Rattle.html_tokens.specs.declared.tokenizer.Tokenizer.{Tokenizer}
 use Rattle.html_page.specs.TokenList.{unsaid}
 
 abbrev AreNone : List (Option TextMode) → Type 0
@@ -45,22 +42,10 @@ unsaid_none : (tokens : List Token) → AreNone (unsaid tokens)
 unsaid_none [] = tt
 unsaid_none (t ∷ ts) = (refl, unsaid_none ts)
 
-unsaid_more : (tokens : List Token) (t : Token) → unsaid tokens ++ None ∷ [] ≡ unsaid (tokens ++ t ∷ [])
-unsaid_more [] t = refl
-unsaid_more (s ∷ ss) t = ap (λ (l : List (Option TextMode)). None ∷ l) (unsaid_more ss t)
-
 -- the run that has given these tokens of a whole text
 abbrev pub run_of : Start → List ℕ → List Token → Run
 run_of start text tokens = record { start = start; text = text; finished = true; given = tokens; switches = unsaid tokens }
 
-pub gave_more : (t : Tokenizer) (start : Start) (text : List ℕ) (tokens : List Token) (token : Token) → Fed t (gave (run_of start text tokens) token None) → Fed t (run_of start text (tokens ++ token ∷ []))
-gave_more t start text tokens token f =
-    subst (λ (s : List (Option TextMode)). Fed t (record { start = start; text = text; finished = true; given = tokens ++ token ∷ []; switches = s })) (unsaid_more tokens token) f
-
 -- all have been given
 pub all_given : (start : Start) (text : List ℕ) (tokens : List Token) → tokens_of text (unsaid tokens) start ≡ tokens → tokens ≡ tokens_of text [] start
 all_given start text tokens e = sym e ∙ same_tokens start.rows 0 start.mode start.name 0 text (unsaid tokens) (unsaid_none tokens)
-
--- there are not so many yet
-pub few_given : (n : ℕ) (tokens : List Token) (token : Token) → AreCosted n (tokens ++ token ∷ []) → length tokens + 1 ≤ n + 1
-few_given n tokens token c = let h = c.count in let e : length (tokens ++ token ∷ []) ≡ length tokens + 1 = length-append tokens (token ∷ []) in omega arith

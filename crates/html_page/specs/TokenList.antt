@@ -1,11 +1,11 @@
--- Claimed, but for this crate's own functions: tokens_in.
+-- Claimed, but for this crate's own functions: nothing_fed, tokens_in.
 -- The tokens of an input that is read in one text mode throughout.
-use Rattle.std.specs.Prelude.{◌<◌, ◌+◌, ◌*◌, ℕ, List, [], ◌∷◌, length, map, Option, None}
+use Rattle.std.specs.Prelude.{◌<◌, ◌+◌, ◌*◌, ℕ, false, List, [], ◌∷◌, length, map, Option, None}
 use Rattle.html_charref.specs.declared.table.Row.{Row}
 use Rattle.html_input.specs.Decode.{decode, code_points}
 use Rattle.html_input.specs.declared.decoder.TheConstants.{LIMIT}
 use Rattle.html_tokens.specs.Given.{run_from}
-use Rattle.html_tokens.specs.Stream.{Start, tokens_of}
+use Rattle.html_tokens.specs.Stream.{Run, Start, tokens_of}
 use Rattle.html_tokens.specs.declared.token.TextMode.{TextMode}
 use Rattle.html_tokens.specs.declared.token.TextMode.TheVariants.{Data}
 use Rattle.html_tokens.specs.declared.token.Token.{Token}
@@ -23,6 +23,10 @@ marked_text bytes = decode (behind_mark bytes)
 -- where a text begins to be read
 abbrev pub start_of : List Row → TextMode → Option (List ℕ) → Start
 start_of rows mode name = (run_from rows mode name).start
+
+-- the run of a tokenizer that was fed nothing
+abbrev pub nothing_fed : Start → Run
+nothing_fed start = record { start = start; text = []; finished = false; given = []; switches = [] }
 
 -- the tokens of a document's text, by a table of references
 abbrev pub tokens_in : List Row → List ℕ → List Token

@@ -1,14 +1,14 @@
 //! The tokens of an input, without a tree.
 
-ghost use Rattle.std.specs.Prelude.{◌≡◌, ◌≤◌, ◌∷◌, [], OnOk, IfOk, IfErr, length, option_map};
+ghost use Rattle.std.specs.Prelude.{◌≡◌, ◌≤◌, ◌∷◌, [], false, OnOk, IfOk, IfErr, length, option_map};
 ghost use Rattle.std.specs.Str.{chars};
 ghost use Rattle.html_input.specs.Decode.{code_points};
 ghost use Rattle.html_input.specs.declared.decoder.TheConstants.{LIMIT};
 ghost use Rattle.std.specs.List.Sorted.{IsNonDecreasingBy};
 ghost use Rattle.html_tokens.specs.Cost.{AreCosted};
-ghost use Rattle.html_tokens.specs.Given.{IsTold};
-ghost use Rattle.html_tokens.specs.Stream.{tokens_of};
-ghost use Rattle.html_page.specs.TokenList.{behind_mark, marked_text, most_errors, most_steps, start_of, unsaid, IsListCause};
+ghost use Rattle.html_tokens.specs.Given.{Fed, IsTold, is_finished, is_stopped};
+ghost use Rattle.html_tokens.specs.Stream.{Start, tokens_of};
+ghost use Rattle.html_page.specs.TokenList.{behind_mark, marked_text, most_errors, most_steps, nothing_fed, start_of, unsaid, IsListCause};
 
 use crate::error::TokenListError;
 use html_charref::EntityTable;
@@ -97,6 +97,29 @@ fn tokens_of_text(
     ensures cause { IfErr result (λ e. e ≡ TokenListError.OutOfMemory) }
 {
     let mut tokenizer = Tokenizer::new(alloc, table, mode, last_name)?;
+    let list = all_tokens(alloc, &mut tokenizer, text)?;
+    Ok(list)
+}
+
+/// The tokens of a whole text, by a tokenizer that was fed nothing. Apart from its caller, which would else let go of the tokenizer at each of
+/// these ends.
+fn all_tokens(
+    alloc: Global,
+    tokenizer: &mut Tokenizer<'_>,
+    text: &[char],
+) -> Result<TokenList, TokenListError>
+    requires fresh { is_stopped tokenizer.old ≡ false }
+    requires going { is_finished tokenizer.old ≡ false }
+    requires begun { (start : Start) × Fed tokenizer.old (nothing_fed start) }
+    ensures tokens { IfOk result (λ list. (start : Start) → Fed tokenizer.old (nothing_fed start) → list.tokens.items ≡ tokens_of text.now [] start) }
+    ensures cost { IfOk result (λ list. AreCosted (length text.now) list.tokens.items) }
+    ensures told { IfOk result (λ list. (start : Start) → Fed tokenizer.old (nothing_fed start) → IsTold start text.now (unsaid list.tokens.items) list.errors.items list.steps) }
+    ensures ordered { IfOk result (λ list. IsNonDecreasingBy (λ x. x.place) list.errors.items) }
+    ensures errors { IfOk result (λ list. length list.errors.items ≤ most_errors (length text.now)) }
+    ensures least { IfOk result (λ list. length text.now ≤ list.steps) }
+    ensures steps { IfOk result (λ list. list.steps ≤ most_steps (length text.now)) }
+    ensures cause { IfErr result (λ e. e ≡ TokenListError.OutOfMemory) }
+{
     tokenizer.feed(text)?;
     tokenizer.finish()?;
     let mut tokens = Vec::new(alloc);

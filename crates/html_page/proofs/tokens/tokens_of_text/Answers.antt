@@ -1,45 +1,12 @@
-use Rattle.std.proofs.Common.{◌≡◌, ◌∙◌, length, rules, refl, sym, option_map, chars}
+use Rattle.std.proofs.Common.{option_map, chars}
 use Rattle.html_page.specs.TokenList.{start_of}
-use Rattle.html_page.proofs.TokenLists.{run_of, all_given}
 use Rattle.html_page.proofs.tokens.tokens_of_text.Goals as goal
 
-pub returns-in-None-clause-tokens : goal.returns-in-None-clause-tokens
-returns-in-None-clause-tokens c =
-    let start = start_of c.args.table.now c.args.mode (option_map (λ name. chars name.now) c.args.last_name) in
-    let whole = rw c.in-None.is at c.in_ok-token.ensures.all in
-    all_given start c.args.text.now c.tokens.tokens.items (whole (run_of start c.args.text.now c.tokens.tokens.items) c.tokens.invariant.fed refl)
+pub all_tokens-requires-clause-begun : goal.all_tokens-requires-clause-begun
+all_tokens-requires-clause-begun c = (start_of c.args.table.now c.args.mode (option_map (λ name. chars name.now) c.args.last_name), c.in_ok-tokenizer.ensures.begins)
 
-pub returns-in-None-clause-errors : goal.returns-in-None-clause-errors
-returns-in-None-clause-errors c =
-    let run = run_of (start_of c.args.table.now c.args.mode (option_map (λ name. chars name.now) c.args.last_name)) c.args.text.now c.tokens.tokens.items in
-    let whole = rw c.in-None.is at c.in_ok-token.ensures.prompt in
-    let same = c.errors.ensures.count run (whole run c.tokens.invariant.fed).0 in
-    let bound = rw same at c.errors.ensures.bound in
-    let l : length c.in_ok-errors-in-None.errors.items ≡ length c.errors.result.now = search (rules, c.in_ok-errors-in-None.ensures.len) in
-    rw l bound
+pub returns-clause-tokens : goal.returns-clause-tokens
+returns-clause-tokens c = c.in_ok-list.ensures.tokens _ c.in_ok-tokenizer.ensures.begins
 
-pub returns-in-None-clause-steps : goal.returns-in-None-clause-steps
-returns-in-None-clause-steps c =
-    let run = run_of (start_of c.args.table.now c.args.mode (option_map (λ name. chars name.now) c.args.last_name)) c.args.text.now c.tokens.tokens.items in
-    let whole = rw c.in-None.is at c.in_ok-token.ensures.prompt in
-    let same = c.errors.ensures.count run (whole run c.tokens.invariant.fed).0 in
-    rw same at c.steps.ensures.bound
-
-pub returns-in-None-clause-told : goal.returns-in-None-clause-told
-returns-in-None-clause-told c =
-    let run = run_of (start_of c.args.table.now c.args.mode (option_map (λ name. chars name.now) c.args.last_name)) c.args.text.now c.tokens.tokens.items in
-    let prompt = rw c.in-None.is at c.in_ok-token.ensures.prompt in
-    let whole = rw c.in-None.is at c.in_ok-token.ensures.all in
-    let same : c.in_ok-errors-in-None.errors.items ≡ c.errors.result.now = search (rules, c.in_ok-errors-in-None.ensures.items_if_clones_equal) in
-    record {
-      tokenizer = c.next.new.self;
-      run = run;
-      fed = (prompt run c.tokens.invariant.fed).0;
-      start_is = refl;
-      text_is = refl;
-      switches_are = refl;
-      finished = refl;
-      all = whole run c.tokens.invariant.fed refl;
-      errors_are = sym (same ∙ c.errors.ensures.list);
-      steps_are = sym c.steps.ensures.count;
-    }
+pub returns-clause-told : goal.returns-clause-told
+returns-clause-told c = c.in_ok-list.ensures.told _ c.in_ok-tokenizer.ensures.begins

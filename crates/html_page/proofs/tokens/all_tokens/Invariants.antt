@@ -1,14 +1,15 @@
-use Rattle.std.proofs.Common.{◌≡◌, ◌+◌, ◌-◌, false, length, option_map}
-use Rattle.std.specs.Str.{chars}
+use Rattle.std.proofs.Common.{◌≡◌, ◌+◌, ◌-◌, false, length}
 use Rattle.html_tokens.specs.Cost.{AreCosted}
 use Rattle.html_tokens.specs.Given.{Fed, is_stopped}
-use Rattle.html_page.specs.TokenList.{start_of}
+use Rattle.html_tokens.specs.Stream.{Start}
+use Rattle.html_page.specs.TokenList.{nothing_fed}
 use Rattle.html_page.proofs.TokenLists.{run_of}
-use Rattle.html_page.proofs.tokens.tokens_of_text.Given as goal
+use Rattle.html_page.proofs.tokens.all_tokens.Given as goal
 
 abbrev pub invariant-tokens : goal.invariant-tokens
 invariant-tokens l = record {
-  fed : Fed l.tokenizer (run_of (start_of l.table l.fn.mode (option_map (λ name. chars name.now) l.fn.last_name)) l.text l.tokens.items);
+  fed : (start : Start) → Fed l.fn.tokenizer (nothing_fed start) → Fed l.tokenizer (run_of start l.text l.tokens.items);
+  begun : (start : Start) × Fed l.fn.tokenizer (nothing_fed start);
   going : is_stopped l.tokenizer ≡ false;
   cost : AreCosted (length l.text) l.tokens.items;
 }
