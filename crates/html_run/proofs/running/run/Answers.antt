@@ -7,6 +7,6 @@ returns-clause-told g c = λ _. inr (
   c.in-Ok.table,
   c.in-Ok.ensures.table,
   c.in-Err-answer.ensures.cause,
-  c.tell.ensures.status,
-  rw (← c.input_of.ensures) c.tell.ensures.line,
+  c.tell_cause.ensures.status,
+  c.tell_cause.ensures.line,
 )
