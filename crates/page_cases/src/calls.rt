@@ -123,8 +123,9 @@ pub(crate) fn tokens_in_hand(
     bytes: &[u8],
 ) -> Result<u64, ParseError> {
     let mut parser = Parser::document(alloc, table)?;
-    parser.feed(bytes)?;
-    Ok(parser.tokens().len())
+    let fed = parser.feed(bytes);
+    let count = parser.tokens().len();
+    fed.map(|()| count)
 }
 
 /// A document as HTML, where each call that writes it writes the same.

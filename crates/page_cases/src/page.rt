@@ -83,11 +83,11 @@ fn called(
 /// The page of a document, by a parser that takes all of a reader.
 fn fed_from(alloc: Global, table: &EntityTable, bytes: &[u8]) -> Result<Page, ParseError> {
     let mut parser = Parser::document(alloc, table)?;
-    parser.feed_from(&mut OverRead::new(bytes))?;
-    parser.finish()
+    let fed = parser.feed_from(&mut OverRead::new(bytes));
+    fed.and(parser.finish())
 }
 
-/// The page of an input, by a parser that is fed pieces.
+/// The page of an input, by a parser that is fed pieces. The parser is finished in any case: to let go of it takes long to prove.
 fn fed_page(
     alloc: Global,
     table: &EntityTable,
@@ -96,8 +96,8 @@ fn fed_page(
     bytes: &[u8],
 ) -> Result<Page, ParseError> {
     let mut parser = parser_of(alloc, table, ask)?;
-    feed(&mut parser, reading, bytes)?;
-    parser.finish()
+    let fed = feed(&mut parser, reading, bytes);
+    fed.and(parser.finish())
 }
 
 /// Feeds a parser an input, cut as asked. After a refusal the parser has to be stopped.

@@ -140,31 +140,7 @@ fn ask_of<'a>(words: &str, context: Option<&'a str>) -> Result<Ask<'a>> {
     for word in words.split(' ') {
         match word.split_once('=') {
             Some(("context", _)) => {}
-            Some(("nodes", number)) => ask.limits = Some(limits(
-                number.parse::<u64>()?,
-                u64::MAX,
-                u64::MAX,
-                u64::MAX,
-            )),
-            Some(("held", number)) => ask.limits = Some(limits(
-                u64::MAX,
-                number.parse::<u64>()?,
-                u64::MAX,
-                u64::MAX,
-            )),
-            Some(("input", number)) => ask.limits = Some(limits(
-                u64::MAX,
-                u64::MAX,
-                number.parse::<u64>()?,
-                u64::MAX,
-            )),
-            Some(("steps", number)) => ask.limits = Some(limits(
-                u64::MAX,
-                u64::MAX,
-                u64::MAX,
-                number.parse::<u64>()?,
-            )),
-            Some(_) => bail!("no such word"),
+            Some((name, number)) => ask.limits = Some(limit(name, number)?),
             None => match word {
                 "in_form" => ask.in_form = true,
                 "quirks" => ask.quirks = true,
@@ -181,13 +157,23 @@ fn has_word(words: &str, wanted: &str) -> bool {
     words.split(' ').any(|word| word == wanted)
 }
 
-fn limits(nodes: u64, held: u64, code_points: u64, steps: u64) -> Limits {
-    Limits {
-        nodes,
-        held,
-        code_points,
-        steps,
+/// One limit, and none of the other kinds.
+fn limit(name: &str, number: &str) -> Result<Limits> {
+    let number = number.parse::<u64>()?;
+    let mut limits = Limits {
+        nodes: u64::MAX,
+        held: u64::MAX,
+        code_points: u64::MAX,
+        steps: u64::MAX,
+    };
+    match name {
+        "nodes" => limits.nodes = number,
+        "held" => limits.held = number,
+        "input" => limits.code_points = number,
+        "steps" => limits.steps = number,
+        _ => bail!("no such word"),
     }
+    Ok(limits)
 }
 
 /// A text with `␊`, `␍`, `␀` and `␠` for what they show.
