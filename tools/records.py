@@ -4,6 +4,7 @@ import hashlib
 import os
 import re
 from pathlib import Path
+from typing import NamedTuple
 
 from kit import rt
 from sources import closing, functions_of_file
@@ -60,11 +61,19 @@ def digest(crate):
     return found.hexdigest()
 
 
+class Verdicts(NamedTuple):
+    """That all edits of a crate were refused: the digest at which they were, and how many seconds it took."""
+
+    digest: str
+    seconds: int
+
+
 def recorded():
-    """Returns the digests at which all edits of a crate were refused, by the crate's name, as `judge --record` wrote them."""
-    return dict(it.split() for it in RECORD.read_text().splitlines()) if RECORD.is_file() else {}
+    """Returns the verdicts by the crate's name, as `judge --record` wrote them."""
+    rows = [it.split() for it in RECORD.read_text().splitlines()] if RECORD.is_file() else []
+    return {name: Verdicts(digest, int(seconds)) for name, digest, seconds in rows}
 
 
-def record(crate):
-    known = {**recorded(), crate.name: digest(crate)}
-    RECORD.write_text("".join(f"{name} {known[name]}\n" for name in sorted(known)))
+def record(crate, seconds):
+    known = {**recorded(), crate.name: Verdicts(digest(crate), round(seconds))}
+    RECORD.write_text("".join(f"{name} {known[name].digest} {known[name].seconds}\n" for name in sorted(known)))
