@@ -1,4 +1,5 @@
 pub mod Answers
 pub mod Causes
+pub mod Ended
 pub mod Fronts
 pub mod Read

@@ -26,8 +26,8 @@ pub(crate) fn tree_for<R: Source>(
 {
     let parser = parser_for(alloc, job, table)?;
     let mut parser = parser.without_ledger();
-    parser.feed_from(reader)?;
-    parser.finish()
+    let fed = parser.feed_from(reader);
+    fed.and(parser.finish())
 }
 
 /// The page of all that a reader has, with its ledger, as the job asks for it.
@@ -43,8 +43,8 @@ pub(crate) fn page_for<R: Source>(
     ensures cause { IfErr result (IsReadCause job.now table.now (R.remaining reader.old) (R.remaining reader.new) (R.failed reader.new)) }
 {
     let mut parser = parser_for(alloc, job, table)?;
-    parser.feed_from(reader)?;
-    parser.finish()
+    let fed = parser.feed_from(reader);
+    fed.and(parser.finish())
 }
 
 /// The parser for a job: of a document, or of a fragment in the context that the job names, within its limits.
