@@ -48,8 +48,8 @@ fn tree_of(alloc: Global, case: &TreeCase<'_>, table: &EntityTable) -> Result<Tr
 {
     let parser = parser_for(alloc, case, table)?;
     let mut parser = parser.without_ledger();
-    parser.feed(case.input)?;
-    parser.finish()
+    let fed = parser.feed(case.input);
+    fed.and(parser.finish())
 }
 
 /// The parser for a case. A context that is no text is none that an element can have.

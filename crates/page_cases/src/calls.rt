@@ -110,8 +110,8 @@ fn tree_by(alloc: Global, table: &EntityTable, way: Way, bytes: &[u8]) -> Result
         Way::FedReader => {
             let parser = Parser::document(alloc, table)?;
             let mut parser = parser.without_ledger();
-            parser.feed_from(&mut reader)?;
-            parser.finish()
+            let fed = parser.feed_from(&mut reader);
+            fed.and(parser.finish())
         }
     }
 }
