@@ -19,8 +19,15 @@ CHAIN = (
     ("html_construction", "html_modes"),
     ("html_builder", "html_parser"),
 )
+# of the memory that rt reckons for a crate, what a check by one process takes at most, as measured
+SHARE = 0.6
 # what `rt ci` says of crates that it was asked for, where a later run does not prove them again
 KEPT = "passed, and that is kept"
+
+
+def need(crate):
+    """Returns how many bytes of memory a check of a crate takes by one process."""
+    return int(SHARE * rt.need(crate))
 
 
 def run_shown(*words):
@@ -119,7 +126,7 @@ class Beside:
                 self.begin_piece(call, crate)
 
     def begin_piece(self, call, crate):
-        if (call, crate) not in self.begun and rt.need(crate) <= self.room:
+        if (call, crate) not in self.begun and need(crate) <= self.room:
             self.begun[call, crate] = self.pool.submit(self.do, call, crate)
 
     def do(self, call, crate):
