@@ -71,7 +71,7 @@ class Verdicts(NamedTuple):
 def recorded():
     """Returns the verdicts by the crate's name, as `judge --record` wrote them."""
     rows = [it.split() for it in RECORD.read_text().splitlines()] if RECORD.is_file() else []
-    return {name: Verdicts(digest, int(seconds)) for name, digest, seconds in rows}
+    return {name: Verdicts(at, int(seconds)) for name, at, seconds in rows}
 
 
 def record(crate, seconds):
