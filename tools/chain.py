@@ -6,6 +6,7 @@ import tempfile
 import threading
 from concurrent.futures import ThreadPoolExecutor
 from pathlib import Path
+from typing import NamedTuple
 
 from kit import rt
 
@@ -16,7 +17,8 @@ CHAIN = (
     ("html_charref", "html_tokens"),
     ("html_arena",),
     ("html_open", "html_tree"),
-    ("html_construction", "html_modes"),
+    ("html_construction",),
+    ("html_modes",),
     ("html_builder", "html_parser"),
 )
 # of the memory that rt reckons for a crate, what a check by one process takes at most, as measured
@@ -25,9 +27,27 @@ SHARE = 0.6
 KEPT = "passed, and that is kept"
 
 
-def need(crate):
-    """Returns how many bytes of memory a check of a crate takes by one process."""
-    return int(SHARE * rt.need(crate))
+class Piece(NamedTuple):
+    """What is done of a crate at one go: its proof, or one of so many parts of its edits, from 1."""
+
+    crate: object
+    part: int = 0
+    parts: int = 0
+
+    @property
+    def label(self):
+        share = f", {self.part} of {self.parts}" if self.parts > 1 else ""
+        return f"edits of {self.crate.name}{share}" if self.parts else f"proof of {self.crate.name}"
+
+    def need(self):
+        """Returns how many bytes of memory it takes by one process."""
+        return int(SHARE * rt.need(self.crate))
+
+    def do(self, work, jobs=1, before=()):
+        """Does it by so many processes, and returns status and text."""
+        if self.parts:
+            return work.judge(self.crate, f"{self.part}/{self.parts}", jobs, before)
+        return work.prove(self.crate, jobs, before)
 
 
 def run_shown(*words):
@@ -97,8 +117,8 @@ class Work:
         self.texts.append(text)
         return status, text
 
-    def judge(self, crate, jobs=1, before=()):
-        """Tries the edits of a crate that is proved, where that is kept in a copy, so that `rt ci` can go on here. Returns status and text."""
+    def judge(self, crate, part, jobs=1, before=()):
+        """Tries a part of the edits of a crate that is proved, where that is kept in a copy, so that `rt ci` can go on here. Returns status and text."""
         with tempfile.TemporaryDirectory(prefix="gate-") as room:
             if self.is_kept:
                 copy_up_to(crate, room)
@@ -106,13 +126,13 @@ class Work:
                 if status:
                     return status, text
             Path(room, "built").write_text("".join(self.texts))
-            words = [TOOLS / "judge", crate.name, "--as-built", f"{room}/built", "--jobs", jobs]
+            words = [TOOLS / "judge", crate.name, "--part", part, "--as-built", f"{room}/built", "--jobs", jobs]
             return run_aside(*before, *words, cwd=room if self.is_kept else None)
 
 
 class Beside:
-    """Work beside the longest chain, on half of the processors, in the time that it leaves. A piece is a call that takes a crate, and that crate: its
-    proof, or the edits of a crate of `tried`, which can follow its proof."""
+    """Work beside the longest chain, on half of the processors, in the time that it leaves: proofs, and those pieces of `tried`, which are edits, that can
+    follow them."""
 
     def __init__(self, work, tried):
         self.work, self.tried, self.workers = work, tried, max(1, rt.processors() // 2)
@@ -122,18 +142,18 @@ class Beside:
         """Begins what was not begun of these pieces, in their order, where memory allows it beside a step of the chain."""
         with self.lock:
             self.room = (rt.free() - max(map(rt.need, step))) / self.workers
-            for call, crate in pieces:
-                self.begin_piece(call, crate)
+            self.begin_some(pieces)
 
-    def begin_piece(self, call, crate):
-        if (call, crate) not in self.begun and need(crate) <= self.room:
-            self.begun[call, crate] = self.pool.submit(self.do, call, crate)
+    def begin_some(self, pieces):
+        for it in pieces:
+            if it not in self.begun and it.need() <= self.room:
+                self.begun[it] = self.pool.submit(self.do, it)
 
-    def do(self, call, crate):
-        status, text = call(crate, before=["nice"])
-        if not status and call == self.work.prove and crate in self.tried:
+    def do(self, piece):
+        status, text = piece.do(self.work, before=["nice"])
+        if not status and not piece.parts:
             with self.lock:
-                self.begin_piece(self.work.judge, crate)
+                self.begin_some(it for it in self.tried if it.crate == piece.crate)
         return status, text
 
     def end(self):
@@ -142,21 +162,21 @@ class Beside:
             self.room = 0
             self.begun = {it: given for it, given in self.begun.items() if not given.cancel()}
 
-    def did(self, call, crate):
+    def did(self, piece):
         """Returns whether this piece is done, and well."""
-        given = self.begun.get((call, crate))
+        given = self.begun.get(piece)
         return bool(given and given.done() and not given.result()[0])
 
 
 def prove_chain(work, every, tried):
     """Proves the longest chain of crates as long as that is kept, and beside it what else can be proved by then, first what the chain stands on, and
-    the edits of the crates `tried`. Returns what it proved of the chain, and what was begun beside it."""
+    the edits `tried`. Returns what it proved of the chain, and what was begun beside it."""
     beside, proved, others = Beside(work, tried), [], []
     needed = {below for it in every if it.name == CHAIN[-1][-1] for below in it.below()}
     for step, more in steps_of(every):
-        others = sorted([*others, *more], key=lambda it: it not in needed)
-        known = [*proved, *[it for it in others if beside.did(work.prove, it)]]
-        beside.begin(step, [(work.prove, it) for it in others] + [(work.judge, it) for it in tried if it in known])
+        others = sorted([*others, *map(Piece, more)], key=lambda it: it.crate not in needed)
+        known = [*proved, *[it.crate for it in others if beside.did(it)]]
+        beside.begin(step, [*others, *[it for it in tried if it.crate in known]])
         work.prove_shown(step[-1])
         beside.end()
         if not work.is_kept:

@@ -9,6 +9,8 @@ from kit import rt
 CLAUSE = re.compile(r"\b(requires|ensures|ghost|measure|decreases)\b")
 IMPL = re.compile(r"(?m)^[ \t]*(?:unsafe\s+)?impl\b([^{;]*)\{")
 FUNCTION = re.compile(r"\bfn\s+(\w+)")
+# what may stand between the attributes of a function and its `fn`, back from there
+ATTRIBUTES = re.compile(r"((?:#\[[^\]]*\]\s*)*)(?:pub\b(?:\([^)]*\))?\s*)?(?:(?:const|unsafe)\s+)*\Z")
 PAIRS = {"(": "()", "[": "[]", "{": "{}"}
 
 
@@ -96,7 +98,9 @@ def functions_of_file(file, text):
         body = body_of(text, it.end())
         if body:
             owner = next((who for start, end, who in impls if start <= it.start() < end), Owner())
-            found.append(Function(file, module, owner, it[1], *body, range(line(it.start()), line(body[2]) + 1)))
+            # (the checker's place of a function is its first attribute's)
+            first = ATTRIBUTES.search(text, max(0, text.rfind("\n\n", 0, it.start())), it.start()).start()
+            found.append(Function(file, module, owner, it[1], *body, range(line(first), line(body[2]) + 1)))
     return found
 
 
