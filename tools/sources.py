@@ -10,7 +10,7 @@ CLAUSE = re.compile(r"\b(requires|ensures|ghost|measure|decreases)\b")
 IMPL = re.compile(r"(?m)^[ \t]*(?:unsafe\s+)?impl\b([^{;]*)\{")
 FUNCTION = re.compile(r"\bfn\s+(\w+)")
 # what may stand between the attributes of a function and its `fn`, back from there
-ATTRIBUTES = re.compile(r"((?:#\[[^\]]*\]\s*)*)(?:pub\b(?:\([^)]*\))?\s*)?(?:(?:const|unsafe)\s+)*\Z")
+ATTRIBUTES = re.compile(r"(?:#\[[^\]]*\]\s*)*(?:pub\b(?:\([^)]*\))?\s*)?(?:(?:const|unsafe)\s+)*\Z")
 PAIRS = {"(": "()", "[": "[]", "{": "{}"}
 
 
