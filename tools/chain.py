@@ -131,11 +131,11 @@ class Work:
 
 
 class Beside:
-    """Work beside the longest chain, on half of the processors, in the time that it leaves: proofs, and those pieces of `tried`, which are edits, that can
+    """Work beside the longest chain, on all processors but one, in the time that it leaves: proofs, and those pieces of `tried`, which are edits, that can
     follow them."""
 
     def __init__(self, work, tried):
-        self.work, self.tried, self.workers = work, tried, max(1, rt.processors() // 2)
+        self.work, self.tried, self.workers = work, tried, max(1, rt.processors() - 1)
         self.pool, self.lock, self.begun, self.room = ThreadPoolExecutor(self.workers), threading.Lock(), {}, 0
 
     def begin(self, step, pieces):

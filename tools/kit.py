@@ -6,17 +6,17 @@ import shutil
 import sys
 
 
-def load():
+def load(name, path):
+    """Loads a script as a module of this name."""
     sys.dont_write_bytecode = True
-    path = os.path.realpath(shutil.which("rt") or sys.exit("rt, the toolchain's command, is not on the path"))
-    loader = importlib.machinery.SourceFileLoader("rt", path)
-    made = importlib.util.module_from_spec(importlib.util.spec_from_loader("rt", loader))
-    sys.modules["rt"] = made
+    loader = importlib.machinery.SourceFileLoader(name, str(path))
+    made = importlib.util.module_from_spec(importlib.util.spec_from_loader(name, loader))
+    sys.modules[name] = made
     loader.exec_module(made)
     return made
 
 
-rt = load()
+rt = load("rt", os.path.realpath(shutil.which("rt") or sys.exit("rt, the toolchain's command, is not on the path")))
 
 
 def crates():

@@ -13,18 +13,37 @@ RECORD = Path("tools/judged")
 # what stands in the folder of one function's proof, and is of that proof alone
 OF_ONE_PROOF = re.compile(r"/proofs/.+/(Invariants|Answers|Proof)\.antt$")
 TRAIT = re.compile(r"\btrait\s+\w[^{;]*\{")
+# a module of tests
+TESTS = re.compile(rb"(?m)^#\[cfg\(test\)\]\nmod (\w+);\n")
 
 
-def bodies(file, text):
-    """Yields the bodies of a file's functions that no other function can see: not those of constant functions, or that a trait hands on."""
+def unseen(file, text):
+    """Yields the spans of a file's text that no crate above can see, in order: functions that are not public, with the comments above them, and the bodies
+    of others; but of a trait's functions and of constant ones nothing. `text` has no comments and strings."""
     traits = [range(it.end(), closing(text, it.end() - 1)) for it in TRAIT.finditer(text)]
     end = 0
     for it in sorted(functions_of_file(file, text), key=lambda it: it.start):
-        is_constant = re.search(rf"\bconst\s+(unsafe\s+)?fn\s+{it.name}\b", text)
-        is_seen = is_constant or any(it.start in span for span in traits)
+        is_seen = it.is_constant or any(it.start in span for span in traits)
         if it.start >= end and not is_seen:
-            yield it.start, it.end
+            is_whole = not (it.is_public or it.owner.trait)
+            yield (len(text[: it.begin].rstrip()), it.end + 1) if is_whole else (it.start + 1, it.end)
             end = it.end
+
+
+def seen(file, data, text):
+    """Returns what a crate above can see of a file, without empty lines."""
+    for start, end in reversed([*unseen(file, text)]):
+        data = data[:start] + data[end:]
+    return b"".join(it for it in TESTS.sub(b"", data).splitlines(True) if it.strip())
+
+
+def files_of_tests(files):
+    """Returns the files that are compiled for tests alone."""
+    named = []
+    for path in (it for it in map(Path, files) if it.suffix == ".rt"):
+        folder = path.parent if path.stem in ("lib", "main", "mod") else path.with_suffix("")
+        named += [f"{folder}/{it.decode()}.rt" for it in TESTS.findall(path.read_bytes())]
+    return named
 
 
 def sums_of(folder):
@@ -35,20 +54,21 @@ def sums_of(folder):
 @functools.lru_cache(maxsize=None)
 def seen_from_above(folder, _sums):
     """Returns the files that a check of a crate above can see of a library whose files have these sums, with the sums of what it can see of each."""
-    blanked, seen = rt.rtlib.blanked.__wrapped__(folder), []
-    for path in rt.rtlib.files_of(folder):
+    blanked, found = rt.rtlib.blanked.__wrapped__(folder), []
+    files = [*rt.rtlib.files_of(folder)]
+    tests = files_of_tests(files)
+    for path in files:
         data, file = Path(path).read_bytes(), os.path.relpath(path, folder)
         if file.startswith("src/"):
-            for start, end in reversed([*bodies(file, blanked[path].encode().decode("latin-1"))]):
-                data = data[: start + 1] + data[end:]
-        if not OF_ONE_PROOF.search(f"/{file}"):
-            seen.append((path, hashlib.sha256(data).digest()))
-    return seen
+            data = seen(file, data, blanked[path].encode().decode("latin-1"))
+        if not OF_ONE_PROOF.search(f"/{file}") and path not in tests:
+            found.append((path, hashlib.sha256(data).digest()))
+    return found
 
 
 def digest(crate):
     """Returns what tells apart all that the verdicts on a crate's edits follow from: the toolchain, the edits, the texts of the crate, and of those
-    below what it can see: of a function the contract, and neither its body nor its proof. A program is linked with all that it reaches."""
+    below what it can see: of a public function the contract, and neither its body nor its proof. A program is linked with all that it reaches."""
     sums = sums_of(crate.folder)
     for below in crate.below():
         whole = sums_of(below.folder)

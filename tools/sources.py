@@ -9,8 +9,8 @@ from kit import rt
 CLAUSE = re.compile(r"\b(requires|ensures|ghost|measure|decreases)\b")
 IMPL = re.compile(r"(?m)^[ \t]*(?:unsafe\s+)?impl\b([^{;]*)\{")
 FUNCTION = re.compile(r"\bfn\s+(\w+)")
-# what may stand between the attributes of a function and its `fn`, back from there
-ATTRIBUTES = re.compile(r"(?:#\[[^\]]*\]\s*)*(?:pub\b(?:\([^)]*\))?\s*)?(?:(?:const|unsafe)\s+)*\Z")
+# the attributes of a function, its visibility, and what else may stand before its `fn`
+BEFORE = re.compile(r"(?:#\[[^\]]*\]\s*)*(?:(pub\b(?:\([^)]*\))?)\s*)?((?:(?:const|unsafe)\s+)*)\Z")
 PAIRS = {"(": "()", "[": "[]", "{": "{}"}
 
 
@@ -29,6 +29,9 @@ class Function(NamedTuple):
     module: str
     owner: Owner
     name: str
+    begin: int  # where its first attribute begins, or it itself
+    is_public: bool
+    is_constant: bool
     head_end: int  # where its last clause ends, or its signature
     start: int  # its body's brackets
     end: int
@@ -99,8 +102,9 @@ def functions_of_file(file, text):
         if body:
             owner = next((who for start, end, who in impls if start <= it.start() < end), Owner())
             # (the checker's place of a function is its first attribute's)
-            first = ATTRIBUTES.search(text, max(0, text.rfind("\n\n", 0, it.start())), it.start()).start()
-            found.append(Function(file, module, owner, it[1], *body, range(line(first), line(body[2]) + 1)))
+            before = BEFORE.search(text, max(0, text.rfind("\n\n", 0, it.start())), it.start())
+            lines = range(line(before.start()), line(body[2]) + 1)
+            found.append(Function(file, module, owner, it[1], before.start(), before[1] == "pub", "const" in before[2], *body, lines))
     return found
 
 
