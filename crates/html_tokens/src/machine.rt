@@ -153,6 +153,14 @@ impl<'a> Machine<'a> {
         self.place += count as u64;
     }
 
+    /// Reads on in this state. What the last one held is let go here alone: to prove that takes long for each place that does.
+    #[inline(always)]
+    pub(crate) fn enter(&mut self, state: State)
+        ensures { self.new ≡ record self.old { state = state } }
+    {
+        self.state = state;
+    }
+
     /// One step: reads on, gives a token, or finds that more input is wanted.
     fn step(&mut self, faults: &mut Faults) -> Result<Progress, AllocError>
         requires room { self.old.place + length self.old.input.queue.items < 2 ^ 64 }

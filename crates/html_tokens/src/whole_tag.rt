@@ -97,7 +97,7 @@ impl<'a> Machine<'a> {
         ensures finished { self.new.input.finished ≡ self.old.input.finished }
         ensures place { self.new.place ≡ self.old.place + len }
     {
-        self.state = State::Text(Region::Plain);
+        self.enter(State::Text(Region::Plain));
         self.pass(len);
         if draft.is_end {
             self.mode = TextMode::Data;
@@ -141,7 +141,7 @@ impl<'a> Machine<'a> {
         faults.took(taken, self.place);
         match closing(self.input.queue.unread()) {
             None => {
-                self.state = State::Tag(draft);
+                self.enter(State::Tag(draft));
                 Ok(None)
             }
             Some((self_closing, len)) => {

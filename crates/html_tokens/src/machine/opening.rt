@@ -55,7 +55,7 @@ impl<'a> Machine<'a> {
         match found {
             Opener::Empty => {
                 self.pass(3);
-                self.state = State::Text(Region::Plain);
+                self.enter(State::Text(Region::Plain));
                 Progress::More
             }
             Opener::Comment => {
@@ -69,7 +69,7 @@ impl<'a> Machine<'a> {
             Opener::ShortComment(len) => {
                 let start = self.place;
                 self.pass(len);
-                self.state = State::Text(Region::Plain);
+                self.enter(State::Text(Region::Plain));
                 let data = Str::new(self.alloc);
                 Progress::Given(token(TokenKind::Comment(data), start, self.place))
             }
@@ -97,7 +97,7 @@ impl<'a> Machine<'a> {
     {
         let start = self.place;
         self.pass(1);
-        self.state = State::Text(Region::Plain);
+        self.enter(State::Text(Region::Plain));
         Progress::Given(token(TokenKind::Char('<'), start, self.place))
     }
 
@@ -109,7 +109,7 @@ impl<'a> Machine<'a> {
         let start = self.place;
         self.pass(opened);
         let data = Str::new(self.alloc);
-        self.state = State::Comment(CommentDraft { kind, start, data });
+        self.enter(State::Comment(CommentDraft { kind, start, data }));
     }
 
     fn begin_doctype(&mut self)
@@ -120,7 +120,7 @@ impl<'a> Machine<'a> {
         let start = self.place;
         self.pass(9);
         let draft = DoctypeDraft::new(self.alloc, start);
-        self.state = State::Doctype(draft);
+        self.enter(State::Doctype(draft));
     }
 
     pub(super) fn begin_tag(&mut self, is_end: bool, opened: usize)
@@ -131,6 +131,6 @@ impl<'a> Machine<'a> {
         let start = self.place;
         self.pass(opened);
         let draft = TagDraft::new(self.alloc, is_end, start);
-        self.state = State::Tag(draft);
+        self.enter(State::Tag(draft));
     }
 }

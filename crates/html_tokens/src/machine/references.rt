@@ -33,11 +33,11 @@ impl<'a> Machine<'a> {
             Some(RefOpener::Numeric(base, opened)) => {
                 let start = self.place;
                 self.pass(opened);
-                self.state = State::Number(NumberDraft {
+                self.enter(State::Number(NumberDraft {
                     start,
                     base,
                     value: 0,
-                });
+                }));
                 Progress::More
             }
             Some(RefOpener::Named) => match named(self.table, &self.input) {
@@ -65,11 +65,11 @@ impl<'a> Machine<'a> {
         self.pass(len);
         match second {
             None => {
-                self.state = State::Text(Region::Plain);
+                self.enter(State::Text(Region::Plain));
                 Progress::Given(token(TokenKind::Char(first), start, self.place))
             }
             Some(c) => {
-                self.state = State::Second(c, start + 1);
+                self.enter(State::Second(c, start + 1));
                 Progress::Given(token(TokenKind::Char(first), start, start + 1))
             }
         }
@@ -81,7 +81,7 @@ impl<'a> Machine<'a> {
         ensures steps { Steps self.old result self.new }
         ensures bounded { (faults : Faults) → IsBounded self.old faults → IsBounded self.new faults }
     {
-        self.state = State::Text(Region::Plain);
+        self.enter(State::Text(Region::Plain));
         Progress::Given(token(TokenKind::Char(c), start, self.place))
     }
 
@@ -101,10 +101,10 @@ impl<'a> Machine<'a> {
             Peek::Is(Some(c)) => match digit(c, draft.base) {
                 Some(d) => {
                     self.pass(1);
-                    self.state = State::Number(NumberDraft {
+                    self.enter(State::Number(NumberDraft {
                         value: add_digit(draft.value, d, draft.base),
                         ..draft
-                    });
+                    }));
                     Progress::More
                 }
                 None if c == ';' => {
@@ -126,7 +126,7 @@ impl<'a> Machine<'a> {
         ensures { (result ≡ Progress.Given (token (TokenKind.Char (char_of draft.value)) draft.start (self.old.place + len))) × Passes self.old len (State.Text Region.Plain) self.new }
     {
         self.pass(len);
-        self.state = State::Text(Region::Plain);
+        self.enter(State::Text(Region::Plain));
         let (c, _) = numeric(draft.value);
         Progress::Given(token(TokenKind::Char(c), draft.start, self.place))
     }

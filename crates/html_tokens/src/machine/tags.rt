@@ -34,7 +34,7 @@ impl<'a> Machine<'a> {
             Peek::Wait => return Ok(Progress::Wait),
             Peek::Is(None) => {
                 faults.tag_end(draft, self.place);
-                self.state = State::Ended;
+                self.enter(State::Ended);
                 return Ok(Progress::Given(token(TokenKind::Eof, self.place, self.place)));
             }
             Peek::Is(Some(c)) => c,

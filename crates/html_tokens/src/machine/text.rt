@@ -23,7 +23,7 @@ impl<'a> Machine<'a> {
             Peek::Wait => Progress::Wait,
             Peek::Is(None) => {
                 faults.text_end(region, self.place);
-                self.state = State::Ended;
+                self.enter(State::Ended);
                 Progress::Given(token(TokenKind::Eof, self.place, self.place))
             }
             Peek::Is(Some(first)) => match self.begin(region, first) {
@@ -102,7 +102,7 @@ impl<'a> Machine<'a> {
         let start = self.place;
         faults.text_char(found, start);
         self.place += 1;
-        self.state = State::Text(after);
+        self.enter(State::Text(after));
         Progress::Given(token(TokenKind::Char(c), start, self.place))
     }
 }

@@ -10,8 +10,9 @@ returns-in-Is-None-clause-steps c =
 pub returns-in-Some-clause-steps : goal.returns-in-Some-clause-steps
 returns-in-Some-clause-steps c =
     let first = rw c.in-Is-Some.field-0-is at c.in-Is-Some.ensures in
-    number_more c.args.self.now _ c.args.draft c.in-Is-Some.c c.in-Some.d c.add_digit.result c.requires.state first.0 first.1 c.in-Some.ensures.0 c.in-Some.ensures.1 c.add_digit.ensures.value
-    (passes_to c.args.self.now c.pass.new.self 1 _ _ c.pass.ensures)
+    rw c.enter.ensures
+    (number_more c.args.self.now _ c.args.draft c.in-Is-Some.c c.in-Some.d c.add_digit.result c.requires.state first.0 first.1 c.in-Some.ensures.0 c.in-Some.ensures.1 c.add_digit.ensures.value
+    (passes_to c.args.self.now c.pass.new.self 1 _ _ c.pass.ensures))
 
 pub returns-in-None-clause-steps : goal.returns-in-None-clause-steps
 returns-in-None-clause-steps c =

@@ -14,8 +14,9 @@ returns-in-Empty-clause-steps c =
     let is = rw c.in-Empty.is at c.requires.found in
     let some = rw c.in-Empty.is at c.requires.some in
     let fit = rw c.in-Empty.is at c.requires.fit in
-    open_more _ _ c.args.region 3 _ c.requires.state (passes_to _ _ 3 _ _ c.pass.ensures) some fit (λ e. e)
-    (λ more switches h. empty_passed _ begins.Markup c.args.region _ _ _ 3 _ more switches (c.requires.markup more h) refl (rw (is more h) refl) some fit)
+    rw c.enter.ensures
+    (open_more _ _ c.args.region 3 _ c.requires.state (passes_to _ _ 3 _ _ c.pass.ensures) some fit (λ e. e)
+    (λ more switches h. empty_passed _ begins.Markup c.args.region _ _ _ 3 _ more switches (c.requires.markup more h) refl (rw (is more h) refl) some fit))
 
 pub returns-in-Comment-clause-steps : goal.returns-in-Comment-clause-steps
 returns-in-Comment-clause-steps c =
@@ -41,8 +42,8 @@ returns-in-ShortComment-clause-steps c =
     let fit = rw c.in-ShortComment.is at c.requires.fit in
     let k = c.in-ShortComment.len in
     let t = c.args.self.now in
-    let given : c.token.result ≡ token (kinds.Comment []) t.place (t.place + k) = c.token.ensures ∙ rw (c.new-data.ensures, c.pass-in-ShortComment.ensures.place) refl in
-    rw given
+    let given : c.token.result ≡ token (kinds.Comment []) t.place (t.place + k) = c.token.ensures ∙ rw (c.new-data.ensures, c.enter-in-ShortComment.ensures, c.pass-in-ShortComment.ensures.place) refl in
+    rw (given, c.enter-in-ShortComment.ensures)
     (open_gives _ _ c.args.region begins.Markup (token (kinds.Comment []) t.place (t.place + k)) k c.requires.state (passes_to _ _ k _ _ c.pass-in-ShortComment.ensures) some fit
     (λ switch mode. refl) (λ switch mode. refl) (λ name. refl) refl c.requires.markup (λ more h. rw (is more h) refl))
 

@@ -9,13 +9,15 @@ returns-in-None-clause-begun c =
     let items = c.args.self.now.input.queue.items in
     let fit = c.requires.fit in
     let some : 1 ≤ length items = omega (arith, fit) in
-    begins_whole c.args.self.now c.pass.new.self c.new-draft.result c.take_front.new.self c.in_ok-taken.taken.len c.requires.state some c.requires.begun c.requires.start c.new-draft.ensures
-    (rw (c.unread.ensures, take_rest items 1) at c.in_ok-taken.ensures.copies) c.pass.ensures
+    rw c.enter.ensures
+    (begins_whole c.args.self.now c.pass.new.self c.new-draft.result c.take_front.new.self c.in_ok-taken.taken.len c.requires.state some c.requires.begun c.requires.start c.new-draft.ensures
+    (rw (c.unread.ensures, take_rest items 1) at c.in_ok-taken.ensures.copies) c.pass.ensures)
 
 pub returns-in-None-clause-bounded : goal.returns-in-None-clause-bounded
 returns-in-None-clause-bounded c = λ b.
-    whole_bounded c.args.self.now c.pass.new.self c.new-draft.result c.take_front.new.self c.in_ok-taken.taken.len c.in_ok-taken.taken.compared c.args.faults.now c.took.new.self c.requires.state c.new-draft.ensures.3 c.in_ok-taken.ensures.bounds c.pass.ensures.place
-    c.took.ensures.list (rw c.took.ensures.compared (min-le_left _ _)) b
+    rw c.enter.ensures
+    (whole_bounded c.args.self.now c.pass.new.self c.new-draft.result c.take_front.new.self c.in_ok-taken.taken.len c.in_ok-taken.taken.compared c.args.faults.now c.took.new.self c.requires.state c.new-draft.ensures.3 c.in_ok-taken.ensures.bounds c.pass.ensures.place
+    c.took.ensures.list (rw c.took.ensures.compared (min-le_left _ _)) b)
 
 pub returns-in_ok-given-in-Some-clause-given : goal.returns-in_ok-given-in-Some-clause-given
 returns-in_ok-given-in-Some-clause-given c =

@@ -11,8 +11,9 @@ returns-in-Some-Literal-clause-steps c =
 pub returns-in-Some-Numeric-clause-steps : goal.returns-in-Some-Numeric-clause-steps
 returns-in-Some-Numeric-clause-steps c =
     let found = rw c.in-Some-Numeric.field-0-is at c.in-Some-Numeric.ensures in
-    number_begins c.args.self.now _ c.args.region c.in-Some-Numeric.base c.in-Some-Numeric.opened c.requires.state c.requires.reference found.2 found.1 found.0
-    (passes_to c.args.self.now c.pass.new.self c.in-Some-Numeric.opened _ _ c.pass.ensures)
+    rw c.enter.ensures
+    (number_begins c.args.self.now _ c.args.region c.in-Some-Numeric.base c.in-Some-Numeric.opened c.requires.state c.requires.reference found.2 found.1 found.0
+    (passes_to c.args.self.now c.pass.new.self c.in-Some-Numeric.opened _ _ c.pass.ensures))
 
 pub returns-in-Some-None-clause-steps : goal.returns-in-Some-None-clause-steps
 returns-in-Some-None-clause-steps c =

@@ -8,7 +8,7 @@ use Rattle.html_tokens.proofs.machine.Machine.text_step.Goals as goal
 pub returns-in-Is-None-clause-steps : goal.returns-in-Is-None-clause-steps
 returns-in-Is-None-clause-steps c =
     let at_end = rw c.in-Is-None.field-0-is at c.in-Is-None.ensures in
-    rw c.token.ensures (state_ends c.args.self.now _ c.args.region c.requires.state refl (λ more h. empty_rest _ (at_end.0 more h)))
+    rw (c.token.ensures, c.enter.ensures) (state_ends c.args.self.now _ c.args.region c.requires.state refl (λ more h. empty_rest _ (at_end.0 more h)))
 
 pub returns-in-Some-EndMark-clause-steps : goal.returns-in-Some-EndMark-clause-steps
 returns-in-Some-EndMark-clause-steps c =
