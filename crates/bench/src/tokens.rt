@@ -1,14 +1,12 @@
-//! How fast texts are cut into tokens. Without an argument each text is short, and no time is printed; with the argument
-//! `full` the texts are long, and a second argument is the name of the one text that is cut.
-#![tactic(auto)]
+//! How fast texts are cut into tokens.
 
+use crate::clock::{Stopwatch, in_a_microsecond};
+use crate::inputs::repeated_text;
 use anyhow::Result;
 use html_charref::EntityTable;
 use html_tokens::{TextMode, Token, TokenError, Tokenizer};
 use std::alloc::{AllocError, Global};
-use std::env;
 use std::mem::size_of;
-use std::time::CpuClock;
 
 /// A text to be cut into tokens, and what is taken of it.
 struct Load {
@@ -36,7 +34,7 @@ enum Taken {
 
 const WORDS: Source = Source::Repeated("The quick brown fox jumps over the lazy dog. ", 360_000);
 
-const LOADS: [Load; 8] = [
+const LOADS: &[Load] = &[
     Load {
         name: "text through next",
         source: WORDS,
@@ -91,20 +89,14 @@ const ATTRIBUTES: u32 = 100_000;
 /// The text of a load, or a short one of its kind.
 fn text_of(alloc: Global, source: Source, is_short: bool) -> Result<Vec<char>, AllocError> {
     match source {
-        Source::Repeated(piece, times) => repeated(alloc, piece, if is_short { 2 } else { times }),
+        Source::Repeated(piece, times) => {
+            repeated_text(alloc, piece, if is_short { 2 } else { times })
+        }
         Source::WideTag(times) => {
             let count = if is_short { 30 } else { ATTRIBUTES };
             wide_tag(alloc, count, count.checked_div(times).unwrap_or(count))
         }
     }
-}
-
-fn repeated(alloc: Global, piece: &str, times: u32) -> Result<Vec<char>, AllocError> {
-    let mut text = Vec::new(alloc);
-    for _ in 0..times {
-        text.extend(piece.chars())?;
-    }
-    Ok(text)
 }
 
 /// A start tag of so many attributes, with so many names of six letters again and again.
@@ -214,74 +206,48 @@ fn take_fed(
     Ok(())
 }
 
-/// Makes the text of a load, and cuts it.
-fn show(
-    rt: &(impl Print + CpuClock),
-    alloc: Global,
+/// Cuts the text that is named, or each where none is, and says how large a token is.
+pub(crate) fn show_all(
+    rt: &HostRuntime,
     table: &EntityTable,
-    load: &Load,
+    wanted: Option<&str>,
     is_timed: bool,
 ) -> Result<()> {
-    let text = text_of(alloc, load.source, !is_timed)?;
-    cut(rt, alloc, table, load, text.as_slice(), is_timed)
+    for load in LOADS {
+        if wanted.unwrap_or(load.name) == load.name {
+            show(rt, table, load, is_timed)?;
+        }
+    }
+    let bytes = size_of::<Token>();
+    println!(rt; "bytes a token: {bytes}")?;
+    Ok(())
+}
+
+/// Makes the text of a load, and cuts it.
+fn show(rt: &HostRuntime, table: &EntityTable, load: &Load, is_timed: bool) -> Result<()> {
+    let text = text_of(rt.alloc(), load.source, !is_timed)?;
+    cut(rt, table, load, text.as_slice(), is_timed)
 }
 
 fn cut(
-    rt: &(impl Print + CpuClock),
-    alloc: Global,
+    rt: &HostRuntime,
     table: &EntityTable,
     load: &Load,
     text: &[char],
     is_timed: bool,
 ) -> Result<()> {
-    let before = rt.thread_cpu_time()?.as_micros();
-    let tokens = count(alloc, table, text, load.taken)?;
-    let micros = rt.thread_cpu_time()?.as_micros().saturating_sub(before);
-    let (name, code_points) = (load.name, text.len());
-    if !is_timed {
+    let watch = Stopwatch::by_processor(rt);
+    let tokens = count(rt.alloc(), table, text, load.taken)?;
+    let micros = watch.micros(rt);
+    let (name, code_points) = (load.name, text.len() as u64);
+    if is_timed {
+        let points_speed = in_a_microsecond(code_points, micros);
+        let tokens_speed = in_a_microsecond(tokens, micros);
+        println!(rt;
+            "{name}: {code_points} code points, {tokens} tokens in {micros} microseconds: {points_speed} and {tokens_speed} million a second"
+        )?;
+    } else {
         println!(rt; "{name}: {code_points} code points, {tokens} tokens")?;
-        return Ok(());
     }
-    let points_speed = (code_points as u128).checked_div(micros).unwrap_or(0);
-    let tokens_speed = u128::from(tokens).checked_div(micros).unwrap_or(0);
-    println!(rt;
-        "{name}: {code_points} code points, {tokens} tokens in {micros} microseconds: {points_speed} and {tokens_speed} million a second"
-    )?;
-    Ok(())
-}
-
-/// Cuts the text that is named, or each where none is.
-fn show_all(
-    rt: &(impl Print + CpuClock),
-    alloc: Global,
-    wanted: Option<&str>,
-    is_timed: bool,
-) -> Result<()> {
-    let table = EntityTable::core(alloc)?;
-    show_each(rt, alloc, &table, wanted, is_timed)
-}
-
-fn show_each(
-    rt: &(impl Print + CpuClock),
-    alloc: Global,
-    table: &EntityTable,
-    wanted: Option<&str>,
-    is_timed: bool,
-) -> Result<()> {
-    for load in &LOADS {
-        if wanted.unwrap_or(load.name) == load.name {
-            show(rt, alloc, table, load, is_timed)?;
-        }
-    }
-    Ok(())
-}
-
-fn main(rt: HostRuntime) -> Result<()> {
-    let is_timed = env::args(&rt)?.nth(1).is_some();
-    let wanted = env::args(&rt)?.nth(2);
-    let wanted = wanted.as_ref().map(|name| name.as_str());
-    show_all(&rt, rt.alloc(), wanted, is_timed)?;
-    let bytes = size_of::<Token>();
-    println!(rt; "bytes a token: {bytes}")?;
     Ok(())
 }

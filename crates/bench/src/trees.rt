@@ -1,21 +1,17 @@
-//! Builds trees of several shapes, walks them and writes them, and says what there is. Given a number, it takes shapes so many
-//! times as large, and says too how long that took, and how long a text of 16 MB takes.
-#![tactic(auto)]
-
-ghost use Rattle.std.specs.Prelude.{◌<◌, length};
+//! Trees of several shapes, built, walked and written, and texts of 16 MB.
 
 mod build;
 mod count;
 
-use build::{Shape, build, in_runs, is_root, one_by_one};
+use crate::clock::Stopwatch;
+use anyhow::Result;
+use build::{Shape, Way, build, is_root, long_text};
 use count::count;
 use html_arena::{Arena, NewNode, NodeId};
 use html_page::{DeviceFault, Profile, Sink, serialise_tree};
-use std::env;
-use std::time::Instant;
 
 /// A thousandth of each shape, but for its depth.
-const SHAPES: [Shape; 4] = [
+const SHAPES: &[Shape] = &[
     Shape {
         name: "nodes",
         elements: 500,
@@ -67,95 +63,73 @@ impl Sink for Counter {
     }
 }
 
-fn main(rt: HostRuntime) -> anyhow::Result<()> {
-    let given = given(&rt)?;
+/// Builds the shapes, walks them and writes them, and says how large a node is. Given a number, it takes them so many times as large, and
+/// says too how long that took, and how long a text of 16 MB takes.
+pub(crate) fn show_all(rt: &HostRuntime, times: Option<u32>) -> Result<()> {
     for shape in SHAPES {
-        measure(&rt, shape, given)?;
+        show(rt, *shape, times)?;
     }
-    if given.is_some() {
-        show_text_in_runs(&rt)?;
-        show_text_one_by_one(&rt)?;
+    if times.is_some() {
+        show_text(rt, "in runs", Way::InRuns)?;
+        show_text(rt, "singly", Way::OneByOne)?;
     }
     let bytes = Arena::NODE_BYTES;
     println!(rt; "bytes a node: {bytes}")?;
     Ok(())
 }
 
-/// The number that is given to the program.
-fn given(rt: &HostRuntime) -> anyhow::Result<Option<u32>> {
-    let word = env::args(rt)?.nth(1);
-    Ok(word.and_then(|word| word.as_str().parse::<u32>().ok()))
-}
-
 /// Builds one shape, walks it and writes it.
-fn measure(rt: &HostRuntime, shape: Shape, given: Option<u32>) -> anyhow::Result<()> {
+fn show(rt: &HostRuntime, shape: Shape, times: Option<u32>) -> Result<()> {
     let mut arena = Arena::new(rt.alloc());
-    let root = arena.make(NewNode::Document)?;
-    measure_in(rt, &mut arena, root, shape, given)
+    show_in(rt, &mut arena, shape, times)
 }
 
-fn measure_in(
-    rt: &HostRuntime,
-    arena: &mut Arena,
-    root: NodeId,
-    shape: Shape,
-    given: Option<u32>,
-) -> anyhow::Result<()>
-    requires { root < length arena.old.labels }
-{
-    let start = Instant::now(rt)?;
-    build(rt.alloc(), arena, root, larger(shape, given.unwrap_or(1)))?;
-    let built = start.elapsed(rt)?.as_micros();
+fn show_in(rt: &HostRuntime, arena: &mut Arena, shape: Shape, times: Option<u32>) -> Result<()> {
+    let watch = Stopwatch::by_clock(rt);
+    let root = arena.make(NewNode::Document)?;
+    build(rt.alloc(), arena, root, larger(shape, times.unwrap_or(1)))?;
+    let built = watch.micros(rt);
     show_built(rt, shape.name, arena)?;
     let walked = show_walked(rt, arena, root)?;
     let written = show_written(rt, arena, root)?;
-    if given.is_some() {
+    if times.is_some() {
         println!(rt; "         built in {built} us, walked in {walked}, written in {written}")?;
     }
     Ok(())
 }
 
 /// Says what a tree holds.
-fn show_built(rt: &HostRuntime, name: &str, arena: &Arena) -> anyhow::Result<()> {
+fn show_built(rt: &HostRuntime, name: &str, arena: &Arena) -> Result<()> {
     let (nodes, held, steps) = (arena.len(), arena.held(), arena.meter().steps);
     println!(rt; "{name:>8} {nodes:>9} nodes {held:>9} held {steps:>9} steps")?;
     Ok(())
 }
 
 /// Walks a tree, says what it meets, and answers how many microseconds that took.
-fn show_walked(rt: &HostRuntime, arena: &Arena, root: NodeId) -> anyhow::Result<u128> {
-    let start = Instant::now(rt)?;
+fn show_walked(rt: &HostRuntime, arena: &Arena, root: NodeId) -> Result<u128> {
+    let watch = Stopwatch::by_clock(rt);
     let counts = count(arena, root);
-    let took = start.elapsed(rt)?.as_micros();
+    let took = watch.micros(rt);
     let (entered, depth) = (counts.entered, counts.depth);
     println!(rt; "         {entered:>9} entered, {depth} deep")?;
     Ok(took)
 }
 
 /// Writes a tree, says how many bytes that are, and answers how many microseconds it took.
-fn show_written(rt: &HostRuntime, arena: &Arena, root: NodeId) -> anyhow::Result<u128> {
-    let start = Instant::now(rt)?;
+fn show_written(rt: &HostRuntime, arena: &Arena, root: NodeId) -> Result<u128> {
+    let watch = Stopwatch::by_clock(rt);
     let bytes = written(arena, root)?;
-    let took = start.elapsed(rt)?.as_micros();
+    let took = watch.micros(rt);
     println!(rt; "         {bytes:>9} bytes")?;
     Ok(took)
 }
 
-/// Adds a text of 16 MB in runs.
-fn show_text_in_runs(rt: &HostRuntime) -> anyhow::Result<()> {
-    let start = Instant::now(rt)?;
-    let held = in_runs(rt.alloc())?.held();
-    let took = start.elapsed(rt)?.as_micros();
-    println!(rt; " in runs {held:>9} held, {took} us")?;
-    Ok(())
-}
-
-/// Adds the same text one code point after another.
-fn show_text_one_by_one(rt: &HostRuntime) -> anyhow::Result<()> {
-    let start = Instant::now(rt)?;
-    let held = one_by_one(rt.alloc())?.held();
-    let took = start.elapsed(rt)?.as_micros();
-    println!(rt; "  singly {held:>9} held, {took} us")?;
+/// Adds a text of 16 MB.
+fn show_text(rt: &HostRuntime, name: &str, way: Way) -> Result<()> {
+    let watch = Stopwatch::by_clock(rt);
+    let held = long_text(rt.alloc(), way)?.held();
+    let took = watch.micros(rt);
+    println!(rt; "{name:>8} {held:>9} held, {took} us")?;
     Ok(())
 }
 
@@ -172,7 +146,7 @@ fn larger(shape: Shape, times: u32) -> Shape {
 }
 
 /// How many bytes a tree is written in.
-fn written(arena: &Arena, root: NodeId) -> anyhow::Result<u64> {
+fn written(arena: &Arena, root: NodeId) -> Result<u64> {
     let mut counter = Counter { bytes: 0 };
     if is_root(arena, root) {
         serialise_tree(arena, root, Profile::One, &mut counter)?;

@@ -1,4 +1,5 @@
-// Trees to be walked and written, and a text of 16 MB.
+//! Trees to be walked and written, and a text of 16 MB.
+
 ghost use Rattle.std.specs.Prelude.{◌≡◌, ◌<◌, ◌≤◌, IfOk, length, true};
 ghost use Rattle.html_arena.specs.Data.{IsText};
 ghost use Rattle.html_arena.specs.Make.{CanMake, label_for, makes_child};
@@ -99,23 +100,47 @@ const RUN: usize = 4_096;
 /// How many runs there are in 16 MB of ASCII.
 const RUNS: u64 = 4_096;
 
-/// A text of 16 MB, added in runs.
-pub(crate) fn in_runs(alloc: Global) -> Result<Arena, ArenaError> {
+/// How a text is added.
+#[derive(Clone, Copy)]
+pub(crate) enum Way {
+    /// In runs of 4,096 code points.
+    InRuns,
+    /// One code point after another.
+    OneByOne,
+}
+
+/// A text of 16 MB.
+pub(crate) fn long_text(alloc: Global, way: Way) -> Result<Arena, ArenaError> {
     let mut arena = Arena::new(alloc);
+    add_long_text(&mut arena, way)?;
+    Ok(arena)
+}
+
+fn add_long_text(arena: &mut Arena, way: Way) -> Result<(), ArenaError> {
     let node = arena.make(NewNode::Text)?;
+    match way {
+        Way::InRuns => in_runs(arena, node),
+        Way::OneByOne => one_by_one(arena, node),
+    }
+}
+
+fn in_runs(arena: &mut Arena, node: NodeId) -> Result<(), ArenaError>
+    requires node_in { node < length arena.old.labels }
+    requires is_text { IsText (label_of arena.old node) }
+{
     let run = ['a'; RUN];
     for _ in 0..RUNS {
         arena.append_run(node, &run)?;
     }
-    Ok(arena)
+    Ok(())
 }
 
-/// The same text, added one code point after another.
-pub(crate) fn one_by_one(alloc: Global) -> Result<Arena, ArenaError> {
-    let mut arena = Arena::new(alloc);
-    let node = arena.make(NewNode::Text)?;
+fn one_by_one(arena: &mut Arena, node: NodeId) -> Result<(), ArenaError>
+    requires node_in { node < length arena.old.labels }
+    requires is_text { IsText (label_of arena.old node) }
+{
     for _ in 0..RUNS * RUN as u64 {
         arena.append_text(node, 'a')?;
     }
-    Ok(arena)
+    Ok(())
 }

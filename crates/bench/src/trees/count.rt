@@ -1,5 +1,6 @@
-// What a walk meets.
-use crate::build::is_root;
+//! What a walk meets.
+
+use crate::trees::build::is_root;
 use html_arena::{Arena, Event, NodeId, Show, Walk};
 
 #[derive(Clone, Copy)]
