@@ -3,12 +3,13 @@ ghost use Rattle.std.specs.Prelude.{◌≡◌, ◌<◌, length, true};
 ghost use Rattle.html_arena.specs.Data.{IsElement, IsText};
 ghost use Rattle.html_arena.specs.Tree.{label_of};
 
-use crate::refusal::Refusal;
-use crate::word::Word;
+use super::refusal::Refusal;
+use super::word::Word;
+use crate::words::attributes_of;
 use html_arena::{Arena, NewNode, NodeData, NodeId, Origin};
 use html_charref::Str;
-use html_tokens::{Attr, Attrs, OptionalStr};
-use std::alloc::{AllocError, Global};
+use html_tokens::OptionalStr;
+use std::alloc::Global;
 
 /// Makes the call that a word names, and writes its answer, where it has one.
 pub(crate) fn make_call(
@@ -52,7 +53,8 @@ fn make(arena: &mut Arena, alloc: Global, word: Word<'_>) -> Result<(), Refusal>
             arena.make(NewNode::Comment { text, token: 3 })?;
         }
         "doctype" => make_doctype(arena, alloc, word.first)?,
-        _ => make_element(arena, alloc, word.first, word.name == "named")?,
+        "named" => make_element(arena, alloc, word.first, "id=one")?,
+        _ => make_element(arena, alloc, word.first, "")?,
     }
     Ok(())
 }
@@ -68,37 +70,14 @@ fn make_doctype(arena: &mut Arena, alloc: Global, name: &str) -> Result<(), Refu
     Ok(())
 }
 
-fn pair(alloc: Global, name: &str, value: &str) -> Result<Attr, AllocError> {
-    let name = Str::of(alloc, name)?;
-    let value = Str::of(alloc, value)?;
-    Ok(Attr { name, value })
-}
-
-/// `id="one"`, or none.
-fn id_one(alloc: Global, with_id: bool) -> Result<Attrs, AllocError> {
-    let mut list = Vec::new(alloc);
-    if with_id {
-        list.push(pair(alloc, "id", "one")?)?;
-    }
-    Attrs::from_vec(list)
-}
-
-/// `class="two" id="other"`.
-fn later_attrs(alloc: Global) -> Result<Attrs, AllocError> {
-    let mut list = Vec::new(alloc);
-    list.push(pair(alloc, "class", "two")?)?;
-    list.push(pair(alloc, "id", "other")?)?;
-    Attrs::from_vec(list)
-}
-
 fn make_element(
     arena: &mut Arena,
     alloc: Global,
     name: &str,
-    with_id: bool,
+    attributes: &str,
 ) -> Result<(), Refusal> {
-    let attrs = id_one(alloc, with_id)?;
     let name = Str::of(alloc, name)?;
+    let attrs = attributes_of(alloc, attributes)?;
     let origin = Origin::Token(7);
     arena.make(NewNode::Element {
         name,
@@ -167,13 +146,13 @@ fn push_run(
     out: &mut String,
 ) -> Result<(), Refusal> {
     let node = word.node()?;
-    let run: Vec<char> = word.second.chars().collect(alloc)?;
     if !is_node(arena, node) {
         return Err(Refusal::Condition);
     }
     if !is_text(arena, node) {
         return Err(Refusal::Condition);
     }
+    let run: Vec<char> = word.second.chars().collect(alloc)?;
     let taken = arena.append_run(node, run.as_slice())?;
     write!(out, "{taken} ")?;
     Ok(())
@@ -187,7 +166,8 @@ fn merge(arena: &mut Arena, alloc: Global, node: NodeId) -> Result<(), Refusal> 
     if !is_element(arena, node) {
         return Err(Refusal::Condition);
     }
-    arena.merge_attrs(node, later_attrs(alloc)?)?;
+    let later = attributes_of(alloc, "class=two id=other")?;
+    arena.merge_attrs(node, later)?;
     Ok(())
 }
 

@@ -1,33 +1,13 @@
 //! Calls that are refused, lists of attributes, and inputs in one call.
 
-use crate::given::{Begin, Given, feed, give};
-use crate::rows::with_tokenizer;
-use crate::show::{show, show_faults};
-use anyhow::Result;
-use html_charref::{EntityTable, Str};
+use super::given::{Begin, feed, give};
+use super::show::{show, show_faults};
+use crate::words::attributes_of;
+use anyhow::{Context, Result};
+use html_charref::EntityTable;
 use html_page::{LIMIT, TokenList, TokenListError, tokenize};
-use html_tokens::{Attr, Attrs, TextMode, TokenError, Tokenizer};
+use html_tokens::{Attr, Attrs, TokenError, Tokenizer};
 use std::alloc::Global;
-
-/// Adds what these calls answer that no row asks for, a line each.
-pub(crate) fn answer(alloc: Global, table: &EntityTable, out: &mut String) -> Result<()> {
-    stopped(alloc, table, out)?;
-    out.push('\n')?;
-    attributes(alloc, out)?;
-    out.push('\n')?;
-    too_long(alloc, table, out)
-}
-
-/// After a call that is refused, each is.
-fn stopped(alloc: Global, table: &EntityTable, out: &mut String) -> Result<()> {
-    let mut given = Given::new(alloc);
-    let begin = Begin {
-        mode: TextMode::Data,
-        name: None,
-    };
-    with_tokenizer(alloc, table, begin, "stopped", "a", &mut given)?;
-    Ok(out.push_str(given.tokens.as_str())?)
-}
 
 /// Feeds a text, ends twice, and adds what each call answers then.
 pub(crate) fn refuse(
@@ -62,27 +42,15 @@ fn is_refused(t: &mut Tokenizer<'_>) -> bool {
     t.next().is_err()
 }
 
-/// Attributes stay in their order, in a share too.
-fn attributes(alloc: Global, out: &mut String) -> Result<()> {
-    let mut list = Vec::new(alloc);
-    fill(alloc, &mut list)?;
-    let attrs = Attrs::from_vec(list)?;
+/// How many attributes of these names there are, and the names in a share.
+pub(crate) fn attributes(alloc: Global, names: &str, out: &mut String) -> Result<()> {
+    let attrs = attributes_of(alloc, names)?;
+    show_share(out, &attrs)
+}
+
+fn show_share(out: &mut String, attrs: &Attrs) -> Result<()> {
     let again = attrs.share()?;
     show_names(out, attrs.len(), &again)
-}
-
-fn fill(alloc: Global, attrs: &mut Vec<Attr>) -> Result<()> {
-    for name in ["a", "b", "c", "d", "e"] {
-        push(alloc, attrs, name)?;
-    }
-    Ok(())
-}
-
-fn push(alloc: Global, attrs: &mut Vec<Attr>, name: &str) -> Result<()> {
-    let name = Str::of(alloc, name)?;
-    let value = Str::new(alloc);
-    attrs.push(Attr { name, value })?;
-    Ok(())
 }
 
 fn show_names(out: &mut String, count: usize, attrs: &Attrs) -> Result<()> {
@@ -123,15 +91,27 @@ fn show_list(out: &mut String, list: &TokenList) -> Result<()> {
     Ok(())
 }
 
-/// Why an input has no tokens that has one code point more than it may.
-fn too_long(alloc: Global, table: &EntityTable, out: &mut String) -> Result<()> {
-    let mut bytes = Vec::new(alloc);
-    bytes.resize(LIMIT as usize + 1, b'a')?;
-    let why = refusal_of(alloc, table, bytes.as_slice());
+/// Why an input has no tokens that has one code point more than it may, each of them the first of these bytes.
+pub(crate) fn beyond(
+    alloc: Global,
+    table: &EntityTable,
+    begin: Begin<'_>,
+    bytes: &[u8],
+    out: &mut String,
+) -> Result<()> {
+    let &first = bytes.first().context("no byte")?;
+    let mut many = Vec::new(alloc);
+    many.resize(LIMIT as usize + 1, first)?;
+    let why = refusal_of(alloc, table, begin, many.as_slice());
     write!(out, "{why:?}")?;
     Ok(())
 }
 
-fn refusal_of(alloc: Global, table: &EntityTable, bytes: &[u8]) -> Option<TokenListError> {
-    tokenize(alloc, table, TextMode::Data, None, bytes).err()
+fn refusal_of(
+    alloc: Global,
+    table: &EntityTable,
+    begin: Begin<'_>,
+    bytes: &[u8],
+) -> Option<TokenListError> {
+    tokenize(alloc, table, begin.mode, begin.name, bytes).err()
 }

@@ -1,6 +1,6 @@
 //! What a text gives.
 
-use crate::show::{show, show_faults};
+use super::show::{show, show_faults};
 use anyhow::Result;
 use html_tokens::{TextMode, Token, Tokenizer};
 use std::alloc::Global;

@@ -1,6 +1,6 @@
 //! The words of a row.
 
-use crate::refusal::Refusal;
+use super::refusal::Refusal;
 use html_arena::{Mark, NodeId};
 
 /// A word of a row: a name, and what stands after it and a colon, and after a second one.

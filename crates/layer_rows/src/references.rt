@@ -1,17 +1,20 @@
-//! Rows of calls, and what they answer.
+//! Rows of references: what is asked, a space, and what it is asked of.
+//!
+//! Code points are told in hexadecimal digits.
 
+use crate::words::first_word;
 use anyhow::{Context, Result, bail};
 use html_charref::{Base, EntityError, EntityTable, RefText, Step, Walk, add_digit, numeric};
 use std::alloc::Global;
 
-/// Writes what a row answers: what is asked, a space, and what it is asked of. Code points are told in hexadecimal digits.
+/// Writes what a row answers.
 pub(crate) fn answer(
     alloc: Global,
     table: &EntityTable,
     row: &str,
     out: &mut String,
 ) -> Result<()> {
-    let (asked, of) = row.split_once(' ').context("a row without a space")?;
+    let (asked, of) = first_word(row)?;
     match asked {
         "longest" => push_longest(alloc, table, of, out),
         "walk" => push_walk(table, of, out),
@@ -69,8 +72,12 @@ fn push_step(walk: &mut Walk<'_>, c: char, out: &mut String) -> Result<()> {
 /// The core table's longest name, and the longest of its names that begins a text.
 fn push_core(alloc: Global, of: &str, out: &mut String) -> Result<()> {
     let core = EntityTable::core(alloc)?;
-    push_longest_name(&core, out)?;
-    push_longest(alloc, &core, of, out)
+    push_both(alloc, &core, of, out)
+}
+
+fn push_both(alloc: Global, table: &EntityTable, of: &str, out: &mut String) -> Result<()> {
+    push_longest_name(table, out)?;
+    push_longest(alloc, table, of, out)
 }
 
 fn push_longest_name(table: &EntityTable, out: &mut String) -> Result<()> {

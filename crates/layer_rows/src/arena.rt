@@ -1,9 +1,17 @@
-//! Rows, and what they answer.
+//! Rows of calls on an arena: words, with a space between them.
+//!
+//! A row begins with an empty arena. A word makes a call, and is answered where the call is refused, or it asks for what
+//! there is.
 
-use crate::calls::make_call;
-use crate::refusal::Refusal;
-use crate::shown::show;
-use crate::word::{Word, number};
+mod calls;
+mod refusal;
+mod shown;
+mod word;
+
+use self::calls::make_call;
+use self::refusal::Refusal;
+use self::shown::show;
+use self::word::{Word, number};
 use html_arena::{Arena, ArenaError, Limits};
 use std::alloc::{AllocError, Global};
 

@@ -1,10 +1,10 @@
 //! What there is, as text.
 ghost use Rattle.std.specs.Prelude.{◌<◌, length};
 
-use crate::calls::is_node;
-use crate::refusal::Refusal;
-use crate::rows::counts;
-use crate::word::Word;
+use super::calls::is_node;
+use super::counts;
+use super::refusal::Refusal;
+use super::word::Word;
 use html_arena::{Arena, Event, NodeId, Show, Walk};
 use std::alloc::{AllocError, Global};
 

@@ -1,7 +1,25 @@
-//! Rows and their answers.
+//! Rows of texts, and what the tokenizer gives for them.
+//!
+//! A row has what is asked, the text mode in which the text begins, the name of the start tag before it or `-`, and the
+//! text, with a space between them. In a text `¶` is no code point: the text is fed up to there, and `¶` in the answer
+//! stands between what was given before it and what after. `␀` is U+0000, `␉` U+0009, `␊` U+000A, `␍` U+000D, `␣` a space
+//! and `␂` a byte order mark; `∅` is the empty name.
+//!
+//! - `tokens`, `errors`, `both` and `steps`: each text is also fed code point by code point, and what it gives then has to
+//!   be the same.
+//! - `runs`, `switch`, `count`: runs of plain text, a change of the text mode, tokens before the end of the text is known.
+//! - `stopped`: what each call answers after one that is refused.
+//! - `input`: how `tokenize` reads the text as bytes. `beyond`: how it reads an input of the first of these alone, once more
+//!   often than it may have code points.
+//! - `attributes`: the words behind it are names of attributes, which stay in their order, in a share too.
 
-use crate::calls::{input, refuse};
-use crate::given::{Begin, Given, MOST, feed, give, give_one, read_by_points, read_in_pieces};
+mod calls;
+mod given;
+mod show;
+
+use self::calls::{attributes, beyond, input, refuse};
+use self::given::{Begin, Given, MOST, feed, give, give_one, read_by_points, read_in_pieces};
+use crate::words::first_word;
 use anyhow::{Result, bail};
 use html_charref::EntityTable;
 use html_tokens::{TextMode, Tokenizer};
@@ -47,24 +65,19 @@ fn name_of(alloc: Global, written: &str) -> Result<Option<String>, AllocError> {
     Ok(Some(text_of(alloc, written)?))
 }
 
-/// The first word of a line, and what follows it.
-fn word<'a>(line: &'a str) -> Result<(&'a str, &'a str)> {
-    match line.split_once(' ') {
-        Some(parts) => Ok(parts),
-        None => bail!("a word is missing"),
-    }
-}
-
 /// Adds the answer of a row.
 pub(crate) fn answer(
     alloc: Global,
     table: &EntityTable,
-    line: &str,
+    row: &str,
     out: &mut String,
 ) -> Result<()> {
-    let (asked, line) = word(line)?;
-    let (mode, line) = word(line)?;
-    let (name, written) = word(line)?;
+    let (asked, of) = first_word(row)?;
+    if asked == "attributes" {
+        return attributes(alloc, of, out);
+    }
+    let (mode, of) = first_word(of)?;
+    let (name, written) = first_word(of)?;
     let mode = mode_of(mode)?;
     let name = name_of(alloc, name)?;
     let begin = Begin {
@@ -96,6 +109,7 @@ fn ask(
 ) -> Result<()> {
     match asked {
         "input" => input(alloc, table, begin, text.as_bytes(), out),
+        "beyond" => beyond(alloc, table, begin, text.as_bytes(), out),
         _ => ask_tokenizer(alloc, table, begin, asked, text, out),
     }
 }
@@ -112,7 +126,7 @@ fn ask_tokenizer(
     let mut given = Given::new(alloc);
     with_tokenizer(alloc, table, begin, asked, text, &mut given)?;
     match asked {
-        "runs" | "switch" | "count" => Ok(out.push_str(given.tokens.as_str())?),
+        "runs" | "switch" | "count" | "stopped" => Ok(out.push_str(given.tokens.as_str())?),
         _ => both_ways(alloc, table, begin, asked, text, &given, out),
     }
 }
@@ -156,7 +170,7 @@ fn are_same(alloc: Global, whole: &Given, cut: &Given) -> Result<bool> {
 }
 
 /// What is asked of a tokenizer of its own.
-pub(crate) fn with_tokenizer(
+fn with_tokenizer(
     alloc: Global,
     table: &EntityTable,
     begin: Begin<'_>,
