@@ -1,5 +1,5 @@
 use Rattle.std.proofs.Common.{ap, arith, length, length-append}
-use Rattle.html_device.proofs.tests.CollectedPieces.feed.Goals as goal
+use Rattle.calls.proofs.devices.CollectedPieces.feed.Goals as goal
 
 pub returns-clause-bounded : goal.returns-clause-bounded
 returns-clause-bounded c start bytes is =

@@ -1,14 +1,14 @@
-// Calls that no row of the crates above makes, each with ample memory.
+// Calls of html_open that no row of open_rows makes, each with ample memory.
 ghost use Rattle.std.specs.Prelude.{◌≡◌, ◌<◌, OnOk, IfOk, length};
 ghost use Rattle.html_open.specs.Opened.{AreNodes};
 
+use crate::same::same;
 use html_arena::{Arena, NewNode, NodeId, Origin};
 use html_charref::Str;
 use html_names::Tag;
-use html_open::{OpenStack, Place, insert, put};
+use html_open::{OpenError, OpenStack, Place, insert, put};
 use html_tokens::Attrs;
 use std::alloc::Global;
-use std::test::Fail;
 
 /// Makes the element of a token, and opens it.
 fn opened(
@@ -17,7 +17,7 @@ fn opened(
     alloc: Global,
     name: &str,
     token: u64,
-) -> Result<NodeId, Fail>
+) -> Result<NodeId, OpenError>
     requires { AreNodes arena.old stack.old }
     ensures nodes { OnOk result (AreNodes arena.new stack.new) }
 {
@@ -31,7 +31,7 @@ fn opened(
 }
 
 /// Makes a document with a `p` before a `div`, and a text in the `div`. Answers whether each stands at its place, after so many steps.
-fn has_new_nodes(alloc: Global, arena: &mut Arena) -> Result<bool, Fail> {
+fn has_new_nodes(alloc: Global, arena: &mut Arena) -> Result<bool, OpenError> {
     let root = arena.make(NewNode::Document)?;
     let div = NewNode::Element {
         name: Str::of(alloc, "div")?,
@@ -52,17 +52,20 @@ fn has_new_nodes(alloc: Global, arena: &mut Arena) -> Result<bool, Fail> {
     Ok(of_root && of_div && arena.parent(text) == Some(div) && arena.meter().steps == 7)
 }
 
+/// That of a tree without nodes.
+fn has_new_nodes_alone(alloc: Global) -> Result<bool, OpenError> {
+    let mut arena = Arena::new(alloc);
+    has_new_nodes(alloc, &mut arena)
+}
+
 #[test]
-fn new_nodes_stand_at_their_places(rt: HostRuntime) -> Result<(), Fail> {
-    let mut arena = Arena::new(rt.alloc());
-    let is_so = has_new_nodes(rt.alloc(), &mut arena)?;
-    assert!(rt; is_so);
-    Ok(())
+fn new_nodes_stand_at_their_places(rt: HostRuntime) {
+    same(&rt, has_new_nodes_alone(rt.alloc()), Ok(true));
 }
 
 /// Opens an `html`, a `table`, which ends the scope, and a `p`. Answers whether the last two alone are in scope, whether the `table` is found by
 /// its name and a `b` is not, and whether the `html` is the current node once the others are closed, after so many steps each.
-fn has_scopes(alloc: Global, arena: &mut Arena, stack: &mut OpenStack) -> Result<bool, Fail>
+fn has_scopes(alloc: Global, arena: &mut Arena, stack: &mut OpenStack) -> Result<bool, OpenError>
     requires { AreNodes arena.old stack.old }
 {
     let html = opened(stack, arena, alloc, "html", 0)?;
@@ -89,11 +92,14 @@ fn has_scopes(alloc: Global, arena: &mut Arena, stack: &mut OpenStack) -> Result
     )
 }
 
+/// That of a tree without nodes, of which none is open.
+fn has_scopes_alone(alloc: Global) -> Result<bool, OpenError> {
+    let mut arena = Arena::new(alloc);
+    let mut stack = OpenStack::new(alloc);
+    has_scopes(alloc, &mut arena, &mut stack)
+}
+
 #[test]
-fn this_very_element_is_in_scope(rt: HostRuntime) -> Result<(), Fail> {
-    let mut arena = Arena::new(rt.alloc());
-    let mut stack = OpenStack::new(rt.alloc());
-    let is_so = has_scopes(rt.alloc(), &mut arena, &mut stack)?;
-    assert!(rt; is_so);
-    Ok(())
+fn this_very_element_is_in_scope(rt: HostRuntime) {
+    same(&rt, has_scopes_alone(rt.alloc()), Ok(true));
 }
