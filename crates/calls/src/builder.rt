@@ -83,7 +83,7 @@ fn has_text(arena: &Arena, node: usize, text: &str) -> bool {
 }
 
 /// What a builder answers for a token, and in which mode it then is.
-#[derive(Clone, Copy, Debug, PartialEq)]
+#[derive(Clone, Copy, PartialEq)]
 struct Answer {
     switch: Option<TextMode>,
     refused: Option<BuildError>,
