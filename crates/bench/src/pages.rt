@@ -111,10 +111,10 @@ pub(crate) fn bench(
         bytes: bytes.as_slice(),
         keeps_ledger,
     };
-    bench_page(rt, &page, times)
+    time_page(rt, &page, times)
 }
 
-fn bench_page(rt: &HostRuntime, page: &Page<'_>, times: u32) -> Result<()> {
+fn time_page(rt: &HostRuntime, page: &Page<'_>, times: u32) -> Result<()> {
     let mut parses = Vec::new(rt.alloc());
     bench_into(rt, page, times, &mut parses)
 }
