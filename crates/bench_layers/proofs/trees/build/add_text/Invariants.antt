@@ -1,7 +1,7 @@
 use Rattle.std.proofs.Common.{◌<◌, ◌≤◌, length}
 use Rattle.html_arena.specs.Data.{IsText}
 use Rattle.html_arena.specs.Tree.{label_of}
-use Rattle.bench.proofs.trees.build.add_text.Given as goal
+use Rattle.bench_layers.proofs.trees.build.add_text.Given as goal
 
 abbrev pub invariant-copies : goal.invariant-copies
 invariant-copies l = record {

@@ -1,10 +1,6 @@
-//! How fast the parser and its parts are. Without words it does a small run of each measure, under its name, and prints no time, so that
-//! what it prints is fixed. With words it does one of them in full:
+//! How fast the layers below tree construction are. Without words it does a small run of each measure, under its name, and prints no time,
+//! so that what it prints is fixed. With words it does one of them in full:
 //!
-//! - `bench FILE REPS` parses the bytes of a file so many times to a tree and lets it go, and prints one line: `ours`, the bytes, the
-//!   times, the least and the median time of a parse and the least time in which a tree was let go, in milliseconds, the nodes, and the most
-//!   memory that the process had, in kilobytes (0 where the system doesn't tell).
-//! - `ledger FILE REPS` does the same with a parser that keeps the tokens and their fates.
 //! - `decoding` decodes 64 MiB of each of four inputs.
 //! - `references FILE` reads a file of named references, and finds the references of a long text.
 //! - `tokens [NAME]` cuts long texts into tokens, or the one of that name.
@@ -16,14 +12,13 @@ mod clock;
 mod commands;
 mod decoding;
 mod inputs;
-mod pages;
 mod references;
 mod tokens;
 mod trees;
 
 use anyhow::Result;
 use commands::Command;
-use html_parser::EntityTable;
+use html_charref::EntityTable;
 use std::env;
 
 fn main(rt: HostRuntime) -> Result<()> {
@@ -41,11 +36,6 @@ fn follow(rt: &HostRuntime, words: &[String]) -> Result<()> {
 fn measure(rt: &HostRuntime, table: &EntityTable, command: Command<'_>) -> Result<()> {
     match command {
         Command::Small => small_runs(rt, table),
-        Command::Page {
-            path,
-            times,
-            keeps_ledger,
-        } => pages::bench(rt, table, path, times, keeps_ledger),
         Command::Decoding => decoding::show_all(rt, true),
         Command::References { path } => references::read_and_find(rt, path),
         Command::Tokens { name } => tokens::show_all(rt, table, name, true),
@@ -62,7 +52,5 @@ fn small_runs(rt: &HostRuntime, table: &EntityTable) -> Result<()> {
     println!(rt; "# tokens")?;
     tokens::show_all(rt, table, None, false)?;
     println!(rt; "# trees")?;
-    trees::show_all(rt, None)?;
-    println!(rt; "# pages")?;
-    pages::show_small(rt, table)
+    trees::show_all(rt, None)
 }

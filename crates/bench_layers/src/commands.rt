@@ -3,31 +3,18 @@
 use anyhow::{Context, Result};
 
 /// What it can be asked for.
-const WORDS: &str =
-    "bench FILE REPS, ledger FILE REPS, decoding, references FILE, tokens [NAME], or trees TIMES";
+const WORDS: &str = "decoding, references FILE, tokens [NAME], or trees TIMES";
 
 /// A measure, and what it is told.
 #[derive(Clone, Copy)]
 pub(crate) enum Command<'a> {
     /// A small run of each.
     Small,
-    /// Parses of a page.
-    Page {
-        path: &'a str,
-        times: u32,
-        keeps_ledger: bool,
-    },
     Decoding,
-    References {
-        path: &'a str,
-    },
+    References { path: &'a str },
     /// Tokens of the text of that name, or of each.
-    Tokens {
-        name: Option<&'a str>,
-    },
-    Trees {
-        times: u32,
-    },
+    Tokens { name: Option<&'a str> },
+    Trees { times: u32 },
 }
 
 impl<'a> Command<'a> {
@@ -43,8 +30,6 @@ impl<'a> Command<'a> {
 /// The command of that name, where the words behind it are those that it takes.
 fn named<'a>(name: &str, rest: &'a [String]) -> Option<Command<'a>> {
     match name {
-        "bench" => page(rest, false),
-        "ledger" => page(rest, true),
         "decoding" => Some(Command::Decoding),
         "references" => Some(Command::References {
             path: rest.first()?.as_str(),
@@ -57,17 +42,6 @@ fn named<'a>(name: &str, rest: &'a [String]) -> Option<Command<'a>> {
         }),
         _ => None,
     }
-}
-
-fn page<'a>(rest: &'a [String], keeps_ledger: bool) -> Option<Command<'a>> {
-    let [path, times, ..] = rest else {
-        return None;
-    };
-    Some(Command::Page {
-        path: path.as_str(),
-        times: number(times)?,
-        keeps_ledger,
-    })
 }
 
 fn number(word: &String) -> Option<u32> {
