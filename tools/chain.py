@@ -107,7 +107,7 @@ class Work:
 
     def prove_shown(self, crate):
         """Proves a crate on the processors that are free, and notes whether that is kept."""
-        status, text = run_shown("rt", "ci", crate.name)
+        status, text = run_shown(TOOLS / "prove", crate.name)
         self.texts.append(text)
         self.is_kept = not status and KEPT in text
 
