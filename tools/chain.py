@@ -107,7 +107,7 @@ class Work:
 
     def prove_shown(self, crate):
         """Proves a crate on the processors that are free, and notes whether that is kept."""
-        status, text = run_shown(TOOLS / "prove", crate.name)
+        status, text = run_shown("rt", "ci", crate.name)
         self.texts.append(text)
         self.is_kept = not status and KEPT in text
 
@@ -131,11 +131,11 @@ class Work:
 
 
 class Beside:
-    """Work beside the longest chain, on all processors but one, in the time that it leaves: proofs, and those pieces of `tried`, which are edits, that can
+    """Work beside the longest chain, on half of the processors, in the time that it leaves: proofs, and those pieces of `tried`, which are edits, that can
     follow them."""
 
     def __init__(self, work, tried):
-        self.work, self.tried, self.workers = work, tried, max(1, rt.processors() - 1)
+        self.work, self.tried, self.workers = work, tried, max(1, rt.processors() // 2)
         self.pool, self.lock, self.begun, self.room = ThreadPoolExecutor(self.workers), threading.Lock(), {}, 0
 
     def begin(self, step, pieces):
