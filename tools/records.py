@@ -13,6 +13,8 @@ RECORD = Path("tools/judged")
 # what stands in the folder of one function's proof, and is of that proof alone
 OF_ONE_PROOF = re.compile(r"/proofs/.+/(Invariants|Answers|Proof)\.antt$")
 TRAIT = re.compile(r"\btrait\s+\w[^{;]*\{")
+# a name from what is made of one function of a library: its contract, or its own proof
+OF_ONE_FUNCTION = re.compile(rb"\bRattle\.(\w+)\.(?:specs\.contracts|proofs\.[a-z])")
 # a module of tests
 TESTS = re.compile(rb"(?m)^#\[cfg\(test\)\]\nmod (\w+);\n")
 
@@ -66,13 +68,22 @@ def seen_from_above(folder, _sums):
     return found
 
 
+@functools.lru_cache(maxsize=None)
+def opened(name, folder, _sums):
+    """Returns the other libraries of which this crate's files name what is made of one function, also of one that they cannot call."""
+    return {it.decode() for path in rt.rtlib.files_of(folder) for it in OF_ONE_FUNCTION.findall(Path(path).read_bytes())} - {name}
+
+
 def digest(crate):
     """Returns what tells apart all that the verdicts on a crate's edits follow from: the toolchain, the edits, the texts of the crate, and of those
-    below what it can see: of a public function the contract, and neither its body nor its proof. A program is linked with all that it reaches."""
-    sums = sums_of(crate.folder)
+    below what it can see: of a public function the contract, and neither its body nor its proof; but all of a library of which the crate, or one below, names more. A
+    program is linked with all that it reaches."""
+    sums, named = sums_of(crate.folder), set()
+    for it in (crate, *crate.below()):
+        named |= opened(it.name, it.folder, tuple(sums_of(it.folder)))
     for below in crate.below():
         whole = sums_of(below.folder)
-        sums += whole if crate.is_program else seen_from_above(below.folder, tuple(whole))
+        sums += whole if crate.is_program or below.name in named else seen_from_above(below.folder, tuple(whole))
     if os.path.isdir(f"{crate.folder}/edits"):
         sums += [(str(it), hashlib.sha256(it.read_bytes()).digest()) for it in Path(crate.folder, "edits").iterdir()]
     found = hashlib.sha256(Path(rt.KIT, "KIT-ID").read_bytes())
