@@ -13,7 +13,6 @@ from kit import rt
 TOOLS = Path(__file__).resolve().parent
 # the longest chain of crates, in the steps in which it is proved before others take processors from it
 CHAIN = (
-    ("html_names",),
     ("html_charref", "html_tokens"),
     ("html_arena",),
     ("html_open", "html_tree"),
@@ -21,6 +20,8 @@ CHAIN = (
     ("html_modes",),
     ("html_builder", "html_parser"),
 )
+# the crates of it that little else can be done beside, so that they get all processors
+ALONE = ("html_tokens", "html_arena")
 # of the memory that rt reckons for a crate, what a check by one process takes at most, as measured
 SHARE = 0.6
 # what `rt ci` says of crates that it was asked for, where a later run does not prove them again
@@ -28,11 +29,12 @@ KEPT = "passed, and that is kept"
 
 
 class Piece(NamedTuple):
-    """What is done of a crate at one go: its proof, or one of so many parts of its edits, from 1."""
+    """What is done of a crate at one go: its proof, or one of so many parts of its edits, from 1; and by how many processes at least."""
 
     crate: object
     part: int = 0
     parts: int = 0
+    jobs: int = 1
 
     @property
     def label(self):
@@ -40,11 +42,12 @@ class Piece(NamedTuple):
         return f"edits of {self.crate.name}{share}" if self.parts else f"proof of {self.crate.name}"
 
     def need(self):
-        """Returns how many bytes of memory it takes by one process."""
-        return int(SHARE * rt.need(self.crate))
+        """Returns how many bytes of memory it takes by as few processes."""
+        return int(SHARE * rt.need(self.crate) * (1 + 0.6 * (self.jobs - 1)))
 
     def do(self, work, jobs=1, before=()):
         """Does it by so many processes, and returns status and text."""
+        jobs = max(jobs, self.jobs)
         if self.parts:
             return work.judge(self.crate, f"{self.part}/{self.parts}", jobs, before)
         return work.prove(self.crate, jobs, before)
@@ -107,7 +110,7 @@ class Work:
 
     def prove_shown(self, crate):
         """Proves a crate on the processors that are free, and notes whether that is kept."""
-        status, text = run_shown("rt", "ci", crate.name)
+        status, text = run_shown(*([TOOLS / "prove"] if crate.name in ALONE else ["rt", "ci"]), crate.name)
         self.texts.append(text)
         self.is_kept = not status and KEPT in text
 
