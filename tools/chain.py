@@ -29,7 +29,7 @@ KEPT = "passed, and that is kept"
 
 
 class Piece(NamedTuple):
-    """What is done of a crate at one go: its proof, or one of so many parts of its edits, from 1; and by how many processes at least."""
+    """What is done of a crate at one go: its proof, or one of so many parts of its edits, from 1; and how many processes it takes at least."""
 
     crate: object
     part: int = 0
@@ -42,11 +42,11 @@ class Piece(NamedTuple):
         return f"edits of {self.crate.name}{share}" if self.parts else f"proof of {self.crate.name}"
 
     def need(self):
-        """Returns how many bytes of memory it takes by as few processes."""
+        """Returns how many bytes of memory it takes by that many processes."""
         return int(SHARE * rt.need(self.crate) * (1 + 0.6 * (self.jobs - 1)))
 
     def do(self, work, jobs=1, before=()):
-        """Does it by so many processes, and returns status and text."""
+        """Does it by so many processes, if that is not too few, and returns status and text."""
         jobs = max(jobs, self.jobs)
         if self.parts:
             return work.judge(self.crate, f"{self.part}/{self.parts}", jobs, before)

@@ -48,14 +48,7 @@ pub fn suite_file<W: Write, F: Sink>(
 ) -> u8
     ensures { result < 4 }
 {
-    status_of(run_file(alloc, name, bytes, table, writer), name, faults)
-}
-
-/// The status that tells how a file was run; and why, where it was not run to its end.
-fn status_of<F: Sink>(ran: Result<Counts, SuiteFault>, name: &str, faults: &mut F) -> u8
-    ensures { result < 4 }
-{
-    match ran {
+    match run_file(alloc, name, bytes, table, writer) {
         Ok(counts) if counts.failed == 0 => DONE,
         Ok(_) => REFUSED,
         Err(SuiteFault::OutOfMemory) => tell(&ParseError::OutOfMemory, name, faults),
