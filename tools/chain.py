@@ -97,11 +97,11 @@ def copy_up_to(crate, room):
 
 
 class Work:
-    """Proofs by `rt ci` and edits by the judge, a crate at a time; whether `rt ci` keeps what it proves, so that nothing is proved twice; and what
-    it wrote."""
+    """Proofs by `rt ci` and edits by the judge, a crate at a time; the modules that the proofs checked; whether `rt ci` keeps what it proves, so that
+    nothing is proved twice; and what it wrote."""
 
-    def __init__(self):
-        self.is_kept, self.texts = True, []
+    def __init__(self, modules):
+        self.is_kept, self.texts, self.modules = True, [], modules
 
     def prove_all(self):
         status, text = run_shown("rt", "ci")
@@ -130,7 +130,10 @@ class Work:
                     return status, text
             Path(room, "built").write_text("".join(self.texts))
             words = [TOOLS / "judge", crate.name, "--part", part, "--as-built", f"{room}/built", "--jobs", jobs]
-            return run_aside(*before, *words, cwd=room if self.is_kept else None)
+            over = self.modules.folder(crate.name)
+            ran = run_aside(*before, *words, *(["--over", over] if over else []), cwd=room if self.is_kept else None)
+            self.modules.used(crate.name)
+            return ran
 
 
 class Beside:

@@ -1,4 +1,4 @@
-"""What the checks below this process take, by crate, as seen once a second; and their end, where they stand still."""
+"""What the checks below this process take, by crate, as seen once a second, and the modules of proofs; and their end, where they stand still."""
 import contextlib
 import os
 import signal
@@ -54,8 +54,9 @@ def check_of(it):
 class Watch(threading.Thread):
     """Looks once a second."""
 
-    def __init__(self):
+    def __init__(self, modules):
         super().__init__(daemon=True)
+        self.modules = modules
         self.took, self.used, self.loads, self.ended = {}, {}, [], threading.Event()
         # by check: the processor time of it and of the processes below it, and since when it is that
         self.moved = {}
@@ -74,6 +75,8 @@ class Watch(threading.Thread):
             # what a check has forked to go side by side takes no time of its own
             if check and not (it.parent in below and check_of(below[it.parent])):
                 self.took[pid, it.began] = check, now - it.began
+                if check[1] == "proof":
+                    self.modules.look(check[0], pid)
                 self.end_if_still(pid, it, below, now)
 
     def end_if_still(self, pid, it, below, now):
