@@ -1,12 +1,21 @@
 //! A file of cases, run and counted.
 
-ghost use Rattle.std.specs.Prelude.{◌<◌};
+ghost use Rattle.std.specs.Prelude.{◌≡◌, ◌≢◌, ◌⊎◌, ◌++◌, true, ℕ, List, OnErr, OnOk, Err};
+ghost use Rattle.std.specs.Bool.{MatchBool};
+ghost use Rattle.std.specs.Io.KnownBytes.{Appends};
+ghost use Rattle.html_device.specs.Device.{AppendsFront};
+ghost use Rattle.html_parser.specs.declared.error.ParseError.TheVariants.{OutOfMemory, Write as NotWritten};
+ghost use Rattle.html_refusal.specs.Outcome.{line_of};
+ghost use Rattle.html_refusal.specs.Told.{IsTold};
+ghost use Rattle.html_suite.specs.Ended.{IsOfNoKind, malformed_line};
+ghost use Rattle.html_suite.specs.declared.suite.SuiteFault.TheVariants.{Malformed};
 
 use crate::case::run_case;
 use crate::counts::{Counts, Outcome};
 use crate::dat::cases_of;
 use crate::texts::CaseFault;
 use crate::tree_case::run_tree_case;
+use html_device::DeviceFault;
 use html_output::{Piece, write_pieces};
 use html_parser::{EntityTable, ParseError};
 use html_refusal::{DONE, FILE_FAULT, REFUSED, Sink, tell};
@@ -46,11 +55,18 @@ pub fn suite_file<W: Write, F: Sink>(
     writer: &mut W,
     faults: &mut F,
 ) -> u8
-    ensures { result < 4 }
+    // Nothing is told where the cases were run; else one line tells why they were not.
+    ensures done { result ≡ DONE → F.taken faults.new ≡ F.taken faults.old }
+    ensures refused { result ≡ REFUSED → (F.taken faults.new ≡ F.taken faults.old)
+        ⊎ IsTold (F.taken faults.old) (F.taken faults.new) (F.failed faults.new) (F.stalled faults.new) (line_of OutOfMemory name.now) }
+    ensures failed { result ≡ FILE_FAULT → IsTold (F.taken faults.old) (F.taken faults.new) (F.failed faults.new) (F.stalled faults.new) (line_of NotWritten name.now)
+        ⊎ IsTold (F.taken faults.old) (F.taken faults.new) (F.failed faults.new) (F.stalled faults.new) (malformed_line name.now) }
+    ensures other { IsOfNoKind name.now → (result ≡ FILE_FAULT)
+        × IsTold (F.taken faults.old) (F.taken faults.new) (F.failed faults.new) (F.stalled faults.new) (malformed_line name.now) }
+    ensures status { (result ≡ DONE) ⊎ ((result ≡ REFUSED) ⊎ (result ≡ FILE_FAULT)) }
 {
     match run_file(alloc, name, bytes, table, writer) {
-        Ok(counts) if counts.failed == 0 => DONE,
-        Ok(_) => REFUSED,
+        Ok(counts) => status_of(&counts),
         Err(SuiteFault::OutOfMemory) => tell(&ParseError::OutOfMemory, name, faults),
         Err(SuiteFault::Write) => tell(&ParseError::Write, name, faults),
         Err(SuiteFault::Malformed) => {
@@ -60,16 +76,43 @@ pub fn suite_file<W: Write, F: Sink>(
     }
 }
 
+/// The status where the cases of a file were run.
+fn status_of(counts: &Counts) -> u8
+    ensures done { result ≡ DONE → counts.now.failed ≡ 0 }
+    ensures refused { result ≡ REFUSED → counts.now.failed ≢ 0 }
+    ensures either { (result ≡ DONE) ⊎ (result ≡ REFUSED) }
+{
+    if counts.failed == 0 { DONE } else { REFUSED }
+}
+
 /// Tells that a file is no file of cases.
-fn tell_malformed<F: Sink>(name: &str, faults: &mut F) {
-    let _ = write_pieces(
+fn tell_malformed<F: Sink>(name: &str, faults: &mut F)
+    ensures { IsTold (F.taken faults.old) (F.taken faults.new) (F.failed faults.new) (F.stalled faults.new) (malformed_line name.now) }
+{
+    let _ = write_malformed(name, faults);
+}
+
+/// Writes the line that tells that a file is no file of cases.
+fn write_malformed<F: Sink>(name: &str, faults: &mut F) -> Result<(), DeviceFault>
+    ensures ok { OnOk result (Appends (F.taken faults.old) (F.taken faults.new) (malformed_line name.now)) }
+    ensures err { OnErr result (AppendsFront (F.taken faults.old) (F.taken faults.new) (malformed_line name.now)) }
+    ensures fault { OnErr result ((F.failed faults.new ≡ true) ⊎ (F.stalled faults.new ≡ true)) }
+{
+    write_pieces(
         faults,
         &[
             Piece::Text("fault: "),
             Piece::Text(name),
             Piece::Text(": not a test file\n"),
         ],
-    );
+    )
+}
+
+/// Whether a name has this end.
+fn has_end(name: &str, end: &str) -> bool
+    ensures { MatchBool result ((front : List ℕ) × (name.now ≡ front ++ end.now)) ((front : List ℕ) → name.now ≢ front ++ end.now) }
+{
+    name.ends_with(end)
 }
 
 /// Runs the cases of a file, by the kind that its name tells.
@@ -79,11 +122,13 @@ fn run_file<W: Write>(
     bytes: &[u8],
     table: &EntityTable,
     writer: &mut W,
-) -> Result<Counts, SuiteFault> {
+) -> Result<Counts, SuiteFault>
+    ensures other { IsOfNoKind name.now → result ≡ Err Malformed }
+{
     let mut counts = Counts::new();
-    if name.ends_with(".test") {
+    if has_end(name, ".test") {
         run_tests(alloc, name, bytes, table, &mut counts, writer)?;
-    } else if name.ends_with(".dat") {
+    } else if has_end(name, ".dat") {
         run_trees(alloc, name, bytes, table, &mut counts, writer)?;
     } else {
         return Err(SuiteFault::Malformed);

@@ -1,0 +1,2 @@
+-- Claimed.
+pub mod Ended
