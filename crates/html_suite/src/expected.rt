@@ -47,39 +47,56 @@ fn entry(alloc: Global, fields: &[Value], texts: Texts) -> Result<Entry, CaseFau
         return Err(CaseFault::Malformed);
     };
     match (kind.as_str(), fields) {
-        (Some("Character"), [data]) => {
-            let data = text(alloc, data, texts)?;
-            Ok(Entry::Characters { data })
-        }
-        (Some("Comment"), [data]) => {
-            let data = text(alloc, data, texts)?;
-            Ok(Entry::Comment { data })
-        }
-        (Some("EndTag"), [name]) => {
-            let name = text(alloc, name, texts)?;
-            Ok(Entry::End { name })
-        }
+        (Some("Character"), [data]) => characters(alloc, data, texts),
+        (Some("Comment"), [data]) => comment(alloc, data, texts),
+        (Some("EndTag"), [name]) => end(alloc, name, texts),
         (Some("StartTag"), [name, attributes]) => start(alloc, name, attributes, false, texts),
         (Some("StartTag"), [name, attributes, closing]) => {
             let closing = closing.as_bool().unwrap_or(false);
             start(alloc, name, attributes, closing, texts)
         }
         (Some("DOCTYPE"), [name, public, system, correct]) => {
-            let name = absent_or_text(alloc, name, texts)?;
-            let public = absent_or_text(alloc, public, texts)?;
-            let system = absent_or_text(alloc, system, texts)?;
-            let Some(is_correct) = correct.as_bool() else {
-                return Err(CaseFault::Malformed);
-            };
-            Ok(Entry::Doctype {
-                name,
-                public,
-                system,
-                is_correct,
-            })
+            doctype(alloc, name, public, system, correct.as_bool(), texts)
         }
         _ => Err(CaseFault::Malformed),
     }
+}
+
+fn characters(alloc: Global, data: &Value, texts: Texts) -> Result<Entry, CaseFault> {
+    let data = text(alloc, data, texts)?;
+    Ok(Entry::Characters { data })
+}
+
+fn comment(alloc: Global, data: &Value, texts: Texts) -> Result<Entry, CaseFault> {
+    let data = text(alloc, data, texts)?;
+    Ok(Entry::Comment { data })
+}
+
+fn end(alloc: Global, name: &Value, texts: Texts) -> Result<Entry, CaseFault> {
+    let name = text(alloc, name, texts)?;
+    Ok(Entry::End { name })
+}
+
+fn doctype(
+    alloc: Global,
+    name: &Value,
+    public: &Value,
+    system: &Value,
+    is_correct: Option<bool>,
+    texts: Texts,
+) -> Result<Entry, CaseFault> {
+    let Some(is_correct) = is_correct else {
+        return Err(CaseFault::Malformed);
+    };
+    let name = absent_or_text(alloc, name, texts)?;
+    let public = absent_or_text(alloc, public, texts)?;
+    let system = absent_or_text(alloc, system, texts)?;
+    Ok(Entry::Doctype {
+        name,
+        public,
+        system,
+        is_correct,
+    })
 }
 
 fn start(

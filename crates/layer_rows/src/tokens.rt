@@ -178,8 +178,10 @@ fn with_tokenizer(
     text: &str,
     given: &mut Given,
 ) -> Result<()> {
-    let mut t = Tokenizer::new(alloc, table, begin.mode, begin.name)?;
-    use_tokenizer(alloc, &mut t, asked, text, given)
+    match Tokenizer::new(alloc, table, begin.mode, begin.name) {
+        Ok(mut t) => use_tokenizer(alloc, &mut t, asked, text, given),
+        Err(error) => Err(error.into()),
+    }
 }
 
 fn use_tokenizer(

@@ -79,7 +79,7 @@ pub(crate) fn make_call(
         "enter" | "marker" | "clear" | "last" | "forget" | "is-listed" => on_list(page, word, out),
         "place" => find_place(page, word, out),
         "reopen" => reopen(page, alloc, word.first == "foster"),
-        "adopt" => Ok(push_end(out, adopt(page, alloc, word.tag(), word.fosters())?)?),
+        "adopt" => follow(page, alloc, word, out),
         "end" => end(page, alloc, word, out),
         "adopt-last" => adopt_last(page, alloc, word, out),
         _ => Err(Refusal::NoCall),
@@ -89,20 +89,23 @@ pub(crate) fn make_call(
 /// Calls that make nodes.
 fn make(page: &mut Page, alloc: Global, word: Word<'_>) -> Result<(), Refusal> {
     match word.name {
-        "within" => {
-            let limits = Limits {
-                nodes: number(word.first)? as u64,
-                held: number(word.second)? as u64,
-                code_points: 0,
-                steps: 0,
-            };
-            *page = Page::within(alloc, limits);
-            Ok(())
-        }
+        "within" => within(page, alloc, word),
         "read" => read(page, alloc, word.first),
         "link" => page.link(word.node()?, NodeId::at(number(word.second)?)),
         _ => make_element(page, alloc, word.first, word.name == "named"),
     }
+}
+
+/// A page that keeps to limits takes the place of the page.
+fn within(page: &mut Page, alloc: Global, word: Word<'_>) -> Result<(), Refusal> {
+    let limits = Limits {
+        nodes: number(word.first)? as u64,
+        held: number(word.second)? as u64,
+        code_points: 0,
+        steps: 0,
+    };
+    *page = Page::within(alloc, limits);
+    Ok(())
 }
 
 /// Makes an element, with the attribute `id="a"` or without.
@@ -119,22 +122,34 @@ fn make_element(page: &mut Page, alloc: Global, name: &str, with_id: bool) -> Re
 /// Calls on the stack of open elements.
 fn on_stack(page: &mut Page, word: Word<'_>, out: &mut String) -> Result<(), Refusal> {
     match word.name {
-        "push" => page.push(word.node()?),
-        "remove" => page.remove(word.node()?),
-        "implied" => {
-            page.implied(if word.first == "" {
-                None
-            } else {
-                Some(word.tag())
-            });
-            Ok(())
-        }
+        "push" | "remove" | "index" | "is-open" => on_element(page, word, out),
         "pop" => push_node(out, page.pop()),
         "current" => push_node(out, page.current()),
         "at" => push_node(out, Some(page.at(number(word.first)?)?)),
-        "index" => push_index(out, page.index_of(word.node()?)),
-        "is-open" => push_bool(out, page.is_open(word.node()?)?),
+        "implied" => {
+            page.implied(tag_if_named(word));
+            Ok(())
+        }
         _ => push_bool(out, page.has_in_scope(word.tag(), word.scope()?)),
+    }
+}
+
+/// Calls on the stack with an element.
+fn on_element(page: &mut Page, word: Word<'_>, out: &mut String) -> Result<(), Refusal> {
+    let node = word.node()?;
+    match word.name {
+        "push" => page.push(node),
+        "remove" => page.remove(node),
+        "index" => push_index(out, page.index_of(node)),
+        _ => push_bool(out, page.is_open(node)?),
+    }
+}
+
+fn tag_if_named(word: Word<'_>) -> Option<Tag> {
+    if word.first == "" {
+        None
+    } else {
+        Some(word.tag())
     }
 }
 

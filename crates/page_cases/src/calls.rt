@@ -122,10 +122,16 @@ pub(crate) fn tokens_in_hand(
     table: &EntityTable,
     bytes: &[u8],
 ) -> Result<u64, ParseError> {
-    let mut parser = Parser::document(alloc, table)?;
-    let fed = parser.feed(bytes);
-    let count = parser.tokens().len();
-    fed.map(|()| count)
+    match Parser::document(alloc, table) {
+        Ok(mut parser) => tokens_of(&mut parser, bytes),
+        Err(error) => Err(error),
+    }
+}
+
+/// How many tokens stand in a parser's list once it is fed.
+fn tokens_of(parser: &mut Parser<'_>, bytes: &[u8]) -> Result<u64, ParseError> {
+    parser.feed(bytes)?;
+    Ok(parser.tokens().len())
 }
 
 /// A document as HTML, where each call that writes it writes the same.

@@ -7,7 +7,7 @@ use crate::cuts::{is_same_cut, odd_front, print_input};
 use crate::page::{Ask, Reading, page_of};
 use anyhow::{Result, bail};
 use html_charref::EntityTable;
-use html_parser::{Limits, Page, Profile};
+use html_parser::{Limits, Page, ParseError, Profile};
 use std::alloc::{AllocError, Global};
 
 /// Prints for each row what its page gives. The first line is the table of named references.
@@ -72,13 +72,36 @@ fn print_asked(
 fn print_others(rt: &HostRuntime, table: &EntityTable, ask: Ask<'_>, input: &[u8]) -> Result<()> {
     let mut whole = String::new(rt.alloc());
     print_input(rt.alloc(), table, Reading::Whole, ask, input, &mut whole)?;
-    if !is_same_cut(rt.alloc(), table, ask, input, whole.as_str())? {
+    print_other_cuts(rt, table, ask, input, whole.as_str())?;
+    print_other_call(rt, table, ask, input, whole.as_str())
+}
+
+/// Says where something else comes of an input in pieces, or of a front of it, than `whole`.
+fn print_other_cuts(
+    rt: &HostRuntime,
+    table: &EntityTable,
+    ask: Ask<'_>,
+    input: &[u8],
+    whole: &str,
+) -> Result<()> {
+    if !is_same_cut(rt.alloc(), table, ask, input, whole)? {
         println!(rt; "  something else in pieces")?;
     }
-    if let Some(length) = odd_front(rt.alloc(), table, ask, input, whole.as_str())? {
+    if let Some(length) = odd_front(rt.alloc(), table, ask, input, whole)? {
         println!(rt; "  something else of the first {length} bytes")?;
     }
-    if let Some(call) = other_call(rt.alloc(), table, ask, input, whole.as_str())? {
+    Ok(())
+}
+
+/// Says which other call makes something else of an input than `whole`.
+fn print_other_call(
+    rt: &HostRuntime,
+    table: &EntityTable,
+    ask: Ask<'_>,
+    input: &[u8],
+    whole: &str,
+) -> Result<()> {
+    if let Some(call) = other_call(rt.alloc(), table, ask, input, whole)? {
         println!(rt; "  something else {call}")?;
     }
     Ok(())
@@ -94,7 +117,16 @@ fn print_answer(
     input: &[u8],
 ) -> Result<()> {
     let page = page_of(rt.alloc(), table, Reading::Whole, ask, input);
-    match &page {
+    print_outcome(rt, name, is_audited, &page)
+}
+
+fn print_outcome(
+    rt: &HostRuntime,
+    name: &str,
+    is_audited: bool,
+    page: &Result<Page, ParseError>,
+) -> Result<()> {
+    match page {
         Ok(page) => print_page(rt, name, is_audited, page),
         Err(error) => Ok(println!(rt; "{name}: refused: {error}")?),
     }
@@ -197,7 +229,12 @@ fn print_page(rt: &HostRuntime, name: &str, is_audited: bool, page: &Page) -> Re
     print_brackets(&mut tree, &page.arena)?;
     print_audit(&mut audit, page)?;
     println!(rt; "{name}: {tree}")?;
-    for line in audit.as_str().lines() {
+    print_lines(rt, is_audited, audit.as_str())
+}
+
+/// Prints the lines of an audit, or only those that tell how many there are.
+fn print_lines(rt: &HostRuntime, is_audited: bool, audit: &str) -> Result<()> {
+    for line in audit.lines() {
         if is_audited || is_count(line) {
             println!(rt; "  {line}")?;
         }

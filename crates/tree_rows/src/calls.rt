@@ -17,7 +17,6 @@ pub(crate) fn make_call(
     out: &mut String,
 ) -> Result<(), Refusal> {
     match word.name {
-        "within" => within(page, alloc, word),
         "root"
         | "implied-root"
         | "head"
@@ -28,16 +27,7 @@ pub(crate) fn make_call(
         | "implied"
         | "implied-void"
         | "comment"
-        | "doctype" => {
-            let node = insert(page, alloc, word)?;
-            push_node(out, Some(node))
-        }
-        "text" => append(page, alloc, word, out),
-        "merge" => page.merge(number(word.first)?, attributes(alloc, word.second)?),
-        "detach-body" => page.detach_body(),
-        "marker" => page.add_marker(),
-        "reopen" => page.reopen(word.first == "foster"),
-        "adopt" => push_end(out, page.adopt(word.tag(), word.fosters())?),
+        | "doctype" => push_node(out, Some(insert(page, alloc, word)?)),
         "pop"
         | "pop-to"
         | "close"
@@ -47,7 +37,23 @@ pub(crate) fn make_call(
         | "unlist"
         | "remove"
         | "no-form" => close(page, word, out),
+        "within" | "text" | "merge" | "detach-body" | "marker" | "reopen" | "adopt" => {
+            change(page, alloc, word, out)
+        }
         _ => ask(page, word, out),
+    }
+}
+
+/// Calls that change the page otherwise.
+fn change(page: &mut Page, alloc: Global, word: Word<'_>, out: &mut String) -> Result<(), Refusal> {
+    match word.name {
+        "within" => within(page, alloc, word),
+        "text" => append(page, alloc, word, out),
+        "merge" => page.merge(number(word.first)?, attributes(alloc, word.second)?),
+        "detach-body" => page.detach_body(),
+        "marker" => page.add_marker(),
+        "reopen" => page.reopen(word.first == "foster"),
+        _ => push_end(out, page.adopt(word.tag(), word.fosters())?),
     }
 }
 
@@ -78,15 +84,26 @@ fn insert(page: &mut Page, alloc: Global, word: Word<'_>) -> Result<NodeId, Refu
 /// Calls that make nodes of a text: a name, or a comment.
 fn insert_named(page: &mut Page, alloc: Global, word: Word<'_>) -> Result<NodeId, Refusal> {
     let text = Str::of(alloc, word.first)?;
-    let attrs = Attrs::new(alloc);
     match word.name {
-        "form" => page.insert_form(text, attrs),
-        "start" => page.insert(text, attrs, word.target()?),
-        "void" => page.insert_void(text, attrs, word.target()?),
-        "listed" => page.insert_listed(text, attrs, word.fosters()),
         "doctype" => page.insert_doctype(OptionalStr::some(alloc, text)?),
         "comment" if word.second == "document" => page.insert_document_comment(text),
-        _ => page.insert_comment(text, word.target()?),
+        "comment" => page.insert_comment(text, word.target()?),
+        _ => insert_element(page, Attrs::new(alloc), text, word),
+    }
+}
+
+/// Calls that make elements of a name.
+fn insert_element(
+    page: &mut Page,
+    attrs: Attrs,
+    name: Str,
+    word: Word<'_>,
+) -> Result<NodeId, Refusal> {
+    match word.name {
+        "form" => page.insert_form(name, attrs),
+        "listed" => page.insert_listed(name, attrs, word.fosters()),
+        "void" => page.insert_void(name, attrs, word.target()?),
+        _ => page.insert(name, attrs, word.target()?),
     }
 }
 
@@ -138,19 +155,23 @@ fn close(page: &mut Page, word: Word<'_>, out: &mut String) -> Result<(), Refusa
 /// Calls that only read.
 fn ask(page: &mut Page, word: Word<'_>, out: &mut String) -> Result<(), Refusal> {
     match word.name {
-        "find" => push_index(out, page.find(word.group(), word.stop()?)),
-        "has" => push_bool(out, page.has(word.group(), word.stop()?)),
-        "find-name" => push_index(out, page.find_name(word.first)),
-        "in-scope" => push_bool(out, page.is_in_scope(word.node()?)),
         "last" => push_node(out, page.last_listed(word.tag())),
         "the-head" => push_node(out, page.head()),
         "the-form" => push_node(out, page.form()),
         "depth" => push_index(out, Some(page.depth())),
         "current" => push_tag(out, page.current_tag()),
-        "at" => {
-            let tag = page.tag_at(number(word.first)?)?;
-            push_tag(out, Some(tag))
-        }
+        _ => seek(page, word, out),
+    }
+}
+
+/// Calls that look for something.
+fn seek(page: &mut Page, word: Word<'_>, out: &mut String) -> Result<(), Refusal> {
+    match word.name {
+        "find" => push_index(out, page.find(word.group(), word.stop()?)),
+        "has" => push_bool(out, page.has(word.group(), word.stop()?)),
+        "find-name" => push_index(out, page.find_name(word.first)),
+        "in-scope" => push_bool(out, page.is_in_scope(word.node()?)),
+        "at" => push_tag(out, Some(page.tag_at(number(word.first)?)?)),
         _ => Err(Refusal::NoCall),
     }
 }

@@ -22,19 +22,36 @@ pub(crate) fn make_call(
         "document" | "text" | "comment" | "doctype" | "element" | "named" => {
             make(arena, alloc, word)
         }
-        "clone" => make_clone(arena, word.node()?),
-        "char" => push(arena, word.node()?, word.second),
+        "append" | "before" | "move" => call_on_two(arena, word),
         "run" => push_run(arena, alloc, word, out),
-        "append" => append(arena, word.node()?, word.other()?),
-        "before" => put_before(arena, word.node()?, word.other()?),
-        "detach" => detach(arena, word.node()?),
-        "move" => shift(arena, word.node()?, word.other()?),
-        "merge" => merge(arena, alloc, word.node()?),
         "mark" => mark(arena, word),
         "charge" => {
             arena.charge(u128::MAX - 1);
             Ok(())
         }
+        _ => call_on_one(arena, alloc, word),
+    }
+}
+
+/// Makes a call on two nodes.
+fn call_on_two(arena: &mut Arena, word: Word<'_>) -> Result<(), Refusal> {
+    let node = word.node()?;
+    let other = word.other()?;
+    match word.name {
+        "append" => append(arena, node, other),
+        "before" => put_before(arena, node, other),
+        _ => shift(arena, node, other),
+    }
+}
+
+/// Makes a call on one node.
+fn call_on_one(arena: &mut Arena, alloc: Global, word: Word<'_>) -> Result<(), Refusal> {
+    let node = word.node()?;
+    match word.name {
+        "clone" => make_clone(arena, node),
+        "char" => push(arena, node, word.second),
+        "detach" => detach(arena, node),
+        "merge" => merge(arena, alloc, node),
         _ => Err(Refusal::NoCall),
     }
 }

@@ -1,6 +1,7 @@
 //! Tokens and parse errors as words.
 
-use html_tokens::{Fault, OptionalStr, Span, Token, TokenKind};
+use html_charref::Str;
+use html_tokens::{Attrs, Fault, OptionalStr, Span, Token, TokenKind};
 use std::alloc::AllocError;
 
 /// A name or id of a doctype, in quotes where it is there.
@@ -19,34 +20,50 @@ fn show_kind(out: &mut String, kind: &TokenKind) -> Result<(), AllocError> {
             name,
             attrs,
             self_closing,
-        } => {
-            write!(out, "start {name}")?;
-            for attr in attrs.as_slice() {
-                let (name, value) = (&attr.name, &attr.value);
-                write!(out, " {name}={value}")?;
-            }
-            if *self_closing {
-                out.push_str(" /")?;
-            }
-        }
-        TokenKind::End { name } => write!(out, "end {name}")?,
-        TokenKind::Char(c) => out.push(*c)?,
-        TokenKind::Comment(text) => write!(out, "comment {text}")?,
+        } => show_start(out, name, attrs, *self_closing),
+        TokenKind::End { name } => write!(out, "end {name}"),
+        TokenKind::Char(c) => out.push(*c),
+        TokenKind::Comment(text) => write!(out, "comment {text}"),
         TokenKind::Doctype {
             name,
             public,
             system,
             force_quirks,
-        } => {
-            out.push_str("doctype")?;
-            show_part(out, name)?;
-            show_part(out, public)?;
-            show_part(out, system)?;
-            if *force_quirks {
-                out.push_str(" quirks")?;
-            }
-        }
-        TokenKind::Eof => out.push_str("eof")?,
+        } => show_doctype(out, name, public, system, *force_quirks),
+        TokenKind::Eof => out.push_str("eof"),
+    }
+}
+
+fn show_start(
+    out: &mut String,
+    name: &Str,
+    attrs: &Attrs,
+    self_closing: bool,
+) -> Result<(), AllocError> {
+    write!(out, "start {name}")?;
+    for attr in attrs.as_slice() {
+        let (name, value) = (&attr.name, &attr.value);
+        write!(out, " {name}={value}")?;
+    }
+    if self_closing {
+        out.push_str(" /")?;
+    }
+    Ok(())
+}
+
+fn show_doctype(
+    out: &mut String,
+    name: &OptionalStr,
+    public: &OptionalStr,
+    system: &OptionalStr,
+    force_quirks: bool,
+) -> Result<(), AllocError> {
+    out.push_str("doctype")?;
+    show_part(out, name)?;
+    show_part(out, public)?;
+    show_part(out, system)?;
+    if force_quirks {
+        out.push_str(" quirks")?;
     }
     Ok(())
 }
