@@ -1,7 +1,7 @@
 //! The command line, for clap.
 
 ghost use Rattle.std.specs.Prelude.{◌≡◌, IfOk, codes, true, false};
-ghost use Rattle.clap.specs.Words.{app_of, rule_of, with_rule, with_subcommand};
+ghost use Rattle.clap.specs.Words.{app_of, rule_of, with_subcommand};
 ghost use Rattle.clap.specs.declared.builder.command.Command.TheViews.{out-Command as fields_of};
 ghost use Rattle.html_job.specs.Line.{option_rule, input_rule, files_rule, page_app, normalise_app, suite_app, empty_line, line};
 
@@ -121,36 +121,15 @@ fn page_command<'a>(alloc: Global, name: &'a str, about: &'a str) -> Result<Comm
     ensures app { IfOk result (λ c. app_of c ≡ page_app name.entry.now) }
     ensures local { IfOk result (λ c. (fields_of c).has_globals ≡ false) }
 {
-    let command = with_reading(Command::new(alloc, name).about(about), alloc)?;
-    let command = with_limits_of_tree(command, alloc)?;
-    with_limits_of_work(command, alloc)?.arg(input(alloc))
-}
-
-/// A command with the options that say how a page is read.
-fn with_reading<'a>(command: Command<'a>, alloc: Global) -> Result<Command<'a>, AllocError>
-    requires local { (fields_of command).has_globals ≡ false }
-    ensures app { IfOk result (λ c. app_of c ≡ with_rule (with_rule (app_of command.entry) (option_rule (codes "entities"))) (option_rule (codes "fragment"))) }
-    ensures local { IfOk result (λ c. (fields_of c).has_globals ≡ false) }
-{
-    command.arg(entities(alloc))?.arg(fragment(alloc))
-}
-
-/// A command with the limits of a page's tree.
-fn with_limits_of_tree<'a>(command: Command<'a>, alloc: Global) -> Result<Command<'a>, AllocError>
-    requires local { (fields_of command).has_globals ≡ false }
-    ensures app { IfOk result (λ c. app_of c ≡ with_rule (with_rule (app_of command.entry) (option_rule (codes "max-nodes"))) (option_rule (codes "max-held"))) }
-    ensures local { IfOk result (λ c. (fields_of c).has_globals ≡ false) }
-{
-    command.arg(max_nodes(alloc))?.arg(max_held(alloc))
-}
-
-/// A command with the limits of an input and of the steps.
-fn with_limits_of_work<'a>(command: Command<'a>, alloc: Global) -> Result<Command<'a>, AllocError>
-    requires local { (fields_of command).has_globals ≡ false }
-    ensures app { IfOk result (λ c. app_of c ≡ with_rule (with_rule (app_of command.entry) (option_rule (codes "max-input"))) (option_rule (codes "max-steps"))) }
-    ensures local { IfOk result (λ c. (fields_of c).has_globals ≡ false) }
-{
-    command.arg(max_input(alloc))?.arg(max_steps(alloc))
+    Command::new(alloc, name)
+        .about(about)
+        .arg(entities(alloc))?
+        .arg(fragment(alloc))?
+        .arg(max_nodes(alloc))?
+        .arg(max_held(alloc))?
+        .arg(max_input(alloc))?
+        .arg(max_steps(alloc))?
+        .arg(input(alloc))
 }
 
 /// The command that writes a page as HTML.

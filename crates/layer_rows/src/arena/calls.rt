@@ -29,7 +29,8 @@ pub(crate) fn make_call(
             arena.charge(u128::MAX - 1);
             Ok(())
         }
-        _ => call_on_one(arena, alloc, word),
+        "clone" | "char" | "detach" | "merge" => call_on_one(arena, alloc, word),
+        _ => Err(Refusal::NoCall),
     }
 }
 
@@ -51,8 +52,7 @@ fn call_on_one(arena: &mut Arena, alloc: Global, word: Word<'_>) -> Result<(), R
         "clone" => make_clone(arena, node),
         "char" => push(arena, node, word.second),
         "detach" => detach(arena, node),
-        "merge" => merge(arena, alloc, node),
-        _ => Err(Refusal::NoCall),
+        _ => merge(arena, alloc, node),
     }
 }
 

@@ -1,8 +1,7 @@
 use Rattle.std.proofs.Common.{◌∙◌, ap}
-use Rattle.std.specs.Prelude.{codes}
 use Rattle.std.proofs.lemmas.Result.{IfOk-weaker}
 use Rattle.clap.specs.Simple.{app_of_fields}
-use Rattle.html_job.proofs.Building.{Is, arg_added, options_added}
+use Rattle.html_job.proofs.Building.{Is, arg_added}
 use Rattle.html_job.proofs.line.page_command.Goals as goal
 
 pub returns-clause-app : goal.returns-clause-app
@@ -11,10 +10,13 @@ returns-clause-app c =
       app = ap app_of_fields c.about.ensures ∙ c.new.ensures.app;
       local = ap (λ f. f.has_globals) c.about.ensures ∙ c.new.ensures.local;
     } in
-    let reading = options_added _ _ _ _ _ named c.in_ok-command.ensures.app c.in_ok-command.ensures.local in
-    let tree = options_added _ _ _ _ _ reading c.in_ok-command-2.ensures.app c.in_ok-command-2.ensures.local in
-    let work = options_added _ _ _ _ _ tree c.in_ok-with_limits_of_work.ensures.app c.in_ok-with_limits_of_work.ensures.local in
-    IfOk-weaker c.arg.result _ _ (λ r h. (arg_added _ r _ _ _ work h c.input.ensures.local c.input.ensures.rule).app) c.arg.ensures
+    let entities = arg_added _ _ _ _ _ named c.in_ok-arg.ensures c.entities.ensures.local c.entities.ensures.rule in
+    let fragment = arg_added _ _ _ _ _ entities c.in_ok-arg-2.ensures c.fragment.ensures.local c.fragment.ensures.rule in
+    let max_nodes = arg_added _ _ _ _ _ fragment c.in_ok-arg-3.ensures c.max_nodes.ensures.local c.max_nodes.ensures.rule in
+    let max_held = arg_added _ _ _ _ _ max_nodes c.in_ok-arg-4.ensures c.max_held.ensures.local c.max_held.ensures.rule in
+    let max_input = arg_added _ _ _ _ _ max_held c.in_ok-arg-5.ensures c.max_input.ensures.local c.max_input.ensures.rule in
+    let max_steps = arg_added _ _ _ _ _ max_input c.in_ok-arg-6.ensures c.max_steps.ensures.local c.max_steps.ensures.rule in
+    IfOk-weaker c.arg-7.result _ _ (λ r h. (arg_added _ r _ _ _ max_steps h c.input.ensures.local c.input.ensures.rule).app) c.arg-7.ensures
 
 pub returns-clause-local : goal.returns-clause-local
 returns-clause-local c =
@@ -22,7 +24,10 @@ returns-clause-local c =
       app = ap app_of_fields c.about.ensures ∙ c.new.ensures.app;
       local = ap (λ f. f.has_globals) c.about.ensures ∙ c.new.ensures.local;
     } in
-    let reading = options_added _ _ _ _ _ named c.in_ok-command.ensures.app c.in_ok-command.ensures.local in
-    let tree = options_added _ _ _ _ _ reading c.in_ok-command-2.ensures.app c.in_ok-command-2.ensures.local in
-    let work = options_added _ _ _ _ _ tree c.in_ok-with_limits_of_work.ensures.app c.in_ok-with_limits_of_work.ensures.local in
-    IfOk-weaker c.arg.result _ _ (λ r h. (arg_added _ r _ _ _ work h c.input.ensures.local c.input.ensures.rule).local) c.arg.ensures
+    let entities = arg_added _ _ _ _ _ named c.in_ok-arg.ensures c.entities.ensures.local c.entities.ensures.rule in
+    let fragment = arg_added _ _ _ _ _ entities c.in_ok-arg-2.ensures c.fragment.ensures.local c.fragment.ensures.rule in
+    let max_nodes = arg_added _ _ _ _ _ fragment c.in_ok-arg-3.ensures c.max_nodes.ensures.local c.max_nodes.ensures.rule in
+    let max_held = arg_added _ _ _ _ _ max_nodes c.in_ok-arg-4.ensures c.max_held.ensures.local c.max_held.ensures.rule in
+    let max_input = arg_added _ _ _ _ _ max_held c.in_ok-arg-5.ensures c.max_input.ensures.local c.max_input.ensures.rule in
+    let max_steps = arg_added _ _ _ _ _ max_input c.in_ok-arg-6.ensures c.max_steps.ensures.local c.max_steps.ensures.rule in
+    IfOk-weaker c.arg-7.result _ _ (λ r h. (arg_added _ r _ _ _ max_steps h c.input.ensures.local c.input.ensures.rule).local) c.arg-7.ensures
