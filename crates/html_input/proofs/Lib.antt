@@ -6,3 +6,4 @@ pub mod IllFormed
 pub mod Lengths
 pub mod Steps
 pub mod Feeding
+pub mod Spelling

@@ -2,11 +2,14 @@
 ghost use Rattle.std.specs.Prelude.{◌≡◌, ℕ, ◌+◌, ◌*◌, ◌<◌, ◌≤◌, List, [], ◌∷◌, ◌++◌, length, drop, min, false, true, OnOk, OnErr, IfOk, IfErr, Err, Bool, ◌↔◌, ◌≢◌, slice_index};
 ghost use Rattle.html_input.specs.Added.{added};
 ghost use Rattle.html_input.specs.Decode.{decode, code_points};
+ghost use Rattle.html_input.specs.WellFormed.{BeginsWith};
+ghost use Rattle.html_input.specs.declared.previous.Previous.TheVariants.{Other};
 
 use crate::error::InputError;
 use crate::normaliser::Normaliser;
 use crate::plain::plain_len;
 use crate::unsettled::Unsettled;
+use crate::well_formed::char_at;
 use simdutf8::from_utf8_baseline;
 
 /// The greatest number of code points that is decoded, counted before ends of lines are normalised and without the mark.
@@ -17,11 +20,11 @@ const SHORTEST_BLOCK: usize = 32;
 
 const LONGEST_BLOCK: usize = 4096;
 
-// Behind a block that was read to its end, or a run as long, the next block is longer.
-fn next_reach(reach: usize, read: usize) -> usize
+// Behind a block that was read to its end the next one is longer, and behind ill-formed bytes it is short.
+fn next_reach(reach: usize, block: usize, read: usize) -> usize
     ensures { 0 < result }
 {
-    if read < reach {
+    if read < block {
         SHORTEST_BLOCK
     } else if reach < LONGEST_BLOCK / 2 {
         reach.max(SHORTEST_BLOCK) * 2
@@ -214,14 +217,17 @@ impl Decoder {
         }
     }
 
-    /// Decodes a front of the bytes, behind no unsettled ones: how many were read.
-    fn decode_front(
+    /// Decodes the characters at the front, behind no unsettled ones, of which the first is known, up to a carriage return, a run of ASCII or ill-formed
+    /// bytes: how many bytes were read.
+    fn decode_well_formed(
         &mut self,
         bytes: &[u8],
-        reach: usize,
+        first: (char, usize),
         out: &mut Vec<char>,
     ) -> Result<usize, InputError>
-        requires { (bytes_of self.old.unsettled ≡ []) × (0 < length bytes.now) × (0 < reach) }
+        requires settled { bytes_of self.old.unsettled ≡ [] }
+        requires inside { self.old.normaliser.previous ≡ Other }
+        requires begins { BeginsWith bytes.now first.0 first.1 }
         ensures kept { out.new.items ≡ out.old.items ++ added out.old.items out.new.items }
         ensures limit { self.new.normaliser.limit ≡ self.old.normaliser.limit }
         ensures running { self.new.is_stopped ≡ self.old.is_stopped }
@@ -231,12 +237,44 @@ impl Decoder {
         ensures err { IfErr result (λ e. (e ≡ InputError.InputTooLong) → IsTooLong self.old.normaliser bytes.now) }
         ensures cause { IfErr result (λ e. e ≢ InputError.Stopped) }
     {
-        // Where bytes were ill-formed, more are likely to be, so that runs of ASCII are not worth a search.
-        if reach > SHORTEST_BLOCK && bytes[0].is_ascii() {
-            self.decode_ascii(bytes, out)
-        } else {
-            self.decode_block(bytes, reach, out)
+        let read = self.normaliser.read_well_formed(bytes, first, out)?;
+        Ok(read)
+    }
+
+    /// Decodes a front of the bytes, behind no unsettled ones: how many were read, and how far the next block reaches.
+    fn decode_front(
+        &mut self,
+        bytes: &[u8],
+        reach: usize,
+        out: &mut Vec<char>,
+    ) -> Result<(usize, usize), InputError>
+        requires { (bytes_of self.old.unsettled ≡ []) × (0 < length bytes.now) × (0 < reach) }
+        ensures kept { out.new.items ≡ out.old.items ++ added out.old.items out.new.items }
+        ensures limit { self.new.normaliser.limit ≡ self.old.normaliser.limit }
+        ensures running { self.new.is_stopped ≡ self.old.is_stopped }
+        ensures count { IfOk result (λ r. (0 < r.0) × (r.0 ≤ length bytes.now)) }
+        ensures reaches { IfOk result (λ r. 0 < r.1) }
+        ensures moves { IfOk result (λ r. Moves self.old.normaliser self.new.normaliser bytes.now
+            (bytes_of self.new.unsettled ++ drop r.0 bytes.now) (added out.old.items out.new.items)) }
+        ensures err { IfErr result (λ e. (e ≡ InputError.InputTooLong) → IsTooLong self.old.normaliser bytes.now) }
+        ensures cause { IfErr result (λ e. e ≢ InputError.Stopped) }
+    {
+        // Where bytes were ill-formed, more are likely to be, so that what is well-formed is not worth a search.
+        if reach > SHORTEST_BLOCK {
+            if bytes[0].is_ascii() {
+                let read = self.decode_ascii(bytes, out)?;
+                return Ok((read, reach));
+            }
+            if self.normaliser.is_inside() {
+                if let Some(first) = char_at(bytes, 0) {
+                    let read = self.decode_well_formed(bytes, first, out)?;
+                    return Ok((read, reach));
+                }
+            }
         }
+        let block = bytes.len().min(reach);
+        let read = self.decode_block(bytes, reach, out)?;
+        Ok((read, next_reach(reach, block, read)))
     }
 
     /// Reads a byte behind unsettled ones: 1, or 0 where it is left to be read again.
@@ -294,8 +332,8 @@ impl Decoder {
         while at < bytes.len() {
             let rest = &bytes[at..];
             at += if self.unsettled.is_empty() {
-                let read = self.decode_front(rest, reach, out)?;
-                reach = next_reach(reach, read);
+                let (read, next) = self.decode_front(rest, reach, out)?;
+                reach = next;
                 read
             } else {
                 self.settle(rest, out)?

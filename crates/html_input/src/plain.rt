@@ -1,5 +1,5 @@
 //! Runs of ASCII, and texts, without carriage returns, which are their own text.
-ghost use Rattle.std.specs.Prelude.{◌≡◌, ◌≤◌, ◌++◌, ◌↔◌, chars, length, take, OnOk, IsTrue};
+ghost use Rattle.std.specs.Prelude.{◌≡◌, ◌<◌, ◌≤◌, ◌++◌, ◌↔◌, chars, length, take, OnOk, IsTrue};
 ghost use Rattle.html_input.specs.Added.{added};
 ghost use Rattle.html_input.specs.Plain.{IsFree, IsPlain, IsPlainByte};
 
@@ -7,6 +7,9 @@ use std::alloc::AllocError;
 
 // As many bytes are tested at a time, with no branch between them.
 const BLOCK: usize = 64;
+
+// As many at the end of a run.
+const WORD: usize = 8;
 
 fn is_plain_byte(byte: u8) -> bool
     ensures { IsTrue result ↔ IsPlainByte byte }
@@ -29,12 +32,37 @@ pub(crate) fn plain_len(bytes: &[u8]) -> usize
     ensures within { result ≤ length bytes.now }
     ensures plain { IsPlain (take result bytes.now) }
 {
-    let mut len = 0;
-    while bytes.len() - len >= BLOCK && is_plain(&bytes[len..len + BLOCK]) {
-        len += BLOCK;
+    let blocks = plain_steps(bytes, 0, BLOCK);
+    let words = plain_steps(bytes, blocks, WORD);
+    plain_steps(bytes, words, 1)
+}
+
+/// Whether a run of ASCII stands at the front that is worth a search for its end. (Whatever the answer, the text is the same.)
+#[inline(always)]
+pub(crate) fn begins_plain(bytes: &[u8]) -> bool {
+    if bytes.len() < WORD {
+        return false;
     }
-    while len < bytes.len() && is_plain(&bytes[len..len + 1]) {
-        len += 1;
+    for &byte in &bytes[..WORD] {
+        if byte >= 0x80 {
+            return false;
+        }
+    }
+    true
+}
+
+/// How many bytes at the front are plain, of which so many are known: up to the first step of bytes that are not all plain.
+#[inline(always)]
+fn plain_steps(bytes: &[u8], known: usize, step: usize) -> usize
+    requires within { known ≤ length bytes.now }
+    requires plain { IsPlain (take known bytes.now) }
+    requires step { 0 < step }
+    ensures within { result ≤ length bytes.now }
+    ensures plain { IsPlain (take result bytes.now) }
+{
+    let mut len = known;
+    while bytes.len() - len >= step && is_plain(&bytes[len..len + step]) {
+        len += step;
     }
     len
 }

@@ -11,4 +11,5 @@ returns-clause-ok c =
     (let whole = ap length (c.put_chars.ensures.kept ∙ ap (λ t. c.args.out.now.items ++ t) is) in
     let parts = length-append c.args.out.now.items (chars c.args.text.now) in
     omega arith) in
-    reads_free (chars c.args.text.now) c.requires.free c.requires.inside refl (ap (λ n. c.args.self.now.count + n) len) (ap (λ n. c.args.self.now.put_out + n) len) is
+    let more = c.in_ok-count_more.ensures in
+    reads_free (chars c.args.text.now) c.requires.free c.requires.inside more.previous (more.count ∙ ap (λ n. c.args.self.now.count + n) len) (more.put_out ∙ ap (λ n. c.args.self.now.put_out + n) len) is

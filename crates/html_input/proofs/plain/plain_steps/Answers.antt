@@ -1,7 +1,7 @@
 use Rattle.std.proofs.Common.{◌≡◌, ℕ, ◌+◌, List, ◌++◌, take, drop, sym, arith, subst, take-add}
 use Rattle.std.proofs.lemmas.List.Elements.{All-append}
 use Rattle.html_input.specs.Plain.{IsPlain, IsPlainByte}
-use Rattle.html_input.proofs.plain.plain_len.Goals as goal
+use Rattle.html_input.proofs.plain.plain_steps.Goals as goal
 
 -- a longer front
 longer : (n k m : ℕ) (bytes : List ℕ) → m ≡ k → IsPlain (take n bytes) → IsPlain (take m (drop n bytes)) → IsPlain (take (n + k) bytes)
@@ -10,7 +10,4 @@ longer n k m bytes same front next =
     subst IsPlain (sym (take-add n k bytes)) both
 
 pub loop-len-preserved : goal.loop-len-preserved
-loop-len-preserved c = (omega arith, longer c.loop-len.len 64 _ c.args.bytes.now (omega arith) c.loop-len.invariant.1 (c.is_plain.ensures c.if-is_plain.true))
-
-pub loop-len-2-preserved : goal.loop-len-2-preserved
-loop-len-2-preserved c = (omega arith, longer c.loop-len-2.len 1 _ c.args.bytes.now (omega arith) c.loop-len-2.invariant.1 (c.is_plain-in-loop-len-2.ensures c.if-is_plain-2.true))
+loop-len-preserved c = (omega arith, longer c.loop-len.len c.args.step _ c.args.bytes.now (omega arith) c.loop-len.invariant.1 (c.is_plain.ensures c.if-is_plain.true))
