@@ -1,5 +1,5 @@
 -- Characters, one after another.
-use Rattle.std.proofs.Common.{◌≡◌, ◌≢◌, ℕ, ◌+◌, ◌/◌, ◌%◌, ◌<◌, ◌≤◌, ◌*◌, ◌-◌, List, [], ◌∷◌, ◌++◌, length, take, drop, sym, ap, subst, ◌∙◌, arith, true, false, take-add, append-nil, chars}
+use Rattle.std.proofs.Common.{◌≡◌, ◌≢◌, ℕ, ◌+◌, ◌/◌, ◌%◌, ◌<◌, ◌≤◌, ◌*◌, ◌-◌, List, [], ◌∷◌, ◌++◌, take, drop, sym, ap, subst, ◌∙◌, arith, true, false, take-add, append-nil, chars}
 use Rattle.std.specs.Char.{IsScalar, encode_utf8}
 use Rattle.std.specs.Str.{IsUtf8}
 use Rattle.std.specs.Prelude.{nat_lt, Option, Some, None, IfSome, SomeIff}

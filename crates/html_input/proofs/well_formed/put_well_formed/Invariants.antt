@@ -1,4 +1,4 @@
-use Rattle.std.proofs.Common.{◌≡◌, ◌+◌, ◌-◌, ◌<◌, ◌≤◌, ◌++◌, drop, length}
+use Rattle.std.proofs.Common.{◌≡◌, ◌-◌, ◌≤◌, ◌++◌, drop, length}
 use Rattle.html_input.specs.Added.{added}
 use Rattle.html_input.specs.WellFormed.{BeginsWith}
 use Rattle.html_input.proofs.Spelling.{IsFront}

@@ -1,4 +1,4 @@
-use Rattle.std.proofs.Common.{◌≡◌, ◌++◌, ℕ, length, length-take, take, drop, sym, ap, ◌∙◌, arith}
+use Rattle.std.proofs.Common.{◌≡◌, ◌++◌, length, length-take, take, drop, sym, ap, ◌∙◌, arith}
 use Rattle.std.proofs.lemmas.Result.{err_from_is_err_and}
 use Rattle.html_input.proofs.Seams.{scalar_values-utf8, seam_after_utf8}
 use Rattle.html_input.proofs.Steps.{move_at, too_long_at, cut_front}

@@ -1,4 +1,4 @@
-use Rattle.std.proofs.Common.{◌≡◌, ◌+◌, ◌-◌, ◌++◌, ◌∙◌, ap, arith, chars, length, length-append, refl}
+use Rattle.std.proofs.Common.{◌≡◌, ◌+◌, ◌-◌, ◌++◌, ◌∙◌, ap, arith, chars, length, length-append}
 use Rattle.std.proofs.lemmas.Grind.{common_steps}
 use Rattle.html_input.specs.Added.{added}
 use Rattle.html_input.proofs.Free.{reads_free}

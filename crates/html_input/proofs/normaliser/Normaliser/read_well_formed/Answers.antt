@@ -1,4 +1,4 @@
-use Rattle.std.proofs.Common.{◌≡◌, ◌+◌, ◌-◌, ◌++◌, ◌∙◌, ap, arith, chars, length, length-append, refl, take}
+use Rattle.std.proofs.Common.{◌≡◌, ◌+◌, ◌-◌, ◌++◌, ◌∙◌, ap, arith, chars, length, length-append, take}
 use Rattle.html_input.specs.Added.{added}
 use Rattle.html_input.proofs.Free.{reads_free}
 use Rattle.html_input.proofs.normaliser.Normaliser.read_well_formed.Goals as goal
