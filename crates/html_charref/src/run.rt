@@ -45,7 +45,7 @@ fn push_front(text: &mut String, run: &[char]) -> Result<usize, AllocError>
     let most = run.len().min(BLOCK);
     let front = &run[..most];
     let mut block = [0; BLOCK];
-    if narrow(front, &mut block, 0) {
+    if (run[0] as u32) < 128 && narrow(front, &mut block, 0) {
         push_bytes(text, &block[..most])?;
         return Ok(most);
     }
@@ -76,10 +76,73 @@ fn encode(front: &[char], block: &mut [u8]) -> usize
     ensures read { chars (take result block.new) ≡ front.now }
 {
     let mut at = 0;
-    'encoding: for index in 0..front.len() {
-        at = encode_one(front[index], block, at);
+    let mut rest = front;
+    'encoding: while let Some(group) = rest.first_chunk() {
+        at = encode_group(group, block, at);
+        let (_, later) = rest.split_at(group.len());
+        rest = later;
     }
-    at
+    encode_each(rest, block, at)
+}
+
+/// Writes a group of code points, of a block that is not all ASCII, as UTF-8 to a place, and answers the place after them.
+fn encode_group(group: &[char; 8], block: &mut [u8], at: usize) -> usize
+    requires room { at + 4 * length group.now ≤ length block.old }
+    requires utf8 { IsUtf8 (take at block.old) }
+    ensures same_len { length block.new ≡ length block.old }
+    ensures few { result ≤ at + 4 * length group.now }
+    ensures utf8 { IsUtf8 (take result block.new) }
+    ensures read { chars (take result block.new) ≡ chars (take at block.old) ++ group.now }
+{
+    // (a copy, which the block is surely no part of)
+    let codes = *group;
+    let run = codes.as_slice();
+    if are_ascii(run) {
+        copy(run, block, at);
+        return at + run.len();
+    }
+    encode_each(group, block, at)
+}
+
+/// Whether all code points are ASCII.
+fn are_ascii(run: &[char]) -> bool
+    ensures yes { result ≡ true → IsAscii run.now }
+    ensures no { IsAscii run.now → result ≡ true }
+{
+    let mut most = 0;
+    for index in 0..run.len() {
+        let code = run[index] as u32;
+        most = code.max(most);
+    }
+    most < 128
+}
+
+/// Copies ASCII to a place.
+fn copy(ascii: &[char], block: &mut [u8], at: usize)
+    requires room { at + length ascii.now ≤ length block.old }
+    requires ascii { IsAscii ascii.now }
+    ensures same_len { length block.new ≡ length block.old }
+    ensures copied { take (at + length ascii.now) block.new ≡ take at block.old ++ ascii.now }
+{
+    for index in 0..ascii.len() {
+        block[at + index] = ascii[index] as u8;
+    }
+}
+
+/// Writes code points as UTF-8 to a place, one by one, and answers the place after them.
+fn encode_each(group: &[char], block: &mut [u8], at: usize) -> usize
+    requires room { at + 4 * length group.now ≤ length block.old }
+    requires utf8 { IsUtf8 (take at block.old) }
+    ensures same_len { length block.new ≡ length block.old }
+    ensures few { result ≤ at + 4 * length group.now }
+    ensures utf8 { IsUtf8 (take result block.new) }
+    ensures read { chars (take result block.new) ≡ chars (take at block.old) ++ group.now }
+{
+    let mut next = at;
+    'encoding: for index in 0..group.len() {
+        next = encode_one(group[index], block, next);
+    }
+    next
 }
 
 /// Writes a code point as UTF-8 to a place, and answers the place after it.
@@ -129,13 +192,13 @@ pub(crate) fn narrow(run: &[char], block: &mut [u8], at: usize) -> bool
     ensures copied { result ≡ true → take (at + length run.now) block.new ≡ take at block.old ++ run.now }
     ensures front { take at block.new ≡ take at block.old }
 {
-    let mut is_ascii = true;
+    let mut greatest = 0;
     for index in 0..run.len() {
         let code = run[index] as u32;
-        is_ascii = is_ascii & (code < 128);
+        greatest = code.max(greatest);
         block[at + index] = (code % 128) as u8;
     }
-    is_ascii
+    greatest < 128
 }
 
 /// Adds bytes that are UTF-8 at the end.

@@ -1,27 +1,30 @@
-use Rattle.std.proofs.Common.{◌≡◌, ◌+◌, [], ◌∷◌, ◌++◌, add-one, ap, arith, sym, take, refl, ◌∙◌}
-use Rattle.std.proofs.Math.Seq.{take-suc}
+use Rattle.std.proofs.Common.{◌≡◌, ◌++◌, ap, append_assoc, arith, chars, length, refl, take, ◌∙◌}
+use Rattle.std.proofs.lemmas.List.{length-take-le, take-append-drop}
 use Rattle.std.proofs.lemmas.Str.{IsUtf8-nil, chars-nil}
-use Rattle.html_charref.proofs.Encoding.{read-more, utf8-more}
 use Rattle.html_charref.proofs.run.encode.Goals as goal
 
 pub encoding-init : goal.encoding-init
 encoding-init c = record {
-  within = omega arith;
+  room = omega (arith, c.requires.room);
   same_len = refl;
   utf8 = IsUtf8-nil;
-  read = chars-nil;
+  read = ap (λ v. v ++ c.args.front.now) chars-nil;
 }
 
 pub encoding-preserved : goal.encoding-preserved
 encoding-preserved c =
-    let x = c.index-front-index.result in
-    let front = c.args.front.now in
-    let i = c.encoding.index in
-    let more : take (i + 1) front ≡ take i front ++ x ∷ [] =
-    ap (λ n. take n front) (add-one i) ∙ take-suc front i x c.encoding-test.true ∙ ap (λ v. take i front ++ v ∷ []) (sym c.index-front-index.is) in
+    let rest = c.encoding.rest.now in
+    let group = c.in-Some.group.now in
+    let later = c.split_at.result.1.now in
+    let before = chars (take c.encoding.at c.encoding.block) in
+    let first = c.in-Some.ensures.cases in
+    let cut = c.split_at.ensures in
+    let written = c.encode_group-at.ensures in
+    let both : group ++ later ≡ rest = ap (λ v. v ++ later) first.same ∙ ap (λ v. take 8 rest ++ v) cut.back ∙ take-append-drop 8 rest in
+    let len = ap length first.same ∙ length-take-le 8 rest first.enough in
     record {
-      within = omega (arith, c.encoding.invariant.within, c.encode_one-at.ensures.few);
-      same_len = c.encode_one-at.ensures.same_len ∙ c.encoding.invariant.same_len;
-      utf8 = utf8-more _ _ (take i front) (take (i + 1) front) x c.encode_one-at.ensures.copied c.encoding.invariant.utf8 c.encode_one-at.ensures.scalar;
-      read = read-more _ _ (take i front) (take (i + 1) front) x c.encode_one-at.ensures.copied c.encoding.invariant.utf8 c.encode_one-at.ensures.scalar c.encoding.invariant.read more;
+      room = omega (arith, c.encoding.invariant.room, first.enough, len, cut.back_len, written.few, written.same_len);
+      same_len = written.same_len ∙ c.encoding.invariant.same_len;
+      utf8 = written.utf8;
+      read = ap (λ v. v ++ later) written.read ∙ append_assoc before group later ∙ ap (λ v. before ++ v) both ∙ c.encoding.invariant.read;
     }

@@ -1,11 +1,11 @@
-use Rattle.std.proofs.Common.{◌≡◌, ◌+◌, ◌++◌, length, take, true}
+use Rattle.std.proofs.Common.{◌≡◌, ◌+◌, ◌<◌, ◌++◌, length, take}
 use Rattle.std.specs.Str.{IsAscii}
 use Rattle.html_charref.proofs.run.narrow.Given as goal
 
 abbrev pub invariant-loop-index : goal.invariant-loop-index
 invariant-loop-index l = record {
   same_len : length l.block ≡ length l.fn.block;
-  ascii : l.is_ascii ≡ true → IsAscii (take l.index l.run);
-  copied : l.is_ascii ≡ true → take (l.at + l.index) l.block ≡ take l.at l.fn.block ++ take l.index l.run;
+  ascii : l.greatest < 128 → IsAscii (take l.index l.run);
+  copied : l.greatest < 128 → take (l.at + l.index) l.block ≡ take l.at l.fn.block ++ take l.index l.run;
   front : take l.at l.block ≡ take l.at l.fn.block;
 }
