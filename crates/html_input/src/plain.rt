@@ -40,15 +40,10 @@ pub(crate) fn plain_len(bytes: &[u8]) -> usize
 /// Whether a run of ASCII stands at the front that is worth a search for its end. (Whatever the answer, the text is the same.)
 #[inline(always)]
 pub(crate) fn begins_plain(bytes: &[u8]) -> bool {
-    if bytes.len() < WORD {
-        return false;
+    match bytes.first_chunk() {
+        Some(word) => u64::from_ne_bytes(*word) & 0x8080_8080_8080_8080 == 0,
+        None => false,
     }
-    for &byte in &bytes[..WORD] {
-        if byte >= 0x80 {
-            return false;
-        }
-    }
-    true
 }
 
 /// How many bytes at the front are plain, of which so many are known: up to the first step of bytes that are not all plain.
