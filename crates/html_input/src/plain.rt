@@ -41,7 +41,7 @@ pub(crate) fn plain_len(bytes: &[u8]) -> usize
 #[inline(always)]
 pub(crate) fn begins_plain(bytes: &[u8]) -> bool {
     match bytes.first_chunk() {
-        Some(word) => u64::from_ne_bytes(*word) & 0x8080_8080_8080_8080 == 0,
+        Some(front) => u128::from_ne_bytes(*front) & u128::from_ne_bytes([0x80; 16]) == 0,
         None => false,
     }
 }
