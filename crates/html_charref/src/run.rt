@@ -189,6 +189,7 @@ pub(crate) fn narrow(run: &[char], block: &mut [u8], at: usize) -> bool
     requires room { at + length run.now ≤ length block.old }
     ensures same_len { length block.new ≡ length block.old }
     ensures ascii { result ≡ true → IsAscii run.now }
+    ensures no { IsAscii run.now → result ≡ true }
     ensures copied { result ≡ true → take (at + length run.now) block.new ≡ take at block.old ++ run.now }
     ensures front { take at block.new ≡ take at block.old }
 {
