@@ -19,16 +19,17 @@ fn run_over(
     table: &EntityTable,
     out: &mut String,
 ) -> Result<()> {
-    let mut written = Vec::new(alloc);
+    let mut writer = OverWrite::new(Vec::new(alloc));
     let mut faults = OverWrite::new(Vec::new(alloc));
     let status = suite_file(
         alloc,
         name,
         text.as_bytes(),
         table,
-        &mut written,
+        &mut writer,
         &mut faults,
     );
+    let written = writer.into_inner();
     let told = faults.into_inner();
     show(out, written.as_slice(), told.as_slice(), status)
 }

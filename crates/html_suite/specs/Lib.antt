@@ -1,2 +1,3 @@
 -- Claimed.
 pub mod Ended
+pub mod Report

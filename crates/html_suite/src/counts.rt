@@ -1,6 +1,8 @@
 //! How cases ended.
 
-use std::fmt;
+ghost use Rattle.std.specs.Prelude.{◌++◌, ◌∷◌, [], List, length, ◌≡◌};
+ghost use Rattle.html_suite.specs.declared.counts.Outcome.{Outcome as OutcomeType};
+ghost use Rattle.html_suite.specs.Report.{IsCountOf, shown};
 
 /// How a case ended.
 #[derive(Clone, Copy, Debug, PartialEq, Eq)]
@@ -20,7 +22,9 @@ pub(crate) struct Counts {
 }
 
 impl Counts {
-    pub(crate) fn new() -> Counts {
+    pub(crate) fn new() -> Counts
+        ensures { IsCountOf result [] }
+    {
         Counts {
             passed: 0,
             failed: 0,
@@ -28,7 +32,9 @@ impl Counts {
         }
     }
 
-    pub(crate) fn add(&mut self, outcome: Outcome) {
+    pub(crate) fn add(&mut self, outcome: Outcome)
+        ensures { (cases : List OutcomeType) → IsCountOf self.old cases → IsCountOf self.new (cases ++ outcome ∷ []) }
+    {
         match outcome {
             Outcome::Passed => self.passed = self.passed.saturating_add(1),
             Outcome::Failed => self.failed = self.failed.saturating_add(1),
@@ -37,18 +43,11 @@ impl Counts {
     }
 
     /// How many cases there were.
-    pub(crate) fn all(&self) -> u64 {
+    pub(crate) fn all(&self) -> u64
+        ensures { (cases : List OutcomeType) → IsCountOf self.now cases → result ≡ shown (length cases) }
+    {
         self.passed
             .saturating_add(self.failed)
             .saturating_add(self.skipped)
-    }
-}
-
-impl fmt::Display for Counts {
-    fn fmt<W: fmt::Write>(&self, f: &mut fmt::Formatter<W>) -> fmt::Result {
-        let passed = self.passed;
-        let failed = self.failed;
-        let skipped = self.skipped;
-        write!(f, "passed {passed}, failed {failed}, skipped {skipped}")
     }
 }

@@ -1,14 +1,17 @@
 //! A file of cases, run and counted.
 
-ghost use Rattle.std.specs.Prelude.{◌≡◌, ◌≢◌, ◌⊎◌, ◌++◌, true, ℕ, List, OnErr, OnOk, Err};
+ghost use Rattle.std.specs.Prelude.{◌≡◌, ◌≢◌, ◌⊎◌, ◌++◌, true, ℕ, List, [], Option, IfOk, OnErr, OnOk, Err, length, decimal, codes};
 ghost use Rattle.std.specs.Bool.{MatchBool};
 ghost use Rattle.std.specs.Io.KnownBytes.{Appends};
+ghost use Rattle.std.specs.List.{count_by};
 ghost use Rattle.html_device.specs.Device.{AppendsFront};
-ghost use Rattle.html_parser.specs.declared.error.ParseError.TheVariants.{OutOfMemory, Write as NotWritten};
+ghost use Rattle.html_parser.specs.declared.error.ParseError.TheVariants.{OutOfMemory as NoMemory, Write as NotWritten};
 ghost use Rattle.html_refusal.specs.Outcome.{line_of};
 ghost use Rattle.html_refusal.specs.Told.{IsTold};
-ghost use Rattle.html_suite.specs.Ended.{IsOfNoKind, malformed_line};
-ghost use Rattle.html_suite.specs.declared.suite.SuiteFault.TheVariants.{Malformed};
+ghost use Rattle.html_suite.specs.Ended.{HasEnd, IsOfNoKind, malformed_line};
+ghost use Rattle.html_suite.specs.Report.{HasRun, IsReported, counts_line, failed_line, failed_lines, has_failed, IsCountOf, shown};
+ghost use Rattle.html_suite.specs.declared.counts.Outcome.{Outcome as OutcomeType};
+ghost use Rattle.html_suite.specs.declared.suite.SuiteFault.TheVariants.{Malformed, OutOfMemory, Write as WriterFailed};
 
 use crate::case::run_case;
 use crate::counts::{Counts, Outcome};
@@ -21,8 +24,6 @@ use html_parser::{EntityTable, ParseError};
 use html_refusal::{DONE, FILE_FAULT, REFUSED, Sink, tell};
 use serde_json::Value;
 use std::alloc::{AllocError, Global};
-use std::io;
-use std::io::Write;
 
 /// The state of a test that names none.
 const DATA_STATE: &str = "Data state";
@@ -47,7 +48,7 @@ enum SuiteFault {
 /// the tree under a line `#document`, as the command `tree` prints it; between them a line `#document-fragment` is followed
 /// by the name of a context. A case is skipped where there is a line `#script-on`, its context is no HTML element, or its
 /// page has foreign content.
-pub fn suite_file<W: Write, F: Sink>(
+pub fn suite_file<W: Sink, F: Sink>(
     alloc: Global,
     name: &str,
     bytes: &[u8],
@@ -55,12 +56,18 @@ pub fn suite_file<W: Write, F: Sink>(
     writer: &mut W,
     faults: &mut F,
 ) -> u8
-    // Nothing is told where the cases were run; else one line tells why they were not.
-    ensures done { result ≡ DONE → F.taken faults.new ≡ F.taken faults.old }
-    ensures refused { result ≡ REFUSED → (F.taken faults.new ≡ F.taken faults.old)
-        ⊎ IsTold (F.taken faults.old) (F.taken faults.new) (F.failed faults.new) (F.stalled faults.new) (line_of OutOfMemory name.now) }
-    ensures failed { result ≡ FILE_FAULT → IsTold (F.taken faults.old) (F.taken faults.new) (F.failed faults.new) (F.stalled faults.new) (line_of NotWritten name.now)
+    // Where the cases were run, their lines are written and nothing is told; else one line tells why they were not.
+    ensures done { result ≡ DONE → (F.taken faults.new ≡ F.taken faults.old)
+        × ((cases : List OutcomeType) × (count_by has_failed cases ≡ 0) × IsReported name.now cases (W.taken writer.old) (W.taken writer.new)) }
+    ensures refused { result ≡ REFUSED → ((F.taken faults.new ≡ F.taken faults.old)
+        × ((cases : List OutcomeType) × (count_by has_failed cases ≢ 0) × IsReported name.now cases (W.taken writer.old) (W.taken writer.new)))
+        ⊎ IsTold (F.taken faults.old) (F.taken faults.new) (F.failed faults.new) (F.stalled faults.new) (line_of NoMemory name.now) }
+    ensures failed { result ≡ FILE_FAULT → (IsTold (F.taken faults.old) (F.taken faults.new) (F.failed faults.new) (F.stalled faults.new) (line_of NotWritten name.now)
+        × ((W.failed writer.new ≡ true) ⊎ (W.stalled writer.new ≡ true)))
         ⊎ IsTold (F.taken faults.old) (F.taken faults.new) (F.failed faults.new) (F.stalled faults.new) (malformed_line name.now) }
+    // Any bytes are cases of trees.
+    ensures trees { HasEnd name.now (codes ".dat") → result ≡ FILE_FAULT
+        → IsTold (F.taken faults.old) (F.taken faults.new) (F.failed faults.new) (F.stalled faults.new) (line_of NotWritten name.now) }
     ensures other { IsOfNoKind name.now → (result ≡ FILE_FAULT)
         × IsTold (F.taken faults.old) (F.taken faults.new) (F.failed faults.new) (F.stalled faults.new) (malformed_line name.now) }
     ensures status { (result ≡ DONE) ⊎ ((result ≡ REFUSED) ⊎ (result ≡ FILE_FAULT)) }
@@ -110,55 +117,80 @@ fn write_malformed<F: Sink>(name: &str, faults: &mut F) -> Result<(), DeviceFaul
 
 /// Whether a name has this end.
 fn has_end(name: &str, end: &str) -> bool
-    ensures { MatchBool result ((front : List ℕ) × (name.now ≡ front ++ end.now)) ((front : List ℕ) → name.now ≢ front ++ end.now) }
+    ensures { MatchBool result (HasEnd name.now end.now) ((front : List ℕ) → name.now ≢ front ++ end.now) }
 {
     name.ends_with(end)
 }
 
-/// Runs the cases of a file, by the kind that its name tells.
-fn run_file<W: Write>(
+/// Runs the cases of a file, and writes the line of how many ended how.
+fn run_file<W: Sink>(
     alloc: Global,
     name: &str,
     bytes: &[u8],
     table: &EntityTable,
     writer: &mut W,
 ) -> Result<Counts, SuiteFault>
+    ensures run { IfOk result (λ counts. (cases : List OutcomeType) × IsCountOf counts cases × IsReported name.now cases (W.taken writer.old) (W.taken writer.new)) }
+    ensures fault { result ≡ Err WriterFailed → (W.failed writer.new ≡ true) ⊎ (W.stalled writer.new ≡ true) }
+    ensures trees { HasEnd name.now (codes ".dat") → result ≢ Err Malformed }
+    ensures other { IsOfNoKind name.now → result ≡ Err Malformed }
+{
+    let counts = run_cases(alloc, name, bytes, table, writer)?;
+    write_counts(name, &counts, writer)?;
+    Ok(counts)
+}
+
+/// Runs the cases of a file, by the kind that its name tells.
+fn run_cases<W: Sink>(
+    alloc: Global,
+    name: &str,
+    bytes: &[u8],
+    table: &EntityTable,
+    writer: &mut W,
+) -> Result<Counts, SuiteFault>
+    ensures run { IfOk result (λ counts. HasRun name.now (W.taken writer.old) (W.taken writer.new) counts) }
+    ensures fault { result ≡ Err WriterFailed → (W.failed writer.new ≡ true) ⊎ (W.stalled writer.new ≡ true) }
+    ensures trees { HasEnd name.now (codes ".dat") → result ≢ Err Malformed }
     ensures other { IsOfNoKind name.now → result ≡ Err Malformed }
 {
     let mut counts = Counts::new();
-    if has_end(name, ".test") {
-        run_tests(alloc, name, bytes, table, &mut counts, writer)?;
-    } else if has_end(name, ".dat") {
+    if has_end(name, ".dat") {
         run_trees(alloc, name, bytes, table, &mut counts, writer)?;
+    } else if has_end(name, ".test") {
+        run_tests(alloc, name, bytes, table, &mut counts, writer)?;
     } else {
         return Err(SuiteFault::Malformed);
     }
-    writeln!(writer, "{name}: {counts}")?;
-    writer.flush()?;
     Ok(counts)
 }
 
 /// Runs cases of tokens.
-fn run_tests<W: Write>(
+fn run_tests<W: Sink>(
     alloc: Global,
     name: &str,
     bytes: &[u8],
     table: &EntityTable,
     counts: &mut Counts,
     writer: &mut W,
-) -> Result<(), SuiteFault> {
+) -> Result<(), SuiteFault>
+    ensures run { (start : Option (List ℕ)) → HasRun name.now start (W.taken writer.old) counts.old → OnOk result (HasRun name.now start (W.taken writer.new) counts.new) }
+    ensures fault { result ≡ Err WriterFailed → (W.failed writer.new ≡ true) ⊎ (W.stalled writer.new ≡ true) }
+{
     let value = Value::from_slice(alloc, bytes)?;
     run_value(alloc, name, &value, table, counts, writer)
 }
 
-fn run_value<W: Write>(
+fn run_value<W: Sink>(
     alloc: Global,
     name: &str,
     value: &Value,
     table: &EntityTable,
     counts: &mut Counts,
     writer: &mut W,
-) -> Result<(), SuiteFault> {
+) -> Result<(), SuiteFault>
+    ensures run { (start : Option (List ℕ)) → HasRun name.now start (W.taken writer.old) counts.old → OnOk result (HasRun name.now start (W.taken writer.new) counts.new) }
+    ensures fault { result ≡ Err WriterFailed → (W.failed writer.new ≡ true) ⊎ (W.stalled writer.new ≡ true) }
+{
     if !value.is_object() {
         return Err(SuiteFault::Malformed);
     }
@@ -168,23 +200,27 @@ fn run_value<W: Write>(
     let Some(tests) = tests.as_array() else {
         return Err(SuiteFault::Malformed);
     };
-    for test in tests {
+    'tests: for test in tests {
         run_test(alloc, name, test, table, counts, writer)?;
     }
     Ok(())
 }
 
 /// Runs cases of trees.
-fn run_trees<W: Write>(
+fn run_trees<W: Sink>(
     alloc: Global,
     name: &str,
     bytes: &[u8],
     table: &EntityTable,
     counts: &mut Counts,
     writer: &mut W,
-) -> Result<(), SuiteFault> {
+) -> Result<(), SuiteFault>
+    ensures run { (start : Option (List ℕ)) → HasRun name.now start (W.taken writer.old) counts.old → OnOk result (HasRun name.now start (W.taken writer.new) counts.new) }
+    ensures fault { result ≡ Err WriterFailed → (W.failed writer.new ≡ true) ⊎ (W.stalled writer.new ≡ true) }
+    ensures formed { result ≢ Err Malformed }
+{
     let cases = cases_of(alloc, bytes)?;
-    for case in &cases {
+    'cases: for case in &cases {
         let outcome = run_tree_case(alloc, case, table)?;
         count(name, counts, outcome, writer)?;
     }
@@ -192,14 +228,17 @@ fn run_trees<W: Write>(
 }
 
 /// Runs a test in each of its initial states.
-fn run_test<W: Write>(
+fn run_test<W: Sink>(
     alloc: Global,
     name: &str,
     test: &Value,
     table: &EntityTable,
     counts: &mut Counts,
     writer: &mut W,
-) -> Result<(), SuiteFault> {
+) -> Result<(), SuiteFault>
+    ensures run { (start : Option (List ℕ)) → HasRun name.now start (W.taken writer.old) counts.old → OnOk result (HasRun name.now start (W.taken writer.new) counts.new) }
+    ensures fault { result ≡ Err WriterFailed → (W.failed writer.new ≡ true) ⊎ (W.stalled writer.new ≡ true) }
+{
     let Some(states) = test.get("initialStates") else {
         let outcome = run_case(alloc, test, DATA_STATE, table)?;
         return Ok(count(name, counts, outcome, writer)?);
@@ -207,7 +246,7 @@ fn run_test<W: Write>(
     let Some(states) = states.as_array() else {
         return Err(SuiteFault::Malformed);
     };
-    for state in states {
+    'states: for state in states {
         let outcome = run_case(alloc, test, state.as_str().unwrap_or(""), table)?;
         count(name, counts, outcome, writer)?;
     }
@@ -215,21 +254,65 @@ fn run_test<W: Write>(
 }
 
 /// Counts a case, and tells of one that failed.
-fn count<W: Write>(
+fn count<W: Sink>(
     name: &str,
     counts: &mut Counts,
     outcome: Outcome,
     writer: &mut W,
-) -> io::Result<()> {
+) -> Result<(), DeviceFault>
+    ensures run { (start : Option (List ℕ)) → HasRun name.now start (W.taken writer.old) counts.old → OnOk result (HasRun name.now start (W.taken writer.new) counts.new) }
+    ensures fault { OnErr result ((W.failed writer.new ≡ true) ⊎ (W.stalled writer.new ≡ true)) }
+{
     counts.add(outcome);
-    if matches!(outcome, Outcome::Failed) {
-        let number = counts.all();
-        writeln!(writer, "{name}: case {number} failed")?;
+    match outcome {
+        Outcome::Failed => write_failed(name, counts.all(), writer),
+        Outcome::Passed | Outcome::Skipped => Ok(()),
     }
-    Ok(())
+}
+
+/// Writes the line of a case that failed.
+fn write_failed<W: Sink>(name: &str, number: u64, writer: &mut W) -> Result<(), DeviceFault>
+    ensures ok { OnOk result (Appends (W.taken writer.old) (W.taken writer.new) (name.now ++ (codes ": case " ++ (decimal number ++ codes " failed\n")))) }
+    ensures fault { OnErr result ((W.failed writer.new ≡ true) ⊎ (W.stalled writer.new ≡ true)) }
+{
+    write_pieces(
+        writer,
+        &[
+            Piece::Text(name),
+            Piece::Text(": case "),
+            Piece::Number(number as u128),
+            Piece::Text(" failed\n"),
+        ],
+    )
+}
+
+/// Writes the line of how many cases ended how.
+fn write_counts<W: Sink>(name: &str, counts: &Counts, writer: &mut W) -> Result<(), DeviceFault>
+    ensures ok { (cases : List OutcomeType) → IsCountOf counts.now cases → OnOk result (Appends (W.taken writer.old) (W.taken writer.new) (counts_line name.now cases)) }
+    ensures fault { OnErr result ((W.failed writer.new ≡ true) ⊎ (W.stalled writer.new ≡ true)) }
+{
+    write_pieces(
+        writer,
+        &[
+            Piece::Text(name),
+            Piece::Text(": passed "),
+            Piece::Number(counts.passed as u128),
+            Piece::Text(", failed "),
+            Piece::Number(counts.failed as u128),
+            Piece::Text(", skipped "),
+            Piece::Number(counts.skipped as u128),
+            Piece::Text("\n"),
+        ],
+    )
 }
 
 impl From<serde_json::Error> for SuiteFault {
+    ghost use Rattle.std.specs.Prelude.{◌≡◌};
+    ghost use Rattle.serde_json.specs.Errors.{IsMemory};
+    ghost use Rattle.html_suite.specs.declared.suite.SuiteFault.TheVariants.{Malformed, OutOfMemory};
+
+    ghost from_gives = { λ s e. (IsMemory s → e ≡ OutOfMemory) × (¬ IsMemory s → e ≡ Malformed) };
+
     fn from(error: serde_json::Error) -> Self {
         if error.is_memory() {
             SuiteFault::OutOfMemory
@@ -240,12 +323,22 @@ impl From<serde_json::Error> for SuiteFault {
 }
 
 impl From<AllocError> for SuiteFault {
+    ghost use Rattle.std.specs.Prelude.{◌≡◌};
+    ghost use Rattle.html_suite.specs.declared.suite.SuiteFault.TheVariants.{OutOfMemory};
+
+    ghost from_gives = { λ _ f. f ≡ OutOfMemory };
+
     fn from(_error: AllocError) -> Self {
         SuiteFault::OutOfMemory
     }
 }
 
 impl From<CaseFault> for SuiteFault {
+    ghost use Rattle.std.specs.Prelude.{◌≡◌};
+    ghost use Rattle.html_suite.specs.Ended.{fault_of};
+
+    ghost from_gives = { λ c f. f ≡ fault_of c };
+
     fn from(fault: CaseFault) -> Self {
         match fault {
             CaseFault::Malformed | CaseFault::NotRun => SuiteFault::Malformed,
@@ -254,8 +347,13 @@ impl From<CaseFault> for SuiteFault {
     }
 }
 
-impl From<io::Error> for SuiteFault {
-    fn from(_error: io::Error) -> Self {
+impl From<DeviceFault> for SuiteFault {
+    ghost use Rattle.std.specs.Prelude.{◌≡◌};
+    ghost use Rattle.html_suite.specs.declared.suite.SuiteFault.TheVariants.{Write};
+
+    ghost from_gives = { λ _ f. f ≡ Write };
+
+    fn from(_fault: DeviceFault) -> Self {
         SuiteFault::Write
     }
 }

@@ -1,0 +1,89 @@
+-- Cases run one after another, and their lines.
+use Rattle.std.proofs.Common.{◌≡◌, ◌⊎◌, inl, inr, ℕ, suc, ◌+◌, ◌++◌, List, [], ◌∷◌, Option, Bool, cond, length, sym, ap, refl, ◌∙◌, append_assoc, append-nil, length-append, codes, decimal, arith}
+use Rattle.std.proofs.lemmas.List.Sums.{sum_by-cons, sum_by_push}
+use Rattle.std.specs.Io.KnownBytes.{Appends}
+use Rattle.std.specs.List.{count_by}
+use Rattle.html_output.proofs.Puts.{Appends-is, Appends-nil, Appends-trans}
+use Rattle.html_suite.specs.Report.{HasRun, IsCountOf, IsReported, counts_line, failed_line, failed_lines, has_failed, has_passed, shown, was_skipped}
+use Rattle.html_suite.specs.declared.counts.Counts.{Counts}
+use Rattle.html_suite.specs.declared.counts.Outcome.{Outcome}
+use Rattle.html_suite.specs.declared.counts.Outcome.TheVariants.{Passed, Failed, Skipped}
+
+-- a case more
+pub counted_more : (p : Outcome → Bool) (cases : List Outcome) (o : Outcome) → count_by p (cases ++ o ∷ []) ≡ count_by p cases + cond (p o) 1 0
+counted_more p cases o = sum_by_push (λ x. cond (p x) 1 0) cases o
+
+-- each case ended in one of three ways
+pub counted_all : (cases : List Outcome) → count_by has_passed cases + count_by has_failed cases + count_by was_skipped cases ≡ length cases
+counted_all [] = refl
+counted_all (o ∷ rest) =
+    let a = sum_by-cons (λ x. cond (has_passed x) 1 0) o rest in
+    let b = sum_by-cons (λ x. cond (has_failed x) 1 0) o rest in
+    let c = sum_by-cons (λ x. cond (was_skipped x) 1 0) o rest in
+    let d = one o in
+    let e = counted_all rest in
+    omega (arith, a, b, c, d, e)
+  where
+    one : (x : Outcome) → cond (has_passed x) 1 0 + cond (has_failed x) 1 0 + cond (was_skipped x) 1 0 ≡ 1
+    one Passed = refl
+    one Failed = refl
+    one Skipped = refl
+
+shifted : (n k : ℕ) → suc k + n ≡ k + suc n
+shifted n k = omega arith
+
+none_more : (n : ℕ) → n ≡ n + 0
+none_more n = omega arith
+
+one_more : (n : ℕ) → n + 1 ≡ suc (0 + n)
+one_more n = omega arith
+
+-- the line of a case more stands behind those of the others
+pub lines_more : (name : List ℕ) (k : ℕ) (cases : List Outcome) (o : Outcome) → failed_lines name k (cases ++ o ∷ []) ≡ failed_lines name k cases ++ failed_lines name (k + length cases) (o ∷ [])
+lines_more name k [] o = ap (λ n. failed_lines name n (o ∷ [])) (none_more k)
+lines_more name k (Passed ∷ rest) o = lines_more name (suc k) rest o ∙ ap (λ n. failed_lines name (suc k) rest ++ failed_lines name n (o ∷ [])) (shifted (length rest) k)
+lines_more name k (Skipped ∷ rest) o = lines_more name (suc k) rest o ∙ ap (λ n. failed_lines name (suc k) rest ++ failed_lines name n (o ∷ [])) (shifted (length rest) k)
+lines_more name k (Failed ∷ rest) o =
+    ap (λ t. failed_line name (suc k) ++ t) (lines_more name (suc k) rest o ∙ ap (λ n. failed_lines name (suc k) rest ++ failed_lines name n (o ∷ [])) (shifted (length rest) k))
+    ∙ sym (append_assoc (failed_line name (suc k)) (failed_lines name (suc k) rest) (failed_lines name (k + suc (length rest)) (o ∷ [])))
+
+-- no case was run yet
+pub begun : (name : List ℕ) (start : Option (List ℕ)) (c : Counts) → IsCountOf c [] → HasRun name start start c
+begun name start c h = record { cases = []; counted = h; written = Appends-nil start }
+
+module _ (name : List ℕ) (start mid : Option (List ℕ)) (c d : Counts) (o : Outcome) (more : (cases : List Outcome) → IsCountOf c cases → IsCountOf d (cases ++ o ∷ [])) (h : HasRun name start mid c) where
+  -- a case of which nothing is told
+  pub quiet : (o ≡ Passed) ⊎ (o ≡ Skipped) → HasRun name start mid d
+  quiet which = record {
+    cases = h.cases ++ o ∷ [];
+    counted = more h.cases h.counted;
+    written = Appends-is start mid (failed_lines name 0 h.cases) _
+        (sym (lines_more name 0 h.cases o ∙ ap (λ t. failed_lines name 0 h.cases ++ t) (none which) ∙ append-nil (failed_lines name 0 h.cases))) h.written;
+  }
+    where
+      none : (o ≡ Passed) ⊎ (o ≡ Skipped) → failed_lines name (0 + length h.cases) (o ∷ []) ≡ []
+      none (inl e) = ap (λ x. failed_lines name (0 + length h.cases) (x ∷ [])) e
+      none (inr e) = ap (λ x. failed_lines name (0 + length h.cases) (x ∷ [])) e
+
+  -- a case that failed, and its line
+  pub told : (now : Option (List ℕ)) (number : ℕ) → o ≡ Failed → ((cases : List Outcome) → IsCountOf d cases → number ≡ shown (length cases))
+      → Appends mid now (name ++ (codes ": case " ++ (decimal number ++ codes " failed\n"))) → HasRun name start now d
+  told now number e all line = record {
+    cases = h.cases ++ o ∷ [];
+    counted = more h.cases h.counted;
+    written = Appends-is start now (failed_lines name 0 h.cases ++ text number) _ (sym (lines_more name 0 h.cases o ∙ ap (λ t. failed_lines name 0 h.cases ++ t) lines))
+        (Appends-trans start mid now (failed_lines name 0 h.cases) (text number) h.written line);
+  }
+    where
+      text : ℕ → List ℕ
+      text n = name ++ (codes ": case " ++ (decimal n ++ codes " failed\n"))
+
+      is : number ≡ shown (suc (0 + length h.cases))
+      is = (let whole = length-append h.cases (o ∷ []) in all (h.cases ++ o ∷ []) (more h.cases h.counted) ∙ ap shown (whole ∙ one_more (length h.cases)))
+
+      lines : failed_lines name (0 + length h.cases) (o ∷ []) ≡ text number
+      lines = ap (λ x. failed_lines name (0 + length h.cases) (x ∷ [])) e ∙ append-nil (failed_line name (suc (0 + length h.cases))) ∙ ap text (sym is)
+
+-- the line of the counts ends a report
+pub reported : (name : List ℕ) (start mid now : Option (List ℕ)) (c : Counts) (h : HasRun name start mid c) → Appends mid now (counts_line name h.cases) → IsReported name h.cases start now
+reported name start mid now c h line = Appends-trans start mid now (failed_lines name 0 h.cases) (counts_line name h.cases) h.written line
