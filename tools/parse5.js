@@ -1,10 +1,16 @@
-// Trees by parse5, in the form of the html5lib tests: for each line of standard input, a context or `-`, a space and a page in base64, one line, the
-// tree in base64. Started by against-parse5.
+// Pages by parse5: for each line of standard input, a context or `-`, a space and a page in base64, one line: the tree in the form of the html5lib tests,
+// in base64, and behind a space the names of the tokenizer's errors, with commas between them. Started by against-parse5.
 "use strict";
 const parse5 = require("parse5");
 const {createElement} = parse5.defaultTreeAdapter;
 const HTML = "http://www.w3.org/1999/xhtml";
-const WORDS = {scriptingEnabled: false};
+// errors of tree construction, and of the input stream
+const OTHER_ERRORS = new Set([
+    "abandoned-head-element-child", "closing-of-element-with-open-child-elements", "disallowed-content-in-noscript-in-head",
+    "end-tag-without-matching-open-element", "eof-in-element-that-can-contain-only-text", "misplaced-doctype", "misplaced-start-tag-for-head-element",
+    "missing-doctype", "nested-noscript-in-head", "non-conforming-doctype", "non-void-html-element-start-tag-with-trailing-solidus",
+    "open-elements-left-after-eof", "control-character-in-input-stream", "noncharacter-in-input-stream", "surrogate-in-input-stream",
+]);
 
 function doctype(node) {
     const [publicId, systemId] = [node.publicId ?? "", node.systemId ?? ""];
@@ -33,13 +39,15 @@ function* lines(node, level) {
     }
 }
 
-function tree(context, page) {
-    const text = new TextDecoder().decode(page);
-    const root = context === "-" ? parse5.parse(text, WORDS) : parse5.parseFragment(createElement(context, HTML, []), text, WORDS);
-    return root.childNodes.flatMap((child) => [...lines(child, 0)]).join("");
+function parsed(context, page) {
+    const text = new TextDecoder().decode(page), names = [];
+    const words = {scriptingEnabled: false, onParseError: ({code}) => OTHER_ERRORS.has(code) || names.push(code)};
+    const root = context === "-" ? parse5.parse(text, words) : parse5.parseFragment(createElement(context, HTML, []), text, words);
+    return [root.childNodes.flatMap((child) => [...lines(child, 0)]).join(""), names];
 }
 
 require("readline").createInterface({input: process.stdin}).on("line", (line) => {
     const [context, page] = line.split(" ");
-    console.log(Buffer.from(tree(context, Buffer.from(page, "base64"))).toString("base64"));
+    const [tree, names] = parsed(context, Buffer.from(page, "base64"));
+    console.log(`${Buffer.from(tree).toString("base64")} ${names.join()}`);
 });

@@ -9,10 +9,6 @@ use Rattle.html_suite.specs.declared.counts.Counts.{Counts}
 use Rattle.html_suite.specs.declared.counts.Outcome.{Outcome}
 use Rattle.html_suite.specs.declared.counts.Outcome.TheVariants.{Passed, Failed, Skipped}
 
--- a case more
-pub counted_more : (p : Outcome → Bool) (cases : List Outcome) (o : Outcome) → count_by p (cases ++ o ∷ []) ≡ count_by p cases + cond (p o) 1 0
-counted_more p cases o = sum_by_push (λ x. cond (p x) 1 0) cases o
-
 -- each case ended in one of three ways
 pub counted_all : (cases : List Outcome) → count_by has_passed cases + count_by has_failed cases + count_by was_skipped cases ≡ length cases
 counted_all [] = refl
@@ -46,10 +42,6 @@ lines_more name k (Skipped ∷ rest) o = lines_more name (suc k) rest o ∙ ap (
 lines_more name k (Failed ∷ rest) o =
     ap (λ t. failed_line name (suc k) ++ t) (lines_more name (suc k) rest o ∙ ap (λ n. failed_lines name (suc k) rest ++ failed_lines name n (o ∷ [])) (shifted (length rest) k))
     ∙ sym (append_assoc (failed_line name (suc k)) (failed_lines name (suc k) rest) (failed_lines name (k + suc (length rest)) (o ∷ [])))
-
--- no case was run yet
-pub begun : (name : List ℕ) (start : Option (List ℕ)) (c : Counts) → IsCountOf c [] → HasRun name start start c
-begun name start c h = record { cases = []; counted = h; written = Appends-nil start }
 
 module _ (name : List ℕ) (start mid : Option (List ℕ)) (c d : Counts) (o : Outcome) (more : (cases : List Outcome) → IsCountOf c cases → IsCountOf d (cases ++ o ∷ [])) (h : HasRun name start mid c) where
   -- a case of which nothing is told
