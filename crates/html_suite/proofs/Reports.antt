@@ -1,9 +1,9 @@
 -- Cases run one after another, and their lines.
-use Rattle.std.proofs.Common.{◌≡◌, ◌⊎◌, inl, inr, ℕ, suc, ◌+◌, ◌++◌, List, [], ◌∷◌, Option, Bool, cond, length, sym, ap, refl, ◌∙◌, append_assoc, append-nil, length-append, codes, decimal, arith}
-use Rattle.std.proofs.lemmas.List.Sums.{sum_by-cons, sum_by_push}
+use Rattle.std.proofs.Common.{◌≡◌, ◌⊎◌, inl, inr, ℕ, suc, ◌+◌, ◌++◌, List, [], ◌∷◌, Option, cond, length, sym, ap, refl, ◌∙◌, append_assoc, append-nil, length-append, codes, decimal, arith}
+use Rattle.std.proofs.lemmas.List.Sums.{sum_by-cons}
 use Rattle.std.specs.Io.KnownBytes.{Appends}
 use Rattle.std.specs.List.{count_by}
-use Rattle.html_output.proofs.Puts.{Appends-is, Appends-nil, Appends-trans}
+use Rattle.html_output.proofs.Puts.{Appends-is, Appends-trans}
 use Rattle.html_suite.specs.Report.{HasRun, IsCountOf, IsReported, counts_line, failed_line, failed_lines, has_failed, has_passed, shown, was_skipped}
 use Rattle.html_suite.specs.declared.counts.Counts.{Counts}
 use Rattle.html_suite.specs.declared.counts.Outcome.{Outcome}
