@@ -1,6 +1,6 @@
 //! A file of cases, run and counted.
 
-ghost use Rattle.std.specs.Prelude.{◌≡◌, ◌≢◌, ◌⊎◌, ◌++◌, true, ℕ, List, [], Option, IfOk, OnErr, OnOk, Err, length, decimal, codes};
+ghost use Rattle.std.specs.Prelude.{◌≡◌, ◌≢◌, ◌⊎◌, ◌++◌, true, ℕ, List, Option, IfOk, OnErr, OnOk, Err, decimal, codes};
 ghost use Rattle.std.specs.Bool.{MatchBool};
 ghost use Rattle.std.specs.Io.KnownBytes.{Appends};
 ghost use Rattle.std.specs.List.{count_by};
@@ -9,7 +9,7 @@ ghost use Rattle.html_parser.specs.declared.error.ParseError.TheVariants.{OutOfM
 ghost use Rattle.html_refusal.specs.Outcome.{line_of};
 ghost use Rattle.html_refusal.specs.Told.{IsTold};
 ghost use Rattle.html_suite.specs.Ended.{HasEnd, IsOfNoKind, malformed_line};
-ghost use Rattle.html_suite.specs.Report.{HasRun, IsReported, counts_line, failed_line, failed_lines, has_failed, IsCountOf, shown};
+ghost use Rattle.html_suite.specs.Report.{HasRun, IsCountOf, IsReported, counts_line, has_failed};
 ghost use Rattle.html_suite.specs.declared.counts.Outcome.{Outcome as OutcomeType};
 ghost use Rattle.html_suite.specs.declared.suite.SuiteFault.TheVariants.{Malformed, OutOfMemory, Write as WriterFailed};
 
