@@ -19,7 +19,7 @@ function doctype(node) {
 }
 
 function* attributes(node, indent) {
-    const sorted = node.attrs.toSorted((a, b) => (a.name < b.name ? -1 : a.name > b.name ? 1 : 0));
+    const sorted = [...node.attrs].sort((a, b) => (a.name < b.name ? -1 : a.name > b.name ? 1 : 0));
     for (const {name, value} of sorted) yield `${indent}  ${name}="${value}"\n`;
 }
 
