@@ -1,4 +1,5 @@
 """The order of the gate's work: the longest chain of crates, a crate at a time, with other work beside it; then as much as processors and memory allow."""
+import contextlib
 import os
 from collections.abc import Callable
 from concurrent.futures import FIRST_COMPLETED, ThreadPoolExecutor, wait
@@ -78,7 +79,8 @@ class Lanes:
     def run(self):
         """Does all of it, and returns what each task gave."""
         beside = self.beside()
-        with rt.ending(), ThreadPoolExecutor(self.processors) as first, ThreadPoolExecutor(beside, initializer=os.nice, initargs=(10,)) as aside:
+        # (some kits' rt ends what it began where it is ended itself)
+        with getattr(rt, "ending", contextlib.nullcontext)(), ThreadPoolExecutor(self.processors) as first, ThreadPoolExecutor(beside, initializer=os.nice, initargs=(10,)) as aside:
             while self.left:
                 self.begin(first, aside)
                 for it in wait([run for run, _, _ in self.running.values()], return_when=FIRST_COMPLETED).done:

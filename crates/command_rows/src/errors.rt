@@ -2,7 +2,7 @@
 
 use anyhow::Result;
 use html_parser::{Foreign, OverWrite, ParseError};
-use html_refusal::tell;
+use html_refusal::{outcome, tell};
 use std::alloc::Global;
 
 const SVG: ParseError = ParseError::ForeignContent {
@@ -29,7 +29,7 @@ const ERRORS: [ParseError; 11] = [
     ParseError::StepBudget { at: 10 },
 ];
 
-/// Adds a line for each error: the status and the line that `tell` answers and writes.
+/// Adds a line for each error: the status and the line that `tell` answers and writes, and whether `outcome` has others.
 pub(crate) fn tell_errors(alloc: Global, out: &mut String) -> Result<()> {
     for error in ERRORS {
         tell_error(alloc, &error, out)?;
@@ -39,9 +39,21 @@ pub(crate) fn tell_errors(alloc: Global, out: &mut String) -> Result<()> {
 
 fn tell_error(alloc: Global, error: &ParseError, out: &mut String) -> Result<()> {
     let mut faults = OverWrite::new(Vec::new(alloc));
-    let status = tell(error, "page.html", &mut faults);
+    let status = tell(alloc, error, "page.html", &mut faults);
     let told = faults.into_inner();
     let line = std::str::from_utf8(told.as_slice())?;
     write!(out, "{status} {line}")?;
+    if !is_outcome(alloc, error, status, line) {
+        out.push_str("  outcome has another\n")?;
+    }
     Ok(())
+}
+
+/// Whether `outcome` answers this status and this line.
+fn is_outcome(alloc: Global, error: &ParseError, status: u8, line: &str) -> bool {
+    let (own_status, own_line) = outcome(alloc, error, "page.html");
+    match own_line {
+        Some(own_line) => own_status == status && own_line.as_str() == line,
+        None => false,
+    }
 }

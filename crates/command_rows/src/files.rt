@@ -3,13 +3,19 @@
 use crate::rows::show;
 use anyhow::Result;
 use html_parser::{EntityTable, OverWrite};
-use html_suite::suite_file;
+use html_suite::{ForeignCases, suite_file};
 use std::alloc::Global;
 
 /// Runs a file of test cases, and adds what is written and told, and the status.
-pub(crate) fn run_file(alloc: Global, name: &str, text: &str, out: &mut String) -> Result<()> {
+pub(crate) fn run_file(
+    alloc: Global,
+    name: &str,
+    text: &str,
+    foreign: ForeignCases,
+    out: &mut String,
+) -> Result<()> {
     let table = EntityTable::core(alloc)?;
-    run_over(alloc, name, text, &table, out)
+    run_over(alloc, name, text, &table, foreign, out)
 }
 
 fn run_over(
@@ -17,6 +23,7 @@ fn run_over(
     name: &str,
     text: &str,
     table: &EntityTable,
+    foreign: ForeignCases,
     out: &mut String,
 ) -> Result<()> {
     let mut writer = OverWrite::new(Vec::new(alloc));
@@ -26,6 +33,7 @@ fn run_over(
         name,
         text.as_bytes(),
         table,
+        foreign,
         &mut writer,
         &mut faults,
     );

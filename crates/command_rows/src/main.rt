@@ -12,7 +12,7 @@
 //!   takes no bytes.
 //! - `table`: the same of a small page, where the text is a file of named character references.
 //! - `errors`: the status and the line of each error, as `tell` answers and writes them.
-//! - `file`: a file of test cases that has this name and this text.
+//! - `file`: a file of test cases that has this name and this text; `foreign`: the same, with its cases of foreign content.
 #![tactic(auto)]
 
 mod errors;

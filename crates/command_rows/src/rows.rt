@@ -4,6 +4,7 @@ use crate::errors::tell_errors;
 use crate::files::run_file;
 use crate::jobs::read_words;
 use anyhow::{Result, bail};
+use html_suite::ForeignCases;
 use std::alloc::{AllocError, Global};
 
 /// The answer of a row.
@@ -23,7 +24,8 @@ fn follow(alloc: Global, line: &str, out: &mut String) -> Result<()> {
     let text = unescaped(alloc, text)?;
     match sort {
         "errors" => tell_errors(alloc, out),
-        "file" => run_file(alloc, words, text.as_str(), out),
+        "file" => run_file(alloc, words, text.as_str(), ForeignCases::Skipped, out),
+        "foreign" => run_file(alloc, words, text.as_str(), ForeignCases::Run, out),
         _ => read_words(alloc, sort, words, text.as_str(), out),
     }
 }

@@ -22,9 +22,10 @@ use Rattle.html_open.proofs.Keeps.{cases_bool}
 use Rattle.html_ledger.specs.declared.fate.Fate.{Fate}
 use Rattle.html_construction.specs.Built.{Handed as Given, IsBuilt}
 use Rattle.html_construction.specs.Copies.{greatest, implied_count, implied_in}
-use Rattle.html_construction.specs.Origins.{AreOrigins, HasElementOrigin, HasOrigin, with_later}
+use Rattle.html_construction.specs.Origins.{AreOrigins, HasElementOrigin, HasOrigin, IsOfTag, is_foreign_at, with_later}
 use Rattle.html_construction.specs.States.{State}
-use Rattle.html_construction.specs.Tokens.{attrs_of}
+use Rattle.html_construction.specs.Tokens.{attrs_of, foreign_attrs}
+use Rattle.html_construction.proofs.Lengths.{foreign_attrs-count}
 use Rattle.html_construction.specs.Weights.{weight}
 use Rattle.html_construction.specs.Works.{broadest, deepest, reach, reach_of, span, span_of, tokenless, tokenless_in, toll}
 use Rattle.html_modes.specs.Ranks.{top_rank}
@@ -67,25 +68,33 @@ one-of zero u (t ∷ ts) e =
     omega (arith, a, c)
 one-of (suc i) u (t ∷ ts) e = let a = one-of i u ts e in let c = sum_by-cons attribute_count t ts in omega (arith, a, c)
 
-attrs-few : (x : ℕ) (ts : List TokenKind) (hs : List (Option ℕ)) (d : NodeData) → HasOrigin x ts hs d → length (attrs_in d) ≤ 2 * attribute_total ts
-attrs-few x ts hs node.Document o = omega arith
-attrs-few x ts hs (node.Contents h) o = omega arith
-attrs-few x ts hs (node.Text s) o = omega arith
-attrs-few x ts hs (node.Comment s i) o = omega arith
-attrs-few x ts hs (node.Doctype n p s i) o = omega arith
-attrs-few x ts hs (node.Element r) o = by-origin r.origin r.name r.attrs o
+attrs-few : (x : ℕ) (ts : List TokenKind) (fs : List Fate) (hs : List (Option ℕ)) (d : NodeData) → HasOrigin x ts fs hs d → length (attrs_in d) ≤ 2 * attribute_total ts
+attrs-few x ts fs hs node.Document o = omega arith
+attrs-few x ts fs hs (node.Contents h) o = omega arith
+attrs-few x ts fs hs (node.Text s) o = omega arith
+attrs-few x ts fs hs (node.Comment s i) o = omega arith
+attrs-few x ts fs hs (node.Doctype n p s i) o = omega arith
+attrs-few x ts fs hs (node.Element r) o = by-origin r.origin r.tag r.name r.attrs o
   where
-    by-origin : (g : Origin) (name : List ℕ) (own : List Attr) → HasElementOrigin x ts hs g name own → length own ≤ 2 * attribute_total ts
-    by-origin (Token i) name own w =
+    by-tag : (b : Bool) (i : ℕ) (h : Tag) (name : List ℕ) (own : List Attr) → IsOfTag b x i h name own ts hs → length own ≤ 2 * attribute_total ts
+    by-tag true i h name own w =
+        let a = one-of i (kind.Start w.own_name w.own_attrs w.self_closing) ts w.token_is in
+        let b = foreign_attrs-count w.space w.own_attrs in
+        let z : length own ≡ length (foreign_attrs w.space w.own_attrs) = ap (λ (xs : List Attr). length xs) w.attrs_are in
+        omega (arith, a, b, z)
+    by-tag false i h name own w =
         let a = one-of i (kind.Start w.own_name w.own_attrs w.self_closing) ts w.token_is in
         let b = later-few x w.own_attrs ts hs in
         let z : length own ≡ length (with_later x w.own_attrs ts hs) = ap (λ (xs : List Attr). length xs) w.attrs_are in
         omega (arith, a, b, z)
-    by-origin Implied name own w =
+
+    by-origin : (g : Origin) (h : Tag) (name : List ℕ) (own : List Attr) → HasElementOrigin x ts fs hs g h name own → length own ≤ 2 * attribute_total ts
+    by-origin (Token i) h name own w = by-tag (is_foreign_at fs i) i h name own w
+    by-origin Implied h name own w =
         let b = later-few x [] ts hs in
         let z : length own ≡ length (with_later x [] ts hs) = ap (λ (xs : List Attr). length xs) w.attrs_are in
         omega (arith, b, z)
-    by-origin Nothing name own w = absurd w
+    by-origin Nothing h name own w = absurd w
 
 greatest-each : (f : NodeData → ℕ) (k : ℕ) (ls : List NodeData) → ((x : ℕ) → f (label_in ls x) ≤ k) → greatest f ls ≤ k
 greatest-each f k [] h = omega arith
@@ -93,7 +102,7 @@ greatest-each f k (d ∷ ds) h = max-le (h 0) (greatest-each f k ds (λ x. h (su
 
 broadest-few : (ts : List TokenKind) (fs : List Fate) (ls : List NodeData) → AreOrigins ts fs ls → broadest ls ≤ 2 * attribute_total ts
 unfolding broadest
-broadest-few ts fs ls w = greatest-each (λ d. length (attrs_in d)) (2 * attribute_total ts) ls (λ x. attrs-few x ts w.homes (label_in ls x) (w.each x))
+broadest-few ts fs ls w = greatest-each (λ d. length (attrs_in d)) (2 * attribute_total ts) ls (λ x. attrs-few x ts fs w.homes (label_in ls x) (w.each x))
 
 -- ELEMENTS THAT COME FROM NO TOKEN
 
@@ -113,11 +122,11 @@ module _ (ts : List TokenKind) (fs : List Fate) (ls : List NodeData) (w : AreOri
   element-asked x name t own (Token i) b h e = rw e (omega arith)
   element-asked x name t own Implied false h e = rw e (omega arith)
   element-asked x name t own Implied true h e =
-      let p = subst (λ d. HasOrigin x ts w.homes d) e (w.each x) in
+      let p = subst (λ d. HasOrigin x ts fs w.homes d) e (w.each x) in
       let f = w.clones x (ap is_clone_in e) in
       let q : tag_in (label_in ls x) ≡ tag_of (name_of p.name_tag) = g x ∙ ap (λ d. tag_of (name_in d)) e ∙ ap tag_of p.name_is in
       absurd (alone-plain p.name_tag p.alone (subst (λ y. is_formatting y ≡ true) q f))
-  element-asked x name t own Nothing b h e = absurd (subst (λ d. HasOrigin x ts w.homes d) e (w.each x))
+  element-asked x name t own Nothing b h e = absurd (subst (λ d. HasOrigin x ts fs w.homes d) e (w.each x))
 
   label-asked : (x : ℕ) (d : NodeData) → label_in ls x ≡ d → tokenless_in (label_in ls x) ≤ implied_in (label_in ls x)
   label-asked x node.Document e = rw e (omega arith)

@@ -1,5 +1,5 @@
 -- What is handed out at the end.
-use Rattle.std.proofs.Common.{ℕ, suc, zero, ◌≡◌, ◌+◌, ◌*◌, ◌<◌, ◌≤◌, ◌⊎◌, ◌-◌, ◌≢◌, inl, inr, true, List, [], ◌∷◌, ◌++◌, length, refl, sym, ap, subst, ◌∙◌, arith, length-append}
+use Rattle.std.proofs.Common.{ℕ, suc, zero, ◌≡◌, ◌+◌, ◌*◌, ◌<◌, ◌≤◌, ◌⊎◌, ◌-◌, ◌≢◌, inl, inr, true, false, List, [], ◌∷◌, ◌++◌, length, refl, sym, ap, subst, ◌∙◌, arith, length-append}
 use Rattle.std.specs.Prelude.{Option, Some, None}
 use Rattle.html_names.specs.declared.tag.Tag.TheVariants as tag
 use Rattle.html_arena.specs.declared.arena.Limits.{Limits}
@@ -18,7 +18,8 @@ use Rattle.html_builder.proofs.Holding.{holding}
 use Rattle.std.specs.List.{sum_by}
 use Rattle.std.proofs.Math.Nat.{mul-le-mul_left, mul-le-mul_right}
 use Rattle.html_arena.specs.Budget.{AreWithin, IsWithin}
-use Rattle.html_arena.specs.Tree.{Tree, WellFormed, host_at, label_of, named, parent_of}
+use Rattle.html_arena.specs.Siblings.{has}
+use Rattle.html_arena.specs.Tree.{Tree, WellFormed, children_of, host_at, label_of, named, parent_of, tag_at}
 use Rattle.html_open.specs.Marking.{bare}
 use Rattle.html_tree.specs.States.{IsNamed, State as Nodes}
 use Rattle.html_tokens.specs.declared.token.TokenKind.{TokenKind}
@@ -39,7 +40,12 @@ use Rattle.html_construction.specs.States.{State}
 use Rattle.html_modes.specs.Steps.{allowance}
 use Rattle.html_builder.specs.Builders.{BuilderState}
 use Rattle.html_builder.specs.Handed.{CostAtMost, EndsAtEof, Handed, HaveFates, fates_of, given, own_total}
-use Rattle.html_builder.specs.Outcome.{IsBounded, IsOutcome, IsRooted, most_entries, most_held, most_nodes, most_tree_steps}
+use Rattle.html_builder.specs.Outcome.{AreVoidsEmpty, HasNoForeignRoot, IsBounded, IsOutcome, IsRooted, most_entries, most_held, most_nodes, most_tree_steps}
+use Rattle.html_construction.specs.Standing.{IsStanding}
+use Rattle.html_names.specs.Sets.{is_void}
+use Rattle.html_open.proofs.Keeps.{cases_bool}
+use Rattle.html_tree.specs.Proper.{is_foreign_root}
+use Rattle.html_tree.specs.Since.{HasFrameset}
 use Rattle.html_builder.specs.RawTexts.{StandSoFar}
 use Rattle.html_builder.proofs.RawEnds.{raw-end}
 
@@ -160,7 +166,7 @@ most-product m o n a b =
     let q = mul-le-mul_right n a in
     omega (arith, p, q)
 
-most-all : (n : ℕ) → 10 * (n + 1) * n + n + 8 * (1 + 16 * (n + 1)) ≤ most_held n
+most-all : (n : ℕ) → 10 * (n + 1) * n + n + 5 * n + 8 * (1 + 16 * (n + 1)) ≤ most_held n
 most-all zero = omega arith
 most-all (suc n) = grind arith
 
@@ -177,7 +183,8 @@ held-most s l ts b n t h c e w f =
     let count = c.count in
     let product = most-product (most_clones b.page.tree.tree.labels) (own_total ts) n (omega (arith, clones, f)) own in
     let last = most-all n in
-    omega (arith, all, sum, implied, own, count, product, last)
+    let starts = c.starts in
+    omega (arith, all, sum, implied, own, count, starts, product, last)
 
 -- how many steps it counted, by the tokens
 steps-most : (s : Setting) (l : Option Limits) (ts : List TokenKind) (b : BuilderState) (n : ℕ) (t : Tree) → Handed s l ts b → CostAtMost n ts → bare t ≡ b.page.tree.tree → WellFormed t
@@ -218,8 +225,8 @@ free t o x n k (inr (inl h)) = absurd (let q : None ≡ Some h.0 = sym k ∙ h.1
 free t o x n k (inr (inr d)) = d
 
 -- a body that was taken out of its parent
-out : (t : Tree) (o : Option ℕ) (x : ℕ) → ((y : ℕ) → o ≡ Some y → (y < length t.labels) × (named t tag.Body y ≡ true)) → (x ≡ 0) ⊎ (((h : ℕ) × (host_at t x ≡ Some h)) ⊎ (o ≡ Some x))
-    → (x ≡ 0) ⊎ (((h : ℕ) × (host_at t x ≡ Some h)) ⊎ (named t tag.Body x ≡ true))
+out : (t : Tree) (o : Option ℕ) (x : ℕ) → ((y : ℕ) → o ≡ Some y → (y < length t.labels) × ((named t tag.Body y ≡ true) × HasFrameset t)) → (x ≡ 0) ⊎ (((h : ℕ) × (host_at t x ≡ Some h)) ⊎ (o ≡ Some x))
+    → (x ≡ 0) ⊎ (((h : ℕ) × (host_at t x ≡ Some h)) ⊎ ((named t tag.Body x ≡ true) × HasFrameset t))
 out t o x f (inl z) = inl z
 out t o x f (inr (inl h)) = inr (inl h)
 out t o x f (inr (inr d)) = inr (inr (f x d).1)
@@ -237,7 +244,7 @@ root-host (setting.Fragment c f) (node.Text x) e = refl
 root-host (setting.Fragment c f) (node.Comment x i) e = refl
 root-host (setting.Fragment c f) (node.Doctype n p q i) e = refl
 
-module _ (a : Nodes) (t : Tree) (e : bare t ≡ a.tree) (r : IsRootedTree a) (s : Setting) (g : HasRoot s a.tree) (f : IsNamed a.tree tag.Body a.detached) where
+module _ (a : Nodes) (t : Tree) (e : bare t ≡ a.tree) (r : IsRootedTree a) (s : Setting) (g : HasRoot s a.tree) (f : IsNamed a.tree tag.Body a.detached) (k : IsStanding a) where
   parent-same : (x : ℕ) → parent_of t x ≡ parent_of a.tree x
   parent-same x = ap (λ (u : Tree). parent_of u x) e
 
@@ -250,8 +257,8 @@ module _ (a : Nodes) (t : Tree) (e : bare t ≡ a.tree) (r : IsRootedTree a) (s 
   named-same : (x : ℕ) → named t tag.Body x ≡ named a.tree tag.Body x
   named-same x = ap (λ (u : Tree). named u tag.Body x) e
 
-  body : (y : ℕ) → a.detached ≡ Some y → (y < length t.labels) × (named t tag.Body y ≡ true)
-  body y d = let p = f y d in (subst (λ n. y < n) (sym size-same) p.0, named-same y ∙ p.1)
+  body : (y : ℕ) → a.detached ≡ Some y → (y < length t.labels) × ((named t tag.Body y ≡ true) × HasFrameset t)
+  body y d = let p = f y d in (subst (λ n. y < n) (sym size-same) p.0, (named-same y ∙ p.1, subst HasFrameset (sym e) (k.framed y d)))
 
   which : (x : ℕ) → x < length t.labels → parent_of t x ≡ None → (x ≡ 0) ⊎ (((h : ℕ) × (host_at t x ≡ Some h)) ⊎ (a.detached ≡ Some x))
   which x l p = subst (λ o. (x ≡ 0) ⊎ (((h : ℕ) × (o ≡ Some h)) ⊎ (a.detached ≡ Some x))) (sym (host-same x)) (r x (subst (λ n. x < n) size-same l) (sym (parent-same x) ∙ p))
@@ -265,6 +272,19 @@ module _ (a : Nodes) (t : Tree) (e : bare t ≡ a.tree) (r : IsRootedTree a) (s 
     one = λ x y l m p q n k i j. some-same x y a.detached (free t a.detached x n i (which x l p)) (free t a.detached y k j (which y m q));
   }
 
+-- void elements are empty, and no root of foreign content was made
+voids-empty : (a : Nodes) (t : Tree) → bare t ≡ a.tree → WellFormed t → IsStanding a → AreVoidsEmpty t
+voids-empty a t e w k x p q = elim (cases_bool (is_void (tag_at t p))) [
+  | inl v ↦
+      let i = k.proper p (subst (λ (u : Tree). p < length u.labels) e (w.parent_in p x q)) in
+      let none : children_of t p ≡ [] = ap (λ (u : Tree). children_of u p) e ∙ i.empty (sym (ap (λ (u : Tree). is_void (tag_at u p)) e) ∙ v) in
+      absurd (let z : false ≡ true = subst (λ ks. has x ks ≡ true) none (w.parent_has_child p x q) in cc)
+  | inr v ↦ v
+]
+
+no-foreign-root : (a : Nodes) (t : Tree) → bare t ≡ a.tree → IsStanding a → HasNoForeignRoot t
+no-foreign-root a t e k x b = ap (λ (u : Tree). is_foreign_root (tag_at u x)) e ∙ (k.proper x (subst (λ (u : Tree). x < length u.labels) e b)).own
+
 pub outcome : (s : Setting) (l : Option Limits) (ts : List TokenKind) (b : BuilderState) (t : Tree) (fs : List Fate) (es : List ℕ) → Handed s l ts b → EndsAtEof ts
     → bare t ≡ b.page.tree.tree → WellFormed t → IsNamed b.page.tree.tree tag.Body b.page.tree.detached → fs ≡ b.page.ledger.fates
     → ((h : Given) → b.page.ledger.kept ≡ [] → IsBuilt h b.page → Fated h.setting (symbols h.tokens) fs)
@@ -274,7 +294,7 @@ outcome s l ts b t fs es h e q w d p f g seats =
     let stand = seats-as b.page.tree.tree t b.page.tree.stack (ap (λ (u : Tree). u.labels) q) (ap (λ (u : Tree). u.parents) q) seats in
     let same : t.labels ≡ b.page.tree.tree.labels = ap (λ (u : Tree). u.labels) q in record {
       well_formed = w;
-      rooted = rooted b.page.tree t q h.built.rooted s h.built.root d;
+      rooted = rooted b.page.tree t q h.built.rooted s h.built.root d h.built.standing;
       root = subst (λ x. IsRootLabel s (label_in x 0)) (sym same) h.built.root.label;
       origins = subst (λ x. AreOrigins ts fs x) (sym same) (subst (λ x. AreOrigins ts x b.page.tree.tree.labels) (sym p) h.built.origins);
       made = subst (λ x. AreMade fs x) (sym same) (subst (λ x. AreMade x b.page.tree.tree.labels) (sym p) h.built.made);
@@ -283,6 +303,8 @@ outcome s l ts b t fs es h e q w d p f g seats =
       told = g (given s l ts) k h.built;
       parts = stand.parts;
       templates = stand.templates;
+      voids = voids-empty b.page.tree t q w h.built.standing;
+      foreign = no-foreign-root b.page.tree t q h.built.standing;
       raw_texts = raw-end ts fs b.page t e q (subst (λ x. StandSoFar (symbols ts) x b.page) (sym p) h.raw_texts);
     }
 

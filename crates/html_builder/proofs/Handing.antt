@@ -80,6 +80,7 @@ over h us a b e w = record {
   fed = w.fed;
   known = w.known;
   rooted = w.rooted;
+  standing = w.standing;
   limits = w.limits;
   root = w.root;
   origins = w.origins;
@@ -169,6 +170,7 @@ added-then xs u v w f g k = λ s l ts h.
 
 gives-out : (m n : Mode) (f : Fate) → StaysOut m n → gives_in n f ≡ true → gives_in m f ≡ true
 gives-out m n (fate.Made d) o e = refl
+gives-out m n (fate.Foreign d) o e = refl
 gives-out m n fate.Merged o e = refl
 gives-out m n (fate.Text d) o e = refl
 gives-out m n fate.Ended o e = refl
@@ -242,6 +244,7 @@ begun-fragment u form l b g z w m k n c i t f =
 said-one : (t : TokenKind) (o : Option Fate) → said_after (symbol_of t) (some_made o) ≡ switch_after t o
 said-one (kind.Start n a c) None = refl
 said-one (kind.Start n a c) (Some (fate.Made d)) = refl
+said-one (kind.Start n a c) (Some (fate.Foreign d)) = refl
 said-one (kind.Start n a c) (Some fate.Merged) = refl
 said-one (kind.Start n a c) (Some (fate.Text d)) = refl
 said-one (kind.Start n a c) (Some (fate.Dropped d)) = refl

@@ -5,6 +5,7 @@ use Rattle.std.specs.List.{sum_by}
 use Rattle.std.proofs.Math.Nat.{mul-le-mul_left}
 use Rattle.std.proofs.lemmas.Bool.{false≢true}
 use Rattle.std.proofs.lemmas.List.Sums.{sum_by-append, sum_by-cons}
+use Rattle.html_names.specs.declared.foreign.Space.{Space}
 use Rattle.html_names.specs.Names.{is_known, name_of, tag_of}
 use Rattle.html_names.specs.Sets.{is_formatting}
 use Rattle.html_names.proofs.Known.{tag_of-known}
@@ -26,29 +27,44 @@ use Rattle.html_tokens.specs.Cost.{attrs_len, optional_len, own_len}
 use Rattle.html_open.proofs.Keeps.{cases_bool, cases_eqb, eqb-self}
 use Rattle.html_ledger.specs.declared.fate.Fate.{Fate}
 use Rattle.html_ledger.specs.declared.fate.Fate.TheVariants as fate
+use Rattle.html_ledger.specs.Fates.{is_foreign, node_of}
 use Rattle.html_ledger.specs.Symbols.{symbol_of}
 use Rattle.html_ledger.specs.Texts.{code_point, is_text_in, text_of}
-use Rattle.html_construction.specs.Accounts.{AreMade, AreTexts}
+use Rattle.html_construction.specs.Accounts.{AreMade, AreTexts, made_at}
 use Rattle.html_construction.specs.Built.{symbols}
 use Rattle.html_construction.specs.Copies.{clone_count, clones_of, implied_count, implied_in, is_token, most_clones}
-use Rattle.html_construction.specs.Origins.{AreHomes, AreOrigins, HasOrigin, IsHome, is_made_alone, with_later}
-use Rattle.html_construction.specs.Tokens.{attrs_of, node_name}
+use Rattle.html_construction.specs.Origins.{AreHomes, AreOrigins, HasOrigin, IsHome, IsOfTag, is_foreign_at, is_made_alone, with_later}
+use Rattle.html_construction.specs.Tokens.{attrs_of, foreign_attr, foreign_attrs, foreign_name, node_name}
+use Rattle.html_construction.proofs.Lengths.{attr-long, foreign_name-long, formatting-html}
+use Rattle.html_builder.specs.Handed.{start_count, start_one}
 use Rattle.html_construction.proofs.Copying.{clones-most}
 use Rattle.html_construction.proofs.Weighing.{same-tag}
+
+-- adjusted attributes weigh as much
+foreign_attrs-weigh : (s : Space) (xs : List Attr) → attrs_weight (foreign_attrs s xs) ≡ attrs_weight xs
+foreign_attrs-weigh s [] = refl
+foreign_attrs-weigh s (a ∷ xs) =
+    let p = sum_by-cons attr_weight a xs in
+    let q = sum_by-cons attr_weight (foreign_attr s a) (foreign_attrs s xs) in
+    let r = foreign_attrs-weigh s xs in
+    let n = attr-long s a.name in
+    omega (arith, p, q, r, n)
 
 -- WHICH NODE GAINS BY A TOKEN
 
 -- the node that a token adds to
 abbrev gainer : Fate → Option ℕ → Option ℕ
 gainer (fate.Made d) h = Some d
+gainer (fate.Foreign d) h = Some d
 gainer (fate.Text d) h = Some d
 gainer fate.Merged h = h
 gainer (fate.Dropped c) h = None
 gainer fate.Ended h = None
 
--- and how many code points
+-- and how many code points: an element of foreign content has five more in its name at most
 abbrev gain : Fate → TokenKind → ℕ
 gain (fate.Made d) t = own_len t
+gain (fate.Foreign d) t = own_len t + 5 * start_one t
 gain (fate.Text d) t = length (code_point (symbol_of t))
 gain fate.Merged t = attrs_weight (attrs_of t)
 gain (fate.Dropped c) t = 0
@@ -84,10 +100,11 @@ char-own (kind.Comment c) = omega arith
 char-own (kind.Doctype n p s q) = omega arith
 char-own kind.Eof = omega arith
 
-gain-own : (f : Fate) (t : TokenKind) → gain f t ≤ own_len t
+gain-own : (f : Fate) (t : TokenKind) → gain f t ≤ own_len t + 5 * start_one t
 gain-own (fate.Made d) t = omega arith
-gain-own (fate.Text d) t = char-own t
-gain-own fate.Merged t = attrs-own t
+gain-own (fate.Foreign d) t = omega arith
+gain-own (fate.Text d) t = let h = char-own t in omega (arith, h)
+gain-own fate.Merged t = let h = attrs-own t in omega (arith, h)
 gain-own (fate.Dropped c) t = omega arith
 gain-own fate.Ended t = omega arith
 
@@ -118,7 +135,7 @@ over-gainer : (o : Option ℕ) (m k n : ℕ) → over (λ x. cond (is_in x o) m 
 over-gainer None m k n = let a = over-none (λ x. 0) k n (λ x l. refl) in omega (arith, a)
 over-gainer (Some d) m k n = over-one d m k n
 
-pub shares-within : (k n : ℕ) (ts : List TokenKind) (fs : List Fate) (hs : List (Option ℕ)) → over (λ x. share x ts fs hs) k n ≤ sum_by own_len ts
+pub shares-within : (k n : ℕ) (ts : List TokenKind) (fs : List Fate) (hs : List (Option ℕ)) → over (λ x. share x ts fs hs) k n ≤ sum_by own_len ts + 5 * start_count ts
 shares-within k n [] fs hs = let a = over-none (λ x. 0) k n (λ x l. refl) in omega (arith, a)
 shares-within k n (t ∷ ts) [] hs = let a = over-none (λ x. 0) k n (λ x l. refl) in omega (arith, a)
 shares-within k n (t ∷ ts) (f ∷ fs) [] = let a = over-none (λ x. 0) k n (λ x l. refl) in omega (arith, a)
@@ -128,9 +145,13 @@ shares-within k n (t ∷ ts) (f ∷ fs) (h ∷ hs) =
     let c = gain-own f t in
     let d = shares-within k n ts fs hs in
     let e = sum_by-cons own_len t ts in
-    omega (arith, a, b, c, d, e)
+    let g = sum_by-cons start_one t ts in
+    omega (arith, a, b, c, d, e, g)
 
 -- WHAT A NODE HOLDS
+
+node-is : (d x : ℕ) → Some d ≡ Some x → d ≡ x
+node-is d x e = let k : Some d ≡ Some x = e in cc
 
 in-some : (x : ℕ) (m : ℕ) → cond (is_in x (Some x)) m 0 ≡ m
 in-some x m = rw (eqb-self x) refl
@@ -172,35 +193,65 @@ later-within x own ls (t ∷ ts) (f ∷ fs) (h ∷ hs) i =
     let b = later-within x (cond (is_in x h) (merged own (attrs_of t)) own) ls ts fs hs i.1 in
     omega (arith, a, b)
 
+-- what the node of a token gains by it
+part-made : (x : ℕ) (t : TokenKind) (f : Fate) (h : Option ℕ) → node_of f ≡ Some x → own_len t ≤ part x t f h
+part-made x t (fate.Made d) h e = let q : part x t (fate.Made d) h ≡ own_len t = ap (λ y. part x t (fate.Made y) h) (node-is d x e) ∙ in-some x (own_len t) in omega (arith, q)
+part-made x t (fate.Foreign d) h e = let q : part x t (fate.Foreign d) h ≡ own_len t + 5 * start_one t = ap (λ y. part x t (fate.Foreign y) h) (node-is d x e) ∙ in-some x (own_len t + 5 * start_one t) in omega (arith, q)
+part-made x t (fate.Text d) h e = absurd (let k = e in cc)
+part-made x t fate.Merged h e = absurd (let k = e in cc)
+part-made x t (fate.Dropped c) h e = absurd (let k = e in cc)
+part-made x t fate.Ended h e = absurd (let k = e in cc)
+
+part-foreign : (x : ℕ) (t : TokenKind) (f : Fate) (h : Option ℕ) → node_of f ≡ Some x → is_foreign f ≡ true → own_len t + 5 * start_one t ≤ part x t f h
+part-foreign x t (fate.Foreign d) h e b = let q : part x t (fate.Foreign d) h ≡ own_len t + 5 * start_one t = ap (λ y. part x t (fate.Foreign y) h) (node-is d x e) ∙ in-some x (own_len t + 5 * start_one t) in omega (arith, q)
+part-foreign x t (fate.Made d) h e b = absurd (false≢true b)
+part-foreign x t (fate.Text d) h e b = absurd (false≢true b)
+part-foreign x t fate.Merged h e b = absurd (false≢true b)
+part-foreign x t (fate.Dropped c) h e b = absurd (false≢true b)
+part-foreign x t fate.Ended h e b = absurd (false≢true b)
+
 -- the node of a token gains what the token has of its own
-pub made-gains : (x i : ℕ) (own : List Attr) (u : TokenKind) (ls : List NodeData) (ts : List TokenKind) (fs : List Fate) (hs : List (Option ℕ)) → AreHomes ls ts fs hs → slice_get ts i ≡ Some u → slice_get fs i ≡ Some (fate.Made x)
+pub made-gains : (x i : ℕ) (own : List Attr) (u : TokenKind) (ls : List NodeData) (ts : List TokenKind) (fs : List Fate) (hs : List (Option ℕ)) → AreHomes ls ts fs hs → slice_get ts i ≡ Some u → made_at fs i ≡ Some x
     → attrs_weight (with_later x own ts hs) + own_len u ≤ attrs_weight own + share x ts fs hs
 made-gains x i own u ls [] fs hs w e m = absurd (let k = e in cc)
 made-gains x i own u ls (t ∷ ts) [] hs w e m = absurd (let k = m in cc)
 made-gains x i own u ls (t ∷ ts) (f ∷ fs) [] w e m = absurd w
 made-gains x zero own u ls (t ∷ ts) (f ∷ fs) (None ∷ hs) w e m =
-    let p : f ≡ fate.Made x = (let k : Some f ≡ Some (fate.Made x) = m in cc) in
     let q : t ≡ u = (let k : Some t ≡ Some u = e in cc) in
     let a = later-within x own ls ts fs hs w.1 in
-    let b : part x t f None ≡ own_len u = ap (λ g. part x t g None) p ∙ in-some x (own_len t) ∙ ap own_len q in
-    omega (arith, a, b)
+    let b = part-made x t f None m in
+    let c : own_len t ≡ own_len u = ap own_len q in
+    omega (arith, a, b, c)
 made-gains x zero own u ls (t ∷ ts) (f ∷ fs) (Some y ∷ hs) w e m =
-    absurd (let k : Some f ≡ Some (fate.Made x) = m in let p : f ≡ fate.Merged = w.0.fate_is in let z : fate.Merged ≡ fate.Made x = (let q : f ≡ fate.Made x = cc in sym p ∙ q) in cc)
+    absurd (let p : f ≡ fate.Merged = w.0.fate_is in let z : None ≡ Some x = sym (ap node_of p) ∙ m in cc)
 made-gains x (suc i) own u ls (t ∷ ts) (f ∷ fs) (h ∷ hs) w e m =
     let a = home-gains x own ls t f h w.0 in
     let b = made-gains x i (cond (is_in x h) (merged own (attrs_of t)) own) u ls ts fs hs w.1 e m in
     omega (arith, a, b)
 
-at-gains : (x i : ℕ) (u : TokenKind) (ls : List NodeData) (ts : List TokenKind) (fs : List Fate) (hs : List (Option ℕ)) → AreHomes ls ts fs hs → slice_get ts i ≡ Some u → slice_get fs i ≡ Some (fate.Made x) → own_len u ≤ share x ts fs hs
+at-gains : (x i : ℕ) (u : TokenKind) (ls : List NodeData) (ts : List TokenKind) (fs : List Fate) (hs : List (Option ℕ)) → AreHomes ls ts fs hs → slice_get ts i ≡ Some u → made_at fs i ≡ Some x → own_len u ≤ share x ts fs hs
 at-gains x i u ls [] fs hs w e m = absurd (let k = e in cc)
 at-gains x i u ls (t ∷ ts) [] hs w e m = absurd (let k = m in cc)
 at-gains x i u ls (t ∷ ts) (f ∷ fs) [] w e m = absurd w
 at-gains x zero u ls (t ∷ ts) (f ∷ fs) (h ∷ hs) w e m =
-    let p : f ≡ fate.Made x = (let k : Some f ≡ Some (fate.Made x) = m in cc) in
     let q : t ≡ u = (let k : Some t ≡ Some u = e in cc) in
-    let b : part x t f h ≡ own_len u = ap (λ g. part x t g h) p ∙ in-some x (own_len t) ∙ ap own_len q in
-    omega (arith, b)
+    let b = part-made x t f h m in
+    let c : own_len t ≡ own_len u = ap own_len q in
+    omega (arith, b, c)
 at-gains x (suc i) u ls (t ∷ ts) (f ∷ fs) (h ∷ hs) w e m = let a = at-gains x i u ls ts fs hs w.1 e m in omega (arith, a)
+
+-- and an element of foreign content five more
+foreign-gains : (x i : ℕ) (u : TokenKind) (ls : List NodeData) (ts : List TokenKind) (fs : List Fate) (hs : List (Option ℕ)) → AreHomes ls ts fs hs → slice_get ts i ≡ Some u → made_at fs i ≡ Some x → is_foreign_at fs i ≡ true
+    → own_len u + 5 * start_one u ≤ share x ts fs hs
+foreign-gains x i u ls [] fs hs w e m b = absurd (let k = e in cc)
+foreign-gains x i u ls (t ∷ ts) [] hs w e m b = absurd (let k = m in cc)
+foreign-gains x i u ls (t ∷ ts) (f ∷ fs) [] w e m b = absurd w
+foreign-gains x zero u ls (t ∷ ts) (f ∷ fs) (h ∷ hs) w e m b =
+    let q : t ≡ u = (let k : Some t ≡ Some u = e in cc) in
+    let a = part-foreign x t f h m b in
+    let c : own_len t + 5 * start_one t ≡ own_len u + 5 * start_one u = ap (λ v. own_len v + 5 * start_one v) q in
+    omega (arith, a, c)
+foreign-gains x (suc i) u ls (t ∷ ts) (f ∷ fs) (h ∷ hs) w e m b = let a = foreign-gains x i u ls ts fs hs w.1 e m b in omega (arith, a)
 
 -- a text gains its code points
 text-part : (x : ℕ) (t : TokenKind) (f : Fate) (h : Option ℕ) → length (cond (is_text_in x f) (code_point (symbol_of t)) []) ≤ part x t f h
@@ -212,6 +263,7 @@ text-part x t (fate.Text d) h = elim (cases_eqb x d) [
     other : (d x : ℕ) → (d ≡ x → ⊥) → eqb d x ≡ false
     other d x n = elim (cases_eqb d x) [ inl q ↦ absurd (n q.1) | inr q ↦ q.0 ]
 text-part x t (fate.Made d) h = omega arith
+text-part x t (fate.Foreign d) h = omega arith
 text-part x t fate.Merged h = omega arith
 text-part x t (fate.Dropped c) h = omega arith
 text-part x t fate.Ended h = omega arith
@@ -331,42 +383,63 @@ module _ (ts : List TokenKind) (fs : List Fate) (ls : List NodeData) (w : AreOri
   holds-most x d = share x ts fs w.homes + (clone_own 0 ts d + 8 * implied_in d)
 
   -- the node of a token that is no clone
-  made-of : (x i : ℕ) → origin_in (label_in ls x) ≡ Token i → is_clone_in (label_in ls x) ≡ false → slice_get fs i ≡ Some (fate.Made x)
-  made-of x i o c = let d = m.of_made i x o in subst (λ y. slice_get fs i ≡ Some (fate.Made y)) (sym (m.made_once i d.0 x d.1 o c)) d.1
+  made-of : (x i : ℕ) → origin_in (label_in ls x) ≡ Token i → is_clone_in (label_in ls x) ≡ false → made_at fs i ≡ Some x
+  made-of x i o c = let d = m.of_made i x o in subst (λ y. made_at fs i ≡ Some y) (sym (m.made_once i d.0 x d.1 o c)) d.1
 
-  element-holds : (x : ℕ) (name : List ℕ) (t : Tag) (own : List Attr) (o : Origin) (b : Bool) (h : Option ℕ) → label_in ls x ≡ node.Element (record { name = name; tag = t; attrs = own; origin = o; is_clone = b; contents = h })
-      → weight (label_in ls x) ≤ holds-most x (label_in ls x)
-  element-holds x name t own (Token i) false h e =
-      let p = subst (λ d. HasOrigin x ts w.homes d) e (w.each x) in
-      let f = made-of x i (ap origin_in e) (ap is_clone_in e) in
+  -- an element that a token asked for, and that is no clone
+  own-holds : (x i : ℕ) (name : List ℕ) (t : Tag) (own : List Attr) (b : Bool) → is_foreign_at fs i ≡ b → made_at fs i ≡ Some x → IsOfTag b x i t name own ts w.homes → length name + attrs_weight own ≤ share x ts fs w.homes
+  own-holds x i name t own false q f p =
       let a = made-gains x i p.own_attrs (kind.Start p.own_name p.own_attrs p.self_closing) ls ts fs w.homes w.merged_into p.token_is f in
       let s = name-short p.own_name in
       let n : length name ≡ length (node_name p.own_name) = ap (λ cs. length cs) p.name_is in
       let z : attrs_weight own ≡ attrs_weight (with_later x p.own_attrs ts w.homes) = ap attrs_weight p.attrs_are in
-      let q = attrs-same p.own_attrs in
-      rw e (omega (arith, a, s, n, z, q))
-  element-holds x name t own (Token i) true h e =
-      let p = subst (λ d. HasOrigin x ts w.homes d) e (w.each x) in
+      let c = attrs-same p.own_attrs in
+      omega (arith, a, s, n, z, c)
+  own-holds x i name t own true q f p =
+      let a = foreign-gains x i (kind.Start p.own_name p.own_attrs p.self_closing) ls ts fs w.homes w.merged_into p.token_is f q in
+      let s = foreign_name-long p.space p.own_name in
+      let n : length name ≡ length (foreign_name p.space p.own_name) = ap (λ cs. length cs) p.name_is in
+      let z : attrs_weight own ≡ attrs_weight (foreign_attrs p.space p.own_attrs) = ap attrs_weight p.attrs_are in
+      let y = foreign_attrs-weigh p.space p.own_attrs in
+      let c = attrs-same p.own_attrs in
+      omega (arith, a, s, n, z, y, c)
+
+  -- a clone, which is of a formatting element, and so of HTML
+  clone-holds : (x i : ℕ) (name : List ℕ) (t : Tag) (own : List Attr) (b : Bool) → is_formatting t ≡ true → IsOfTag b x i t name own ts w.homes → length name + attrs_weight own ≤ share x ts fs w.homes + own_from 0 ts (Token i)
+  clone-holds x i name t own false f p =
       let a = later-within x p.own_attrs ls ts fs w.homes w.merged_into in
       let s = name-short p.own_name in
       let n : length name ≡ length (node_name p.own_name) = ap (λ cs. length cs) p.name_is in
       let z : attrs_weight own ≡ attrs_weight (with_later x p.own_attrs ts w.homes) = ap attrs_weight p.attrs_are in
       let q = attrs-same p.own_attrs in
       let c : own_from 0 ts (Token i) ≡ own_len (kind.Start p.own_name p.own_attrs p.self_closing) = own-first i (kind.Start p.own_name p.own_attrs p.self_closing) ts p.token_is in
-      rw e (omega (arith, a, s, n, z, q, c))
+      omega (arith, a, s, n, z, q, c)
+  clone-holds x i name t own true f p = absurd (formatting-html t p.space f p.tag_is p.outside)
+
+  element-holds : (x : ℕ) (name : List ℕ) (t : Tag) (own : List Attr) (o : Origin) (b : Bool) (h : Option ℕ) → label_in ls x ≡ node.Element (record { name = name; tag = t; attrs = own; origin = o; is_clone = b; contents = h })
+      → weight (label_in ls x) ≤ holds-most x (label_in ls x)
+  element-holds x name t own (Token i) false h e =
+      let p = subst (λ d. HasOrigin x ts fs w.homes d) e (w.each x) in
+      let a = own-holds x i name t own (is_foreign_at fs i) refl (made-of x i (ap origin_in e) (ap is_clone_in e)) p in
+      rw e (omega (arith, a))
+  element-holds x name t own (Token i) true h e =
+      let p = subst (λ d. HasOrigin x ts fs w.homes d) e (w.each x) in
+      let f : is_formatting t ≡ true = sym (ap (λ d. is_formatting (tag_in d)) e) ∙ w.clones x (ap is_clone_in e) in
+      let a = clone-holds x i name t own (is_foreign_at fs i) f p in
+      rw e (omega (arith, a))
   element-holds x name t own Implied false h e =
-      let p = subst (λ d. HasOrigin x ts w.homes d) e (w.each x) in
+      let p = subst (λ d. HasOrigin x ts fs w.homes d) e (w.each x) in
       let a = later-within x [] ls ts fs w.homes w.merged_into in
       let z : attrs_weight own ≡ attrs_weight (with_later x [] ts w.homes) = ap attrs_weight p.attrs_are in
       let n : length name ≡ length (name_of p.name_tag) = ap (λ cs. length cs) p.name_is in
       let s = alone-short p.name_tag p.alone in
       rw e (omega (arith, a, z, n, s))
   element-holds x name t own Implied true h e =
-      let p = subst (λ d. HasOrigin x ts w.homes d) e (w.each x) in
+      let p = subst (λ d. HasOrigin x ts fs w.homes d) e (w.each x) in
       let f = w.clones x (ap is_clone_in e) in
       let q : tag_in (label_in ls x) ≡ tag_of (name_of p.name_tag) = g x ∙ ap (λ d. tag_of (name_in d)) e ∙ ap tag_of p.name_is in
       absurd (alone-plain p.name_tag p.alone (subst (λ y. is_formatting y ≡ true) q f))
-  element-holds x name t own Nothing b h e = absurd (subst (λ d. HasOrigin x ts w.homes d) e (w.each x))
+  element-holds x name t own Nothing b h e = absurd (subst (λ d. HasOrigin x ts fs w.homes d) e (w.each x))
 
   label-holds : (x : ℕ) (d : NodeData) → label_in ls x ≡ d → weight (label_in ls x) ≤ holds-most x (label_in ls x)
   label-holds x node.Document e = rw e (omega arith)
@@ -378,11 +451,11 @@ module _ (ts : List TokenKind) (fs : List Fate) (ls : List NodeData) (w : AreOri
       let n : length s ≡ length (text_of x (symbols ts) fs) = ap (λ cs. length cs) p in
       rw e (omega (arith, a, n))
   label-holds x (node.Comment s i) e =
-      let p = subst (λ d. HasOrigin x ts w.homes d) e (w.each x) in
+      let p = subst (λ d. HasOrigin x ts fs w.homes d) e (w.each x) in
       let a = at-gains x i (kind.Comment s) ls ts fs w.homes w.merged_into p (made-of x i (ap origin_in e) (ap is_clone_in e)) in
       rw e (omega (arith, a))
   label-holds x (node.Doctype n p s i) e =
-      let q = subst (λ d. HasOrigin x ts w.homes d) e (w.each x) in
+      let q = subst (λ d. HasOrigin x ts fs w.homes d) e (w.each x) in
       let a = at-gains x i (kind.Doctype n p s q.0) ls ts fs w.homes w.merged_into q.1 (made-of x i (ap origin_in e) (ap is_clone_in e)) in
       let b = ids-same n in
       let c = ids-same p in
@@ -411,10 +484,10 @@ sum-times k f (d ∷ ds) = sum_by-cons (λ x. k * f x) d ds ∙ ap (λ n. k * f 
     spread : (a b c : ℕ) → a * (b + c) ≡ a * b + a * c
     spread a b c = grind arith
 
--- All nodes hold no more than the tokens have of their own, that once more for each clone of an element, and eight for each element that no token asked
--- for.
+-- All nodes hold no more than the tokens have of their own, five for each start tag, the former once more for each clone of an element, and eight for each
+-- element that no token asked for.
 pub holding : (ts : List TokenKind) (fs : List Fate) (ls : List NodeData) → AreOrigins ts fs ls → AreMade fs ls → AreTexts (symbols ts) fs ls → ((x : ℕ) → tag_in (label_in ls x) ≡ tag_of (name_in (label_in ls x)))
-    → sum_by weight ls ≤ most_clones ls * sum_by own_len ts + sum_by own_len ts + 8 * implied_count ls
+    → sum_by weight ls ≤ most_clones ls * sum_by own_len ts + sum_by own_len ts + 5 * start_count ts + 8 * implied_count ls
 unfolding implied_count
 holding ts fs ls w m k g =
     let a = sum-holds weight (λ d. clone_own 0 ts d + 8 * implied_in d) (λ x. share x ts fs w.homes) 0 ls

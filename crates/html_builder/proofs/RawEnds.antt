@@ -6,7 +6,7 @@ use Rattle.html_open.specs.Marking.{bare}
 use Rattle.html_tokens.specs.declared.token.TokenKind.{TokenKind}
 use Rattle.html_tokens.specs.declared.token.TokenKind.TheVariants as kind
 use Rattle.html_ledger.specs.declared.fate.Fate.{Fate}
-use Rattle.html_ledger.specs.declared.fate.Fate.TheVariants.{Made, Merged, Text, Dropped, Ended}
+use Rattle.html_ledger.specs.declared.fate.Fate.TheVariants.{Dropped, Ended, Foreign, Made, Merged, Text}
 use Rattle.html_ledger.specs.declared.symbol.Symbol.{Symbol}
 use Rattle.html_ledger.specs.declared.symbol.Symbol.TheVariants.{Start, End, Char, Comment, Doctype, Eof}
 use Rattle.html_construction.specs.Built.{symbols}
@@ -31,6 +31,7 @@ complete-holds (Start t) (Made x) ys fs a n e h = λ r. elim (h r) [
   | inl k ↦ subst (λ (u : Tree). HoldsText u x (run_of (ys ++ Eof ∷ []) fs)) (sym e) k.holds
   | inr k ↦ absurd (chars-none ys k.chars)
 ]
+complete-holds (Start t) (Foreign d) ys fs a n e h = tt
 complete-holds (Start t) Merged ys fs a n e h = tt
 complete-holds (Start t) (Text d) ys fs a n e h = tt
 complete-holds (Start t) (Dropped d) ys fs a n e h = tt

@@ -16,7 +16,7 @@ use Rattle.html_open.proofs.Keeps.{cases_eqb, eqb-self}
 use Rattle.html_tokens.specs.declared.token.TextMode.TheVariants.{Rcdata, Rawtext, Script, Plaintext}
 use Rattle.html_tokens.specs.declared.token.TokenKind.{TokenKind}
 use Rattle.html_ledger.specs.declared.fate.Fate.{Fate}
-use Rattle.html_ledger.specs.declared.fate.Fate.TheVariants.{Made, Merged, Text, Dropped, Ended}
+use Rattle.html_ledger.specs.declared.fate.Fate.TheVariants.{Dropped, Ended, Foreign, Made, Merged, Text}
 use Rattle.html_ledger.specs.declared.symbol.Symbol.{Symbol}
 use Rattle.html_ledger.specs.declared.symbol.Symbol.TheVariants.{Start, End, Char, Comment, Doctype, Eof}
 use Rattle.html_ledger.specs.Symbols.{chars_of, symbol_of}
@@ -127,6 +127,7 @@ module _ (us : List Symbol) (gs : List Fate) (a b : State) (m : Moves us gs a b)
 
   stands-on : (y : Symbol) (f : Fate) (ys : List Symbol) (fs : List Fate) → StandsSoFar y f ys fs a → StandsSoFar y f (ys ++ us) (fs ++ gs) b
   stands-on (Start t) (Made x) ys fs h = λ r. elim (h r) [ inl k ↦ inl (complete x ys fs k) | inr k ↦ incomplete x ys fs k ]
+  stands-on (Start t) (Foreign d) ys fs h = tt
   stands-on (Start t) Merged ys fs h = tt
   stands-on (Start t) (Text d) ys fs h = tt
   stands-on (Start t) (Dropped d) ys fs h = tt
@@ -166,6 +167,7 @@ stand-chars (Eof ∷ ys) fs b e = absurd (false≢true e)
 module _ (b : State) where
   one-stands : (y : Symbol) (f : Fate) → ((t : Tag) (x : ℕ) → y ≡ Start t → f ≡ Made x → holds_text_alone t ≡ true → IsOpenText x [] b) → StandsSoFar y f [] [] b
   one-stands (Start t) (Made x) k = λ r. inr (record { open_text = k t x refl refl (alone-switch t r); chars = refl; count = refl })
+  one-stands (Start t) (Foreign d) k = tt
   one-stands (Start t) Merged k = tt
   one-stands (Start t) (Text d) k = tt
   one-stands (Start t) (Dropped d) k = tt

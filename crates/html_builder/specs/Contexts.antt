@@ -6,7 +6,7 @@ use Rattle.html_names.specs.Names.{tag_of}
 use Rattle.html_tokens.specs.declared.token.TextMode.{TextMode}
 use Rattle.html_ledger.specs.declared.setting.Setting.{Setting}
 use Rattle.html_ledger.specs.declared.setting.Setting.TheVariants.{Fragment}
-use Rattle.html_modes.specs.Begun.{is_foreign}
+use Rattle.html_tree.specs.Proper.{is_foreign_root}
 use Rattle.html_builder.specs.Switches.{text_mode_in}
 use Rattle.html_builder.specs.declared.context.Context.{Context}
 
@@ -31,7 +31,7 @@ is_tag_name name = begins_name name && list_all stays_in_name name
 
 -- a name that a start tag can have, and not that of foreign content
 abbrev pub is_good : List ℕ → Bool
-is_good name = is_tag_name name && not (is_foreign (tag_of name))
+is_good name = is_tag_name name && not (is_foreign_root (tag_of name))
 
 -- a start tag can have its name, and it is no root of foreign content
 abbrev pub IsGood : Context → Type 0

@@ -147,8 +147,22 @@ IsTextCause s limits tokens fates text start refusal.Stopped = ⊥
 abbrev pub own_total : List TokenKind → ℕ
 own_total tokens = sum_by own_len tokens
 
--- Tokens that a text of n code points can have: at most one more than code points, and together they hold no more, and have no more attributes.
+-- how many start tags there are
+abbrev pub start_one : TokenKind → ℕ
+start_one (kind.Start name attrs self_closing) = 1
+start_one (kind.End name) = 0
+start_one (kind.Char c) = 0
+start_one (kind.Comment text) = 0
+start_one (kind.Doctype name public_text system_text force_quirks) = 0
+start_one kind.Eof = 0
+
+abbrev pub start_count : List TokenKind → ℕ
+start_count tokens = sum_by start_one tokens
+
+-- Tokens that a text of n code points can have: at most one more than code points, and no more start tags; together they hold no more, and have no more
+-- attributes.
 pub record CostAtMost (n : ℕ) (tokens : List TokenKind) : Type 0 where
   pub count : length tokens ≤ n + 1
+  pub starts : start_count tokens ≤ n
   pub own : own_total tokens ≤ n
   pub attributes : attribute_total tokens ≤ n

@@ -2,7 +2,10 @@
 use Rattle.std.proofs.Common.{ℕ, zero, suc, ◌+◌, ◌≡◌, ◌≢◌, ◌<◌, ◌≤◌, Bool, true, false, cond, List, [], ◌∷◌, ◌++◌, length, length-append, map, replicate, Option, Some, None, inl, inr, refl, sym, ap, subst, ◌∙◌, arith, append_assoc}
 use Rattle.std.proofs.lemmas.Bool.{false≢true, cases_Bool}
 use Rattle.std.proofs.lemmas.List.{append-nil}
-use Rattle.std.specs.Prelude.{slice_get, slice_set}
+use Rattle.std.specs.Prelude.{slice_get, slice_set, unwrap_or}
+use Rattle.html_names.specs.declared.foreign.Space.{Space}
+use Rattle.html_names.specs.Foreign.{adjusted_name, is_html_space}
+use Rattle.html_names.proofs.Spaces.{space-of_prefixed}
 use Rattle.html_names.specs.Groups.{is_outermost}
 use Rattle.html_names.specs.Names.{name_of, tag_of}
 use Rattle.html_names.specs.Sets.{is_formatting, is_template}
@@ -23,11 +26,12 @@ use Rattle.html_tokens.specs.declared.attributes.Attr.{Attr}
 use Rattle.html_tokens.specs.declared.token.TokenKind.{TokenKind}
 use Rattle.html_tokens.specs.declared.token.TokenKind.TheVariants as kind
 use Rattle.html_ledger.specs.declared.fate.Fate.{Fate}
-use Rattle.html_ledger.specs.declared.fate.Fate.TheVariants.{Made, Merged, Text}
+use Rattle.html_ledger.specs.declared.fate.Fate.TheVariants.{Foreign, Made, Merged, Text}
+use Rattle.html_tokens.specs.Cut.{null_replaced}
 use Rattle.html_ledger.specs.declared.setting.Setting.{Setting}
 use Rattle.html_ledger.specs.declared.symbol.Symbol.TheVariants.{Comment, Doctype, Start}
 use Rattle.html_ledger.specs.Entries.{Entries, Fed}
-use Rattle.html_ledger.specs.Fates.{is_made}
+use Rattle.html_ledger.specs.Fates.{is_foreign, node_of}
 use Rattle.html_ledger.specs.Symbols.{symbol_of, chars_of as symbol_chars}
 use Rattle.html_open.specs.declared.places.Place.{Place}
 use Rattle.html_open.specs.Marking.{bare}
@@ -37,14 +41,14 @@ use Rattle.html_tree.specs.Listing.{HasCloned}
 use Rattle.html_tree.specs.States.{State as Tree}
 use Rattle.html_tree.specs.Texts.{if_text, node_or_next, place_here, text_before, text_node, tree_or_new, with_text}
 use Rattle.html_tree.proofs.Inserted.{element-origin, made-labels, put-labels}
-use Rattle.html_construction.specs.Accounts.{AreMade, AreTexts}
+use Rattle.html_construction.specs.Accounts.{AreMade, AreTexts, made_at}
 use Rattle.html_construction.specs.Built.{chars_of, symbols}
-use Rattle.html_construction.specs.Origins.{AreOrigins, HasElementOrigin, HasOrigin, is_made_alone, with_later}
-use Rattle.html_construction.specs.Tokens.{attrs_of, data_of, element_name, name_id, public_id, system_id}
+use Rattle.html_construction.specs.Origins.{AreOrigins, HasElementOrigin, HasOrigin, is_foreign_at, is_made_alone, with_later}
+use Rattle.html_construction.specs.Tokens.{attrs_of, data_of, element_name, foreign_attrs, foreign_name, name_id, public_id, system_id, tag_name}
 use Rattle.html_construction.proofs.Building.{symbols-append, symbols-chars, symbols-push}
 use Rattle.html_construction.proofs.Labels.{get-at-end, label-past, label-set, label-set-other, length-slice_set, order, same-or-not}
 use Rattle.html_construction.proofs.Making.{made-alike, made-besides, made-more, made-next, none-made}
-use Rattle.html_construction.proofs.Originating.{comment-is, doctype-is, element-of, origin-clone, origins-alike, origins-besides, origins-kept, origins-merged, origins-more, origins-released}
+use Rattle.html_construction.proofs.Originating.{comment-is, doctype-is, element-of, foreign-end, foreign-of, origin-clone, origins-alike, origins-besides, origins-kept, origins-merged, origins-more, origins-released}
 use Rattle.html_construction.proofs.Wording.{is_no_text, none-texts, texts-alike, texts-besides, texts-kept, texts-more, texts-new, texts-released, texts-run}
 
 -- the tokens, their fates and the nodes fit together
@@ -86,7 +90,7 @@ fed-none s l f = none l.fates (let e = fed-count s l [] f in omega (arith, e))
     none (f ∷ fs) e = absurd (omega arith)
 
 -- a token that makes no node, adds to no text and is not merged
-pub told-besides : (ts : List TokenKind) (t : TokenKind) (fs : List Fate) (f : Fate) (ls : List NodeData) → length fs ≡ length ts → is_made f ≡ false → is_no_text f ≡ true → f ≢ Merged
+pub told-besides : (ts : List TokenKind) (t : TokenKind) (fs : List Fate) (f : Fate) (ls : List NodeData) → length fs ≡ length ts → node_of f ≡ None → is_no_text f ≡ true → f ≢ Merged
     → Told ts fs ls → Told (ts ++ t ∷ []) (fs ++ f ∷ []) ls
 told-besides ts t fs f ls l m x n w = record {
   origins = origins-besides ts t fs f ls l n w.origins;
@@ -158,13 +162,13 @@ no-token e = absurd (let q : Nothing ≡ Token _ = e in cc)
 pub told-clones : (ts : List TokenKind) (fs : List Fate) (a b : Tree) → HasCloned a b → Told ts fs a.tree.labels → Told ts fs b.tree.labels
 told-clones ts fs a b c w = subst (λ ls. Told ts fs ls) (sym c.labels_are) (record {
   origins = origins-more ts fs a.tree.labels new
-      (λ hs far plain each x y h. of-map (λ d. HasOrigin x ts hs d) (λ z. cloned (label_of a.tree z)) c.elements tt
-      (λ z k. origin-clone x z ts hs (label_of a.tree z) (λ bs. far x h bs ∙ sym (plain z (c.formatting z k) bs)) (each z)) y)
+      (λ hs far plain each x y h. of-map (λ d. HasOrigin x ts fs hs d) (λ z. cloned (label_of a.tree z)) c.elements tt
+      (λ z k. origin-clone x z ts fs hs (label_of a.tree z) (λ bs. far x h bs ∙ sym (plain z (c.formatting z k) bs)) (each z)) y)
       (λ y. of-map (λ d. is_clone_in d ≡ true → is_formatting (tag_in d) ≡ true) (λ z. cloned (label_of a.tree z)) c.elements (λ e. absurd (false≢true e))
       (λ z k e. ap is_formatting (clone-tag (label_of a.tree z)) ∙ c.formatting z k) y)
       w.origins;
   made = made-more fs a.tree.labels new
-      (λ y i. of-map (λ d. origin_in d ≡ Token i → (is_clone_in d ≡ true) × ((e : ℕ) × (slice_get fs i ≡ Some (Made e)))) (λ z. cloned (label_of a.tree z)) c.elements (λ e. absurd (no-token e))
+      (λ y i. of-map (λ d. origin_in d ≡ Token i → (is_clone_in d ≡ true) × ((e : ℕ) × (made_at fs i ≡ Some e))) (λ z. cloned (label_of a.tree z)) c.elements (λ e. absurd (no-token e))
       (λ z k e. (clone-mark (label_of a.tree z) (c.formatting z k), w.made.of_made i z (sym (clone-origin (label_of a.tree z)) ∙ e))) y)
       w.made;
   texts = texts-more (symbols ts) fs a.tree.labels new (λ y. of-map (λ d. is_text d ≡ false) (λ z. cloned (label_of a.tree z)) c.elements refl (λ z k. clone-text (label_of a.tree z) (c.formatting z k)) y) w.texts;
@@ -208,10 +212,10 @@ element-text t name attrs o = by (is_template (tag_of name)) refl
     by true h = rw h refl
     by false h = rw h refl
 
-element-has : (x : ℕ) (ts : List TokenKind) (hs : List (Option ℕ)) (t : Nodes) (name : List ℕ) (attrs : List Attr) (o : Origin) → HasElementOrigin x ts hs o name attrs → HasOrigin x ts hs (label_for t (new.Element name attrs o))
-element-has x ts hs t name attrs o k = by (is_template (tag_of name)) refl
+element-has : (x : ℕ) (ts : List TokenKind) (fs : List Fate) (hs : List (Option ℕ)) (t : Nodes) (name : List ℕ) (attrs : List Attr) (o : Origin) → HasElementOrigin x ts fs hs o (tag_of name) name attrs → HasOrigin x ts fs hs (label_for t (new.Element name attrs o))
+element-has x ts fs hs t name attrs o k = by (is_template (tag_of name)) refl
   where
-    by : (b : Bool) → is_template (tag_of name) ≡ b → HasOrigin x ts hs (label_for t (new.Element name attrs o))
+    by : (b : Bool) → is_template (tag_of name) ≡ b → HasOrigin x ts fs hs (label_for t (new.Element name attrs o))
     by true h = rw h k
     by false h = rw h k
 
@@ -219,13 +223,13 @@ element-has x ts hs t name attrs o k = by (is_template (tag_of name)) refl
 pub told-implied : (ts : List TokenKind) (fs : List Fate) (t u : Nodes) (at : Place) (g : Tag) → is_made_alone g ≡ true → u ≡ with_new t at (new.Element (name_of g) [] Implied) → Told ts fs t.labels → Told ts fs u.labels
 told-implied ts fs t u at g a e w = subst (λ ls. Told ts fs ls) (sym (ap (λ (v : Nodes). v.labels) e ∙ new-labels t at (new.Element (name_of g) [] Implied))) (record {
   origins = origins-more ts fs t.labels (d ∷ rest_of n b)
-      (λ hs far plain each x y h. of-new (λ k. HasOrigin x ts hs k) n b d tt tt
-      (element-has x ts hs t (name_of g) [] Implied (record { name_tag = g; alone = a; name_is = refl; attrs_are = sym (far x h []) })) y)
+      (λ hs far plain each x y h. of-new (λ k. HasOrigin x ts fs hs k) n b d tt tt
+      (element-has x ts fs hs t (name_of g) [] Implied (record { name_tag = g; alone = a; name_is = refl; attrs_are = sym (far x h []) })) y)
       (λ y. of-new (λ k. is_clone_in k ≡ true → is_formatting (tag_in k) ≡ true) n b d (λ q. absurd (false≢true q)) (λ q. absurd (false≢true q))
       (λ q. absurd (false≢true (sym (element-clone t (name_of g) [] Implied) ∙ q))) y)
       w.origins;
   made = made-more fs t.labels (d ∷ rest_of n b)
-      (λ y i. of-new (λ k. origin_in k ≡ Token i → (is_clone_in k ≡ true) × ((e : ℕ) × (slice_get fs i ≡ Some (Made e)))) n b d (λ q. absurd (no-token q)) (λ q. absurd (no-token q))
+      (λ y i. of-new (λ k. origin_in k ≡ Token i → (is_clone_in k ≡ true) × ((e : ℕ) × (made_at fs i ≡ Some e))) n b d (λ q. absurd (no-token q)) (λ q. absurd (no-token q))
       (λ q. absurd (not-token (sym (element-origin t (name_of g) [] Implied) ∙ q))) y)
       w.made;
   texts = texts-more (symbols ts) fs t.labels (d ∷ rest_of n b) (λ y. of-new (λ k. is_text k ≡ false) n b d refl refl (element-text t (name_of g) [] Implied) y) w.texts;
@@ -243,57 +247,91 @@ told-implied ts fs t u at g a e w = subst (λ ls. Told ts fs ls) (sym (ap (λ (v
     not-token : {i : ℕ} → Implied ≡ Token i → ⊥
     not-token e = absurd (let q : Implied ≡ Token _ = e in cc)
 
+-- the fate of a token of which the node was made: an element of foreign content, or any other node
+abbrev pub fate_for : Bool → ℕ → Fate
+fate_for false d = Made d
+fate_for true d = Foreign d
+
+for-foreign : (b : Bool) (d : ℕ) → is_foreign (fate_for b d) ≡ b
+for-foreign false d = refl
+for-foreign true d = refl
+
+for-node : (b : Bool) (d : ℕ) → node_of (fate_for b d) ≡ Some d
+for-node false d = refl
+for-node true d = refl
+
+for-text : (b : Bool) (d : ℕ) → is_no_text (fate_for b d) ≡ true
+for-text false d = refl
+for-text true d = refl
+
+for-merged : (b : Bool) (d : ℕ) → fate_for b d ≢ Merged
+for-merged false d e = absurd (let z : Made d ≡ Merged = e in cc)
+for-merged true d e = absurd (let z : Foreign d ≡ Merged = e in cc)
+
 -- what a node has of the token of a number, where no tag was merged into it
-pub record IsNext (d : NodeData) (ts : List TokenKind) (k : ℕ) : Type 0 where
+pub record IsNext (b : Bool) (d : NodeData) (ts : List TokenKind) (k : ℕ) : Type 0 where
   pub origin : origin_in d ≡ Token k
   pub first : is_clone_in d ≡ false
   pub no_text : is_text d ≡ false
-  pub has_origin : (x : ℕ) (hs : List (Option ℕ)) → ((own : List Attr) → with_later x own ts hs ≡ own) → HasOrigin x ts hs d
+  pub has_origin : (x : ℕ) (fs : List Fate) (hs : List (Option ℕ)) → is_foreign_at fs k ≡ b → ((own : List Attr) → with_later x own ts hs ≡ own) → HasOrigin x ts fs hs d
 
 -- the next node was made of the next token
-pub told-next : (ts : List TokenKind) (t : TokenKind) (fs : List Fate) (v u : Nodes) (at : Place) (new : NewNode) → length fs ≡ length ts → IsNext (label_for v new) (ts ++ t ∷ []) (length fs) → u ≡ with_new v at new
-    → Told ts fs v.labels → Told (ts ++ t ∷ []) (fs ++ Made (length v.labels) ∷ []) u.labels
-told-next ts t fs v u at new l i e w = subst (λ ls. Told (ts ++ t ∷ []) (fs ++ Made n ∷ []) ls) (sym (ap (λ (z : Nodes). z.labels) e ∙ new-labels v at new)) (record {
-  origins = origins-more (ts ++ t ∷ []) (fs ++ Made n ∷ []) v.labels (d ∷ rest_of n b)
-      (λ hs far plain each x y h. of-new (λ k. HasOrigin x (ts ++ t ∷ []) hs k) n b d tt tt (i.has_origin x hs (λ own. far x h own)) y)
-      (λ y. of-new (λ k. is_clone_in k ≡ true → is_formatting (tag_in k) ≡ true) n b d (λ q. absurd (false≢true q)) (λ q. absurd (false≢true q)) (λ q. absurd (false≢true (sym i.first ∙ q))) y)
-      (origins-besides ts t fs (Made n) v.labels l (λ q. absurd (let z : Made n ≡ Merged = q in cc)) w.origins);
-  made = made-next fs v.labels (rest_of n b) d i.origin i.first (λ y j. of-rest n b (λ k. origin_in k ≡ Token j → ⊥) no-token no-token y) w.made;
-  texts = texts-more (symbols (ts ++ t ∷ [])) (fs ++ Made n ∷ []) v.labels (d ∷ rest_of n b) (λ y. of-new (λ k. is_text k ≡ false) n b d refl refl i.no_text y)
-      (subst (λ us. AreTexts us (fs ++ Made n ∷ []) v.labels) (sym (symbols-push ts t)) (texts-besides (symbols ts) (symbol_of t) fs (Made n) v.labels (l ∙ sym (length-symbols ts)) refl w.texts));
+pub told-next : (b : Bool) (ts : List TokenKind) (t : TokenKind) (fs : List Fate) (v u : Nodes) (at : Place) (new : NewNode) → length fs ≡ length ts → IsNext b (label_for v new) (ts ++ t ∷ []) (length fs) → u ≡ with_new v at new
+    → Told ts fs v.labels → Told (ts ++ t ∷ []) (fs ++ fate_for b (length v.labels) ∷ []) u.labels
+told-next b ts t fs v u at new l i e w = subst (λ ls. Told (ts ++ t ∷ []) (fs ++ f ∷ []) ls) (sym (ap (λ (z : Nodes). z.labels) e ∙ new-labels v at new)) (record {
+  origins = origins-more (ts ++ t ∷ []) (fs ++ f ∷ []) v.labels (d ∷ rest_of n c)
+      (λ hs far plain each x y h. of-new (λ k. HasOrigin x (ts ++ t ∷ []) (fs ++ f ∷ []) hs k) n c d tt tt (i.has_origin x (fs ++ f ∷ []) hs (foreign-end fs f ∙ for-foreign b n) (λ own. far x h own)) y)
+      (λ y. of-new (λ k. is_clone_in k ≡ true → is_formatting (tag_in k) ≡ true) n c d (λ q. absurd (false≢true q)) (λ q. absurd (false≢true q)) (λ q. absurd (false≢true (sym i.first ∙ q))) y)
+      (origins-besides ts t fs f v.labels l (for-merged b n) w.origins);
+  made = made-next fs f v.labels (rest_of n c) d (for-node b n) i.origin i.first (λ y j. of-rest n c (λ k. origin_in k ≡ Token j → ⊥) no-token no-token y) w.made;
+  texts = texts-more (symbols (ts ++ t ∷ [])) (fs ++ f ∷ []) v.labels (d ∷ rest_of n c) (λ y. of-new (λ k. is_text k ≡ false) n c d refl refl i.no_text y)
+      (subst (λ us. AreTexts us (fs ++ f ∷ []) v.labels) (sym (symbols-push ts t)) (texts-besides (symbols ts) (symbol_of t) fs f v.labels (l ∙ sym (length-symbols ts)) (for-text b n) w.texts));
 })
   where
     n : ℕ
     n = length v.labels
 
-    b : Bool
-    b = has_contents new
+    f : Fate
+    f = fate_for b n
+
+    c : Bool
+    c = has_contents new
 
     d : NodeData
     d = label_for v new
 
-pub next-element : (v : Nodes) (ts : List TokenKind) (t : TokenKind) (g : Tag) (k : ℕ) → k ≡ length ts → symbol_of t ≡ Start g → IsNext (label_for v (new.Element (element_name g t) (attrs_of t) (Token k))) (ts ++ t ∷ []) k
+pub next-element : (v : Nodes) (ts : List TokenKind) (t : TokenKind) (g : Tag) (k : ℕ) → k ≡ length ts → symbol_of t ≡ Start g → IsNext false (label_for v (new.Element (element_name g t) (attrs_of t) (Token k))) (ts ++ t ∷ []) k
 next-element v ts t g k l s = record {
   origin = element-origin v (element_name g t) (attrs_of t) (Token k);
   first = element-clone v (element_name g t) (attrs_of t) (Token k);
   no_text = element-text v (element_name g t) (attrs_of t) (Token k);
-  has_origin = λ x hs none. element-has x (ts ++ t ∷ []) hs v (element_name g t) (attrs_of t) (Token k) (element-of x k ts t hs g l s none);
+  has_origin = λ x fs hs b none. element-has x (ts ++ t ∷ []) fs hs v (element_name g t) (attrs_of t) (Token k) (element-of x k ts t fs hs g (tag_of (element_name g t)) l s b none);
 }
 
-pub next-comment : (v : Nodes) (ts : List TokenKind) (t : TokenKind) (k : ℕ) → k ≡ length ts → symbol_of t ≡ Comment → IsNext (label_for v (new.Comment (data_of t) k)) (ts ++ t ∷ []) k
+pub next-foreign : (v : Nodes) (ts : List TokenKind) (t : TokenKind) (g : Tag) (s : Space) (k : ℕ) → k ≡ length ts → symbol_of t ≡ Start g → is_html_space s ≡ false
+    → IsNext true (label_for v (new.Element (foreign_name s (tag_name t)) (foreign_attrs s (attrs_of t)) (Token k))) (ts ++ t ∷ []) k
+next-foreign v ts t g s k l e o = record {
+  origin = element-origin v (foreign_name s (tag_name t)) (foreign_attrs s (attrs_of t)) (Token k);
+  first = element-clone v (foreign_name s (tag_name t)) (foreign_attrs s (attrs_of t)) (Token k);
+  no_text = element-text v (foreign_name s (tag_name t)) (foreign_attrs s (attrs_of t)) (Token k);
+  has_origin = λ x fs hs b none. element-has x (ts ++ t ∷ []) fs hs v (foreign_name s (tag_name t)) (foreign_attrs s (attrs_of t)) (Token k)
+      (foreign-of x k ts t fs hs g (tag_of (foreign_name s (tag_name t))) s l e b o (space-of_prefixed s (unwrap_or (adjusted_name s (tag_name t)) (tag_name t)) o));
+}
+
+pub next-comment : (v : Nodes) (ts : List TokenKind) (t : TokenKind) (k : ℕ) → k ≡ length ts → symbol_of t ≡ Comment → IsNext false (label_for v (new.Comment (data_of t) k)) (ts ++ t ∷ []) k
 next-comment v ts t k l s = record {
   origin = refl;
   first = refl;
   no_text = refl;
-  has_origin = λ x hs none. ap (λ i. slice_get (ts ++ t ∷ []) i) l ∙ get-at-end ts t ∙ ap Some (comment-is t s);
+  has_origin = λ x fs hs b none. ap (λ i. slice_get (ts ++ t ∷ []) i) l ∙ get-at-end ts t ∙ ap Some (comment-is t s);
 }
 
-pub next-doctype : (v : Nodes) (ts : List TokenKind) (t : TokenKind) (k : ℕ) → k ≡ length ts → symbol_of t ≡ Doctype → IsNext (label_for v (new.Doctype (name_id t) (public_id t) (system_id t) k)) (ts ++ t ∷ []) k
+pub next-doctype : (v : Nodes) (ts : List TokenKind) (t : TokenKind) (k : ℕ) → k ≡ length ts → symbol_of t ≡ Doctype → IsNext false (label_for v (new.Doctype (name_id t) (public_id t) (system_id t) k)) (ts ++ t ∷ []) k
 next-doctype v ts t k l s = record {
   origin = refl;
   first = refl;
   no_text = refl;
-  has_origin = λ x hs none. let p = doctype-is t s in (p.0, ap (λ i. slice_get (ts ++ t ∷ []) i) l ∙ get-at-end ts t ∙ ap Some p.1);
+  has_origin = λ x fs hs b none. let p = doctype-is t s in (p.0, ap (λ i. slice_get (ts ++ t ∷ []) i) l ∙ get-at-end ts t ∙ ap Some p.1);
 }
 
 -- MERGED TAGS
@@ -422,36 +460,36 @@ texts-origins ts fs d (c ∷ cs) ls l m =
     (origins-besides ts (kind.Char c) fs (Text d) ls l (λ q. absurd (let z : Text d ≡ Merged = q in cc)) m)))
 
 -- code points were added to a text that is there
-pub told-run : (ts : List TokenKind) (fs : List Fate) (ls : List NodeData) (y : ℕ) (cs : List ℕ) → length fs ≡ length ts → cs ≢ [] → y < length ls → is_text (label_in ls y) ≡ true
-    → Told ts fs ls → Told (ts ++ chars_of cs) (fs ++ replicate (length cs) (Text y)) (slice_set ls y (with_run (label_in ls y) cs))
+pub told-run : (ts : List TokenKind) (fs : List Fate) (ls : List NodeData) (y : ℕ) (cs : List ℕ) → length fs ≡ length ts → map null_replaced cs ≢ [] → y < length ls → is_text (label_in ls y) ≡ true
+    → Told ts fs ls → Told (ts ++ chars_of cs) (fs ++ replicate (length cs) (Text y)) (slice_set ls y (with_run (label_in ls y) (map null_replaced cs)))
 told-run ts fs ls y cs l some h i w = record {
   origins = texts-origins ts fs y cs (slice_set ls y d) l (origins-alike ts fs ls (slice_set ls y d) same-length (λ x. elim (same-or-not x y) [
-    | inl q ↦ inr (ap (λ z. is_text (label_in ls z)) q ∙ i, ap (λ z. is_text (label_in (slice_set ls y d) z)) q ∙ ap is_text (label-set ls y d h) ∙ run-text (label_in ls y) cs ∙ i)
+    | inl q ↦ inr (ap (λ z. is_text (label_in ls z)) q ∙ i, ap (λ z. is_text (label_in (slice_set ls y d) z)) q ∙ ap is_text (label-set ls y d h) ∙ run-text (label_in ls y) (map null_replaced cs) ∙ i)
     | inr q ↦ inl (label-set-other ls y x d q)
   ]) w.origins);
   made = texts-made fs (length cs) y (slice_set ls y d)
-      (made-alike fs ls (slice_set ls y d) same-length (set-same ls y d h origin_in (run-origin (label_in ls y) cs)) (set-same ls y d h is_clone_in (run-clone (label_in ls y) cs)) w.made);
+      (made-alike fs ls (slice_set ls y d) same-length (set-same ls y d h origin_in (run-origin (label_in ls y) (map null_replaced cs))) (set-same ls y d h is_clone_in (run-clone (label_in ls y) (map null_replaced cs))) w.made);
   texts = subst (λ us. AreTexts us (fs ++ replicate (length cs) (Text y)) (slice_set ls y d)) (sym (symbols-append ts (chars_of cs) ∙ ap (λ us. symbols ts ++ us) (symbols-chars cs)))
       (texts-run (symbols ts) fs ls y cs (l ∙ sym (length-symbols ts)) some h (is-text-true (label_in ls y) i) w.texts);
 }
   where
     d : NodeData
-    d = with_run (label_in ls y) cs
+    d = with_run (label_in ls y) (map null_replaced cs)
 
     same-length : length ls ≤ length (slice_set ls y d)
     same-length = (let k = length-slice_set ls y d in omega (arith, k))
 
 -- to the next node, a text
-pub told-new-text : (ts : List TokenKind) (fs : List Fate) (ls : List NodeData) (cs : List ℕ) → length fs ≡ length ts → cs ≢ []
-    → Told ts fs ls → Told (ts ++ chars_of cs) (fs ++ replicate (length cs) (Text (length ls))) (slice_set (ls ++ node.Text [] ∷ []) (length ls) (with_run (label_in (ls ++ node.Text [] ∷ []) (length ls)) cs))
+pub told-new-text : (ts : List TokenKind) (fs : List Fate) (ls : List NodeData) (cs : List ℕ) → length fs ≡ length ts → map null_replaced cs ≢ []
+    → Told ts fs ls → Told (ts ++ chars_of cs) (fs ++ replicate (length cs) (Text (length ls))) (slice_set (ls ++ node.Text [] ∷ []) (length ls) (with_run (label_in (ls ++ node.Text [] ∷ []) (length ls)) (map null_replaced cs)))
 told-new-text ts fs ls cs l some w = record {
   origins = texts-origins ts fs n cs (slice_set ks n d) l (origins-alike ts fs ks (slice_set ks n d) same-length (λ x. elim (same-or-not x n) [
-    | inl q ↦ inr (ap (λ z. is_text (label_in ks z)) q ∙ is, ap (λ z. is_text (label_in (slice_set ks n d) z)) q ∙ ap is_text (label-set ks n d here) ∙ run-text (label_in ks n) cs ∙ is)
+    | inl q ↦ inr (ap (λ z. is_text (label_in ks z)) q ∙ is, ap (λ z. is_text (label_in (slice_set ks n d) z)) q ∙ ap is_text (label-set ks n d here) ∙ run-text (label_in ks n) (map null_replaced cs) ∙ is)
     | inr q ↦ inl (label-set-other ks n x d q)
-  ]) (origins-more ts fs ls (node.Text [] ∷ []) (λ hs far plain each x y h. of-text (λ k. HasOrigin x ts hs k) tt tt y) (λ y. of-text (λ k. is_clone_in k ≡ true → is_formatting (tag_in k) ≡ true) (λ q. absurd (false≢true q)) (λ q. absurd (false≢true q)) y) w.origins));
+  ]) (origins-more ts fs ls (node.Text [] ∷ []) (λ hs far plain each x y h. of-text (λ k. HasOrigin x ts fs hs k) tt tt y) (λ y. of-text (λ k. is_clone_in k ≡ true → is_formatting (tag_in k) ≡ true) (λ q. absurd (false≢true q)) (λ q. absurd (false≢true q)) y) w.origins));
   made = texts-made fs (length cs) n (slice_set ks n d)
-      (made-alike fs ks (slice_set ks n d) same-length (set-same ks n d here origin_in (run-origin (label_in ks n) cs)) (set-same ks n d here is_clone_in (run-clone (label_in ks n) cs))
-      (made-more fs ls (node.Text [] ∷ []) (λ y i. of-text (λ k. origin_in k ≡ Token i → (is_clone_in k ≡ true) × ((e : ℕ) × (slice_get fs i ≡ Some (Made e)))) (λ q. absurd (no-token q)) (λ q. absurd (no-token q)) y) w.made));
+      (made-alike fs ks (slice_set ks n d) same-length (set-same ks n d here origin_in (run-origin (label_in ks n) (map null_replaced cs))) (set-same ks n d here is_clone_in (run-clone (label_in ks n) (map null_replaced cs)))
+      (made-more fs ls (node.Text [] ∷ []) (λ y i. of-text (λ k. origin_in k ≡ Token i → (is_clone_in k ≡ true) × ((e : ℕ) × (made_at fs i ≡ Some e))) (λ q. absurd (no-token q)) (λ q. absurd (no-token q)) y) w.made));
   texts = subst (λ us. AreTexts us (fs ++ replicate (length cs) (Text n)) (slice_set ks n d)) (sym (symbols-append ts (chars_of cs) ∙ ap (λ us. symbols ts ++ us) (symbols-chars cs)))
       (texts-new (symbols ts) fs ls cs (l ∙ sym (length-symbols ts)) some w.texts);
 }
@@ -463,7 +501,7 @@ told-new-text ts fs ls cs l some w = record {
     ks = ls ++ node.Text [] ∷ []
 
     d : NodeData
-    d = with_run (label_in ks n) cs
+    d = with_run (label_in ks n) (map null_replaced cs)
 
     here : n < length ks
     here = (let k = length-append ls (node.Text [] ∷ []) in omega (arith, k))
@@ -483,7 +521,7 @@ told-new-text ts fs ls cs l some w = record {
     of-text P h k (suc y) = h
 
 -- at the place for the current node
-pub told-text : (ts : List TokenKind) (fs gs : List Fate) (a : Tree) (u : Nodes) (foster : Bool) (cs : List ℕ) → length fs ≡ length ts → cs ≢ [] → u ≡ with_text a foster cs → gs ≡ fs ++ replicate (length cs) (Text (text_node a foster))
+pub told-text : (ts : List TokenKind) (fs gs : List Fate) (a : Tree) (u : Nodes) (foster : Bool) (cs : List ℕ) → length fs ≡ length ts → map null_replaced cs ≢ [] → u ≡ with_text a foster (map null_replaced cs) → gs ≡ fs ++ replicate (length cs) (Text (text_node a foster))
     → Told ts fs a.tree.labels → Told (ts ++ chars_of cs) gs u.labels
 told-text ts fs gs a u foster cs l some e g w =
     subst (λ hs. Told (ts ++ chars_of cs) hs u.labels) (sym g) (subst (λ ls. Told (ts ++ chars_of cs) (fs ++ replicate (length cs) (Text (text_node a foster))) ls) (sym (ap (λ (z : Nodes). z.labels) e))
@@ -506,11 +544,11 @@ told-text ts fs gs a u foster cs l some e g w =
     ]
 
     by : (o : Option ℕ) → text_before a.tree at ≡ o
-        → Told (ts ++ chars_of cs) (fs ++ replicate (length cs) (Text (node_or_next a.tree (text_before a.tree at)))) (texted_run (tree_or_new a.tree at (text_before a.tree at)) (node_or_next a.tree (text_before a.tree at)) cs).labels
-    by None q = subst (λ o. Told (ts ++ chars_of cs) (fs ++ replicate (length cs) (Text (node_or_next a.tree o))) (texted_run (tree_or_new a.tree at o) (node_or_next a.tree o) cs).labels) (sym q)
-        (subst (λ ls. Told (ts ++ chars_of cs) (fs ++ replicate (length cs) (Text (length a.tree.labels))) (slice_set ls (length a.tree.labels) (with_run (label_in ls (length a.tree.labels)) cs))) (sym (new-labels a.tree at new.Text))
+        → Told (ts ++ chars_of cs) (fs ++ replicate (length cs) (Text (node_or_next a.tree (text_before a.tree at)))) (texted_run (tree_or_new a.tree at (text_before a.tree at)) (node_or_next a.tree (text_before a.tree at)) (map null_replaced cs)).labels
+    by None q = subst (λ o. Told (ts ++ chars_of cs) (fs ++ replicate (length cs) (Text (node_or_next a.tree o))) (texted_run (tree_or_new a.tree at o) (node_or_next a.tree o) (map null_replaced cs)).labels) (sym q)
+        (subst (λ ls. Told (ts ++ chars_of cs) (fs ++ replicate (length cs) (Text (length a.tree.labels))) (slice_set ls (length a.tree.labels) (with_run (label_in ls (length a.tree.labels)) (map null_replaced cs)))) (sym (new-labels a.tree at new.Text))
         (told-new-text ts fs a.tree.labels cs l some w))
-    by (Some x) q = subst (λ o. Told (ts ++ chars_of cs) (fs ++ replicate (length cs) (Text (node_or_next a.tree o))) (texted_run (tree_or_new a.tree at o) (node_or_next a.tree o) cs).labels) (sym q)
+    by (Some x) q = subst (λ o. Told (ts ++ chars_of cs) (fs ++ replicate (length cs) (Text (node_or_next a.tree o))) (texted_run (tree_or_new a.tree at o) (node_or_next a.tree o) (map null_replaced cs)).labels) (sym q)
         (let t = text-there x q in told-run ts fs a.tree.labels x cs l some (within x t) t w)
       where
         text-there : (x : ℕ) → text_before a.tree at ≡ Some x → is_text (label_of a.tree x) ≡ true
@@ -518,7 +556,7 @@ told-text ts fs gs a u foster cs l some e g w =
 
 -- before the first token
 pub told-none : (ls : List NodeData) → ((x : ℕ) (i : ℕ) → origin_in (label_in ls x) ≡ Token i → ⊥) → ((x : ℕ) → is_text (label_in ls x) ≡ false) → ((x : ℕ) → is_clone_in (label_in ls x) ≡ false)
-    → ((x : ℕ) → HasOrigin x [] [] (label_in ls x)) → Told [] [] ls
+    → ((x : ℕ) → HasOrigin x [] [] [] (label_in ls x)) → Told [] [] ls
 told-none ls o t c h = record {
   origins = record { homes = []; merged_into = tt; each = h; clones = λ x k. absurd (false≢true (sym (c x) ∙ k)) };
   made = none-made ls o;
@@ -532,7 +570,7 @@ told-alone t g a n b =
     (λ x i. of-new (λ k. origin_in k ≡ Token i → ⊥) n b d no-token no-token (λ q. absurd (let z : Implied ≡ Token i = sym (element-origin t (name_of g) [] Implied) ∙ q in cc)) x)
     (λ x. of-new (λ k. is_text k ≡ false) n b d refl refl (element-text t (name_of g) [] Implied) x)
     (λ x. of-new (λ k. is_clone_in k ≡ false) n b d refl refl (element-clone t (name_of g) [] Implied) x)
-    (λ x. of-new (λ k. HasOrigin x [] [] k) n b d tt tt (element-has x [] [] t (name_of g) [] Implied (record { name_tag = g; alone = a; name_is = refl; attrs_are = refl })) x)
+    (λ x. of-new (λ k. HasOrigin x [] [] [] k) n b d tt tt (element-has x [] [] [] t (name_of g) [] Implied (record { name_tag = g; alone = a; name_is = refl; attrs_are = refl })) x)
   where
     d : NodeData
     d = label_for t (new.Element (name_of g) [] Implied)

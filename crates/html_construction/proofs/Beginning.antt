@@ -12,15 +12,18 @@ use Rattle.html_arena.specs.declared.data.NodeData.{NodeData}
 use Rattle.html_arena.specs.declared.data.Origin.{Origin}
 use Rattle.html_arena.specs.declared.data.NodeData.TheVariants as node
 use Rattle.html_arena.specs.declared.data.Origin.TheVariants.{Implied, Nothing, Token}
-use Rattle.html_arena.specs.Data.{host_in, is_clone_in, is_text, label_in, name_in, origin_in}
+use Rattle.html_arena.specs.Data.{host_in, is_clone_in, is_text, label_in, name_in, origin_in, tag_in}
 use Rattle.html_arena.specs.Make.{has_contents, label_for, made}
 use Rattle.html_arena.specs.Tree.{Tree as Nodes, empty_tree, parent_of}
 use Rattle.html_ledger.specs.declared.setting.Setting.TheVariants as setting
 use Rattle.html_tree.specs.Inserting.{rest_of}
 use Rattle.html_tree.specs.States.{document_state, fragment_state}
-use Rattle.html_tree.proofs.Inserted.{element-origin, made-labels}
+use Rattle.html_tree.specs.Proper.{opens}
+use Rattle.html_tree.proofs.Inserted.{element-origin, element-tag, made-labels}
+use Rattle.html_tree.proofs.Kept.{host-opens, proper-opened}
 use Rattle.html_construction.specs.Built.{IsRooted}
 use Rattle.html_construction.specs.Origins.{HasOrigin, HasRoot}
+use Rattle.html_construction.specs.Standing.{IsStanding}
 use Rattle.html_construction.proofs.Accounting.{Told, told-alone, told-none}
 use Rattle.html_tree.proofs.Texted.{made-limits}
 
@@ -42,6 +45,17 @@ fragment-rooted l k = λ x h e. elim (first-or-contents (has_contents root) (lab
   | inl q ↦ inl q
   | inr q ↦ inr (inl (q.0, ap (λ ds. host_in (label_in ds x)) (labels l k) ∙ q.1))
 ]
+
+pub fragment-standing : (l : Option Limits) (k : ℕ) → IsStanding (fragment_state l k)
+unfolding tag_of
+fragment-standing l k = record {
+  proper = λ x h. proper-opened (fragment_state l k) x (elim (first-or-contents (has_contents root) (label_for (empty_tree l) root) x (subst (λ ds. x < length ds) (labels l k) h)) [
+    | inl q ↦ ap (λ ds. opens (tag_in (label_in ds x))) (labels l k) ∙ ap (λ y. opens (tag_in (label_in (label_for (empty_tree l) root ∷ rest_of 0 (has_contents root)) y))) q
+        ∙ ap opens (element-tag (empty_tree l) (name_of tag.Html) [] Implied)
+    | inr q ↦ ap (λ ds. opens (tag_in (label_in ds x))) (labels l k) ∙ host-opens (label_in (label_for (empty_tree l) root ∷ rest_of 0 (has_contents root)) x) q.0 q.1
+  ]);
+  framed = λ x e. absurd (let c : None ≡ Some x = e in cc);
+}
 
 element-name : (t : Nodes) (name : List ℕ) (attrs : List Attr) (o : Origin) → name_in (label_for t (new.Element name attrs o)) ≡ name
 element-name t name attrs o = by (is_template (tag_of name)) refl
@@ -77,6 +91,16 @@ fragment-told l k = subst (λ ls. Told [] [] ls) (sym (labels l k)) (told-alone 
 pub document-rooted : (l : Option Limits) (k : ℕ) → IsRooted (document_state l k)
 document-rooted l k = λ x h e. inl (let b : x < 1 = h in omega (arith, b))
 
+pub document-standing : (l : Option Limits) (k : ℕ) → IsStanding (document_state l k)
+document-standing l k = record {
+  proper = λ x h. proper-opened (document_state l k) x (by x);
+  framed = λ x e. absurd (let c : None ≡ Some x = e in cc);
+}
+  where
+    by : (x : ℕ) → opens (tag_in (label_in (node.Document ∷ []) x)) ≡ true
+    by zero = refl
+    by (suc x) = refl
+
 pub document-root : (l : Option Limits) (k : ℕ) → HasRoot setting.Document (document_state l k).tree
 document-root l k = record { some_node = (let b : 0 < 1 = omega arith in b); label = refl; alone = refl }
 
@@ -99,6 +123,6 @@ document-told l k = told-none (node.Document ∷ [])
     no-clone zero = refl
     no-clone (suc x) = refl
 
-    any-origin : (x : ℕ) → HasOrigin x [] [] (label_in (node.Document ∷ []) x)
+    any-origin : (x : ℕ) → HasOrigin x [] [] [] (label_in (node.Document ∷ []) x)
     any-origin zero = tt
     any-origin (suc x) = tt

@@ -2,21 +2,24 @@
 use Rattle.std.proofs.Common.{ℕ, ◌≡◌, ◌<◌, ◌⊎◌, List, [], ◌∷◌, ◌++◌, length, inl, inr, refl, sym, ap, ◌∙◌, arith}
 use Rattle.std.proofs.lemmas.List.{append-nil}
 use Rattle.html_open.specs.Marking.{bare}
-use Rattle.std.specs.Prelude.{Option, Some, None}
+use Rattle.std.specs.Prelude.{Option, Some, None, slice_index}
 use Rattle.html_arena.specs.declared.data.NodeData.{NodeData}
 use Rattle.html_arena.specs.declared.data.NodeData.TheVariants as node
 use Rattle.html_arena.specs.Data.{host_in, name_in, origin_in}
 use Rattle.html_arena.specs.Tree.{Tree as Nodes, detached, host_at, label_of, parent_of}
 use Rattle.html_tokens.specs.declared.token.TokenKind.{TokenKind}
+use Rattle.html_tree.specs.Closing.{bodiless}
 use Rattle.html_tree.specs.States.{State as Tree}
 use Rattle.html_tree.specs.Listing.{HasCloned}
-use Rattle.html_tree.specs.Since.{IsContents, Keeps as TreeKeeps, Since, essence}
+use Rattle.html_tree.specs.Since.{HasFrameset, IsContents, Keeps as TreeKeeps, Since, essence}
+use Rattle.html_tree.proofs.Kept.{frameset-later}
 use Rattle.html_ledger.specs.declared.symbol.Symbol.TheVariants.{Char}
 use Rattle.html_ledger.specs.Symbols.{symbol_of, chars_of as symbol_chars}
 use Rattle.html_ledger.specs.declared.setting.Setting.{Setting}
 use Rattle.html_ledger.specs.declared.setting.Setting.TheVariants as setting
 use Rattle.html_construction.specs.Origins.{HasRoot, IsRootLabel}
 use Rattle.html_construction.specs.Built.{IsRooted, IsSince, chars_of, symbols}
+use Rattle.html_construction.specs.Standing.{IsStanding}
 
 pub symbols-push : (ts : List TokenKind) (t : TokenKind) → symbols (ts ++ t ∷ []) ≡ symbols ts ++ symbol_of t ∷ []
 symbols-push [] t = refl
@@ -43,6 +46,8 @@ Since-same a = record {
   linked = λ x h e. inr (inr (h, e));
   root = λ e. e;
   detached = λ x e. e;
+  replaced = λ x e. inl e;
+  proper = λ x p l. p l;
   steps = omega arith;
 }
 
@@ -75,6 +80,13 @@ free-linked a b x w r (inr (inr p)) = free-later a b x w p.0 (r x p.0 p.1)
 -- what was rooted is rooted still
 pub rooted-since : (a b : Tree) → Since a b → IsRooted a → IsRooted b
 rooted-since a b w r = λ x l e. free-linked a b x w r (w.linked x l e)
+
+-- and what stood stands
+pub standing-keeps : (a b : Tree) → TreeKeeps a b → IsStanding a → IsStanding b
+standing-keeps a b k i = (let w = k a (Since-same a) in record {
+  proper = λ x l. w.proper x (λ h. i.proper x h) l;
+  framed = λ x e. elim (w.replaced x e) [ inl d ↦ frameset-later (HasFrameset b.tree) a b w (i.framed x d) | inr f ↦ f ];
+})
 
 -- what was so since an earlier tree is so still
 pub since-keeps : (o : Option Tree) (a b : Tree) → TreeKeeps a b → IsSince o a → IsSince o b
@@ -155,3 +167,10 @@ as-detached a b x o e = record {
   labels_are = ap (λ (t : Nodes). t.labels) e ∙ detached-labels a.tree x o ∙ sym (append-nil a.tree.labels);
   limits_are = ap (λ (t : Nodes). t.limits) e ∙ detached-limits a.tree x o;
 }
+
+-- what the body leaves stays
+pub bodiless-labels : (a : Tree) → (bodiless a).tree.labels ≡ a.tree.labels
+bodiless-labels a = detached-labels a.tree (slice_index a.stack 1) (parent_of a.tree (slice_index a.stack 1))
+
+pub bodiless-limits : (a : Tree) → (bodiless a).tree.limits ≡ a.tree.limits
+bodiless-limits a = detached-limits a.tree (slice_index a.stack 1) (parent_of a.tree (slice_index a.stack 1))

@@ -171,6 +171,12 @@ pub copied-element : (t u : Nodes) (at : Place) (name : List ℕ) (attrs : List 
     → (most_clones u.labels ≤ most_clones t.labels + 0) × (implied_count u.labels ≤ implied_count t.labels + 0)
 copied-element t u at name attrs k e = copied-new 0 t u at (new.Element name attrs (Token k)) (element-first t name attrs (Token k)) (let a = element-implied t name attrs (Token k) in omega (arith, a)) e
 
+-- the same, where the node was put into another tree of the same labels
+pub copied-moved : (t b u : Nodes) (at : Place) (name : List ℕ) (attrs : List Attr) (k : ℕ) → b.labels ≡ t.labels → u ≡ with_new b at (new.Element name attrs (Token k))
+    → (most_clones u.labels ≤ most_clones t.labels + 0) × (implied_count u.labels ≤ implied_count t.labels + 0)
+copied-moved t b u at name attrs k e f =
+    subst (λ (ls : List NodeData). (most_clones u.labels ≤ most_clones ls + 0) × (implied_count u.labels ≤ implied_count ls + 0)) e (copied-element b u at name attrs k f)
+
 pub copied-comment : (t u : Nodes) (at : Place) (text : List ℕ) (k : ℕ) → u ≡ with_new t at (new.Comment text k)
     → (most_clones u.labels ≤ most_clones t.labels + 0) × (implied_count u.labels ≤ implied_count t.labels + 0)
 copied-comment t u at text k e = copied-new 0 t u at (new.Comment text k) refl (omega arith) e

@@ -1,12 +1,16 @@
 -- What calls of the tree and of the ledger are to the whole.
 use Rattle.std.specs.List.{list_all}
 use Rattle.std.specs.Bool.{IsTrue}
-use Rattle.std.proofs.lemmas.Bool.{false≢true}
+use Rattle.std.proofs.lemmas.Bool.{cond-false, false≢true}
 use Rattle.std.proofs.lemmas.List.{append-nil}
 use Rattle.std.proofs.lemmas.List.Folds.{list_all-append}
-use Rattle.std.proofs.Common.{ℕ, zero, suc, ◌&&◌, not, take, append_assoc, ◌≡◌, ◌+◌, ◌<◌, ◌≤◌, Bool, true, false, List, [], ◌∷◌, ◌++◌, length, refl, sym, ap, subst, ◌∙◌, arith, Option, None, Some, ◌≢◌, replicate}
+use Rattle.std.proofs.Common.{ℕ, zero, suc, ◌==◌, ◌&&◌, not, take, append_assoc, ◌≡◌, ◌+◌, ◌<◌, ◌≤◌, Bool, true, false, List, [], ◌∷◌, ◌++◌, length, map, refl, sym, ap, subst, ◌∙◌, arith, Option, None, Some, ◌≢◌, replicate}
 use Rattle.html_names.specs.declared.tag.Tag.{Tag}
+use Rattle.html_names.specs.declared.foreign.Space.{Space}
+use Rattle.html_names.specs.Foreign.{is_html_space}
 use Rattle.html_names.specs.Sets.{is_formatting}
+use Rattle.html_tokens.specs.Cut.{null_replaced}
+use Rattle.html_ledger.proofs.Texted.{none-replaced}
 use Rattle.html_tokens.specs.declared.attributes.Attr.{Attr}
 use Rattle.html_tokens.specs.declared.token.TokenKind.{TokenKind}
 use Rattle.html_tree.specs.declared.groups.Group.{Group}
@@ -33,7 +37,7 @@ use Rattle.html_construction.specs.declared.mode.Mode.{Mode}
 use Rattle.html_arena.specs.declared.arena.Limits.{Limits}
 use Rattle.html_ledger.specs.declared.setting.Setting.TheVariants as setting
 use Rattle.html_construction.specs.Origins.{HasRoot, is_made_alone}
-use Rattle.html_construction.proofs.Beginning.{document-root, document-rooted, document-told, fragment-limits, fragment-root, fragment-rooted, fragment-told}
+use Rattle.html_construction.proofs.Beginning.{document-root, document-rooted, document-standing, document-told, fragment-limits, fragment-root, fragment-rooted, fragment-standing, fragment-told}
 use Rattle.html_tree.proofs.Texted.{new-limits}
 use Rattle.html_construction.specs.Begun.{Begun, IsInCall, drops_in, gives_in}
 use Rattle.html_construction.specs.Built.{Begins, BeginsWith, Handed, IsBuilt, IsRooted, nothing_of, Keeps, Releases, Takes, TakesRun, chars_of, in_call, since_tree, symbols, with_tokens}
@@ -46,12 +50,13 @@ use Rattle.html_arena.specs.declared.data.Origin.TheVariants.{Token}
 use Rattle.html_arena.specs.Data.{tag_in}
 use Rattle.html_arena.specs.Make.{label_for}
 use Rattle.html_open.specs.Marking.{bare}
-use Rattle.html_ledger.specs.declared.fate.Fate.TheVariants.{Dropped, Ended, Made, Merged, Text}
+use Rattle.html_ledger.specs.declared.fate.Fate.TheVariants.{Dropped, Ended, Foreign, Made, Merged, Text}
 use Rattle.html_tree.specs.Texts.{text_node, with_text}
-use Rattle.html_construction.specs.Tokens.{attrs_of, data_of, element_name, name_id, public_id, system_id}
-use Rattle.html_construction.proofs.Accounting.{IsNext, Told, fed-most, fed-none, fed-same, next-comment, next-doctype, next-element, told-besides, told-clones, told-implied, told-kept, told-merged, told-next, told-released, told-text}
+use Rattle.html_construction.specs.Tokens.{attrs_of, data_of, element_name, foreign_attrs, foreign_name, name_id, public_id, system_id, tag_name}
+use Rattle.html_construction.proofs.Accounting.{IsNext, Told, fate_for, fed-most, fed-none, fed-same, next-comment, next-doctype, next-element, next-foreign, told-besides, told-clones, told-implied, told-kept, told-merged, told-next, told-released, told-text}
 use Rattle.html_construction.proofs.Weighing.{same-tag, group-weighs, weight-le, weight-less, weight_of-formatting}
-use Rattle.html_construction.proofs.Building.{Since-same, root-keeps, rooted-keeps, since-keeps, symbols-append, symbols-chars, symbols-push}
+use Rattle.html_construction.specs.Standing.{IsStanding}
+use Rattle.html_construction.proofs.Building.{Since-same, root-keeps, rooted-keeps, since-keeps, standing-keeps, symbols-append, symbols-chars, symbols-push}
 
 -- both of two tests
 both : (a b : Bool) → (a && b) ≡ true → (a ≡ true) × (b ≡ true)
@@ -114,6 +119,9 @@ gives-text m a b d e = record { more = Text d ∷ []; fates_are = e; given = ref
 pub gives-merged : (m : Mode) (a b : Entries) → b.fates ≡ a.fates ++ Merged ∷ [] → Gives m a b
 gives-merged m a b e = record { more = Merged ∷ []; fates_are = e; given = refl }
 
+pub gives-foreign : (m : Mode) (n g : State) (y : Symbol) (d : ℕ) → HasFate y (Foreign d) n g → Gives m n.ledger g.ledger
+gives-foreign m n g y d h = record { more = Foreign d ∷ []; fates_are = ap (λ (x : Entries). x.fates) h.ledger_is; given = refl }
+
 pub gives-made : (m : Mode) (n g : State) (y : Symbol) (d : ℕ) → HasFate y (Made d) n g → Gives m n.ledger g.ledger
 gives-made m n g y d h = record { more = Made d ∷ []; fates_are = ap (λ (x : Entries). x.fates) h.ledger_is; given = refl }
 
@@ -140,6 +148,7 @@ begins v n z d k e f = λ h w. subst (λ x. IsBuilt (in_call h n) x) (sym (f ∙
   fed = w.fed;
   known = w.known;
   rooted = w.rooted;
+  standing = w.standing;
   limits = w.limits;
   root = w.root;
   origins = w.origins;
@@ -155,6 +164,7 @@ begun-document l k a e d = record {
   fed = d;
   known = (a.ledger.fates, refl);
   rooted = subst IsRooted (sym e) (document-rooted l k);
+  standing = subst IsStanding (sym e) (document-standing l k);
   limits = ap (λ (t : Tree). t.tree.limits) e;
   root = subst (λ (t : Tree). HasRoot setting.Document t.tree) (sym e) (document-root l k);
   origins = told.origins;
@@ -173,6 +183,7 @@ begun-fragment g f l k a e d = record {
   fed = d;
   known = (a.ledger.fates, refl);
   rooted = subst IsRooted (sym e) (fragment-rooted l k);
+  standing = subst IsStanding (sym e) (fragment-standing l k);
   limits = ap (λ (t : Tree). t.tree.limits) e ∙ fragment-limits l k;
   root = subst (λ (t : Tree). HasRoot (setting.Fragment g f) t.tree) (sym e) (fragment-root g f l k);
   origins = told.origins;
@@ -219,6 +230,7 @@ told-idle v z t f i k e q = record {
     by (Dropped c) i ts l w = told-besides ts t v.ledger.fates (Dropped c) v.tree.tree.labels l refl refl (λ z. absurd (let r : Dropped c ≡ Merged = z in cc)) w
     by Ended i ts l w = told-besides ts t v.ledger.fates Ended v.tree.tree.labels l refl refl (λ z. absurd (let r : Ended ≡ Merged = z in cc)) w
     by (Made d) i ts l w = absurd (false≢true i)
+    by (Foreign d) i ts l w = absurd (false≢true i)
     by (Text d) i ts l w = absurd (false≢true i)
     by Merged i ts l w = absurd (false≢true i)
 
@@ -261,11 +273,21 @@ taken-some zero cs h l = absurd (omega arith)
 taken-some (suc n) [] h l = absurd (omega arith)
 taken-some (suc n) (c ∷ cs) h l = omega arith
 
-pub told-run-text : (v z : State) (foster : Bool) (n : ℕ) (cs : List ℕ) → 0 < n → n ≤ length cs → v.ledger.kept ≡ [] → z.tree.tree ≡ with_text v.tree foster (take n cs)
+replaced-some : (cs : List ℕ) → cs ≢ [] → map null_replaced cs ≢ []
+replaced-some [] n e = n refl
+replaced-some (c ∷ cs) n e = absurd (let k = e in cc)
+
+taken-all : (p : ℕ → Bool) (n : ℕ) (cs : List ℕ) → list_all p cs ≡ true → list_all p (take n cs) ≡ true
+taken-all p zero cs h = refl
+taken-all p (suc n) [] h = refl
+taken-all p (suc n) (c ∷ cs) h = let b = both (p c) (list_all p cs) h in and (p c) (list_all p (take n cs)) b.0 (taken-all p n cs b.1)
+
+pub told-run-text : (v z : State) (foster : Bool) (n : ℕ) (cs : List ℕ) → 0 < n → n ≤ length cs → list_all is_not_null cs ≡ true → v.ledger.kept ≡ [] → z.tree.tree ≡ with_text v.tree foster (take n cs)
     → z.ledger ≡ given_run v.ledger (take n cs) (Text (text_node v.tree foster)) → Tells (chars_of (take n cs)) v z
-told-run-text v z foster n cs a b k q e = record {
+told-run-text v z foster n cs a b f k q e = record {
   told = λ h d w.
-      told-text h.tokens v.ledger.fates z.ledger.fates v.tree z.tree.tree foster (take n cs) (fed-same h.setting v.ledger h.tokens k d) (some-run (take n cs) (taken-some n cs a b)) q
+      told-text h.tokens v.ledger.fates z.ledger.fates v.tree z.tree.tree foster (take n cs) (fed-same h.setting v.ledger h.tokens k d) (replaced-some (take n cs) (some-run (take n cs) (taken-some n cs a b)))
+      (q ∙ ap (λ rs. with_text v.tree foster rs) (sym (none-replaced (take n cs) (taken-all is_not_null n cs f))))
       (ap (λ (x : Entries). x.fates) e ∙ run-given v.ledger (take n cs) (Text (text_node v.tree foster))) w;
 }
 
@@ -277,47 +299,82 @@ one-taken : (n c : ℕ) → 0 < n → take n (c ∷ []) ≡ c ∷ []
 one-taken zero c h = absurd (let k : 0 < 0 = h in omega arith)
 one-taken (suc n) c h = ap (λ (ds : List ℕ). c ∷ ds) (taken-none n)
 
-pub told-char : (v z : State) (foster : Bool) (t : TokenKind) (n c : ℕ) (run : List ℕ) → symbol_of t ≡ Char c → run ≡ c ∷ [] → 0 < n → v.ledger.kept ≡ [] → z.tree.tree ≡ with_text v.tree foster (take n run)
+pub run-visible : (h : History) (cs : List ℕ) → IsTrue (may_text_run h cs) → list_all is_not_null cs ≡ true
+run-visible h cs e = (both (list_all is_not_null cs) (is_free_run h cs) (both (not h.awaits_doctype) (list_all is_not_null cs && is_free_run h cs) e).1).0
+
+pub visible-run : (c : ℕ) (run : List ℕ) → (c == 0) ≡ false → run ≡ c ∷ [] → run ≡ null_replaced c ∷ []
+visible-run c run n e = e ∙ ap (λ d. d ∷ []) (sym (cond-false (c == 0) 65533 c n))
+
+pub told-char : (v z : State) (foster : Bool) (t : TokenKind) (n c : ℕ) (run : List ℕ) → symbol_of t ≡ Char c → run ≡ null_replaced c ∷ [] → 0 < n → v.ledger.kept ≡ [] → z.tree.tree ≡ with_text v.tree foster (take n run)
     → z.ledger ≡ given v.ledger (Char c) (Text (text_node v.tree foster)) → Tells (t ∷ []) v z
 told-char v z foster t n c run s r a k q e = record {
   told = λ h d w.
       subst (λ u. Told (h.tokens ++ u ∷ []) z.ledger.fates z.tree.tree.labels) (sym (char-is t c s))
-      (told-text h.tokens v.ledger.fates z.ledger.fates v.tree z.tree.tree foster (c ∷ []) (fed-same h.setting v.ledger h.tokens k d) (some-run (c ∷ []) (omega arith))
-      (q ∙ ap (λ ds. with_text v.tree foster (take n ds)) r ∙ ap (λ ds. with_text v.tree foster ds) (one-taken n c a)) (ap (λ (x : Entries). x.fates) e) w);
+      (told-text h.tokens v.ledger.fates z.ledger.fates v.tree z.tree.tree foster (c ∷ []) (fed-same h.setting v.ledger h.tokens k d) (replaced-some (c ∷ []) (some-run (c ∷ []) (omega arith)))
+      (q ∙ ap (λ ds. with_text v.tree foster (take n ds)) r ∙ ap (λ ds. with_text v.tree foster ds) (one-taken n (null_replaced c) a)) (ap (λ (x : Entries). x.fates) e) w);
 }
 
 -- the next node was made of the token
-pub told-made : (n g v z : State) (t : TokenKind) (y : Symbol) (at : Place) (d : NewNode) → v ≡ g → g ≡ record n { ledger = g.ledger } → z.ledger ≡ v.ledger → HasFate y (Made (length n.tree.tree.labels)) n g → n.ledger.kept ≡ []
-    → ((ts : List TokenKind) → number_of n.ledger ≡ length ts → IsNext (label_for v.tree.tree d) (ts ++ t ∷ []) (number_of n.ledger)) → z.tree.tree ≡ with_new v.tree.tree at d → Tells (t ∷ []) n z
-told-made n g v z t y at d e r p f k i q = record {
+pub told-node : (b : Bool) (n g v z : State) (t : TokenKind) (y : Symbol) (at : Place) (d : NewNode) → v ≡ g → g ≡ record n { ledger = g.ledger } → z.ledger ≡ v.ledger → HasFate y (fate_for b (length n.tree.tree.labels)) n g → n.ledger.kept ≡ []
+    → ((ts : List TokenKind) → number_of n.ledger ≡ length ts → IsNext b (label_for v.tree.tree d) (ts ++ t ∷ []) (number_of n.ledger)) → z.tree.tree ≡ with_new v.tree.tree at d → Tells (t ∷ []) n z
+told-node c n g v z t y at d e r p f k i q = record {
   told = λ h b w.
       let l : length n.ledger.fates ≡ length h.tokens = fed-same h.setting n.ledger h.tokens k b in
       let same : v.tree.tree ≡ n.tree.tree = ap (λ (x : State). x.tree.tree) e ∙ ap (λ (x : State). x.tree.tree) r in
-      let fates : z.ledger.fates ≡ n.ledger.fates ++ Made (length v.tree.tree.labels) ∷ [] =
-      ap (λ (x : Entries). x.fates) (p ∙ ap (λ (x : State). x.ledger) e) ∙ ap (λ (x : Entries). x.fates) f.ledger_is ∙ ap (λ (b : Nodes). n.ledger.fates ++ Made (length b.labels) ∷ []) (sym same) in
+      let fates : z.ledger.fates ≡ n.ledger.fates ++ fate_for c (length v.tree.tree.labels) ∷ [] =
+      ap (λ (x : Entries). x.fates) (p ∙ ap (λ (x : State). x.ledger) e) ∙ ap (λ (x : Entries). x.fates) f.ledger_is ∙ ap (λ (b : Nodes). n.ledger.fates ++ fate_for c (length b.labels) ∷ []) (sym same) in
       subst (λ fs. Told (h.tokens ++ t ∷ []) fs z.tree.tree.labels) (sym fates)
-      (told-next h.tokens t n.ledger.fates v.tree.tree z.tree.tree at d l (i h.tokens l) q (subst (λ (b : Nodes). Told h.tokens n.ledger.fates b.labels) (sym same) w));
+      (told-next c h.tokens t n.ledger.fates v.tree.tree z.tree.tree at d l (i h.tokens l) q (subst (λ (b : Nodes). Told h.tokens n.ledger.fates b.labels) (sym same) w));
 }
 
-pub made-element : (b : Nodes) (t : TokenKind) (g : Tag) (name : List ℕ) (own : List Attr) (k m : ℕ) → symbol_of t ≡ Start g → name ≡ element_name g t → own ≡ attrs_of t → k ≡ m
-    → (ts : List TokenKind) → m ≡ length ts → IsNext (label_for b (new.Element name own (Token k))) (ts ++ t ∷ []) m
-made-element b t g name own k m s e f i ts l =
-    subst (λ j. IsNext (label_for b (new.Element name own (Token j))) (ts ++ t ∷ []) m) (sym i)
-    (subst (λ ds. IsNext (label_for b (new.Element ds own (Token m))) (ts ++ t ∷ []) m) (sym e)
-    (subst (λ ds. IsNext (label_for b (new.Element (element_name g t) ds (Token m))) (ts ++ t ∷ []) m) (sym f) (next-element b ts t g m l s)))
+-- the same, where the node was put into another tree of the same labels
+pub told-moved : (n g v z : State) (u : Nodes) (t : TokenKind) (y : Symbol) (at : Place) (d : NewNode) → v ≡ g → g ≡ record n { ledger = g.ledger } → z.ledger ≡ v.ledger → HasFate y (Made (length n.tree.tree.labels)) n g → n.ledger.kept ≡ []
+    → u.labels ≡ v.tree.tree.labels → ((ts : List TokenKind) → number_of n.ledger ≡ length ts → IsNext false (label_for u d) (ts ++ t ∷ []) (number_of n.ledger)) → z.tree.tree ≡ with_new u at d → Tells (t ∷ []) n z
+told-moved n g v z u t y at d e r p f k j i q = record {
+  told = λ h b w.
+      let l : length n.ledger.fates ≡ length h.tokens = fed-same h.setting n.ledger h.tokens k b in
+      let same : u.labels ≡ n.tree.tree.labels = j ∙ ap (λ (x : State). x.tree.tree.labels) e ∙ ap (λ (x : State). x.tree.tree.labels) r in
+      let fates : z.ledger.fates ≡ n.ledger.fates ++ Made (length u.labels) ∷ [] =
+      ap (λ (x : Entries). x.fates) (p ∙ ap (λ (x : State). x.ledger) e) ∙ ap (λ (x : Entries). x.fates) f.ledger_is ∙ ap (λ ls. n.ledger.fates ++ Made (length ls) ∷ []) (sym same) in
+      subst (λ fs. Told (h.tokens ++ t ∷ []) fs z.tree.tree.labels) (sym fates)
+      (told-next false h.tokens t n.ledger.fates u z.tree.tree at d l (i h.tokens l) q (subst (λ ls. Told h.tokens n.ledger.fates ls) (sym same) w));
+}
 
-pub made-comment : (b : Nodes) (t : TokenKind) (text : List ℕ) (k m : ℕ) → symbol_of t ≡ Comment → text ≡ data_of t → k ≡ m → (ts : List TokenKind) → m ≡ length ts → IsNext (label_for b (new.Comment text k)) (ts ++ t ∷ []) m
+pub told-made : (n g v z : State) (t : TokenKind) (y : Symbol) (at : Place) (d : NewNode) → v ≡ g → g ≡ record n { ledger = g.ledger } → z.ledger ≡ v.ledger → HasFate y (Made (length n.tree.tree.labels)) n g → n.ledger.kept ≡ []
+    → ((ts : List TokenKind) → number_of n.ledger ≡ length ts → IsNext false (label_for v.tree.tree d) (ts ++ t ∷ []) (number_of n.ledger)) → z.tree.tree ≡ with_new v.tree.tree at d → Tells (t ∷ []) n z
+told-made n g v z t y at d e r p f k i q = told-node false n g v z t y at d e r p f k i q
+
+-- an element of foreign content
+pub told-foreign : (n g v z : State) (t : TokenKind) (y : Symbol) (at : Place) (d : NewNode) → v ≡ g → g ≡ record n { ledger = g.ledger } → z.ledger ≡ v.ledger → HasFate y (Foreign (length n.tree.tree.labels)) n g → n.ledger.kept ≡ []
+    → ((ts : List TokenKind) → number_of n.ledger ≡ length ts → IsNext true (label_for v.tree.tree d) (ts ++ t ∷ []) (number_of n.ledger)) → z.tree.tree ≡ with_new v.tree.tree at d → Tells (t ∷ []) n z
+told-foreign n g v z t y at d e r p f k i q = told-node true n g v z t y at d e r p f k i q
+
+pub made-element : (b : Nodes) (t : TokenKind) (g : Tag) (name : List ℕ) (own : List Attr) (k m : ℕ) → symbol_of t ≡ Start g → name ≡ element_name g t → own ≡ attrs_of t → k ≡ m
+    → (ts : List TokenKind) → m ≡ length ts → IsNext false (label_for b (new.Element name own (Token k))) (ts ++ t ∷ []) m
+made-element b t g name own k m s e f i ts l =
+    subst (λ j. IsNext false (label_for b (new.Element name own (Token j))) (ts ++ t ∷ []) m) (sym i)
+    (subst (λ ds. IsNext false (label_for b (new.Element ds own (Token m))) (ts ++ t ∷ []) m) (sym e)
+    (subst (λ ds. IsNext false (label_for b (new.Element (element_name g t) ds (Token m))) (ts ++ t ∷ []) m) (sym f) (next-element b ts t g m l s)))
+
+pub made-foreign : (b : Nodes) (t : TokenKind) (g : Tag) (s : Space) (name : List ℕ) (own : List Attr) (k m : ℕ) → symbol_of t ≡ Start g → is_html_space s ≡ false → name ≡ foreign_name s (tag_name t) → own ≡ foreign_attrs s (attrs_of t) → k ≡ m
+    → (ts : List TokenKind) → m ≡ length ts → IsNext true (label_for b (new.Element name own (Token k))) (ts ++ t ∷ []) m
+made-foreign b t g s name own k m e o p f i ts l =
+    subst (λ j. IsNext true (label_for b (new.Element name own (Token j))) (ts ++ t ∷ []) m) (sym i)
+    (subst (λ ds. IsNext true (label_for b (new.Element ds own (Token m))) (ts ++ t ∷ []) m) (sym p)
+    (subst (λ ds. IsNext true (label_for b (new.Element (foreign_name s (tag_name t)) ds (Token m))) (ts ++ t ∷ []) m) (sym f) (next-foreign b ts t g s m l e o)))
+
+pub made-comment : (b : Nodes) (t : TokenKind) (text : List ℕ) (k m : ℕ) → symbol_of t ≡ Comment → text ≡ data_of t → k ≡ m → (ts : List TokenKind) → m ≡ length ts → IsNext false (label_for b (new.Comment text k)) (ts ++ t ∷ []) m
 made-comment b t text k m s e i ts l =
-    subst (λ j. IsNext (label_for b (new.Comment text j)) (ts ++ t ∷ []) m) (sym i)
-    (subst (λ ds. IsNext (label_for b (new.Comment ds m)) (ts ++ t ∷ []) m) (sym e) (next-comment b ts t m l s))
+    subst (λ j. IsNext false (label_for b (new.Comment text j)) (ts ++ t ∷ []) m) (sym i)
+    (subst (λ ds. IsNext false (label_for b (new.Comment ds m)) (ts ++ t ∷ []) m) (sym e) (next-comment b ts t m l s))
 
 pub made-doctype : (b : Nodes) (t : TokenKind) (x y z : Option (List ℕ)) (k m : ℕ) → symbol_of t ≡ Doctype → x ≡ name_id t → y ≡ public_id t → z ≡ system_id t → k ≡ m
-    → (ts : List TokenKind) → m ≡ length ts → IsNext (label_for b (new.Doctype x y z k)) (ts ++ t ∷ []) m
+    → (ts : List TokenKind) → m ≡ length ts → IsNext false (label_for b (new.Doctype x y z k)) (ts ++ t ∷ []) m
 made-doctype b t x y z k m s e f g i ts l =
-    subst (λ j. IsNext (label_for b (new.Doctype x y z j)) (ts ++ t ∷ []) m) (sym i)
-    (subst (λ d. IsNext (label_for b (new.Doctype d y z m)) (ts ++ t ∷ []) m) (sym e)
-    (subst (λ d. IsNext (label_for b (new.Doctype (name_id t) d z m)) (ts ++ t ∷ []) m) (sym f)
-    (subst (λ d. IsNext (label_for b (new.Doctype (name_id t) (public_id t) d m)) (ts ++ t ∷ []) m) (sym g) (next-doctype b ts t m l s))))
+    subst (λ j. IsNext false (label_for b (new.Doctype x y z j)) (ts ++ t ∷ []) m) (sym i)
+    (subst (λ d. IsNext false (label_for b (new.Doctype d y z m)) (ts ++ t ∷ []) m) (sym e)
+    (subst (λ d. IsNext false (label_for b (new.Doctype (name_id t) d z m)) (ts ++ t ∷ []) m) (sym f)
+    (subst (λ d. IsNext false (label_for b (new.Doctype (name_id t) (public_id t) d m)) (ts ++ t ∷ []) m) (sym g) (next-doctype b ts t m l s))))
 
 -- the tree changed, and the ledger did not
 pub kept : (v n z : State) → v ≡ n → z.ledger ≡ v.ledger → z.began ≡ v.began → TreeKeeps v.tree z.tree → HasCloned v.tree z.tree → Keeps n z
@@ -326,6 +383,7 @@ kept v n z e f b k c = λ h w.
       fed = subst (λ l. Fed h.setting l (symbols h.tokens)) (sym f) u.fed;
       known = subst (λ (l : Entries). BeginsWith h.known l.fates) (sym f) u.known;
       rooted = rooted-keeps v.tree z.tree k u.rooted;
+      standing = standing-keeps v.tree z.tree k u.standing;
       limits = c.limits_are ∙ u.limits;
       root = root-keeps h.setting v.tree z.tree k u.root;
       origins = (all h u).origins;
@@ -345,6 +403,7 @@ implied v n z at g e f b k q a = λ h w.
       fed = subst (λ l. Fed h.setting l (symbols h.tokens)) (sym f) u.fed;
       known = subst (λ (l : Entries). BeginsWith h.known l.fates) (sym f) u.known;
       rooted = rooted-keeps v.tree z.tree k u.rooted;
+      standing = standing-keeps v.tree z.tree k u.standing;
       limits = ap (λ (t : Nodes). t.limits) q ∙ new-limits v.tree.tree at (implied_of g) ∙ u.limits;
       root = root-keeps h.setting v.tree z.tree k u.root;
       origins = (all h u).origins;
@@ -364,6 +423,7 @@ built-since h a w = record {
   fed = w.fed;
   known = w.known;
   rooted = w.rooted;
+  standing = w.standing;
   limits = w.limits;
   root = w.root;
   origins = w.origins;
@@ -381,6 +441,7 @@ taken v n z t y e f g m k l x b = λ h w.
       fed = subst (λ us. Fed h.setting z.ledger us) (sym (symbols-push h.tokens t ∙ ap (λ x. symbols h.tokens ++ x ∷ []) f)) (g h.setting (symbols h.tokens) u.fed);
       known = longer h.known v.ledger.fates m.more z.ledger.fates m.fates_are u.known;
       rooted = rooted-keeps v.tree z.tree k u.rooted;
+      standing = standing-keeps v.tree z.tree k u.standing;
       limits = l ∙ u.limits;
       root = root-keeps h.setting v.tree z.tree k u.root;
       origins = (x.told h u.fed (told-built h v u)).origins;
@@ -398,6 +459,7 @@ taken-run v n z cs e g m k l x b = λ h w.
       fed = subst (λ us. Fed h.setting z.ledger us) (sym (symbols-append h.tokens (chars_of cs) ∙ ap (λ x. symbols h.tokens ++ x) (symbols-chars cs))) (g h.setting (symbols h.tokens) u.fed);
       known = longer h.known v.ledger.fates m.more z.ledger.fates m.fates_are u.known;
       rooted = rooted-keeps v.tree z.tree k u.rooted;
+      standing = standing-keeps v.tree z.tree k u.standing;
       limits = l ∙ u.limits;
       root = root-keeps h.setting v.tree z.tree k u.root;
       origins = (x.told h u.fed (told-built h v u)).origins;
@@ -436,6 +498,16 @@ taken-made v g n z t y e r p b f k q j at d l x =
     (subst (λ m. Gives n.began n.ledger m) (sym (p ∙ ap (λ (x : State). x.ledger) e)) q)
     (subst (λ x. TreeKeeps x z.tree) (ap (λ (x : State). x.tree) e ∙ ap (λ (x : State). x.tree) r) j)
     (ap (λ (t : Nodes). t.limits) l ∙ new-limits v.tree.tree at d ∙ ap (λ (x : State). x.tree.tree.limits) e ∙ ap (λ (x : State). x.tree.tree.limits) r)
+    x (b ∙ ap (λ (x : State). x.began) e ∙ ap (λ (x : State). x.began) r)
+
+-- the same, where the node was put into another tree of the same limits
+pub taken-moved : (v g n z : State) (t : TokenKind) (y : Symbol) → v ≡ g → g ≡ record n { ledger = g.ledger } → z.ledger ≡ v.ledger → z.began ≡ v.began → symbol_of t ≡ y → LedgerTakes y n.ledger g.ledger → Gives n.began n.ledger g.ledger → TreeKeeps v.tree z.tree → z.tree.tree.limits ≡ v.tree.tree.limits → Tells (t ∷ []) n z → Takes t n z
+taken-moved v g n z t y e r p b f k q j l x =
+    taken n n z t y refl f
+    (subst (λ m. LedgerTakes y n.ledger m) (sym (p ∙ ap (λ (x : State). x.ledger) e)) k)
+    (subst (λ m. Gives n.began n.ledger m) (sym (p ∙ ap (λ (x : State). x.ledger) e)) q)
+    (subst (λ x. TreeKeeps x z.tree) (ap (λ (x : State). x.tree) e ∙ ap (λ (x : State). x.tree) r) j)
+    (l ∙ ap (λ (x : State). x.tree.tree.limits) e ∙ ap (λ (x : State). x.tree.tree.limits) r)
     x (b ∙ ap (λ (x : State). x.began) e ∙ ap (λ (x : State). x.began) r)
 
 -- formatting elements were opened anew
@@ -515,6 +587,7 @@ released v n z cs e i r m k = λ h w.
           fed = d;
           known = subst (λ fs. BeginsWith h.known fs) (sym m) u.known;
           rooted = u.rooted;
+          standing = u.standing;
           limits = u.limits;
           root = u.root;
           origins = y.origins;

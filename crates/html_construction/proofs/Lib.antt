@@ -15,3 +15,5 @@ pub mod Results
 pub mod Weighing
 pub mod Working
 pub mod Seats
+pub mod Lengths
+pub mod Opening

@@ -1,16 +1,13 @@
 -- The nodes that tokens made, after more tokens and with more nodes.
-use Rattle.std.proofs.Common.{ℕ, zero, suc, ◌-◌, ◌≡◌, ◌<◌, ◌≤◌, ◌⊎◌, true, false, List, [], ◌∷◌, ◌++◌, length, length-append, Some, inl, inr, sym, ap, subst, ◌∙◌, arith}
+use Rattle.std.proofs.Common.{ℕ, zero, suc, ◌-◌, ◌≡◌, ◌<◌, ◌≤◌, ◌⊎◌, true, false, List, [], ◌∷◌, ◌++◌, length, length-append, None, Some, inl, inr, refl, sym, ap, subst, ◌∙◌, arith}
 use Rattle.std.proofs.lemmas.Bool.{false≢true}
-use Rattle.std.specs.Prelude.{slice_get}
-use Rattle.std.proofs.lemmas.Option.{slice_get_within}
 use Rattle.html_arena.specs.declared.data.NodeData.{NodeData}
 use Rattle.html_arena.specs.declared.data.Origin.TheVariants.{Token, Nothing}
 use Rattle.html_arena.specs.Data.{is_clone_in, label_in, origin_in}
 use Rattle.html_ledger.specs.declared.fate.Fate.{Fate}
-use Rattle.html_ledger.specs.declared.fate.Fate.TheVariants.{Made}
-use Rattle.html_ledger.specs.Fates.{is_made}
-use Rattle.html_construction.specs.Accounts.{AreMade}
-use Rattle.html_construction.proofs.Labels.{get-at-end, get-last, get-longer, label-new, label-old, order}
+use Rattle.html_ledger.specs.Fates.{node_of}
+use Rattle.html_construction.specs.Accounts.{AreMade, made_at}
+use Rattle.html_construction.proofs.Labels.{label-new, label-old, order}
 
 no-token : {i : ℕ} → Nothing ≡ Token i → ⊥
 no-token e = absurd (let q : Nothing ≡ Token _ = e in cc)
@@ -18,8 +15,35 @@ no-token e = absurd (let q : Nothing ≡ Token _ = e in cc)
 token-is : {i j : ℕ} → Token i ≡ Token j → i ≡ j
 token-is e = let q : Token _ ≡ Token _ = e in cc
 
-made-is : {d e : ℕ} → Made d ≡ Made e → d ≡ e
-made-is e = let q : Made _ ≡ Made _ = e in cc
+made-is : {d e : ℕ} → Some d ≡ Some e → d ≡ e
+made-is e = let q : Some _ ≡ Some _ = e in cc
+
+-- of more fates
+pub made-within : (fs : List Fate) (i d : ℕ) → made_at fs i ≡ Some d → i < length fs
+made-within [] i d e = absurd (let k = e in cc)
+made-within (f ∷ fs) zero d e = omega arith
+made-within (f ∷ fs) (suc i) d e = let h = made-within fs i d e in omega (arith, h)
+
+pub made-longer : (fs gs : List Fate) (i d : ℕ) → made_at fs i ≡ Some d → made_at (fs ++ gs) i ≡ Some d
+made-longer [] gs i d e = absurd (let k = e in cc)
+made-longer (f ∷ fs) gs zero d e = e
+made-longer (f ∷ fs) gs (suc i) d e = made-longer fs gs i d e
+
+pub made-last : (fs : List Fate) (f : Fate) (i d : ℕ) → made_at (fs ++ f ∷ []) i ≡ Some d → (made_at fs i ≡ Some d) ⊎ ((i ≡ length fs) × (node_of f ≡ Some d))
+made-last [] f zero d e = inr (refl, e)
+made-last [] f (suc i) d e = absurd (let k = e in cc)
+made-last (g ∷ fs) f zero d e = inl e
+made-last (g ∷ fs) f (suc i) d e = elim (made-last fs f i d e) [
+  | inl q ↦ inl q
+  | inr q ↦ inr (ap suc q.0, q.1)
+]
+
+pub made-end : (fs : List Fate) (f : Fate) → made_at (fs ++ f ∷ []) (length fs) ≡ node_of f
+made-end [] f = refl
+made-end (g ∷ fs) f = made-end fs f
+
+none-some : {d : ℕ} → None ≡ Some d → ⊥
+none-some e = absurd (let q : None ≡ Some _ = e in cc)
 
 -- no node comes from a token
 pub none-made : (ls : List NodeData) → ((x : ℕ) (i : ℕ) → origin_in (label_in ls x) ≡ Token i → ⊥) → AreMade [] ls
@@ -32,19 +56,19 @@ none-made ls h = record {
 }
 
 -- a token with a fate that makes no node
-pub made-besides : (fs : List Fate) (f : Fate) (ls : List NodeData) → is_made f ≡ false → AreMade fs ls → AreMade (fs ++ f ∷ []) ls
+pub made-besides : (fs : List Fate) (f : Fate) (ls : List NodeData) → node_of f ≡ None → AreMade fs ls → AreMade (fs ++ f ∷ []) ls
 made-besides fs f ls n m = record {
   made_in = λ i d e. m.made_in i d (back i d e);
   made = λ i d e. m.made i d (back i d e);
   made_first = λ i d e. m.made_first i d (back i d e);
   made_once = λ i d x e o c. m.made_once i d x (back i d e) o c;
-  of_made = λ i x o. let p = m.of_made i x o in (p.0, get-longer fs (f ∷ []) i (Made p.0) p.1);
+  of_made = λ i x o. let p = m.of_made i x o in (p.0, made-longer fs (f ∷ []) i p.0 p.1);
 }
   where
-    back : (i d : ℕ) → slice_get (fs ++ f ∷ []) i ≡ Some (Made d) → slice_get fs i ≡ Some (Made d)
-    back i d e = elim (get-last fs f i (Made d) e) [
+    back : (i d : ℕ) → made_at (fs ++ f ∷ []) i ≡ Some d → made_at fs i ≡ Some d
+    back i d e = elim (made-last fs f i d e) [
       | inl q ↦ q
-      | inr q ↦ absurd (false≢true (sym n ∙ ap is_made q.1))
+      | inr q ↦ absurd (none-some (sym n ∙ q.1))
     ]
 
 -- nodes of which each is as before but for what no token tells
@@ -60,7 +84,7 @@ made-alike fs ls ks n o c m = record {
 
 -- more nodes, of which those that come from a token are clones of what one made
 pub made-more : (fs : List Fate) (ls ds : List NodeData)
-    → ((y i : ℕ) → origin_in (label_in ds y) ≡ Token i → (is_clone_in (label_in ds y) ≡ true) × ((d : ℕ) × (slice_get fs i ≡ Some (Made d))))
+    → ((y i : ℕ) → origin_in (label_in ds y) ≡ Token i → (is_clone_in (label_in ds y) ≡ true) × ((d : ℕ) × (made_at fs i ≡ Some d)))
     → AreMade fs ls → AreMade fs (ls ++ ds)
 made-more fs ls ds new m = record {
   made_in = λ i d e. let k = m.made_in i d e in let l = length-append ls ds in omega (arith, k, l);
@@ -77,34 +101,34 @@ made-more fs ls ds new m = record {
 }
 
 -- the next node is made of the next token
-pub made-next : (fs : List Fate) (ls ds : List NodeData) (d : NodeData) → origin_in d ≡ Token (length fs) → is_clone_in d ≡ false
-    → ((y i : ℕ) → origin_in (label_in ds y) ≡ Token i → ⊥) → AreMade fs ls → AreMade (fs ++ Made (length ls) ∷ []) (ls ++ d ∷ ds)
-made-next fs ls ds d o c none m = record {
-  made_in = λ i e q. let l = length-append ls (d ∷ ds) in elim (get-last fs (Made (length ls)) i (Made e) q) [
+pub made-next : (fs : List Fate) (f : Fate) (ls ds : List NodeData) (d : NodeData) → node_of f ≡ Some (length ls) → origin_in d ≡ Token (length fs) → is_clone_in d ≡ false
+    → ((y i : ℕ) → origin_in (label_in ds y) ≡ Token i → ⊥) → AreMade fs ls → AreMade (fs ++ f ∷ []) (ls ++ d ∷ ds)
+made-next fs f ls ds d w o c none m = record {
+  made_in = λ i e q. let l = length-append ls (d ∷ ds) in elim (made-last fs f i e q) [
     | inl p ↦ let k = m.made_in i e p in omega (arith, k, l)
-    | inr p ↦ let k : length ls ≡ e = made-is p.1 in omega (arith, k, l)
+    | inr p ↦ let k : length ls ≡ e = made-is (sym w ∙ p.1) in omega (arith, k, l)
   ];
-  made = λ i e q. elim (get-last fs (Made (length ls)) i (Made e) q) [
+  made = λ i e q. elim (made-last fs f i e q) [
     | inl p ↦ ap origin_in (label-old ls (d ∷ ds) e (m.made_in i e p)) ∙ m.made i e p
-    | inr p ↦ subst (λ x. origin_in (label_in (ls ++ d ∷ ds) x) ≡ Token i) (made-is p.1) (ap origin_in here ∙ o ∙ ap Token (sym p.0))
+    | inr p ↦ subst (λ x. origin_in (label_in (ls ++ d ∷ ds) x) ≡ Token i) (made-is (sym w ∙ p.1)) (ap origin_in here ∙ o ∙ ap Token (sym p.0))
   ];
-  made_first = λ i e q. elim (get-last fs (Made (length ls)) i (Made e) q) [
+  made_first = λ i e q. elim (made-last fs f i e q) [
     | inl p ↦ ap is_clone_in (label-old ls (d ∷ ds) e (m.made_in i e p)) ∙ m.made_first i e p
-    | inr p ↦ subst (λ x. is_clone_in (label_in (ls ++ d ∷ ds) x) ≡ false) (made-is p.1) (ap is_clone_in here ∙ c)
+    | inr p ↦ subst (λ x. is_clone_in (label_in (ls ++ d ∷ ds) x) ≡ false) (made-is (sym w ∙ p.1)) (ap is_clone_in here ∙ c)
   ];
-  made_once = λ i e x q g k. elim (get-last fs (Made (length ls)) i (Made e) q) [
+  made_once = λ i e x q g k. elim (made-last fs f i e q) [
     | inl p ↦ elim (where-is x i g) [
       | inl a ↦ m.made_once i e x p (sym (ap origin_in (label-old ls (d ∷ ds) x a)) ∙ g) (sym (ap is_clone_in (label-old ls (d ∷ ds) x a)) ∙ k)
-      | inr a ↦ absurd (let b = slice_get_within fs i (Made e) p in let f = a.1 in omega (arith, b, f))
+      | inr a ↦ absurd (let b = made-within fs i e p in let f = a.1 in omega (arith, b, f))
     ]
     | inr p ↦ elim (where-is x i g) [
-      | inl a ↦ absurd (let r = m.of_made i x (sym (ap origin_in (label-old ls (d ∷ ds) x a)) ∙ g) in let b = slice_get_within fs i (Made r.0) r.1 in let f = p.0 in omega (arith, b, f))
-      | inr a ↦ a.0 ∙ made-is p.1
+      | inl a ↦ absurd (let r = m.of_made i x (sym (ap origin_in (label-old ls (d ∷ ds) x a)) ∙ g) in let b = made-within fs i r.0 r.1 in let f = p.0 in omega (arith, b, f))
+      | inr a ↦ a.0 ∙ made-is (sym w ∙ p.1)
     ]
   ];
   of_made = λ i x g. elim (where-is x i g) [
-    | inl a ↦ let r = m.of_made i x (sym (ap origin_in (label-old ls (d ∷ ds) x a)) ∙ g) in (r.0, get-longer fs (Made (length ls) ∷ []) i (Made r.0) r.1)
-    | inr a ↦ (length ls, subst (λ j. slice_get (fs ++ Made (length ls) ∷ []) j ≡ Some (Made (length ls))) (sym a.1) (get-at-end fs (Made (length ls))))
+    | inl a ↦ let r = m.of_made i x (sym (ap origin_in (label-old ls (d ∷ ds) x a)) ∙ g) in (r.0, made-longer fs (f ∷ []) i r.0 r.1)
+    | inr a ↦ (length ls, subst (λ j. made_at (fs ++ f ∷ []) j ≡ Some (length ls)) (sym a.1) (made-end fs f ∙ w))
   ];
 }
   where

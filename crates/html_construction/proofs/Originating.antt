@@ -1,8 +1,10 @@
 -- What nodes come from, after more tokens and with more nodes.
-use Rattle.std.proofs.Common.{ℕ, suc, ◌-◌, ◌≡◌, ◌≢◌, ◌<◌, ◌≤◌, ◌⊎◌, Bool, true, false, cond, List, [], ◌∷◌, ◌++◌, length, length-append, Option, Some, None, inl, inr, refl, sym, ap, subst, ◌∙◌, arith, eqb, if◌then◌else◌}
+use Rattle.std.proofs.Common.{ℕ, zero, suc, ◌-◌, ◌≡◌, ◌≢◌, ◌<◌, ◌≤◌, ◌⊎◌, Bool, true, false, cond, List, [], ◌∷◌, ◌++◌, length, length-append, Option, Some, None, inl, inr, refl, sym, ap, subst, ◌∙◌, arith, eqb, if◌then◌else◌}
 use Rattle.std.proofs.lemmas.Bool.{false≢true, cases_Bool, eqb-true}
 use Rattle.std.specs.Prelude.{slice_get, slice_index, slice_set}
 use Rattle.std.proofs.lemmas.Option.{slice_get_within}
+use Rattle.html_names.specs.declared.foreign.Space.{Space}
+use Rattle.html_names.specs.Foreign.{is_html_space, space_of}
 use Rattle.html_names.specs.Groups.{is_outermost}
 use Rattle.html_names.specs.Names.{is_known, name_of, tag_of}
 use Rattle.html_names.proofs.Known.{tag_of-known}
@@ -25,11 +27,13 @@ use Rattle.html_tokens.specs.declared.token.TokenKind.{TokenKind}
 use Rattle.html_tokens.specs.declared.token.TokenKind.TheVariants as kind
 use Rattle.html_ledger.specs.declared.symbol.Symbol.TheVariants.{Comment, Doctype, Start}
 use Rattle.html_ledger.specs.declared.fate.Fate.{Fate}
-use Rattle.html_ledger.specs.declared.fate.Fate.TheVariants.{Made, Merged}
+use Rattle.html_ledger.specs.declared.fate.Fate.TheVariants.{Merged}
+use Rattle.html_ledger.specs.Fates.{is_foreign}
 use Rattle.html_ledger.specs.Symbols.{symbol_of}
-use Rattle.html_construction.specs.Tokens.{attrs_of, data_of, element_name, name_id, public_id, system_id, tag_name}
+use Rattle.html_construction.specs.Tokens.{attrs_of, data_of, element_name, foreign_attrs, foreign_name, name_id, public_id, system_id, tag_name}
 use Rattle.html_construction.specs.Accounts.{AreMade}
-use Rattle.html_construction.specs.Origins.{AreHomes, AreOrigins, HasElementOrigin, HasOrigin, IsHome, with_later}
+use Rattle.html_construction.specs.Origins.{AreHomes, AreOrigins, HasElementOrigin, HasOrigin, IsHome, IsOfTag, is_foreign_at, with_later}
+use Rattle.html_construction.proofs.Making.{made-within}
 use Rattle.html_construction.proofs.Labels.{get-at-end, get-front, get-longer, label-new, label-past, label-old, label-set, label-set-other, length-slice_set, order, same-or-not}
 
 -- HOMES
@@ -135,74 +139,123 @@ plain x ls ts fs hs f a = no-home x ls ts fs hs (λ y b o e. outermost-plain (ta
 
 -- WHAT A NODE HAS
 
-element-later : (x : ℕ) (ts us : List TokenKind) (hs ks : List (Option ℕ)) (o : Origin) (name : List ℕ) (own : List Attr)
-    → ((i : ℕ) (v : TokenKind) → o ≡ Token i → slice_get ts i ≡ Some v → slice_get us i ≡ Some v) → ((bs : List Attr) → with_later x bs us ks ≡ with_later x bs ts hs)
-    → HasElementOrigin x ts hs o name own → HasElementOrigin x us ks o name own
-element-later x ts us hs ks (Token i) name own get same h = record {
+-- the token of an element
+token-of : (b : Bool) (x i : ℕ) (g : Tag) (name : List ℕ) (own : List Attr) (ts : List TokenKind) (hs : List (Option ℕ)) → IsOfTag b x i g name own ts hs → (v : TokenKind) × (slice_get ts i ≡ Some v)
+token-of false x i g name own ts hs h = (kind.Start h.own_name h.own_attrs h.self_closing, h.token_is)
+token-of true x i g name own ts hs h = (kind.Start h.own_name h.own_attrs h.self_closing, h.token_is)
+
+-- among other tokens, and under another number
+of-tag : (b : Bool) (x y i : ℕ) (g : Tag) (name : List ℕ) (own : List Attr) (ts us : List TokenKind) (hs ks : List (Option ℕ)) → ((v : TokenKind) → slice_get ts i ≡ Some v → slice_get us i ≡ Some v)
+    → ((bs : List Attr) → with_later y bs us ks ≡ with_later x bs ts hs) → IsOfTag b x i g name own ts hs → IsOfTag b y i g name own us ks
+of-tag false x y i g name own ts us hs ks get same h = record {
   own_name = h.own_name;
   own_attrs = h.own_attrs;
   self_closing = h.self_closing;
-  token_is = get i (kind.Start h.own_name h.own_attrs h.self_closing) refl h.token_is;
+  token_is = get (kind.Start h.own_name h.own_attrs h.self_closing) h.token_is;
   name_is = h.name_is;
   attrs_are = h.attrs_are ∙ sym (same h.own_attrs);
 }
-element-later x ts us hs ks Implied name own get same h = record { name_tag = h.name_tag; alone = h.alone; name_is = h.name_is; attrs_are = h.attrs_are ∙ sym (same []) }
-element-later x ts us hs ks Nothing name own get same h = absurd h
+of-tag true x y i g name own ts us hs ks get same h = record {
+  space = h.space;
+  tag_is = h.tag_is;
+  own_name = h.own_name;
+  own_attrs = h.own_attrs;
+  self_closing = h.self_closing;
+  outside = h.outside;
+  token_is = get (kind.Start h.own_name h.own_attrs h.self_closing) h.token_is;
+  name_is = h.name_is;
+  attrs_are = h.attrs_are;
+}
 
-origin-later : (x : ℕ) (ts us : List TokenKind) (hs ks : List (Option ℕ)) (d : NodeData) → ((i : ℕ) (v : TokenKind) → origin_in d ≡ Token i → slice_get ts i ≡ Some v → slice_get us i ≡ Some v)
-    → ((bs : List Attr) → with_later x bs us ks ≡ with_later x bs ts hs) → HasOrigin x ts hs d → HasOrigin x us ks d
-origin-later x ts us hs ks node.Document get same h = tt
-origin-later x ts us hs ks (node.Contents c) get same h = tt
-origin-later x ts us hs ks (node.Text s) get same h = tt
-origin-later x ts us hs ks (node.Comment s i) get same h = get i (kind.Comment s) refl h
-origin-later x ts us hs ks (node.Doctype n p s i) get same h = (h.0, get i (kind.Doctype n p s h.0) refl h.1)
-origin-later x ts us hs ks (node.Element e) get same h = element-later x ts us hs ks e.origin e.name e.attrs get same h
+element-later : (x : ℕ) (ts us : List TokenKind) (fs gs : List Fate) (hs ks : List (Option ℕ)) (o : Origin) (g : Tag) (name : List ℕ) (own : List Attr)
+    → ((i : ℕ) (v : TokenKind) → o ≡ Token i → slice_get ts i ≡ Some v → (slice_get us i ≡ Some v) × (is_foreign_at gs i ≡ is_foreign_at fs i)) → ((bs : List Attr) → with_later x bs us ks ≡ with_later x bs ts hs)
+    → HasElementOrigin x ts fs hs o g name own → HasElementOrigin x us gs ks o g name own
+element-later x ts us fs gs hs ks (Token i) g name own get same h =
+    let p = token-of (is_foreign_at fs i) x i g name own ts hs h in
+    subst (λ b. IsOfTag b x i g name own us ks) (sym (get i p.0 refl p.1).1) (of-tag (is_foreign_at fs i) x x i g name own ts us hs ks (λ v e. (get i v refl e).0) same h)
+element-later x ts us fs gs hs ks Implied g name own get same h = record { name_tag = h.name_tag; alone = h.alone; name_is = h.name_is; attrs_are = h.attrs_are ∙ sym (same []) }
+element-later x ts us fs gs hs ks Nothing g name own get same h = absurd h
+
+origin-later : (x : ℕ) (ts us : List TokenKind) (fs gs : List Fate) (hs ks : List (Option ℕ)) (d : NodeData)
+    → ((i : ℕ) (v : TokenKind) → origin_in d ≡ Token i → slice_get ts i ≡ Some v → (slice_get us i ≡ Some v) × (is_foreign_at gs i ≡ is_foreign_at fs i))
+    → ((bs : List Attr) → with_later x bs us ks ≡ with_later x bs ts hs) → HasOrigin x ts fs hs d → HasOrigin x us gs ks d
+origin-later x ts us fs gs hs ks node.Document get same h = tt
+origin-later x ts us fs gs hs ks (node.Contents c) get same h = tt
+origin-later x ts us fs gs hs ks (node.Text s) get same h = tt
+origin-later x ts us fs gs hs ks (node.Comment s i) get same h = (get i (kind.Comment s) refl h).0
+origin-later x ts us fs gs hs ks (node.Doctype n p s i) get same h = (h.0, (get i (kind.Doctype n p s h.0) refl h.1).0)
+origin-later x ts us fs gs hs ks (node.Element e) get same h = element-later x ts us fs gs hs ks e.origin e.tag e.name e.attrs get same h
 
 -- an element under another number
-element-at : (x y : ℕ) (ts : List TokenKind) (hs : List (Option ℕ)) (o : Origin) (name : List ℕ) (own : List Attr) → ((bs : List Attr) → with_later x bs ts hs ≡ with_later y bs ts hs)
-    → HasElementOrigin y ts hs o name own → HasElementOrigin x ts hs o name own
-element-at x y ts hs (Token i) name own same h = record {
+element-at : (x y : ℕ) (ts : List TokenKind) (fs : List Fate) (hs : List (Option ℕ)) (o : Origin) (g : Tag) (name : List ℕ) (own : List Attr) → ((bs : List Attr) → with_later x bs ts hs ≡ with_later y bs ts hs)
+    → HasElementOrigin y ts fs hs o g name own → HasElementOrigin x ts fs hs o g name own
+element-at x y ts fs hs (Token i) g name own same h = of-tag (is_foreign_at fs i) y x i g name own ts ts hs hs (λ v e. e) same h
+element-at x y ts fs hs Implied g name own same h = record { name_tag = h.name_tag; alone = h.alone; name_is = h.name_is; attrs_are = h.attrs_are ∙ sym (same []) }
+element-at x y ts fs hs Nothing g name own same h = absurd h
+
+pub origin-clone : (x y : ℕ) (ts : List TokenKind) (fs : List Fate) (hs : List (Option ℕ)) (d : NodeData) → ((bs : List Attr) → with_later x bs ts hs ≡ with_later y bs ts hs) → HasOrigin y ts fs hs d → HasOrigin x ts fs hs (cloned d)
+origin-clone x y ts fs hs node.Document same h = tt
+origin-clone x y ts fs hs (node.Contents c) same h = tt
+origin-clone x y ts fs hs (node.Text s) same h = tt
+origin-clone x y ts fs hs (node.Comment s i) same h = h
+origin-clone x y ts fs hs (node.Doctype n p s i) same h = h
+origin-clone x y ts fs hs (node.Element e) same h = element-at x y ts fs hs e.origin e.tag e.name e.attrs same h
+
+-- an html or body element is none of foreign content
+outermost-html : (g : Tag) (s : Space) → is_outermost g ≡ true → space_of g ≡ s → is_html_space s ≡ false → ⊥
+outermost-html g s o e n = inside g o (ap is_html_space e ∙ n)
+  where
+    inside : (g : Tag) → is_outermost g ≡ true → is_html_space (space_of g) ≡ false → ⊥
+    inside tag.Html a b = absurd (false≢true (sym b))
+    inside tag.Body a b = absurd (false≢true (sym b))
+    inside _ a b = absurd (false≢true a)
+
+-- more attributes, of an html or body element
+more-of-tag : (b : Bool) (x i : ℕ) (g : Tag) (name : List ℕ) (own cs : List Attr) (ts us : List TokenKind) (hs ks : List (Option ℕ)) → is_outermost g ≡ true → ((v : TokenKind) → slice_get ts i ≡ Some v → slice_get us i ≡ Some v)
+    → ((bs : List Attr) → with_later x bs us ks ≡ merged (with_later x bs ts hs) cs) → IsOfTag b x i g name own ts hs → IsOfTag b x i g name (merged own cs) us ks
+more-of-tag false x i g name own cs ts us hs ks o get same h = record {
   own_name = h.own_name;
   own_attrs = h.own_attrs;
   self_closing = h.self_closing;
-  token_is = h.token_is;
-  name_is = h.name_is;
-  attrs_are = h.attrs_are ∙ sym (same h.own_attrs);
-}
-element-at x y ts hs Implied name own same h = record { name_tag = h.name_tag; alone = h.alone; name_is = h.name_is; attrs_are = h.attrs_are ∙ sym (same []) }
-element-at x y ts hs Nothing name own same h = absurd h
-
-pub origin-clone : (x y : ℕ) (ts : List TokenKind) (hs : List (Option ℕ)) (d : NodeData) → ((bs : List Attr) → with_later x bs ts hs ≡ with_later y bs ts hs) → HasOrigin y ts hs d → HasOrigin x ts hs (cloned d)
-origin-clone x y ts hs node.Document same h = tt
-origin-clone x y ts hs (node.Contents c) same h = tt
-origin-clone x y ts hs (node.Text s) same h = tt
-origin-clone x y ts hs (node.Comment s i) same h = h
-origin-clone x y ts hs (node.Doctype n p s i) same h = h
-origin-clone x y ts hs (node.Element e) same h = element-at x y ts hs e.origin e.name e.attrs same h
-
--- more attributes
-element-more : (x : ℕ) (ts us : List TokenKind) (hs ks : List (Option ℕ)) (o : Origin) (name : List ℕ) (own cs : List Attr)
-    → ((i : ℕ) (v : TokenKind) → slice_get ts i ≡ Some v → slice_get us i ≡ Some v) → ((bs : List Attr) → with_later x bs us ks ≡ merged (with_later x bs ts hs) cs)
-    → HasElementOrigin x ts hs o name own → HasElementOrigin x us ks o name (merged own cs)
-element-more x ts us hs ks (Token i) name own cs get same h = record {
-  own_name = h.own_name;
-  own_attrs = h.own_attrs;
-  self_closing = h.self_closing;
-  token_is = get i (kind.Start h.own_name h.own_attrs h.self_closing) h.token_is;
+  token_is = get (kind.Start h.own_name h.own_attrs h.self_closing) h.token_is;
   name_is = h.name_is;
   attrs_are = ap (λ bs. merged bs cs) h.attrs_are ∙ sym (same h.own_attrs);
 }
-element-more x ts us hs ks Implied name own cs get same h = record { name_tag = h.name_tag; alone = h.alone; name_is = h.name_is; attrs_are = ap (λ bs. merged bs cs) h.attrs_are ∙ sym (same []) }
-element-more x ts us hs ks Nothing name own cs get same h = absurd h
+more-of-tag true x i g name own cs ts us hs ks o get same h = absurd (outermost-html g h.space o h.tag_is h.outside)
 
-origin-merged : (x : ℕ) (ts us : List TokenKind) (hs ks : List (Option ℕ)) (d : NodeData) (cs : List Attr) → ((i : ℕ) (v : TokenKind) → slice_get ts i ≡ Some v → slice_get us i ≡ Some v)
-    → ((bs : List Attr) → with_later x bs us ks ≡ merged (with_later x bs ts hs) cs) → HasOrigin x ts hs d → HasOrigin x us ks (with_attrs d (merged (attrs_in d) cs))
-origin-merged x ts us hs ks node.Document cs get same h = tt
-origin-merged x ts us hs ks (node.Contents c) cs get same h = tt
-origin-merged x ts us hs ks (node.Text s) cs get same h = tt
-origin-merged x ts us hs ks (node.Comment s i) cs get same h = get i (kind.Comment s) h
-origin-merged x ts us hs ks (node.Doctype n p s i) cs get same h = (h.0, get i (kind.Doctype n p s h.0) h.1)
-origin-merged x ts us hs ks (node.Element e) cs get same h = element-more x ts us hs ks e.origin e.name e.attrs cs get same h
+element-more : (x : ℕ) (ts us : List TokenKind) (fs gs : List Fate) (hs ks : List (Option ℕ)) (o : Origin) (g : Tag) (name : List ℕ) (own cs : List Attr) → is_outermost g ≡ true
+    → ((i : ℕ) (v : TokenKind) → slice_get ts i ≡ Some v → (slice_get us i ≡ Some v) × (is_foreign_at gs i ≡ is_foreign_at fs i)) → ((bs : List Attr) → with_later x bs us ks ≡ merged (with_later x bs ts hs) cs)
+    → HasElementOrigin x ts fs hs o g name own → HasElementOrigin x us gs ks o g name (merged own cs)
+element-more x ts us fs gs hs ks (Token i) g name own cs u get same h =
+    let p = token-of (is_foreign_at fs i) x i g name own ts hs h in
+    subst (λ b. IsOfTag b x i g name (merged own cs) us ks) (sym (get i p.0 p.1).1) (more-of-tag (is_foreign_at fs i) x i g name own cs ts us hs ks u (λ v e. (get i v e).0) same h)
+element-more x ts us fs gs hs ks Implied g name own cs u get same h = record { name_tag = h.name_tag; alone = h.alone; name_is = h.name_is; attrs_are = ap (λ bs. merged bs cs) h.attrs_are ∙ sym (same []) }
+element-more x ts us fs gs hs ks Nothing g name own cs u get same h = absurd h
+
+origin-merged : (x : ℕ) (ts us : List TokenKind) (fs gs : List Fate) (hs ks : List (Option ℕ)) (d : NodeData) (cs : List Attr) → is_outermost (tag_in d) ≡ true
+    → ((i : ℕ) (v : TokenKind) → slice_get ts i ≡ Some v → (slice_get us i ≡ Some v) × (is_foreign_at gs i ≡ is_foreign_at fs i))
+    → ((bs : List Attr) → with_later x bs us ks ≡ merged (with_later x bs ts hs) cs) → HasOrigin x ts fs hs d → HasOrigin x us gs ks (with_attrs d (merged (attrs_in d) cs))
+origin-merged x ts us fs gs hs ks node.Document cs u get same h = tt
+origin-merged x ts us fs gs hs ks (node.Contents c) cs u get same h = tt
+origin-merged x ts us fs gs hs ks (node.Text s) cs u get same h = tt
+origin-merged x ts us fs gs hs ks (node.Comment s i) cs u get same h = (get i (kind.Comment s) h).0
+origin-merged x ts us fs gs hs ks (node.Doctype n p s i) cs u get same h = (h.0, (get i (kind.Doctype n p s h.0) h.1).0)
+origin-merged x ts us fs gs hs ks (node.Element e) cs u get same h = element-more x ts us fs gs hs ks e.origin e.tag e.name e.attrs cs u get same h
+
+-- more fates
+pub foreign-longer : (fs gs : List Fate) (i : ℕ) → i < length fs → is_foreign_at (fs ++ gs) i ≡ is_foreign_at fs i
+foreign-longer [] gs i h = absurd (omega arith)
+foreign-longer (f ∷ fs) gs zero h = refl
+foreign-longer (f ∷ fs) gs (suc i) h = foreign-longer fs gs i (omega arith)
+
+pub foreign-end : (fs : List Fate) (f : Fate) → is_foreign_at (fs ++ f ∷ []) (length fs) ≡ is_foreign f
+foreign-end [] f = refl
+foreign-end (g ∷ fs) f = foreign-end fs f
+
+-- one more token with its fate
+longer-both : (ts : List TokenKind) (t : TokenKind) (fs : List Fate) (f : Fate) → length fs ≡ length ts → (i : ℕ) (v : TokenKind) → slice_get ts i ≡ Some v
+    → (slice_get (ts ++ t ∷ []) i ≡ Some v) × (is_foreign_at (fs ++ f ∷ []) i ≡ is_foreign_at fs i)
+longer-both ts t fs f l i v e = (get-longer ts (t ∷ []) i v e, foreign-longer fs (f ∷ []) i (let b = slice_get_within ts i v e in omega (arith, b, l)))
 
 -- ALL NODES
 
@@ -213,7 +266,7 @@ origins-besides ts t fs f ls l n m =
     record {
       homes = m.homes ++ None ∷ [];
       merged_into = homes-push ls ts t fs f m.homes None l n m.merged_into;
-      each = λ x. origin-later x ts (ts ++ t ∷ []) m.homes (m.homes ++ None ∷ []) (label_in ls x) (λ i v o e. get-longer ts (t ∷ []) i v e) (λ bs. later-push x bs ts t m.homes None (c ∙ l)) (m.each x);
+      each = λ x. origin-later x ts (ts ++ t ∷ []) fs (fs ++ f ∷ []) m.homes (m.homes ++ None ∷ []) (label_in ls x) (λ i v o e. longer-both ts t fs f l i v e) (λ bs. later-push x bs ts t m.homes None (c ∙ l)) (m.each x);
       clones = m.clones;
     }
 
@@ -224,7 +277,7 @@ origins-kept ts us fs ls l m =
     record {
       homes = m.homes;
       merged_into = homes-kept ls ts us fs m.homes m.merged_into;
-      each = λ x. origin-later x ts (ts ++ us) m.homes m.homes (label_in ls x) (λ i v o e. get-longer ts us i v e) (λ bs. later-front x bs ts us m.homes (omega (arith, c, l))) (m.each x);
+      each = λ x. origin-later x ts (ts ++ us) fs fs m.homes m.homes (label_in ls x) (λ i v o e. (get-longer ts us i v e, refl)) (λ bs. later-front x bs ts us m.homes (omega (arith, c, l))) (m.each x);
       clones = m.clones;
     }
 
@@ -234,8 +287,8 @@ origins-released ts us fs ls l a m =
     record {
       homes = m.homes;
       merged_into = homes-released ls ts us fs m.homes l m.merged_into;
-      each = λ x. origin-later x (ts ++ us) ts m.homes m.homes (label_in ls x)
-          (λ i v o e. get-front ts us i v (let p = a.of_made i x o in let b = slice_get_within fs i (Made p.0) p.1 in omega (arith, b, l)) e)
+      each = λ x. origin-later x (ts ++ us) ts fs fs m.homes m.homes (label_in ls x)
+          (λ i v o e. (get-front ts us i v (let p = a.of_made i x o in let b = made-within fs i p.0 p.1 in omega (arith, b, l)) e, refl))
           (λ bs. sym (later-front x bs ts us m.homes (omega (arith, c, l)))) (m.each x);
       clones = m.clones;
     }
@@ -250,7 +303,7 @@ origins-alike ts fs ls ks n alike m = record {
     | inr q ↦ text-tag (label_in ks x) q.1 ∙ sym (text-tag (label_in ls x) q.0)
   ]) m.merged_into;
   each = λ x. elim (alike x) [
-    | inl q ↦ subst (λ d. HasOrigin x ts m.homes d) (sym q) (m.each x)
+    | inl q ↦ subst (λ d. HasOrigin x ts fs m.homes d) (sym q) (m.each x)
     | inr q ↦ text-origin x (label_in ks x) q.1
   ];
   clones = λ x k. elim (alike x) [
@@ -275,7 +328,7 @@ origins-alike ts fs ls ks n alike m = record {
     text-clone (node.Doctype a b c i) e = refl
     text-clone (node.Element r) e = absurd (false≢true e)
 
-    text-origin : (x : ℕ) (d : NodeData) → is_text d ≡ true → HasOrigin x ts m.homes d
+    text-origin : (x : ℕ) (d : NodeData) → is_text d ≡ true → HasOrigin x ts fs m.homes d
     text-origin x (node.Text s) e = tt
     text-origin x node.Document e = tt
     text-origin x (node.Contents c) e = tt
@@ -286,15 +339,15 @@ origins-alike ts fs ls ks n alike m = record {
 -- more nodes
 pub origins-more : (ts : List TokenKind) (fs : List Fate) (ls ds : List NodeData)
     → ((hs : List (Option ℕ)) → ((x : ℕ) → length ls ≤ x → (own : List Attr) → with_later x own ts hs ≡ own) → ((x : ℕ) → is_formatting (tag_in (label_in ls x)) ≡ true → (own : List Attr) → with_later x own ts hs ≡ own)
-    → ((x : ℕ) → HasOrigin x ts hs (label_in ls x)) → (x y : ℕ) → length ls ≤ x → HasOrigin x ts hs (label_in ds y))
+    → ((x : ℕ) → HasOrigin x ts fs hs (label_in ls x)) → (x y : ℕ) → length ls ≤ x → HasOrigin x ts fs hs (label_in ds y))
     → ((y : ℕ) → is_clone_in (label_in ds y) ≡ true → is_formatting (tag_in (label_in ds y)) ≡ true)
     → AreOrigins ts fs ls → AreOrigins ts fs (ls ++ ds)
 origins-more ts fs ls ds new formatting m = record {
   homes = m.homes;
   merged_into = homes-later ls (ls ++ ds) ts fs m.homes (let l = length-append ls ds in omega (arith, l)) (λ x b. ap tag_in (label-old ls ds x b)) m.merged_into;
   each = λ x. elim (order x (length ls)) [
-    | inl q ↦ subst (λ d. HasOrigin x ts m.homes d) (sym (label-old ls ds x q)) (m.each x)
-    | inr q ↦ subst (λ d. HasOrigin x ts m.homes d) (sym (label-new ls ds x q))
+    | inl q ↦ subst (λ d. HasOrigin x ts fs m.homes d) (sym (label-old ls ds x q)) (m.each x)
+    | inr q ↦ subst (λ d. HasOrigin x ts fs m.homes d) (sym (label-new ls ds x q))
         (new m.homes (λ z b own. later-none z own ts m.homes (far z ls ts fs m.homes b m.merged_into)) (λ z f own. later-none z own ts m.homes (plain z ls ts fs m.homes f m.merged_into)) m.each x (x - length ls) q)
   ];
   clones = λ x k. elim (order x (length ls)) [
@@ -313,12 +366,12 @@ origins-merged ts t fs ls y l h s o m =
       merged_into = homes-later ls ks (ts ++ t ∷ []) (fs ++ Merged ∷ []) (m.homes ++ Some y ∷ []) (let k = length-slice_set ls y new in omega (arith, k)) (λ x b. tags x)
           (homes-push ls ts t fs Merged m.homes (Some y) l (record { fate_is = refl; node_in = h; start = s; outermost = o }) m.merged_into);
       each = λ x. elim (same-or-not x y) [
-        | inl q ↦ subst (λ z. HasOrigin z (ts ++ t ∷ []) (m.homes ++ Some y ∷ []) (label_in ks z)) (sym q)
-            (subst (λ d. HasOrigin y (ts ++ t ∷ []) (m.homes ++ Some y ∷ []) d) (sym (label-set ls y new h))
-            (origin-merged y ts (ts ++ t ∷ []) m.homes (m.homes ++ Some y ∷ []) (label_in ls y) (attrs_of t) (λ i v e. get-longer ts (t ∷ []) i v e)
+        | inl q ↦ subst (λ z. HasOrigin z (ts ++ t ∷ []) (fs ++ Merged ∷ []) (m.homes ++ Some y ∷ []) (label_in ks z)) (sym q)
+            (subst (λ d. HasOrigin y (ts ++ t ∷ []) (fs ++ Merged ∷ []) (m.homes ++ Some y ∷ []) d) (sym (label-set ls y new h))
+            (origin-merged y ts (ts ++ t ∷ []) fs (fs ++ Merged ∷ []) m.homes (m.homes ++ Some y ∷ []) (label_in ls y) (attrs_of t) o (λ i v e. longer-both ts t fs Merged l i v e)
             (λ bs. later-push y bs ts t m.homes (Some y) (c ∙ l) ∙ ap (λ b. cond b (merged (with_later y bs ts m.homes) (attrs_of t)) (with_later y bs ts m.homes)) (eqb-self y)) (m.each y)))
-        | inr q ↦ subst (λ d. HasOrigin x (ts ++ t ∷ []) (m.homes ++ Some y ∷ []) d) (sym (label-set-other ls y x new q))
-            (origin-later x ts (ts ++ t ∷ []) m.homes (m.homes ++ Some y ∷ []) (label_in ls x) (λ i v k e. get-longer ts (t ∷ []) i v e)
+        | inr q ↦ subst (λ d. HasOrigin x (ts ++ t ∷ []) (fs ++ Merged ∷ []) (m.homes ++ Some y ∷ []) d) (sym (label-set-other ls y x new q))
+            (origin-later x ts (ts ++ t ∷ []) fs (fs ++ Merged ∷ []) m.homes (m.homes ++ Some y ∷ []) (label_in ls x) (λ i v k e. longer-both ts t fs Merged l i v e)
             (λ bs. later-push x bs ts t m.homes (Some y) (c ∙ l) ∙ ap (λ b. cond b (merged (with_later x bs ts m.homes) (attrs_of t)) (with_later x bs ts m.homes)) (apart x q)) (m.each x))
       ];
       clones = λ x k. ap is_formatting (tags x) ∙ m.clones x (sym (marks x) ∙ k);
@@ -392,16 +445,31 @@ start-is (kind.Doctype a b c d) g e = absurd (let k = e in cc)
 start-is kind.Eof g e = absurd (let k = e in cc)
 
 -- an element of the next token
-pub element-of : (x n : ℕ) (ts : List TokenKind) (t : TokenKind) (hs : List (Option ℕ)) (g : Tag) → n ≡ length ts → symbol_of t ≡ Start g → ((own : List Attr) → with_later x own (ts ++ t ∷ []) hs ≡ own)
-    → HasElementOrigin x (ts ++ t ∷ []) hs (Token n) (element_name g t) (attrs_of t)
-element-of x n ts t hs g l s none = let p = start-is t g s in record {
+pub element-of : (x n : ℕ) (ts : List TokenKind) (t : TokenKind) (fs : List Fate) (hs : List (Option ℕ)) (g h : Tag) → n ≡ length ts → symbol_of t ≡ Start g → is_foreign_at fs n ≡ false → ((own : List Attr) → with_later x own (ts ++ t ∷ []) hs ≡ own)
+    → HasElementOrigin x (ts ++ t ∷ []) fs hs (Token n) h (element_name g t) (attrs_of t)
+element-of x n ts t fs hs g h l s b none = subst (λ c. IsOfTag c x n h (element_name g t) (attrs_of t) (ts ++ t ∷ []) hs) (sym b) (let p = start-is t g s in record {
   own_name = tag_name t;
   own_attrs = attrs_of t;
   self_closing = p.0;
   token_is = ap (λ i. slice_get (ts ++ t ∷ []) i) l ∙ get-at-end ts t ∙ ap Some p.1.0;
   name_is = ap (λ h. if is_same h tag.Image then name_of tag.Img else tag_name t) (sym p.1.1);
   attrs_are = sym (none (attrs_of t));
-}
+})
+
+-- and one of foreign content
+pub foreign-of : (x n : ℕ) (ts : List TokenKind) (t : TokenKind) (fs : List Fate) (hs : List (Option ℕ)) (g h : Tag) (s : Space) → n ≡ length ts → symbol_of t ≡ Start g → is_foreign_at fs n ≡ true → is_html_space s ≡ false → space_of h ≡ s
+    → HasElementOrigin x (ts ++ t ∷ []) fs hs (Token n) h (foreign_name s (tag_name t)) (foreign_attrs s (attrs_of t))
+foreign-of x n ts t fs hs g h s l e b o q = subst (λ c. IsOfTag c x n h (foreign_name s (tag_name t)) (foreign_attrs s (attrs_of t)) (ts ++ t ∷ []) hs) (sym b) (let p = start-is t g e in record {
+  space = s;
+  tag_is = q;
+  own_name = tag_name t;
+  own_attrs = attrs_of t;
+  self_closing = p.0;
+  outside = o;
+  token_is = ap (λ i. slice_get (ts ++ t ∷ []) i) l ∙ get-at-end ts t ∙ ap Some p.1.0;
+  name_is = refl;
+  attrs_are = refl;
+})
 
 -- an element is named as its tag, but for an image
 pub named-plain : (g : Tag) (t : TokenKind) (name : List ℕ) → is_same g tag.Image ≡ false → name ≡ tag_name t → name ≡ element_name g t

@@ -11,7 +11,8 @@ use Rattle.html_open.specs.Entries.{has_node, last_named}
 use Rattle.html_open.proofs.Keeps.{cases_bool}
 use Rattle.html_open.proofs.Members.{named-member}
 use Rattle.html_tree.specs.Seats.{is_part}
-use Rattle.html_construction.specs.Tokens.{element_tag}
+use Rattle.html_construction.specs.Tokens.{element_tag, opens_own}
+use Rattle.html_tree.specs.Proper.{is_foreign_root, opens}
 use Rattle.html_construction.specs.Weights.{weight_of}
 
 pub part-placed : (g : Tag) → is_part g ≡ true → is_placed g ≡ true
@@ -25,16 +26,16 @@ part-placed tag.Thead h = refl
 part-placed tag.Tr h = refl
 part-placed _ h = absurd (let k = h in cc)
 
-pub part-image : (g : Tag) → is_part g ≡ true → is_same g tag.Image ≡ false
-part-image tag.Caption h = refl
-part-image tag.Colgroup h = refl
-part-image tag.Tbody h = refl
-part-image tag.Td h = refl
-part-image tag.Tfoot h = refl
-part-image tag.Th h = refl
-part-image tag.Thead h = refl
-part-image tag.Tr h = refl
-part-image _ h = absurd (let k = h in cc)
+pub part-opens : (g : Tag) → is_part g ≡ true → opens_own g ≡ true
+part-opens tag.Caption h = refl
+part-opens tag.Colgroup h = refl
+part-opens tag.Tbody h = refl
+part-opens tag.Td h = refl
+part-opens tag.Tfoot h = refl
+part-opens tag.Th h = refl
+part-opens tag.Thead h = refl
+part-opens tag.Tr h = refl
+part-opens _ h = absurd (let k = h in cc)
 
 pub part-weight : (g : Tag) → is_part g ≡ true → weight_of g ≡ 4
 part-weight tag.Caption h = refl
@@ -52,6 +53,30 @@ pub plain-element : (g : Tag) → is_part g ≡ false → is_part (element_tag g
 plain-element g h = elim (cases_bool (is_same g tag.Image)) [
   | inl a ↦ ap (λ (b : Bool). is_part (if b then tag.Img else g)) a
   | inr a ↦ ap (λ (b : Bool). is_part (if b then tag.Img else g)) a ∙ h
+]
+
+pub own-opens : (g : Tag) → opens_own g ≡ true → opens g ≡ true
+own-opens g h = by (is_same g tag.Image) h
+  where
+    by : (b : Bool) → (if b then false else opens g) ≡ true → opens g ≡ true
+    by true e = absurd (let k = e in cc)
+    by false e = e
+
+pub own-named : (g : Tag) → opens_own g ≡ true → is_same g tag.Image ≡ false
+own-named g h = by (is_same g tag.Image) h
+  where
+    by : (b : Bool) → (if b then false else opens g) ≡ true → b ≡ false
+    by true e = absurd (let k = e in cc)
+    by false e = refl
+
+pub part-opened : (g : Tag) → is_part g ≡ true → opens g ≡ true
+part-opened g h = own-opens g (part-opens g h)
+
+-- an element that a tag of no root of foreign content asks for is none
+pub root-element : (g : Tag) → is_foreign_root g ≡ false → is_foreign_root (element_tag g) ≡ false
+root-element g h = elim (cases_bool (is_same g tag.Image)) [
+  | inl a ↦ ap (λ (b : Bool). is_foreign_root (if b then tag.Img else g)) a
+  | inr a ↦ ap (λ (b : Bool). is_foreign_root (if b then tag.Img else g)) a ∙ h
 ]
 
 -- what is listed is a formatting element

@@ -1,7 +1,8 @@
 -- Why a budget was told.
-use Rattle.std.proofs.Common.{ℕ, ◌≡◌, ◌+◌, true, List, [], length, Option, Result, IfErr, inl, inr, refl, sym, ap, subst, ◌∙◌}
+use Rattle.std.proofs.Common.{ℕ, ◌≡◌, ◌+◌, ◌-◌, true, List, [], ◌∷◌, ◌++◌, arith, length, length-append, Option, Result, IfErr, inl, inr, refl, sym, ap, subst, ◌∙◌}
 use Rattle.std.proofs.lemmas.Result.{err_from_is_err_and}
-use Rattle.std.specs.Prelude.{IsErrAnd}
+use Rattle.std.specs.Prelude.{IsErrAnd, Some, slice_get}
+use Rattle.html_names.specs.declared.foreign.Space.{Space}
 use Rattle.html_names.specs.declared.tag.Tag.{Tag}
 use Rattle.html_names.specs.Names.{name_of}
 use Rattle.html_arena.specs.declared.arena.Limits.{Limits}
@@ -11,6 +12,7 @@ use Rattle.html_arena.specs.declared.data.Origin.TheVariants.{Implied, Nothing, 
 use Rattle.html_arena.specs.Budget.{budget_of}
 use Rattle.html_arena.specs.Make.{made_weight, nodes_made}
 use Rattle.html_arena.specs.Tree.{more}
+use Rattle.html_tokens.specs.declared.attributes.Attr.{Attr}
 use Rattle.html_tokens.specs.declared.token.TokenKind.{TokenKind}
 use Rattle.html_tokens.specs.declared.token.TokenKind.TheVariants as kind
 use Rattle.html_open.specs.declared.error.OpenError.{OpenError}
@@ -20,12 +22,22 @@ use Rattle.html_open.specs.Reopening.{IsTold}
 use Rattle.html_tree.specs.Inserting.{IsNodePassed, IsPassed as IsTreePassed}
 use Rattle.html_tree.specs.States.{State as Tree}
 use Rattle.html_tree.specs.Texts.{IsTextPassed}
+use Rattle.html_ledger.specs.declared.fate.Fate.{Fate}
+use Rattle.html_ledger.specs.declared.fate.Fate.TheVariants.{Foreign}
+use Rattle.html_ledger.specs.declared.symbol.Symbol.{Symbol}
+use Rattle.html_ledger.specs.declared.symbol.Symbol.TheVariants as symbol
+use Rattle.html_ledger.specs.Entries.{Entries}
+use Rattle.html_ledger.specs.Runs.{last_of}
+use Rattle.html_ledger.specs.Symbols.{symbol_of}
 use Rattle.html_construction.specs.declared.refusal.Refusal.{Refusal}
 use Rattle.html_construction.specs.declared.refusal.Refusal.TheVariants.{OutOfMemory, NodeBudget, HeldBudget}
-use Rattle.html_construction.specs.Budgets.{IsNextNode, IsReason, IsRefused, IsRefusedAny, MayAdd, Refuses, RefusesAny, a_code_point, a_node, lacking_attrs}
+use Rattle.html_construction.specs.Budgets.{IsNextNode, IsReason, IsRefused, IsRefusedAny, MayAdd, Refuses, RefusesAny, a_code_point, a_foreign_element, a_node, foreign_node, lacking_attrs}
 use Rattle.html_construction.specs.Built.{Handed, Releases, chars_of, with_tokens}
 use Rattle.html_construction.specs.Causes.{of_open}
-use Rattle.html_construction.specs.Origins.{is_made_alone}
+use Rattle.html_construction.specs.Origins.{foreign_if, is_made_alone}
+use Rattle.html_construction.specs.Calls.{HasFate}
+use Rattle.html_construction.specs.Tokens.{attrs_of, foreign_attrs, foreign_name, tag_name}
+use Rattle.html_construction.proofs.Labels.{get-at-end}
 use Rattle.html_construction.specs.States.{State}
 
 -- what the limits say of what was to be added
@@ -42,6 +54,23 @@ refused-by t a z o nodes held e r m k = λ h w. record { reason = passed-by h.li
 -- the next node was refused
 pub refused-node : (t : TokenKind) (a z : State) (o : Tree) (new : NewNode) (e : OpenError) → o.tree.limits ≡ a.tree.tree.limits → IsNextNode t z new → IsNodePassed o z.tree new e → Refuses t (of_open e) a z
 refused-node t a z o new e r n k = refused-by t a z o (nodes_made new) (made_weight z.tree.tree new) e r (a_node new n) k
+
+-- an element of foreign content was refused, after its token had its fate
+pub refused-foreign : (t : TokenKind) (a z : State) (o : Tree) (g : Tag) (s : Space) (i : ℕ) (e : OpenError) → o.tree.limits ≡ a.tree.tree.limits → symbol_of t ≡ symbol.Start g → foreign_if (last_of z.ledger.fates) ≡ true
+    → IsNodePassed o z.tree (foreign_node s t i) e → Refuses t (of_open e) a z
+refused-foreign t a z o g s i e r h f k = refused-by t a z o (nodes_made (foreign_node s t i)) (made_weight z.tree.tree (foreign_node s t i)) e r (a_foreign_element g s i h f) k
+
+-- the last fate that was given
+pub last-foreign : (n v : State) (y : Symbol) (d : ℕ) → HasFate y (Foreign d) n v → foreign_if (last_of v.ledger.fates) ≡ true
+last-foreign n v y d h = ap (λ (l : Entries). foreign_if (last_of l.fates)) h.ledger_is ∙ ap foreign_if (last-pushed n.ledger.fates (Foreign d))
+  where
+    last-pushed : (fs : List Fate) (f : Fate) → last_of (fs ++ f ∷ []) ≡ Some f
+    last-pushed fs f = ap (λ k. slice_get (fs ++ f ∷ []) k) (let l = length-append fs (f ∷ []) in let e : length (fs ++ f ∷ []) - 1 ≡ length fs = omega (arith, l) in e) ∙ get-at-end fs f
+
+pub told-passed : (t : TokenKind) (a z : State) (o : Tree) (g : Tag) (s : Space) (name : List ℕ) (own : List Attr) (i : ℕ) (e : OpenError) → o.tree.limits ≡ a.tree.tree.limits → symbol_of t ≡ symbol.Start g
+    → foreign_if (last_of z.ledger.fates) ≡ true → name ≡ foreign_name s (tag_name t) → own ≡ foreign_attrs s (attrs_of t) → IsNodePassed o z.tree (Element name own (Token i)) e → Refuses t (of_open e) a z
+told-passed t a z o g s name own i e r h f p q k =
+    refused-foreign t a z o g s i e r h f (subst (λ n. IsNodePassed o z.tree (Element n (foreign_attrs s (attrs_of t)) (Token i)) e) p (subst (λ xs. IsNodePassed o z.tree (Element name xs (Token i)) e) q k))
 
 -- an element that no token asks for
 pub refused-implied : (a z : State) (o : Tree) (g : Tag) (e : OpenError) → o.tree.limits ≡ a.tree.tree.limits → is_made_alone g ≡ true → IsNodePassed o z.tree (Element (name_of g) [] Implied) e → RefusesAny (of_open e) a z
@@ -93,6 +122,7 @@ any-char c t z nodes held (a_node (CloneOf x) n) = a_node (CloneOf x) n
 any-char c t z nodes held (a_node Text n) = a_node Text n
 any-char c t z nodes held (a_node (Comment text i) n) = absurd (let k = n.comment in cc)
 any-char c t z nodes held (a_node (Doctype name ids more i) n) = absurd (let k = n.doctype in cc)
+any-char c t z nodes held (a_foreign_element g s i e f) = absurd (let k = e in cc)
 any-char c t z nodes held a_code_point = a_code_point
 any-char c t z nodes held (lacking_attrs g i s o e) = absurd (let k = s in cc)
 

@@ -1,5 +1,5 @@
 -- The texts of nodes, after more tokens and with more nodes.
-use Rattle.std.proofs.Common.{ℕ, zero, suc, ◌-◌, ◌≡◌, ◌≢◌, ◌<◌, ◌≤◌, ◌⊎◌, ◌==◌, Bool, true, false, cond, List, [], ◌∷◌, ◌++◌, length, length-append, replicate, Some, inl, inr, refl, sym, ap, subst, ◌∙◌, arith}
+use Rattle.std.proofs.Common.{ℕ, zero, suc, ◌-◌, ◌≡◌, ◌≢◌, ◌<◌, ◌≤◌, ◌⊎◌, ◌==◌, Bool, true, false, cond, List, [], ◌∷◌, ◌++◌, length, length-append, map, replicate, Some, inl, inr, refl, sym, ap, subst, ◌∙◌, arith}
 use Rattle.std.proofs.lemmas.Bool.{false≢true, cases_Bool, eqb-true}
 use Rattle.std.specs.Prelude.{slice_get, slice_set}
 use Rattle.std.proofs.lemmas.List.{append-nil}
@@ -8,7 +8,8 @@ use Rattle.html_arena.specs.declared.data.NodeData.TheVariants as node
 use Rattle.html_arena.specs.Data.{IsText, is_text, label_in, with_run}
 use Rattle.html_ledger.specs.declared.symbol.Symbol.{Symbol}
 use Rattle.html_ledger.specs.declared.fate.Fate.{Fate}
-use Rattle.html_ledger.specs.declared.fate.Fate.TheVariants.{Made, Merged, Text, Dropped, Ended}
+use Rattle.html_ledger.specs.declared.fate.Fate.TheVariants.{Foreign, Made, Merged, Text, Dropped, Ended}
+use Rattle.html_tokens.specs.Cut.{null_replaced}
 use Rattle.html_ledger.specs.Symbols.{chars_of}
 use Rattle.html_ledger.specs.Texts.{code_point, is_text_in, text_of}
 use Rattle.html_ledger.proofs.Texted.{text_of-append, text_of-run}
@@ -49,6 +50,7 @@ text-none x (t ∷ ts) (f ∷ fs) h = ap (λ b. cond b (code_point t) [] ++ text
       | inr e ↦ e
     ]
     first (Made d) k = refl
+    first (Foreign d) k = refl
     first Merged k = refl
     first (Dropped c) k = refl
     first Ended k = refl
@@ -56,6 +58,7 @@ text-none x (t ∷ ts) (f ∷ fs) h = ap (λ b. cond b (code_point t) [] ++ text
 no-text-in : (x : ℕ) (f : Fate) → is_no_text f ≡ true → is_text_in x f ≡ false
 no-text-in x (Text d) e = absurd (false≢true e)
 no-text-in x (Made d) e = refl
+no-text-in x (Foreign d) e = refl
 no-text-in x Merged e = refl
 no-text-in x (Dropped c) e = refl
 no-text-in x Ended e = refl
@@ -112,8 +115,11 @@ texts-more ts fs ls ds none m = texts-alike ts fs ls (ls ++ ds) (let l = length-
     (λ x h i. subst IsText (sym (label-old ls ds x h)) i) m
 
 -- code points were added to a text
-module _ (ts : List Symbol) (fs : List Fate) (ls : List NodeData) (y : ℕ) (cs : List ℕ) (l : length fs ≡ length ts) (h : y < length ls) (some : cs ≢ []) where
-  run-is : (x : ℕ) → text_of x (ts ++ chars_of cs) (fs ++ replicate (length cs) (Text y)) ≡ text_of x ts fs ++ cond (y == x) cs []
+module _ (ts : List Symbol) (fs : List Fate) (ls : List NodeData) (y : ℕ) (cs : List ℕ) (l : length fs ≡ length ts) (h : y < length ls) (some : map null_replaced cs ≢ []) where
+  abbrev rs : List ℕ
+  rs = map null_replaced cs
+
+  run-is : (x : ℕ) → text_of x (ts ++ chars_of cs) (fs ++ replicate (length cs) (Text y)) ≡ text_of x ts fs ++ cond (y == x) rs []
   run-is x = text_of-append x ts (chars_of cs) fs (replicate (length cs) (Text y)) l ∙ ap (λ ds. text_of x ts fs ++ ds) (text_of-run x y cs)
 
   other : (x : ℕ) → x ≢ y → (y == x) ≡ false
@@ -125,7 +131,7 @@ module _ (ts : List Symbol) (fs : List Fate) (ls : List NodeData) (y : ℕ) (cs 
   self : (y == y) ≡ true
   self = grind arith
 
-  not-empty : (r : List ℕ) → r ++ cs ≢ []
+  not-empty : (r : List ℕ) → r ++ rs ≢ []
   not-empty [] e = some e
   not-empty (c ∷ r) e = let k = e in cc
 
@@ -143,32 +149,32 @@ module _ (ts : List Symbol) (fs : List Fate) (ls : List NodeData) (y : ℕ) (cs 
   pub texts-added : (s : List ℕ) → label_in ls y ≡ node.Text s → s ≡ text_of y ts fs
       → ((x : ℕ) (text : List ℕ) → x ≢ y → label_in ls x ≡ node.Text text → (text ≢ []) × (text ≡ text_of x ts fs))
       → ((i d : ℕ) → slice_get fs i ≡ Some (Text d) → (d < length ls) × IsText (label_in ls d))
-      → AreTexts (ts ++ chars_of cs) (fs ++ replicate (length cs) (Text y)) (slice_set ls y (with_run (label_in ls y) cs))
+      → AreTexts (ts ++ chars_of cs) (fs ++ replicate (length cs) (Text y)) (slice_set ls y (with_run (label_in ls y) rs))
   texts-added s is held m nodes = record {
     texts = λ x text e. elim (same-or-not x y) [
-      | inl q ↦ let k : text ≡ s ++ cs = node-text (sym e ∙ ap (λ z. label_in (slice_set ls y (with_run (label_in ls y) cs)) z) q ∙ here) in
-          (λ z. not-empty s (sym k ∙ z), k ∙ ap (λ r. r ++ cs) held ∙ sym (run-is y ∙ ap (λ b. text_of y ts fs ++ cond b cs []) self) ∙ ap (λ z. text_of z (ts ++ chars_of cs) (fs ++ replicate (length cs) (Text y))) (sym q))
-      | inr q ↦ let p = m x text q (sym (label-set-other ls y x (with_run (label_in ls y) cs) q) ∙ e) in
-          (p.0, p.1 ∙ sym (run-is x ∙ ap (λ b. text_of x ts fs ++ cond b cs []) (other x q) ∙ append-nil (text_of x ts fs)))
+      | inl q ↦ let k : text ≡ s ++ rs = node-text (sym e ∙ ap (λ z. label_in (slice_set ls y (with_run (label_in ls y) rs)) z) q ∙ here) in
+          (λ z. not-empty s (sym k ∙ z), k ∙ ap (λ r. r ++ rs) held ∙ sym (run-is y ∙ ap (λ b. text_of y ts fs ++ cond b rs []) self) ∙ ap (λ z. text_of z (ts ++ chars_of cs) (fs ++ replicate (length cs) (Text y))) (sym q))
+      | inr q ↦ let p = m x text q (sym (label-set-other ls y x (with_run (label_in ls y) rs) q) ∙ e) in
+          (p.0, p.1 ∙ sym (run-is x ∙ ap (λ b. text_of x ts fs ++ cond b rs []) (other x q) ∙ append-nil (text_of x ts fs)))
     ];
     text_nodes = λ i d e. elim (same-or-not d y) [
-      | inl q ↦ (let k = length-slice_set ls y (with_run (label_in ls y) cs) in omega (arith, k, q), subst (λ z. IsText (label_in (slice_set ls y (with_run (label_in ls y) cs)) z)) (sym q) (is-text (label_in (slice_set ls y (with_run (label_in ls y) cs)) y) (s ++ cs) here))
+      | inl q ↦ (let k = length-slice_set ls y (with_run (label_in ls y) rs) in omega (arith, k, q), subst (λ z. IsText (label_in (slice_set ls y (with_run (label_in ls y) rs)) z)) (sym q) (is-text (label_in (slice_set ls y (with_run (label_in ls y) rs)) y) (s ++ rs) here))
       | inr q ↦ elim (get-run fs (length cs) i d e) [
-        | inl r ↦ let p = nodes i d r in let b = p.0 in (let k = length-slice_set ls y (with_run (label_in ls y) cs) in omega (arith, k, b), subst IsText (sym (label-set-other ls y d (with_run (label_in ls y) cs) q)) p.1)
+        | inl r ↦ let p = nodes i d r in let b = p.0 in (let k = length-slice_set ls y (with_run (label_in ls y) rs) in omega (arith, k, b), subst IsText (sym (label-set-other ls y d (with_run (label_in ls y) rs) q)) p.1)
         | inr r ↦ absurd (q r)
       ]
     ];
   }
     where
-      here : label_in (slice_set ls y (with_run (label_in ls y) cs)) y ≡ node.Text (s ++ cs)
-      here = label-set ls y (with_run (label_in ls y) cs) h ∙ ap (λ d. with_run d cs) is
+      here : label_in (slice_set ls y (with_run (label_in ls y) rs)) y ≡ node.Text (s ++ rs)
+      here = label-set ls y (with_run (label_in ls y) rs) h ∙ ap (λ d. with_run d rs) is
 
 -- to a text that is there
-pub texts-run : (ts : List Symbol) (fs : List Fate) (ls : List NodeData) (y : ℕ) (cs : List ℕ) → length fs ≡ length ts → cs ≢ [] → y < length ls → IsText (label_in ls y)
-    → AreTexts ts fs ls → AreTexts (ts ++ chars_of cs) (fs ++ replicate (length cs) (Text y)) (slice_set ls y (with_run (label_in ls y) cs))
+pub texts-run : (ts : List Symbol) (fs : List Fate) (ls : List NodeData) (y : ℕ) (cs : List ℕ) → length fs ≡ length ts → map null_replaced cs ≢ [] → y < length ls → IsText (label_in ls y)
+    → AreTexts ts fs ls → AreTexts (ts ++ chars_of cs) (fs ++ replicate (length cs) (Text y)) (slice_set ls y (with_run (label_in ls y) (map null_replaced cs)))
 texts-run ts fs ls y cs l some h i m = by (label_in ls y) refl i
   where
-    by : (d : NodeData) → label_in ls y ≡ d → IsText d → AreTexts (ts ++ chars_of cs) (fs ++ replicate (length cs) (Text y)) (slice_set ls y (with_run (label_in ls y) cs))
+    by : (d : NodeData) → label_in ls y ≡ d → IsText d → AreTexts (ts ++ chars_of cs) (fs ++ replicate (length cs) (Text y)) (slice_set ls y (with_run (label_in ls y) (map null_replaced cs)))
     by (node.Text s) e k = texts-added ts fs ls y cs l h some s e (m.texts y s e).1 (λ x text n q. m.texts x text q) m.text_nodes
     by node.Document e k = absurd k
     by (node.Contents a) e k = absurd k
@@ -177,8 +183,8 @@ texts-run ts fs ls y cs l some h i m = by (label_in ls y) refl i
     by (node.Doctype a b p q) e k = absurd k
 
 -- to the next node, a text
-pub texts-new : (ts : List Symbol) (fs : List Fate) (ls : List NodeData) (cs : List ℕ) → length fs ≡ length ts → cs ≢ [] → AreTexts ts fs ls
-    → AreTexts (ts ++ chars_of cs) (fs ++ replicate (length cs) (Text (length ls))) (slice_set (ls ++ node.Text [] ∷ []) (length ls) (with_run (label_in (ls ++ node.Text [] ∷ []) (length ls)) cs))
+pub texts-new : (ts : List Symbol) (fs : List Fate) (ls : List NodeData) (cs : List ℕ) → length fs ≡ length ts → map null_replaced cs ≢ [] → AreTexts ts fs ls
+    → AreTexts (ts ++ chars_of cs) (fs ++ replicate (length cs) (Text (length ls))) (slice_set (ls ++ node.Text [] ∷ []) (length ls) (with_run (label_in (ls ++ node.Text [] ∷ []) (length ls)) (map null_replaced cs)))
 texts-new ts fs ls cs l some m =
     texts-added ts fs (ls ++ node.Text [] ∷ []) (length ls) cs l (let k = length-append ls (node.Text [] ∷ []) in omega (arith, k)) some [] here
     (sym (text-none (length ls) ts fs (λ i e. let p = m.text_nodes i (length ls) e in let b = p.0 in omega arith)))

@@ -18,7 +18,7 @@ use Rattle.html_arena.specs.Data.{IsElement, attrs_in, label_in, origin_in, with
 use Rattle.html_arena.specs.Make.{has_contents, label_for}
 use Rattle.html_arena.specs.Merge.{lacking, merged}
 use Rattle.html_arena.specs.Siblings.{Distinct, has}
-use Rattle.html_arena.specs.Tree.{Tree as Nodes, label_of, named, tag_at, with_merged}
+use Rattle.html_arena.specs.Tree.{Tree as Nodes, label_of, more, named, tag_at, with_merged}
 use Rattle.html_arena.proofs.Kids.{length-le_below}
 use Rattle.html_tokens.specs.declared.attributes.Attr.{Attr}
 use Rattle.html_open.specs.declared.entry.Entry.{Entry}
@@ -32,6 +32,7 @@ use Rattle.html_open.proofs.Keeps.{cases_bool, cases_eqb, eqb-self}
 use Rattle.html_tree.specs.Inserting.{rest_of, with_new}
 use Rattle.html_tree.specs.Since.{Keeps as TreeKeeps, Since, essence}
 use Rattle.html_tree.specs.States.{IsSound, State as Tree}
+use Rattle.html_tree.specs.Steps.{text_steps}
 use Rattle.html_ledger.specs.declared.fate.Fate.{Fate}
 use Rattle.html_ledger.specs.Entries.{Entries}
 use Rattle.html_ledger.specs.declared.symbol.Symbol.{Symbol}
@@ -252,8 +253,21 @@ works-list n v t l e b k f h =
 
 -- a text is walked to, and got more code points
 pub works-text : (more : ℕ) (n v : State) (t : Tree) (l : Entries) → v ≡ n → IsSound v.tree → v.tree.tokens ≤ length v.ledger.fates → TreeKeeps v.tree t → AddsFates v.ledger l
-    → t.steps ≤ v.tree.steps + 2 * length v.tree.stack + 4 + more → WorksTo 1 0 more n t l
-works-text more n v t l e s u k f h = works-from 1 0 more n v t l e k f (λ r o. let p = within-reach v s u in omega (arith, h, p, r))
+    → t.steps ≤ v.tree.steps + more * (2 * length v.tree.stack + 4) + more → WorksTo more 0 more n t l
+works-text more n v t l e s u k f h =
+    works-from more 0 more n v t l e k f (λ r o. let p = within-reach v s u in let q = mul-le more (2 * length v.tree.stack + 4) more (reach t.tree.labels l.fates) (omega arith) (omega (arith, p, r)) in omega (arith, h, q))
+
+-- one code point
+pub works-char : (k : ℕ) (n v : State) (t : Tree) (l : Entries) → v ≡ n → IsSound v.tree → v.tree.tokens ≤ length v.ledger.fates → TreeKeeps v.tree t → AddsFates v.ledger l → 0 < k → k ≤ 1
+    → t.steps ≤ v.tree.steps + k * (2 * length v.tree.stack + 4) + k → WorksTo 1 0 1 n t l
+works-char k n v t l e s u w f b c h =
+    let one : k ≡ 1 = omega (arith, b, c) in
+    works-text 1 n v t l e s u w f (subst (λ j. t.steps ≤ v.tree.steps + j * (2 * length v.tree.stack + 4) + j) one h)
+
+-- the steps of a text, where the tree is another's
+pub counted-text : (v n : State) (s k j : ℕ) → v ≡ n → k ≡ j → s ≡ more v.tree.steps (text_steps v.tree v.fostering k) → s ≡ more n.tree.steps (text_steps n.tree n.fostering j)
+counted-text v n s k j e o h =
+    h ∙ ap (λ (x : State). more x.tree.steps (text_steps x.tree x.fostering k)) e ∙ ap (λ i. more n.tree.steps (text_steps n.tree n.fostering i)) o
 
 -- the listed elements were opened anew
 pub works-reopened : (n v : State) (t : Tree) → v ≡ n → IsSound v.tree → v.tree.tokens ≤ length v.ledger.fates → length n.tree.list ≤ length n.ledger.fates → TreeKeeps v.tree t → AddsFates v.ledger v.ledger

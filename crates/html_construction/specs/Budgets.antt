@@ -1,6 +1,7 @@
 -- Claimed.
 -- Where a budget is told: what was to be added next, and which limit that would pass. Nodes are looked at before held code points.
 use Rattle.std.specs.Prelude.{ℕ, ◌≡◌, ◌+◌, ◌≤◌, true, List, [], length, slice_index, Option, Err}
+use Rattle.html_names.specs.declared.foreign.Space.{Space}
 use Rattle.html_names.specs.declared.tag.Tag.{Tag}
 use Rattle.html_names.specs.Groups.{is_outermost}
 use Rattle.html_names.specs.Names.{name_of}
@@ -21,13 +22,14 @@ use Rattle.html_tokens.specs.declared.attributes.Attr.{Attr}
 use Rattle.html_tokens.specs.declared.token.TokenKind.{TokenKind}
 use Rattle.html_open.specs.Entries.{has_node}
 use Rattle.html_ledger.specs.declared.symbol.Symbol.TheVariants as symbol
+use Rattle.html_ledger.specs.Runs.{last_of}
 use Rattle.html_ledger.specs.Symbols.{symbol_of}
 use Rattle.html_construction.specs.declared.refusal.Refusal.{Refusal}
 use Rattle.html_construction.specs.declared.refusal.Refusal.TheVariants.{OutOfMemory, NodeBudget, HeldBudget}
 use Rattle.html_construction.specs.Built.{Handed, IsBuilt}
-use Rattle.html_construction.specs.Origins.{is_made_alone}
+use Rattle.html_construction.specs.Origins.{foreign_if, is_made_alone}
 use Rattle.html_construction.specs.States.{State}
-use Rattle.html_construction.specs.Tokens.{attrs_of, data_of, element_name, name_id, public_id, system_id}
+use Rattle.html_construction.specs.Tokens.{attrs_of, data_of, element_name, foreign_attrs, foreign_name, name_id, public_id, system_id, tag_name}
 
 -- the name and the attributes of the element that a start tag asks for
 pub record IsOwn (t : TokenKind) (name : List ℕ) (attrs : List Attr) : Type 0 where
@@ -69,10 +71,16 @@ IsNextNode t a Text = Unit {0}
 IsNextNode t a (Comment text i) = IsOwnComment t text
 IsNextNode t a (Doctype name public_text system_text i) = IsOwnDoctype t name public_text system_text
 
--- So many nodes and held code points may be added next: those of a node, of which a template is made with its contents; a code point of a text; the
--- attributes of a start tag html or body that the first or the second open element lacks.
+-- the element of foreign content of a start tag
+abbrev pub foreign_node : Space → TokenKind → ℕ → NewNode
+foreign_node s t i = Element (foreign_name s (tag_name t)) (foreign_attrs s (attrs_of t)) (Token i)
+
+-- So many nodes and held code points may be added next: those of a node, of which a template is made with its contents; those of an element of foreign
+-- content, where such a one was to be made of the last token that has a fate; a code point of a text; the attributes of a start tag html or body that
+-- the first or the second open element lacks.
 pub data MayAdd (t : TokenKind) (a : State) : ℕ → ℕ → Type 0 where
   a_node : (new : NewNode) → IsNextNode t a new → MayAdd t a (nodes_made new) (made_weight a.tree.tree new)
+  a_foreign_element : (g : Tag) (s : Space) (i : ℕ) → symbol_of t ≡ symbol.Start g → foreign_if (last_of a.ledger.fates) ≡ true → MayAdd t a (nodes_made (foreign_node s t i)) (made_weight a.tree.tree (foreign_node s t i))
   a_code_point : MayAdd t a 0 1
   lacking_attrs : (g : Tag) (i : ℕ) → symbol_of t ≡ symbol.Start g → is_outermost g ≡ true → i ≤ 1 → MayAdd t a 0 (capped (attrs_weight (lacking (attrs_in (label_of a.tree.tree (slice_index a.tree.stack i))) (attrs_of t))))
 

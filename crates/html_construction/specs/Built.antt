@@ -17,6 +17,7 @@ use Rattle.html_ledger.specs.Runs.{last_of}
 use Rattle.html_construction.specs.Accounts.{AreMade, AreTexts}
 use Rattle.html_construction.specs.Begun.{Begun, IsInCall}
 use Rattle.html_construction.specs.Origins.{AreOrigins, HasRoot}
+use Rattle.html_construction.specs.Standing.{IsStanding}
 use Rattle.html_construction.specs.States.{State}
 
 -- tokens as the rules tell them apart
@@ -76,6 +77,7 @@ pub record IsBuilt (h : Handed) (a : State) : Type 0 where
   pub fed : Fed h.setting a.ledger (symbols h.tokens)
   pub known : BeginsWith h.known a.ledger.fates
   pub rooted : IsRooted a.tree
+  pub standing : IsStanding a.tree
   pub limits : a.tree.tree.limits ≡ h.limits
   pub root : HasRoot h.setting a.tree.tree
   pub origins : AreOrigins h.tokens a.ledger.fates a.tree.tree.labels

@@ -1,6 +1,7 @@
 -- Claimed.
 -- What one call makes of the tree and of the ledger.
 use Rattle.std.specs.Prelude.{◌==◌, ◌&&◌, ◌≡◌, ℕ, ◌+◌, List, [], ◌∷◌, Bool, cond, length}
+use Rattle.html_names.specs.declared.foreign.Space.{Space}
 use Rattle.html_names.specs.declared.tag.Tag.{Tag}
 use Rattle.html_names.specs.declared.tag.Tag.TheVariants as tag
 use Rattle.html_names.specs.Names.{name_of}
@@ -28,7 +29,7 @@ use Rattle.html_ledger.specs.declared.fate.Fate.{Fate}
 use Rattle.html_ledger.specs.declared.symbol.Symbol.{Symbol}
 use Rattle.html_ledger.specs.Entries.{given, number_of}
 use Rattle.html_construction.specs.States.{State}
-use Rattle.html_construction.specs.Tokens.{attrs_of, data_of, element_name, name_id, public_id, system_id, tag_name}
+use Rattle.html_construction.specs.Tokens.{attrs_of, data_of, element_name, foreign_attrs, foreign_name, name_id, public_id, system_id, tag_name}
 
 -- the tree is this one, but for its steps
 pub record IsTree (t : Tree) (z : State) : Type 0 where
@@ -57,6 +58,10 @@ element_of a token = Element (tag_name token) (attrs_of token) (Token (number_of
 -- the same, where a void element of the name image is an img
 abbrev pub void_of : State → Tag → TokenKind → NewNode
 void_of a t token = Element (element_name t token) (attrs_of token) (Token (number_of a.ledger))
+
+-- the element of foreign content of a start tag
+abbrev pub foreign_of : State → Space → TokenKind → NewNode
+foreign_of a space token = Element (foreign_name space (tag_name token)) (foreign_attrs space (attrs_of token)) (Token (number_of a.ledger))
 
 abbrev pub root_of : State → TokenKind → NewNode
 root_of a token = Element (name_of tag.Html) (attrs_of token) (Token (number_of a.ledger))

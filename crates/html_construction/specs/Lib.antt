@@ -6,9 +6,11 @@ pub mod Built
 pub mod Calls
 pub mod Causes
 pub mod Copies
+pub mod Foreign
 pub mod Grown
 pub mod Modes
 pub mod Origins
+pub mod Standing
 pub mod States
 pub mod Targets
 pub mod Tokens

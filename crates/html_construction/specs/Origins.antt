@@ -1,6 +1,8 @@
 -- Claimed.
 -- What each node comes from (13.2.6.1).
 use Rattle.std.specs.Prelude.{◌≡◌, ◌≢◌, ℕ, ◌<◌, Bool, true, false, cond, List, [], ◌∷◌, length, slice_get, Option, Some, None}
+use Rattle.html_names.specs.declared.foreign.Space.{Space}
+use Rattle.html_names.specs.Foreign.{is_html_space, space_of}
 use Rattle.html_names.specs.Groups.{is_outermost}
 use Rattle.html_names.specs.Names.{name_of}
 use Rattle.html_names.specs.Sets.{is_formatting}
@@ -22,8 +24,9 @@ use Rattle.html_ledger.specs.declared.setting.Setting.TheVariants.{Document, Fra
 use Rattle.html_ledger.specs.declared.symbol.Symbol.TheVariants.{Start}
 use Rattle.html_ledger.specs.declared.fate.Fate.{Fate}
 use Rattle.html_ledger.specs.declared.fate.Fate.TheVariants.{Merged}
+use Rattle.html_ledger.specs.Fates.{is_foreign}
 use Rattle.html_ledger.specs.Symbols.{symbol_of}
-use Rattle.html_construction.specs.Tokens.{attrs_of, node_name}
+use Rattle.html_construction.specs.Tokens.{attrs_of, foreign_attrs, foreign_name, node_name}
 
 -- the root: of a document the document, of a fragment an html element that no token asked for (13.4)
 abbrev pub IsRootLabel : Setting → NodeData → Type 0
@@ -75,6 +78,32 @@ pub record IsOf (x i : ℕ) (name : List ℕ) (attrs : List Attr) (tokens : List
   pub name_is : name ≡ node_name own_name
   pub attrs_are : attrs ≡ with_later x own_attrs tokens homes
 
+-- An element of foreign content is one of a namespace, by its tag, and has the name and the attributes of its start tag, adjusted; nothing is merged
+-- into it (13.2.6.5).
+pub record IsForeignOf (i : ℕ) (g : Tag) (name : List ℕ) (attrs : List Attr) (tokens : List TokenKind) : Type 0 where
+  pub space : Space
+  pub tag_is : space_of g ≡ space
+  pub own_name : List ℕ
+  pub own_attrs : List Attr
+  pub self_closing : Bool
+  pub outside : is_html_space space ≡ false
+  pub token_is : slice_get tokens i ≡ Some (kind.Start own_name own_attrs self_closing)
+  pub name_is : name ≡ foreign_name space own_name
+  pub attrs_are : attrs ≡ foreign_attrs space own_attrs
+
+abbrev pub foreign_if : Option Fate → Bool
+foreign_if None = false
+foreign_if (Some f) = is_foreign f
+
+-- an element of foreign content was made of the token of this number
+abbrev pub is_foreign_at : List Fate → ℕ → Bool
+is_foreign_at fates i = foreign_if (slice_get fates i)
+
+-- by whether it is one of foreign content
+abbrev pub IsOfTag : Bool → ℕ → ℕ → Tag → List ℕ → List Attr → List TokenKind → List (Option ℕ) → Type 0
+IsOfTag false x i g name attrs tokens homes = IsOf x i name attrs tokens homes
+IsOfTag true x i g name attrs tokens homes = IsForeignOf i g name attrs tokens
+
 -- the elements that are made without a start tag of their own: html head body p br colgroup tbody tr
 abbrev pub is_made_alone : Tag → Bool
 is_made_alone tag.Html = true
@@ -94,25 +123,25 @@ pub record IsImplied (x : ℕ) (name : List ℕ) (attrs : List Attr) (tokens : L
   pub name_is : name ≡ name_of name_tag
   pub attrs_are : attrs ≡ with_later x [] tokens homes
 
--- by its origin
-abbrev pub HasElementOrigin : ℕ → List TokenKind → List (Option ℕ) → Origin → List ℕ → List Attr → Type 0
-HasElementOrigin x tokens homes (Token i) name attrs = IsOf x i name attrs tokens homes
-HasElementOrigin x tokens homes Implied name attrs = IsImplied x name attrs tokens homes
-HasElementOrigin x tokens homes Nothing name attrs = ⊥
+-- by its origin, and of a token by its fate
+abbrev pub HasElementOrigin : ℕ → List TokenKind → List Fate → List (Option ℕ) → Origin → Tag → List ℕ → List Attr → Type 0
+HasElementOrigin x tokens fates homes (Token i) g name attrs = IsOfTag (is_foreign_at fates i) x i g name attrs tokens homes
+HasElementOrigin x tokens fates homes Implied g name attrs = IsImplied x name attrs tokens homes
+HasElementOrigin x tokens fates homes Nothing g name attrs = ⊥
 
 -- What a node has comes from its token: an element's name and attributes, a comment's data, a doctype's name and ids.
-abbrev pub HasOrigin : ℕ → List TokenKind → List (Option ℕ) → NodeData → Type 0
-HasOrigin x tokens homes node.Document = Unit {0}
-HasOrigin x tokens homes (node.Contents h) = Unit {0}
-HasOrigin x tokens homes (node.Text s) = Unit {0}
-HasOrigin x tokens homes (node.Comment s i) = slice_get tokens i ≡ Some (kind.Comment s)
-HasOrigin x tokens homes (node.Doctype n p s i) = (forced : Bool) × (slice_get tokens i ≡ Some (kind.Doctype n p s forced))
-HasOrigin x tokens homes (node.Element e) = HasElementOrigin x tokens homes e.origin e.name e.attrs
+abbrev pub HasOrigin : ℕ → List TokenKind → List Fate → List (Option ℕ) → NodeData → Type 0
+HasOrigin x tokens fates homes node.Document = Unit {0}
+HasOrigin x tokens fates homes (node.Contents h) = Unit {0}
+HasOrigin x tokens fates homes (node.Text s) = Unit {0}
+HasOrigin x tokens fates homes (node.Comment s i) = slice_get tokens i ≡ Some (kind.Comment s)
+HasOrigin x tokens fates homes (node.Doctype n p s i) = (forced : Bool) × (slice_get tokens i ≡ Some (kind.Doctype n p s forced))
+HasOrigin x tokens fates homes (node.Element e) = HasElementOrigin x tokens fates homes e.origin e.tag e.name e.attrs
 
 -- Each node has what its token has, a clone too, which is of a formatting element; of tags that were merged the attributes were added to one
 -- html or body element each.
 pub record AreOrigins (tokens : List TokenKind) (fates : List Fate) (labels : List NodeData) : Type 0 where
   pub homes : List (Option ℕ)
   pub merged_into : AreHomes labels tokens fates homes
-  pub each : (x : ℕ) → HasOrigin x tokens homes (label_in labels x)
+  pub each : (x : ℕ) → HasOrigin x tokens fates homes (label_in labels x)
   pub clones : (x : ℕ) → is_clone_in (label_in labels x) ≡ true → is_formatting (tag_in (label_in labels x)) ≡ true

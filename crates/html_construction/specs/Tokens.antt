@@ -1,6 +1,8 @@
 -- Claimed.
 -- What a token says of its node (13.2.5).
-use Rattle.std.specs.Prelude.{ℕ, List, [], Option, None, if◌then◌else◌}
+use Rattle.std.specs.Prelude.{ℕ, Bool, false, List, [], ◌++◌, map, Option, None, unwrap_or, if◌then◌else◌}
+use Rattle.html_names.specs.declared.foreign.Space.{Space}
+use Rattle.html_names.specs.Foreign.{adjusted_attr, adjusted_name, prefix_of}
 use Rattle.html_names.specs.declared.tag.Tag.{Tag}
 use Rattle.html_names.specs.declared.tag.Tag.TheVariants as tag
 use Rattle.html_names.specs.Names.{name_of, tag_of}
@@ -8,6 +10,7 @@ use Rattle.html_names.specs.Tags.{is_same}
 use Rattle.html_tokens.specs.declared.attributes.Attr.{Attr}
 use Rattle.html_tokens.specs.declared.token.TokenKind.{TokenKind}
 use Rattle.html_tokens.specs.declared.token.TokenKind.TheVariants as kind
+use Rattle.html_tree.specs.Proper.{opens}
 
 -- the name of a tag; another token has none
 abbrev pub tag_name : TokenKind → List ℕ
@@ -23,10 +26,25 @@ element_name t token = if is_same t tag.Image then name_of tag.Img else tag_name
 abbrev pub element_tag : Tag → Tag
 element_tag t = if is_same t tag.Image then tag.Img else t
 
+-- a start tag of this name makes an element of that very name, which is opened
+abbrev pub opens_own : Tag → Bool
+opens_own t = if is_same t tag.Image then false else opens t
+
 -- the attributes of a start tag; another token has none
 abbrev pub attrs_of : TokenKind → List Attr
 attrs_of (kind.Start name attrs self_closing) = attrs
 attrs_of _ = []
+
+-- the name of an element of foreign content: what the names of its namespace begin with, and that of the tag, adjusted (13.2.6.5)
+abbrev pub foreign_name : Space → List ℕ → List ℕ
+foreign_name space name = prefix_of space ++ unwrap_or (adjusted_name space name) name
+
+-- an attribute of such an element: its name is adjusted (13.2.6.1), and its value is the tag's
+abbrev pub foreign_attr : Space → Attr → Attr
+foreign_attr space a = record a { name = unwrap_or (adjusted_attr space a.name) a.name }
+
+abbrev pub foreign_attrs : Space → List Attr → List Attr
+foreign_attrs space attrs = map (foreign_attr space) attrs
 
 -- the data of a comment; another token has none
 abbrev pub data_of : TokenKind → List ℕ

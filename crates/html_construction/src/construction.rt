@@ -33,6 +33,7 @@ use std::marker::Model;
 
 mod closing;
 mod fates;
+mod foreign;
 mod inserting;
 mod listing;
 mod pointers;

@@ -17,8 +17,8 @@ use Rattle.html_ledger.specs.declared.setting.Setting.{Setting}
 use Rattle.html_ledger.specs.declared.fate.Fate.{Fate}
 use Rattle.html_ledger.specs.declared.history.History.{History}
 use Rattle.html_ledger.specs.Symbols.{named, start_of}
-use Rattle.html_ledger.specs.Settings.{is_document, context_is, has_form}
-use Rattle.html_ledger.specs.MayDrop.{Since, makes, any_token, no_token, ends_no_select, may_precede_doctype, may_precede_head}
+use Rattle.html_ledger.specs.Settings.{is_document, context_is, has_form, is_foreign_context}
+use Rattle.html_ledger.specs.MayDrop.{Since, embeds, makes, any_token, no_token, ends_no_select, may_precede_doctype, may_precede_head}
 use Rattle.html_ledger.specs.Flags.{history_at, after}
 use Rattle.html_ledger.specs.Known.{Knows}
 use Rattle.html_ledger.proofs.Since.{Decides-since, Decides-since_any, Decides-since_none, Decides-since_or, since-none}
@@ -49,6 +49,7 @@ Knows-after s h ts fs t f k =
       col = Decides-since_or (makes (named tag.Col)) (IsTrue (context_is tag.Colgroup s)) ts fs t f h.col e k.col;
       noscript = Decides-since_any (makes (named tag.Noscript)) ts fs t f h.noscript e k.noscript;
       form = Decides-since_or (makes (named tag.Form)) (IsTrue (has_form s)) ts fs t f h.form e k.form;
+      foreign = Decides-since_or embeds (IsTrue (is_foreign_context s)) ts fs t f h.foreign e k.foreign;
     }
 
 all-none : (a : Bool) → Decides a (IsTrue (a && true))
@@ -76,6 +77,7 @@ Knows-none s = record {
   col = context_alone (makes (named tag.Col)) (context_is tag.Colgroup s);
   noscript = none (makes (named tag.Noscript)) any_token;
   form = context_alone (makes (named tag.Form)) (has_form s);
+  foreign = context_alone embeds (is_foreign_context s);
 }
 
 -- the flags after a token that is no start tag
@@ -87,6 +89,14 @@ no-makes Comment f p e = and-false (is_made f)
 no-makes Doctype f p e = and-false (is_made f)
 no-makes Eof f p e = and-false (is_made f)
 
+no-embeds : (t : Symbol) (f : Fate) → start_of t ≡ None → embeds t f ≡ false
+no-embeds (Start x) f e = absurd cc
+no-embeds (End x) f e = refl
+no-embeds (Char c) f e = refl
+no-embeds Comment f e = refl
+no-embeds Doctype f e = refl
+no-embeds Eof f e = refl
+
 kept-flag : (b : Bool) (t : Symbol) (f : Fate) (p : Tag → Bool) → start_of t ≡ None → b ≡ (b || makes p t f)
 kept-flag b t f p e = sym (or-false b) ∙ ap (λ m. b || m) (sym (no-makes t f p e))
 
@@ -94,11 +104,12 @@ pub after-other : (h : History) (t : Symbol) (f : Fate) (b p o : Bool) → start
 after-other h t f b p o n e g k =
     ap (λ x. record h { awaits_doctype = x; prolog = p; ignore_line_feed = false; open_select = o }) e
     ∙ ap (λ x. record h { awaits_doctype = h.awaits_doctype && may_precede_doctype t; prolog = x; ignore_line_feed = false; open_select = o }) g
-    ∙ ap (λ x. record (after h t f) { ignore_line_feed = x; select = h.select; open_select = o; template = h.template; frameset = h.frameset; col = h.col; noscript = h.noscript; form = h.form }) (sym (no-makes t f takes_newline n))
-    ∙ ap (λ x. record (after h t f) { select = h.select; open_select = x; template = h.template; frameset = h.frameset; col = h.col; noscript = h.noscript; form = h.form }) (k ∙ kept-flag (h.open_select && ends_no_select t) t f (named tag.Select) n)
-    ∙ ap (λ x. record (after h t f) { select = x; template = h.template; frameset = h.frameset; col = h.col; noscript = h.noscript; form = h.form }) (kept-flag h.select t f (named tag.Select) n)
-    ∙ ap (λ x. record (after h t f) { template = x; frameset = h.frameset; col = h.col; noscript = h.noscript; form = h.form }) (kept-flag h.template t f (named tag.Template) n)
-    ∙ ap (λ x. record (after h t f) { frameset = x; col = h.col; noscript = h.noscript; form = h.form }) (kept-flag h.frameset t f (named tag.Frameset) n)
-    ∙ ap (λ x. record (after h t f) { col = x; noscript = h.noscript; form = h.form }) (kept-flag h.col t f (named tag.Col) n)
-    ∙ ap (λ x. record (after h t f) { noscript = x; form = h.form }) (kept-flag h.noscript t f (named tag.Noscript) n)
-    ∙ ap (λ x. record (after h t f) { form = x }) (kept-flag h.form t f (named tag.Form) n)
+    ∙ ap (λ x. record (after h t f) { ignore_line_feed = x; select = h.select; open_select = o; template = h.template; frameset = h.frameset; col = h.col; noscript = h.noscript; form = h.form; foreign = h.foreign }) (sym (no-makes t f takes_newline n))
+    ∙ ap (λ x. record (after h t f) { select = h.select; open_select = x; template = h.template; frameset = h.frameset; col = h.col; noscript = h.noscript; form = h.form; foreign = h.foreign }) (k ∙ kept-flag (h.open_select && ends_no_select t) t f (named tag.Select) n)
+    ∙ ap (λ x. record (after h t f) { select = x; template = h.template; frameset = h.frameset; col = h.col; noscript = h.noscript; form = h.form; foreign = h.foreign }) (kept-flag h.select t f (named tag.Select) n)
+    ∙ ap (λ x. record (after h t f) { template = x; frameset = h.frameset; col = h.col; noscript = h.noscript; form = h.form; foreign = h.foreign }) (kept-flag h.template t f (named tag.Template) n)
+    ∙ ap (λ x. record (after h t f) { frameset = x; col = h.col; noscript = h.noscript; form = h.form; foreign = h.foreign }) (kept-flag h.frameset t f (named tag.Frameset) n)
+    ∙ ap (λ x. record (after h t f) { col = x; noscript = h.noscript; form = h.form; foreign = h.foreign }) (kept-flag h.col t f (named tag.Col) n)
+    ∙ ap (λ x. record (after h t f) { noscript = x; form = h.form; foreign = h.foreign }) (kept-flag h.noscript t f (named tag.Noscript) n)
+    ∙ ap (λ x. record (after h t f) { form = x; foreign = h.foreign }) (kept-flag h.form t f (named tag.Form) n)
+    ∙ ap (λ x. record (after h t f) { foreign = x }) (sym (or-false h.foreign) ∙ ap (λ m. h.foreign || m) (sym (no-embeds t f n)))

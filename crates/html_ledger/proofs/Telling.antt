@@ -11,7 +11,7 @@ use Rattle.html_ledger.specs.declared.fate.Fate.{Fate}
 use Rattle.html_ledger.specs.declared.history.History.{History}
 use Rattle.html_ledger.specs.Fates.{is_error}
 use Rattle.html_ledger.specs.Fated.{EachToken}
-use Rattle.html_ledger.specs.Errors.{AreErrors, AreNumbersBelow, HasError, IsTold, ends_initial, has_number, may_be_ignored}
+use Rattle.html_ledger.specs.Errors.{AreErrors, AreNumbersBelow, HasError, IsTold, ends_initial, has_number, is_replaced, may_be_ignored}
 use Rattle.html_ledger.specs.Flags.{has_error}
 use Rattle.html_ledger.specs.Known.{Knows}
 use Rattle.html_ledger.proofs.Since.{last_or_before}
@@ -62,7 +62,8 @@ AreErrors-none s = record { rising = omega arith; each = λ i u g p q. absurd (l
 
 pub Decides-has_error : (s : Setting) (h : History) (ts : List Symbol) (fs : List Fate) (t : Symbol) (f : Fate) → Knows s h ts fs → Decides (has_error h t f) (HasError s ts t f)
 Decides-has_error s h ts fs t f k =
-    Decides-or (is_error f) (ends_initial t && h.awaits_doctype) (λ e. e, λ e. e) (Decides-and (ends_initial t) h.awaits_doctype (λ e. e, λ e. e) k.awaits_doctype)
+    Decides-or (is_error f) (is_replaced t f || (ends_initial t && h.awaits_doctype)) (λ e. e, λ e. e)
+    (Decides-or (is_replaced t f) (ends_initial t && h.awaits_doctype) (λ e. e, λ e. e) (Decides-and (ends_initial t) h.awaits_doctype (λ e. e, λ e. e) k.awaits_doctype))
 
 -- what the flags tell
 pub told-given : (s : Setting) (h : History) (ts : List Symbol) (fs : List Fate) (t : Symbol) (f : Fate) → Knows s h ts fs → IsTold (has_error h t f) s ts t f

@@ -1,5 +1,5 @@
 -- What the flags say of the next token, over all the tokens before it.
-use Rattle.std.proofs.Common.{ℕ, zero, suc, ◌==◌, ap, subst, ◌∙◌, ◌≡◌, inl, inr, Bool, true, false, not, ◌&&◌, ◌||◌, IsTrue, List, [], ◌∷◌, refl}
+use Rattle.std.proofs.Common.{ℕ, zero, suc, ◌==◌, ap, subst, ◌∙◌, ◌≡◌, ◌⊎◌, inl, inr, Bool, true, false, not, ◌&&◌, ◌||◌, IsTrue, List, [], ◌∷◌, refl}
 use Rattle.std.specs.Prelude.{Decides, Some, None, slice_get}
 use Rattle.std.specs.List.{list_all}
 use Rattle.std.proofs.lemmas.Bool.{false≢true, true≢false, cases_Bool, and_parts, and_from, and_cases, not-true, not-false, both_ways, cond-true, cond-false, eqb-true, false_from_ne_true, true_from_ne_false}
@@ -11,7 +11,7 @@ use Rattle.html_ledger.specs.declared.symbol.Symbol.{Symbol}
 use Rattle.html_ledger.specs.declared.symbol.Symbol.TheVariants.{Start, End, Char, Comment, Doctype, Eof}
 use Rattle.html_ledger.specs.declared.setting.Setting.{Setting}
 use Rattle.html_ledger.specs.declared.fate.Fate.{Fate}
-use Rattle.html_ledger.specs.declared.fate.Fate.TheVariants.{Made, Merged, Text, Dropped, Ended}
+use Rattle.html_ledger.specs.declared.fate.Fate.TheVariants.{Made, Foreign, Merged, Text, Dropped, Ended}
 use Rattle.html_ledger.specs.declared.fate.Cause.{Cause}
 use Rattle.html_ledger.specs.declared.fate.Cause.TheVariants.{PrologSpace, Null, LeadingNewline, InSelect, InFrameset, Misplaced, InColumnGroup}
 use Rattle.html_ledger.specs.declared.history.History.{History}
@@ -19,9 +19,9 @@ use Rattle.html_ledger.specs.Symbols.{named, is_char, is_space_char}
 use Rattle.html_ledger.specs.Settings.{is_document, context_is}
 use Rattle.html_ledger.specs.Spaces.{is_space}
 use Rattle.html_ledger.specs.Fates.{is_made}
-use Rattle.html_ledger.specs.MayDrop.{Since, makes, no_token, may_precede_head, holds_in_each_mode, MayBeInSelect, MayBeMisplaced, Misplaces, MayDrop, MustDrop, is_outside_select, is_outside_frameset, is_outside_column_group, is_body_or_table}
-use Rattle.html_ledger.specs.Fated.{MayMake, MayHave, IsFate, is_text_char}
-use Rattle.html_ledger.specs.Flags.{may_select, may_misplace_tag, may_misplace, may_drop, must_drop, is_free, may_make, may_have}
+use Rattle.html_ledger.specs.MayDrop.{Since, makes, no_token, may_precede_head, holds_in_each_mode, MayBeInSelect, MayBeMisplaced, Misplaces, MayDrop, MustDrop, is_outside_select, is_outside_frameset, is_outside_column_group, is_body_or_table, is_foreign_root}
+use Rattle.html_ledger.specs.Fated.{MayMake, MayEmbed, MayHave, IsFate, is_text_char}
+use Rattle.html_ledger.specs.Flags.{may_select, may_misplace_tag, may_misplace, may_drop, must_drop, is_free, may_embed, may_make, may_have, may_null, may_text}
 use Rattle.html_ledger.specs.Known.{Knows}
 
 self : (b : Bool) → Decides b (IsTrue b)
@@ -66,6 +66,14 @@ Decides-may_make s h ts fs Doctype k = k.awaits_doctype
 Decides-may_make s h ts fs (End t) k = never ⊥ (λ p. p)
 Decides-may_make s h ts fs (Char c) k = never ⊥ (λ p. p)
 Decides-may_make s h ts fs Eof k = never ⊥ (λ p. p)
+
+Decides-may_embed : (s : Setting) (h : History) (ts : List Symbol) (fs : List Fate) (t : Symbol) → Knows s h ts fs → Decides (may_embed h t) (MayEmbed s ts fs t)
+Decides-may_embed s h ts fs (Start t) k = Decides-or (is_foreign_root t) h.foreign (self (is_foreign_root t)) k.foreign
+Decides-may_embed s h ts fs (End t) k = never ⊥ (λ p. p)
+Decides-may_embed s h ts fs (Char c) k = never ⊥ (λ p. p)
+Decides-may_embed s h ts fs Comment k = never ⊥ (λ p. p)
+Decides-may_embed s h ts fs Doctype k = never ⊥ (λ p. p)
+Decides-may_embed s h ts fs Eof k = never ⊥ (λ p. p)
 
 not_html : (t : Tag) → takes_newline t ≡ true → named tag.Html t ≡ true → ⊥
 not_html tag.Listing e n = false≢true n
@@ -150,9 +158,34 @@ forced_is_char : (h : History) (t : Symbol) (c : Cause) → holds_in_each_mode c
 forced_is_char h t c m e =
     not_char_free h t (false_from_ne_true (is_free h t) (λ f. not_forced h t c f m e))
 
+or_split : (a b : Bool) → (a || b) ≡ true → (a ≡ true) ⊎ (b ≡ true)
+or_split true b e = inl refl
+or_split false b e = inr e
+
+pub or_first : (a b : Bool) → a ≡ true → (a || b) ≡ true
+or_first a b e = rw e refl
+
+or_second : (a b : Bool) → b ≡ true → (a || b) ≡ true
+or_second true b e = refl
+or_second false b e = e
+
+-- U+0000 is dropped by no cause that holds in every mode
+null_free : (h : History) (x : ℕ) (c : Cause) → (x == 0) ≡ true → holds_in_each_mode c ≡ true → may_drop h (Char x) c ≡ true → ⊥
+null_free h x PrologSpace z m e = not_null x (and_parts (is_space x) h.prolog e).0 z
+null_free h x LeadingNewline z m e = not_null_line x (and_parts (x == 10) h.ignore_line_feed e).0 z
+null_free h x Null z m e = false≢true m
+null_free h x InSelect z m e = false≢true m
+null_free h x InFrameset z m e = false≢true m
+null_free h x Misplaced z m e = false≢true m
+null_free h x InColumnGroup z m e = false≢true m
+
 forced_char : (h : History) (x : ℕ) (f : Fate) (c : Cause) → (h.prolog ≡ true → h.ignore_line_feed ≡ true → ⊥) → may_have h (Char x) f ≡ true → holds_in_each_mode c ≡ true → may_drop h (Char x) c ≡ true → f ≡ Dropped c
 forced_char h x (Dropped d) c a e m g = ap (λ y. Dropped y) (only h x c d a m g e)
-forced_char h x (Text d) c a e m g = absurd (not_forced h (Char x) c (and_parts (is_text_char (Char x)) (is_free h (Char x)) e).1 m g)
+forced_char h x (Text d) c a e m g = elim (or_split (may_text h (Char x)) (may_null h (Char x)) e) [
+  | inl u ↦ absurd (not_forced h (Char x) c (and_parts (is_text_char (Char x)) (is_free h (Char x)) u).1 m g)
+  | inr u ↦ absurd (null_free h x c (and_parts (x == 0) h.foreign u).0 m g)
+]
+forced_char h x (Foreign d) c a e m g = absurd (false≢true e)
 forced_char h x (Made d) c a e m g = absurd (false≢true e)
 forced_char h x Merged c a e m g = absurd (false≢true e)
 forced_char h x Ended c a e m g = absurd (false≢true e)
@@ -177,18 +210,26 @@ free_or_forced h t e =
 may_have_is : (s : Setting) (h : History) (ts : List Symbol) (fs : List Fate) (t : Symbol) (f : Fate) → Knows s h ts fs → may_have h t f ≡ true → MayHave s ts fs t f
 may_have_is s h ts fs t (Made d) k e = (Decides-may_make s h ts fs t k).0 e
 may_have_is s h ts fs t Merged k e = e
-may_have_is s h ts fs t (Text d) k e = (and_parts (is_text_char t) (is_free h t) e).0
+may_have_is s h ts fs t (Foreign d) k e = (Decides-may_embed s h ts fs t k).0 e
+may_have_is s h ts fs t (Text d) k e = elim (or_split (may_text h t) (may_null h t) e) [
+  | inl u ↦ inl (and_parts (is_text_char t) (is_free h t) u).0
+  | inr u ↦ (let v = and_parts (is_char 0 t) h.foreign u in inr (v.0, k.foreign.0 v.1))
+]
 may_have_is s h ts fs t (Dropped c) k e = (Decides-may_drop s h ts fs t c k).0 e
 may_have_is s h ts fs t Ended k e = e
 
 is_may_have : (s : Setting) (h : History) (ts : List Symbol) (fs : List Fate) (t : Symbol) (f : Fate) → Knows s h ts fs → IsFate s ts fs t f → may_have h t f ≡ true
 is_may_have s h ts fs t (Made d) k i = (Decides-may_make s h ts fs t k).1 i.may
 is_may_have s h ts fs t Merged k i = i.may
-is_may_have s h ts fs t (Text d) k i =
-    and_from (is_text_char t) (is_free h t) i.may (true_from_ne_false (is_free h t) (λ e.
-    let w = free_or_forced h t e in
-    let g : Text d ≡ Dropped w.0 = i.must w.0 (w.1, (Decides-may_drop s h ts fs t w.0 k).0 w.2) in
-    absurd cc))
+is_may_have s h ts fs t (Foreign d) k i = (Decides-may_embed s h ts fs t k).1 i.may
+is_may_have s h ts fs t (Text d) k i = elim i.may [
+  | inl u ↦
+      or_first (may_text h t) (may_null h t) (and_from (is_text_char t) (is_free h t) u (true_from_ne_false (is_free h t) (λ e.
+      let w = free_or_forced h t e in
+      let g : Text d ≡ Dropped w.0 = i.must w.0 (w.1, (Decides-may_drop s h ts fs t w.0 k).0 w.2) in
+      absurd cc)))
+  | inr v ↦ or_second (may_text h t) (may_null h t) (and_from (is_char 0 t) h.foreign v.0 (k.foreign.1 v.1))
+]
 is_may_have s h ts fs t (Dropped c) k i = (Decides-may_drop s h ts fs t c k).1 i.may
 is_may_have s h ts fs t Ended k i = i.may
 

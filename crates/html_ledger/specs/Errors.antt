@@ -7,8 +7,9 @@ use Rattle.html_ledger.specs.declared.symbol.Symbol.{Symbol}
 use Rattle.html_ledger.specs.declared.symbol.Symbol.TheVariants.{Start, End, Char, Comment, Doctype, Eof}
 use Rattle.html_ledger.specs.declared.setting.Setting.{Setting}
 use Rattle.html_ledger.specs.declared.fate.Fate.{Fate}
+use Rattle.html_ledger.specs.declared.fate.Fate.TheVariants.{Text}
 use Rattle.html_ledger.specs.Spaces.{is_space}
-use Rattle.html_ledger.specs.Symbols.{ends}
+use Rattle.html_ledger.specs.Symbols.{ends, is_char}
 use Rattle.html_ledger.specs.Fates.{is_error}
 use Rattle.html_ledger.specs.MayDrop.{AwaitsDoctype}
 use Rattle.html_ledger.specs.Fated.{EachToken}
@@ -22,9 +23,14 @@ ends_initial Comment = false
 ends_initial Doctype = false
 ends_initial Eof = true
 
--- The token has an error with this fate: the fate is one, or the token leaves the mode initial where no doctype came.
+-- U+0000 that became text, as U+FFFD (13.2.6.5).
+abbrev pub is_replaced : Symbol → Fate → Bool
+is_replaced token (Text d) = is_char 0 token
+is_replaced token _ = false
+
+-- The token has an error with this fate: the fate is one, U+0000 was replaced, or the token leaves the mode initial where no doctype came.
 abbrev pub HasError : Setting → List Symbol → Symbol → Fate → Type 0
-HasError s before token fate = IsTrue (is_error fate) ⊎ (IsTrue (ends_initial token) × AwaitsDoctype s before)
+HasError s before token fate = IsTrue (is_error fate) ⊎ (IsTrue (is_replaced token fate) ⊎ (IsTrue (ends_initial token) × AwaitsDoctype s before))
 
 -- An end tag whose rules may leave the tree as it is, which is an error: any but that of the body and of the root (13.2.6.4.7).
 abbrev pub may_be_ignored : Symbol → Bool

@@ -9,16 +9,16 @@ use Rattle.html_ledger.specs.declared.symbol.Symbol.{Symbol}
 use Rattle.html_ledger.specs.declared.symbol.Symbol.TheVariants.{Start, Char, Comment, Doctype}
 use Rattle.html_ledger.specs.declared.setting.Setting.{Setting}
 use Rattle.html_ledger.specs.declared.fate.Fate.{Fate}
-use Rattle.html_ledger.specs.declared.fate.Fate.TheVariants.{Made, Merged, Text, Dropped, Ended}
+use Rattle.html_ledger.specs.declared.fate.Fate.TheVariants.{Made, Merged, Text, Dropped, Ended, Foreign}
 use Rattle.html_ledger.specs.declared.fate.Cause.{Cause}
 use Rattle.html_ledger.specs.declared.fate.Cause.TheVariants.{PrologSpace, Null, LeadingNewline, InSelect, InFrameset, Misplaced, InColumnGroup}
 use Rattle.html_ledger.specs.declared.history.History.{History}
 use Rattle.html_ledger.specs.Symbols.{named, starts, is_char, is_space_char}
-use Rattle.html_ledger.specs.Settings.{is_document, is_fragment, context_is, has_form}
-use Rattle.html_ledger.specs.MayDrop.{makes, ends_no_select, may_precede_doctype, may_precede_head, is_outside_select, is_outside_frameset, is_outside_column_group, is_body_or_table}
+use Rattle.html_ledger.specs.Settings.{is_document, is_fragment, context_is, has_form, is_foreign_context}
+use Rattle.html_ledger.specs.MayDrop.{makes, ends_no_select, may_precede_doctype, may_precede_head, is_outside_select, is_outside_frameset, is_outside_column_group, is_body_or_table, embeds, is_foreign_root}
 use Rattle.html_ledger.specs.Fates.{is_error}
 use Rattle.html_ledger.specs.Fated.{is_text_char, is_end}
-use Rattle.html_ledger.specs.Errors.{ends_initial}
+use Rattle.html_ledger.specs.Errors.{ends_initial, is_replaced}
 
 -- before the first token
 abbrev pub history_at : Setting → History
@@ -35,6 +35,7 @@ history_at s = record {
   col = context_is tag.Colgroup s;
   noscript = false;
   form = has_form s;
+  foreign = is_foreign_context s;
 }
 
 -- after one more token with its fate
@@ -52,6 +53,7 @@ after h t f = record {
   col = h.col || makes (named tag.Col) t f;
   noscript = h.noscript || makes (named tag.Noscript) t f;
   form = h.form || makes (named tag.Form) t f;
+  foreign = h.foreign || embeds t f;
 }
 
 -- after code points that all have one fate
@@ -102,6 +104,15 @@ may_make h Comment = true
 may_make h Doctype = h.awaits_doctype
 may_make h _ = false
 
+-- an element of foreign content may be made of the token
+abbrev pub may_embed : History → Symbol → Bool
+may_embed h (Start t) = is_foreign_root t || h.foreign
+may_embed h _ = false
+
+-- the token is U+0000, and may become text in foreign content
+abbrev pub may_null : History → Symbol → Bool
+may_null h t = is_char 0 t && h.foreign
+
 -- the token may become text
 abbrev pub may_text : History → Symbol → Bool
 may_text h t = is_text_char t && is_free h t
@@ -120,12 +131,13 @@ may_text_run h cs = not h.awaits_doctype && (list_all is_not_null cs && is_free_
 
 -- the token has an error with this fate
 abbrev pub has_error : History → Symbol → Fate → Bool
-has_error h t f = is_error f || (ends_initial t && h.awaits_doctype)
+has_error h t f = is_error f || (is_replaced t f || (ends_initial t && h.awaits_doctype))
 
 -- the token may have this fate
 abbrev pub may_have : History → Symbol → Fate → Bool
 may_have h t (Made d) = may_make h t
 may_have h t Merged = starts is_outermost t
-may_have h t (Text d) = may_text h t
+may_have h t (Foreign d) = may_embed h t
+may_have h t (Text d) = may_text h t || may_null h t
 may_have h t (Dropped cause) = may_drop h t cause
 may_have h t Ended = is_end t

@@ -7,7 +7,7 @@ use Rattle.html_ledger.specs.declared.setting.Setting.{Setting}
 use Rattle.html_ledger.specs.declared.fate.Fate.{Fate}
 use Rattle.html_ledger.specs.declared.history.History.{History}
 use Rattle.html_ledger.specs.Settings.{is_fragment, context_is, has_form}
-use Rattle.html_ledger.specs.MayDrop.{WasMade, HasOpenSelect, IgnoresLineFeed, AwaitsDoctype, InProlog}
+use Rattle.html_ledger.specs.MayDrop.{WasMade, HasOpenSelect, IgnoresLineFeed, AwaitsDoctype, InProlog, MayBeForeign}
 
 -- The flags of a history are those of these tokens with these fates, one each.
 pub record Knows (s : Setting) (h : History) (tokens : List Symbol) (fates : List Fate) : Type 0 where
@@ -24,3 +24,4 @@ pub record Knows (s : Setting) (h : History) (tokens : List Symbol) (fates : Lis
   pub col : Decides h.col (WasMade tag.Col tokens fates ⊎ IsTrue (context_is tag.Colgroup s))
   pub noscript : Decides h.noscript (WasMade tag.Noscript tokens fates)
   pub form : Decides h.form (WasMade tag.Form tokens fates ⊎ IsTrue (has_form s))
+  pub foreign : Decides h.foreign (MayBeForeign s tokens fates)

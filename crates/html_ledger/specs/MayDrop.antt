@@ -13,8 +13,8 @@ use Rattle.html_ledger.specs.declared.fate.Cause.{Cause}
 use Rattle.html_ledger.specs.declared.fate.Cause.TheVariants.{PrologSpace, Null, LeadingNewline, InSelect, InFrameset, Misplaced, InColumnGroup}
 use Rattle.html_ledger.specs.Spaces.{is_space}
 use Rattle.html_ledger.specs.Symbols.{named, starts, ends, is_char, is_space_char, is_visible_char}
-use Rattle.html_ledger.specs.Settings.{is_document, is_fragment, context_is, has_form}
-use Rattle.html_ledger.specs.Fates.{is_made}
+use Rattle.html_ledger.specs.Settings.{is_document, is_fragment, context_is, has_form, is_foreign_context}
+use Rattle.html_ledger.specs.Fates.{is_foreign, is_made}
 
 -- a start tag whose name is such, of which an element was made
 abbrev pub makes : (Tag → Bool) → Symbol → Fate → Bool
@@ -41,6 +41,21 @@ no_token t = false
 -- An element of this name was made of a token before.
 abbrev pub WasMade : Tag → List Symbol → List Fate → Type 0
 WasMade x before fates = Since (makes (named x)) any_token before fates
+
+-- a start tag of which an element of foreign content was made
+abbrev pub embeds : Symbol → Fate → Bool
+embeds (Start t) fate = is_foreign fate
+embeds _ fate = false
+
+-- An element of foreign content was made of a token before, or is the context.
+abbrev pub MayBeForeign : Setting → List Symbol → List Fate → Type 0
+MayBeForeign s before fates = Since embeds any_token before fates ⊎ IsTrue (is_foreign_context s)
+
+-- the names of the roots of foreign content
+abbrev pub is_foreign_root : Tag → Bool
+is_foreign_root tag.Svg = true
+is_foreign_root tag.Math = true
+is_foreign_root _ = false
 
 -- any token but the end tag of a select
 abbrev pub ends_no_select : Symbol → Bool

@@ -1,6 +1,7 @@
 -- Claimed.
 -- What is parsed: a document, or a fragment in its context (13.2 and 13.4).
 use Rattle.std.specs.Prelude.{Bool, true, false, ◌||◌}
+use Rattle.html_names.specs.Foreign.{is_foreign}
 use Rattle.html_names.specs.declared.tag.Tag.{Tag}
 use Rattle.html_names.specs.declared.tag.Tag.TheVariants as tag
 use Rattle.html_ledger.specs.declared.setting.Setting.{Setting}
@@ -24,3 +25,8 @@ context_is x (Fragment context in_form) = named x context
 abbrev pub has_form : Setting → Bool
 has_form Document = false
 has_form (Fragment context in_form) = in_form || named tag.Form context
+
+-- the context element is one of foreign content
+abbrev pub is_foreign_context : Setting → Bool
+is_foreign_context Document = false
+is_foreign_context (Fragment context in_form) = is_foreign context

@@ -1,6 +1,7 @@
 -- Claimed.
 -- The text of a node, by the tokens and their fates (13.2.6.1: "insert a character").
 use Rattle.std.specs.Prelude.{ℕ, ◌==◌, Bool, false, cond, List, [], ◌∷◌, ◌++◌}
+use Rattle.html_tokens.specs.Cut.{null_replaced}
 use Rattle.html_ledger.specs.declared.symbol.Symbol.{Symbol}
 use Rattle.html_ledger.specs.declared.symbol.Symbol.TheVariants.{Char}
 use Rattle.html_ledger.specs.declared.fate.Fate.{Fate}
@@ -11,9 +12,9 @@ abbrev pub is_text_in : ℕ → Fate → Bool
 is_text_in node (Text d) = d == node
 is_text_in node _ = false
 
--- the code point of a token, if it is one
+-- what the code point of a token adds to a text: itself, and U+FFFD for U+0000, as in foreign content (13.2.6.5)
 abbrev pub code_point : Symbol → List ℕ
-code_point (Char c) = c ∷ []
+code_point (Char c) = null_replaced c ∷ []
 code_point _ = []
 
 -- The text of a node: the code points that were added to it, in order.

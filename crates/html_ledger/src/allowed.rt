@@ -4,11 +4,11 @@ ghost use Rattle.std.specs.List.{list_all};
 ghost use Rattle.html_ledger.specs.declared.fate.Fate.TheVariants.{Text};
 ghost use Rattle.html_ledger.specs.declared.symbol.Symbol.TheVariants.{Char};
 ghost use Rattle.html_names.specs.Groups.{is_outermost};
-ghost use Rattle.html_ledger.specs.Errors.{HasError};
+ghost use Rattle.html_ledger.specs.Errors.{HasError, is_replaced};
 ghost use Rattle.html_ledger.specs.Fated.{IsFate, is_text_char};
-ghost use Rattle.html_ledger.specs.Flags.{after, has_error, is_free, is_free_run, is_not_null, may_drop, may_have, may_make, may_misplace, may_misplace_tag, may_select, may_text, may_text_run, must_drop};
+ghost use Rattle.html_ledger.specs.Flags.{after, has_error, is_free, is_free_run, is_not_null, may_drop, may_embed, may_have, may_make, may_misplace, may_misplace_tag, may_null, may_select, may_text, may_text_run, must_drop};
 ghost use Rattle.html_ledger.specs.Known.{Knows};
-ghost use Rattle.html_ledger.specs.MayDrop.{MayBeInSelect, MayDrop, MustDrop};
+ghost use Rattle.html_ledger.specs.MayDrop.{MayBeInSelect, MayDrop, MustDrop, is_foreign_root};
 ghost use Rattle.html_ledger.specs.Symbols.{starts};
 
 use crate::bools::{both, either};
@@ -124,6 +124,25 @@ impl History {
         both(is_text_char(symbol), self.is_free(symbol))
     }
 
+    /// Whether an element of foreign content may be made of the next token.
+    pub fn may_embed(self, symbol: Symbol) -> bool
+        ensures value { result ≡ may_embed self symbol }
+    {
+        match symbol {
+            Symbol::Start(tag) => either(is_foreign_root(tag), self.foreign),
+            Symbol::End(_) | Symbol::Char(_) | Symbol::Comment | Symbol::Doctype | Symbol::Eof => {
+                false
+            },
+        }
+    }
+
+    /// Whether the next token is U+0000 and may become text, as U+FFFD in foreign content.
+    pub fn may_null(self, symbol: Symbol) -> bool
+        ensures value { result ≡ may_null self symbol }
+    {
+        both(symbol.is_char('\0'), self.foreign)
+    }
+
     /// Whether the next tokens, these code points, may all become text in one go: no doctype may come any more, none of them is U+0000, and of the first the insertion mode decides.
     pub fn may_text_run(self, run: &[char]) -> bool
         ensures value { result ≡ may_text_run self run.now }
@@ -148,22 +167,43 @@ impl History {
     {
         match fate {
             Fate::Made(_) => self.may_make(symbol),
+            Fate::Foreign(_) => self.may_embed(symbol),
             Fate::Merged => may_merge(symbol),
-            Fate::Text(_) => self.may_text(symbol),
+            Fate::Text(_) => either(self.may_text(symbol), self.may_null(symbol)),
             Fate::Dropped(cause) => self.may_drop(symbol, *cause),
             Fate::Ended => symbol.is_end(),
         }
     }
 
-    /// Whether the next token has an error with this fate: the fate is one, or the token leaves the mode initial where no doctype came.
+    /// Whether the next token has an error with this fate: the fate is one, U+0000 was replaced, or the token leaves the mode initial where no doctype came.
     pub fn has_error(self, symbol: Symbol, fate: &Fate) -> bool
         ensures value { result ≡ has_error self symbol fate.now }
     {
         either(
             fate.is_error(),
-            both(symbol.ends_initial(), self.awaits_doctype),
+            either(
+                is_replaced(symbol, fate),
+                both(symbol.ends_initial(), self.awaits_doctype),
+            ),
         )
     }
+}
+
+/// U+0000 that became text, as U+FFFD.
+fn is_replaced(symbol: Symbol, fate: &Fate) -> bool
+    ensures value { result ≡ is_replaced symbol fate.now }
+{
+    match fate {
+        Fate::Text(_) => symbol.is_char('\0'),
+        Fate::Made(_) | Fate::Foreign(_) | Fate::Merged | Fate::Dropped(_) | Fate::Ended => false,
+    }
+}
+
+/// The root of a kind of foreign content.
+fn is_foreign_root(tag: Tag) -> bool
+    ensures value { result ≡ is_foreign_root tag }
+{
+    matches!(tag, Tag::Math | Tag::Svg)
 }
 
 /// A code point but U+0000.

@@ -27,6 +27,8 @@ pub enum Cause {
 pub enum Fate {
     /// A start tag, a comment or a doctype: this node was made of it.
     Made(NodeId),
+    /// A start tag: this element of foreign content was made of it.
+    Foreign(NodeId),
     /// A start tag: its attributes were merged into the root or the body.
     Merged,
     /// A code point: it was added to this text.
@@ -56,13 +58,20 @@ impl Cause {
 }
 
 impl Fate {
-    ghost use Rattle.html_ledger.specs.Fates.{is_error, is_made};
+    ghost use Rattle.html_ledger.specs.Fates.{is_error, is_foreign, is_made};
 
     /// Whether a node was made of the token.
     pub fn is_made(&self) -> bool
         ensures value { result ≡ is_made self.now }
     {
         matches!(self, Fate::Made(_))
+    }
+
+    /// Whether an element of foreign content was made of the token.
+    pub fn is_foreign(&self) -> bool
+        ensures value { result ≡ is_foreign self.now }
+    {
+        matches!(self, Fate::Foreign(_))
     }
 
     /// Whether the fate tells of an error of the page.
@@ -72,7 +81,7 @@ impl Fate {
         match self {
             Fate::Dropped(cause) => cause.is_error(),
             Fate::Merged => true,
-            Fate::Made(_) | Fate::Text(_) | Fate::Ended => false,
+            Fate::Made(_) | Fate::Foreign(_) | Fate::Text(_) | Fate::Ended => false,
         }
     }
 
@@ -83,16 +92,25 @@ impl Fate {
         match self {
             Fate::Made(node) => match other {
                 Fate::Made(second) => node.index() == second.index(),
-                Fate::Merged | Fate::Text(_) | Fate::Dropped(_) | Fate::Ended => false,
+                Fate::Foreign(_) | Fate::Merged | Fate::Text(_) | Fate::Dropped(_) | Fate::Ended =>
+                    false,
+            },
+            Fate::Foreign(node) => match other {
+                Fate::Foreign(second) => node.index() == second.index(),
+                Fate::Made(_) | Fate::Merged | Fate::Text(_) | Fate::Dropped(_) | Fate::Ended => {
+                    false
+                }
             },
             Fate::Merged => matches!(other, Fate::Merged),
             Fate::Text(node) => match other {
                 Fate::Text(second) => node.index() == second.index(),
-                Fate::Made(_) | Fate::Merged | Fate::Dropped(_) | Fate::Ended => false,
+                Fate::Made(_) | Fate::Foreign(_) | Fate::Merged | Fate::Dropped(_) | Fate::Ended =>
+                    false,
             },
             Fate::Dropped(cause) => match other {
                 Fate::Dropped(second) => cause.is(*second),
-                Fate::Made(_) | Fate::Merged | Fate::Text(_) | Fate::Ended => false,
+                Fate::Made(_) | Fate::Foreign(_) | Fate::Merged | Fate::Text(_) | Fate::Ended =>
+                    false,
             },
             Fate::Ended => matches!(other, Fate::Ended),
         }

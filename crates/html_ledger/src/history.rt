@@ -6,7 +6,7 @@ ghost use Rattle.html_ledger.specs.declared.symbol.Symbol.TheVariants.{Start};
 ghost use Rattle.html_ledger.specs.Flags.{after, after_run, history_at};
 ghost use Rattle.html_ledger.specs.Spaces.{is_space};
 ghost use Rattle.html_ledger.specs.Known.{Knows};
-ghost use Rattle.html_ledger.specs.Fates.{is_made};
+ghost use Rattle.html_ledger.specs.Fates.{is_foreign, is_made};
 ghost use Rattle.html_ledger.specs.MayDrop.{ends_no_select, may_precede_doctype, may_precede_head};
 ghost use Rattle.html_ledger.specs.Symbols.{start_of};
 
@@ -43,6 +43,8 @@ pub struct History {
     pub noscript: bool,
     /// A form was made, is the context, or stands around it.
     pub form: bool,
+    /// An element of foreign content was made, or is the context.
+    pub foreign: bool,
 }
 
 impl History {
@@ -59,7 +61,7 @@ impl History {
         ensures value { result ≡ after self symbol fate.now }
         ensures known { (s : _) (tokens : _) (fates : _) → Knows s self tokens fates → Knows s result (tokens ++ symbol ∷ []) (fates ++ fate.now ∷ []) }
     {
-        self.flags_after(symbol, fate.is_made())
+        self.flags_after(symbol, fate.is_made(), fate.is_foreign())
     }
 
     /// What is known after code points that all became text.
@@ -91,22 +93,23 @@ impl History {
             col: setting.context_is(Tag::Colgroup),
             noscript: false,
             form: setting.has_form(),
+            foreign: setting.is_foreign(),
         }
     }
 
     /// The flags after one more token, of which a node was made or not.
-    fn flags_after(self, symbol: Symbol, made: bool) -> History
-        ensures value { (fate : _) → is_made fate ≡ made → result ≡ after self symbol fate }
+    fn flags_after(self, symbol: Symbol, made: bool, foreign: bool) -> History
+        ensures value { (fate : _) → is_made fate ≡ made → is_foreign fate ≡ foreign → result ≡ after self symbol fate }
     {
         match symbol.start() {
-            Some(tag) => self.flags_after_start(tag, made),
+            Some(tag) => self.flags_after_start(tag, made, foreign),
             None => self.flags_after_other(symbol),
         }
     }
 
     /// The flags after a start tag, of which an element was made or not.
-    fn flags_after_start(self, tag: Tag, made: bool) -> History
-        ensures value { (fate : _) → is_made fate ≡ made → result ≡ after self (Start tag) fate }
+    fn flags_after_start(self, tag: Tag, made: bool, foreign: bool) -> History
+        ensures value { (fate : _) → is_made fate ≡ made → is_foreign fate ≡ foreign → result ≡ after self (Start tag) fate }
     {
         let select = both(made, tag.is(Tag::Select));
         History {
@@ -122,6 +125,7 @@ impl History {
             col: either(self.col, both(made, tag.is(Tag::Col))),
             noscript: either(self.noscript, both(made, tag.is(Tag::Noscript))),
             form: either(self.form, both(made, tag.is(Tag::Form))),
+            foreign: either(self.foreign, foreign),
         }
     }
 

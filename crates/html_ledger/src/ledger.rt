@@ -1,6 +1,7 @@
 // The ledger: what became of each token, and which tokens have an error.
-ghost use Rattle.std.specs.Prelude.{◌≡◌, ◌==◌, ◌↔◌, ◌+◌, ◌≤◌, ◌∷◌, [], ◌++◌, cond, length, replicate, IsTrue, OnOk, OnErr};
+ghost use Rattle.std.specs.Prelude.{◌≡◌, ◌==◌, ◌↔◌, ◌+◌, ◌≤◌, ◌∷◌, [], ◌++◌, cond, length, map, replicate, IsTrue, OnOk, OnErr};
 ghost use Rattle.html_ledger.specs.Symbols.{chars_of};
+ghost use Rattle.html_tokens.specs.Cut.{null_replaced};
 ghost use Rattle.html_ledger.specs.Texts.{text_of};
 ghost use Rattle.html_ledger.specs.declared.fate.Fate.TheVariants.{Text};
 ghost use Rattle.html_ledger.specs.declared.symbol.Symbol.TheVariants.{Char};
@@ -209,10 +210,10 @@ impl Ledger {
         let _ = &self.kept;
     }
 
-    /// More tokens with their fates add to the text of a node what they are to it alone, and a run of code points of one text adds all of them to this one.
+    /// More tokens with their fates add to the text of a node what they are to it alone, and a run of code points of one text adds all of them to this one, U+0000 as U+FFFD.
     pub fn texts(&self)
         ensures more { (node : _) (tokens : _) (others : _) (fates : _) (given : _) → length fates ≡ length tokens → text_of node (tokens ++ others) (fates ++ given) ≡ text_of node tokens fates ++ text_of node others given }
-        ensures run { (node : _) (d : _) (cs : _) → text_of node (chars_of cs) (replicate (length cs) (Text d)) ≡ cond (d == node) cs [] }
+        ensures run { (node : _) (d : _) (cs : _) → text_of node (chars_of cs) (replicate (length cs) (Text d)) ≡ cond (d == node) (map null_replaced cs) [] }
     {
         let _ = &self.fates;
     }

@@ -14,7 +14,7 @@ pub enum Setting {
 }
 
 impl Setting {
-    ghost use Rattle.html_ledger.specs.Settings.{context_is, has_form, is_document};
+    ghost use Rattle.html_ledger.specs.Settings.{context_is, has_form, is_document, is_foreign_context};
 
     /// A whole document.
     pub fn is_document(self) -> bool
@@ -30,6 +30,16 @@ impl Setting {
         match self {
             Setting::Document => false,
             Setting::Fragment { context, .. } => context.is(name),
+        }
+    }
+
+    /// The context is an element of foreign content.
+    pub fn is_foreign(self) -> bool
+        ensures value { result ≡ is_foreign_context self }
+    {
+        match self {
+            Setting::Document => false,
+            Setting::Fragment { context, .. } => context.is_foreign(),
         }
     }
 

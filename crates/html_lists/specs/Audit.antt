@@ -32,6 +32,7 @@ cause_text InColumnGroup = codes "InColumnGroup"
 -- what became of it, with the number of the node or the cause
 abbrev pub fate_text : Fate → List ℕ
 fate_text (fates.Made node) = codes " made " ++ decimal node
+fate_text (fates.Foreign node) = codes " made " ++ decimal node
 fate_text fates.Merged = codes " merged"
 fate_text (fates.Text node) = codes " text " ++ decimal node
 fate_text (fates.Dropped cause) = codes " dropped " ++ cause_text cause

@@ -136,6 +136,7 @@ fn fate_pieces(fate: Fate) -> [Piece<'static>; 2]
 {
     match fate {
         Fate::Made(node) => [Piece::Text(" made "), Piece::Number(node.index() as u128)],
+        Fate::Foreign(node) => [Piece::Text(" made "), Piece::Number(node.index() as u128)],
         Fate::Merged => [Piece::Text(" merged"), Piece::Text("")],
         Fate::Text(node) => [Piece::Text(" text "), Piece::Number(node.index() as u128)],
         Fate::Dropped(cause) => [Piece::Text(" dropped "), Piece::Text(cause_name(cause))],

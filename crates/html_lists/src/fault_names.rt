@@ -47,6 +47,7 @@ fn fault_name(name: FaultName) -> &'static str
         FaultName::NestedComment => "nested-comment",
         FaultName::IncorrectlyOpenedComment => "incorrectly-opened-comment",
         FaultName::CdataInHtmlContent => "cdata-in-html-content",
+        FaultName::EofInCdata => "eof-in-cdata",
         FaultName::MissingDoctypeName => "missing-doctype-name",
         FaultName::MissingWhitespaceBeforeDoctypeName => "missing-whitespace-before-doctype-name",
         FaultName::InvalidCharacterSequenceAfterDoctypeName =>

@@ -7,6 +7,7 @@ use Rattle.html_names.specs.declared.tag.Tag.{Tag}
 use Rattle.html_names.specs.declared.tag.Tag.TheVariants as tag
 use Rattle.html_names.specs.Groups.{ends_select, ends_select_in_table}
 use Rattle.html_tokens.specs.declared.token.TokenKind.{TokenKind}
+use Rattle.html_tree.specs.Proper.{is_foreign_root}
 use Rattle.html_tree.specs.States.{State as Tree}
 use Rattle.html_ledger.specs.declared.symbol.Symbol.{Symbol}
 use Rattle.html_ledger.specs.Flags.{may_select}
@@ -18,7 +19,7 @@ use Rattle.html_construction.specs.declared.refusal.Refusal.{Refusal}
 use Rattle.html_construction.specs.Built.{Accepts, AcceptsRun, Begins, Handed, IsBuilt, Keeps, chars_of, in_call, with_tokens}
 use Rattle.html_construction.specs.Modes.{is_of_column_groups, is_of_frames, is_of_selects}
 use Rattle.html_construction.specs.States.{State}
-use Rattle.html_modes.specs.Begun.{GivesIn, Ignores, IgnoresFirst, IgnoresIn, StaysOut, TextStays, begins_foreign, ignores_foreign, is_foreign}
+use Rattle.html_modes.specs.Begun.{GivesIn, Ignores, IgnoresFirst, IgnoresIn, StaysOut, TextStays, begins_foreign, ignores_foreign}
 use Rattle.html_modes.specs.Guards.{takes_runs}
 use Rattle.html_modes.specs.Steps.{Steps, is_code_point, root_of}
 use Rattle.html_modes.specs.declared.outcome.Foreign.{Foreign as Root}
@@ -112,13 +113,13 @@ run-founded a b e f = let z = runs-own a.mode e in founded-other b (ap is_of_sel
 
 -- FOREIGN CONTENT
 
-pub native-ends_select : (t : Tag) → ends_select t ≡ true → is_foreign t ≡ false
+pub native-ends_select : (t : Tag) → ends_select t ≡ true → is_foreign_root t ≡ false
 native-ends_select tag.Input e = refl
 native-ends_select tag.Keygen e = refl
 native-ends_select tag.Textarea e = refl
 native-ends_select _ e = absurd (false≢true e)
 
-pub native-ends_select_in_table : (t : Tag) → ends_select_in_table t ≡ true → is_foreign t ≡ false
+pub native-ends_select_in_table : (t : Tag) → ends_select_in_table t ≡ true → is_foreign_root t ≡ false
 native-ends_select_in_table tag.Svg e = absurd (false≢true e)
 native-ends_select_in_table tag.Math e = absurd (false≢true e)
 native-ends_select_in_table _ e = refl

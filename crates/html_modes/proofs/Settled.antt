@@ -1,7 +1,8 @@
 -- States that fit, and the lemmas that the modes are proved with.
-use Rattle.std.proofs.Common.{ℕ, zero, suc, ◌+◌, ◌≡◌, ◌<◌, ◌≤◌, Bool, true, false, [], ◌∷◌, ◌*◌, ◌-◌, length, refl, sym, ap, subst, arith}
+use Rattle.std.proofs.Common.{ℕ, zero, suc, ◌+◌, ◌≡◌, ◌<◌, ◌≤◌, Bool, true, false, [], ◌∷◌, ◌*◌, ◌-◌, length, refl, sym, ap, subst, ◌∙◌, arith}
 use Rattle.std.proofs.lemmas.Nat.{mul-le}
 use Rattle.std.specs.Prelude.{IfSome, Option, Some, None}
+use Rattle.html_construction.specs.declared.mode.Mode.{Mode}
 use Rattle.html_construction.specs.declared.mode.Mode.TheVariants as mode
 use Rattle.html_construction.specs.States.{State}
 use Rattle.html_modes.specs.Fitting.{is_loose, is_table_mode, ModeFits, Quiet, Fits, Calls}
@@ -22,7 +23,7 @@ use Rattle.html_construction.specs.Grown.{Grown}
 use Rattle.html_construction.specs.Works.{Works, reach_of, toll_of}
 use Rattle.html_modes.proofs.Counting.{Settles-grows}
 use Rattle.html_modes.proofs.Moded.{ModeFits-loose, opened-loose, Quiet-none, top_rank-loose, top_rank-reset, loose-reset, loose-table, rank-reset_table, rank-reset_eof, rank-char_table, rank-start_table, rank-top, rank-reset, rank-loose, rank-table_text, top_rank-all, Quiet-other, is-table_text, other-loose, other-runs, loose-runs, is-text, other-text}
-use Rattle.html_modes.proofs.Tagged.{named-is_block, unlisted-is_block, named-is_heading, named-is_preformatted, named-takes_marker, named-is_head_text, named-is_section, named-is_cell, small-other, small-is_block, small-is_heading, small-is_preformatted, small-takes_marker, small-is_head_text, small-is_section, small-is_cell, small-is_formatting, weight_of-most, placed-is_table_piece, placed-ends_section, placed-ends_row, rank-section, rank-row, rank-cell, rank-caption, rank-group, group-least, rank-table_part, outside-ends_select, outside-ends_select_in_table, may_misplace-placed, is_visible-space, apart-is_headish, apart-is_head_text, apart-is_block, apart-is_heading, apart-is_preformatted, apart-takes_marker, apart-is_void_phrase, apart-is_void_part, apart-is_formatting, apart-unplaced, part-is_section, part-is_cell}
+use Rattle.html_modes.proofs.Tagged.{apart-is_void, own-body_text, own-other, root-is_headish, named-is_block, unlisted-is_block, named-is_heading, named-is_preformatted, named-takes_marker, named-is_head_text, named-is_section, named-is_cell, small-other, small-is_block, small-is_heading, small-is_preformatted, small-takes_marker, small-is_head_text, small-is_section, small-is_cell, small-is_formatting, weight_of-most, placed-is_table_piece, placed-ends_section, placed-ends_row, rank-section, rank-row, rank-cell, rank-caption, rank-group, group-least, rank-table_part, outside-ends_select, outside-ends_select_in_table, may_misplace-placed, is_visible-space, apart-is_headish, apart-is_head_text, apart-is_block, apart-is_heading, apart-is_preformatted, apart-takes_marker, apart-is_void_phrase, apart-is_void_part, apart-is_formatting, apart-unplaced, part-is_section, part-is_cell}
 use Rattle.html_construction.proofs.Telling.{any-refused, char-refused}
 
 pub Fits-loose : (s : State) → is_loose s.mode ≡ true → 0 < length s.stack → s.ledger.kept ≡ [] → length s.tree.list ≤ length s.ledger.fates → Fits s
@@ -64,9 +65,9 @@ pub ruleset mode_rules = (Fits-loose, Calls-loose, Fits-opened, Fits-initial, Fi
 
 pub ruleset text_rules = (Fits-loose, Fits-text, text-stack, text-original, top_rank-loose, rank-loose, small-is_head_text, named-is_head_text, is_visible-space, any-refused)
 
-pub ruleset head_rules = (Fits-loose, Calls-loose, Fits-text, small-is_head_text, named-is_head_text, apart-is_head_text, apart-is_headish, any-refused)
+pub ruleset head_rules = (root-is_headish, Fits-loose, Calls-loose, Fits-text, small-is_head_text, named-is_head_text, apart-is_head_text, apart-is_headish, any-refused)
 
-pub ruleset body_rules = (Fits-loose, Calls-loose, small-other, small-is_block, small-is_heading, small-is_preformatted, small-takes_marker, named-is_block, named-is_heading, named-is_preformatted, named-takes_marker, small-is_formatting, may_misplace-placed, unlisted-is_block, apart-is_headish, apart-is_block, apart-is_heading, apart-is_preformatted, apart-takes_marker, apart-is_void_phrase, apart-is_void_part, apart-is_formatting, apart-unplaced, any-refused)
+pub ruleset body_rules = (own-body_text, own-other, apart-is_void, Fits-loose, Calls-loose, small-other, small-is_block, small-is_heading, small-is_preformatted, small-takes_marker, named-is_block, named-is_heading, named-is_preformatted, named-takes_marker, small-is_formatting, may_misplace-placed, unlisted-is_block, apart-is_headish, apart-is_block, apart-is_heading, apart-is_preformatted, apart-takes_marker, apart-is_void_phrase, apart-is_void_part, apart-is_formatting, apart-unplaced, any-refused)
 
 pub ruleset reset_rules = (outside-ends_select, Fits-loose, Calls-loose, loose-reset, top_rank-reset, rank-reset, any-refused)
 
@@ -231,19 +232,54 @@ Pays-run (suc m) a b k g w r = (
 )
 
 -- so many fees
-fees-many : (n f g p x : ℕ) → 0 < n → g ≡ f + n → x + 2 ≤ p → f * p + x + 2 * n ≤ g * p
-fees-many zero f g p x k e h = absurd (omega (arith, k))
-fees-many (suc m) f g p x k e h =
-    let y : (f + suc m) * p ≡ f * p + m * p + p = grind arith in
-    let z = mul-le m 2 m p (omega arith) (omega (arith, h)) in
-    rw e (omega (arith, y, z, h))
+fees-many : (n f g p x y : ℕ) → 0 < n → g ≡ f + n → x + y ≤ p → f * p + x + n * y ≤ g * p
+fees-many zero f g p x y k e h = absurd (omega (arith, k))
+fees-many (suc m) f g p x y k e h =
+    let z : (f + suc m) * p ≡ f * p + m * p + p = grind arith in
+    let w : suc m * y ≡ m * y + y = grind arith in
+    let v = mul-le m y m p (omega arith) (omega (arith, h)) in
+    rw e (omega (arith, z, w, v, h))
 
-pub Toils-run : (n : ℕ) (a m b : State) → 0 < n → Grown n (length a.ledger.fates + 1) 0 1 0 a m → Grown 0 0 0 0 0 m b → Works 6 1 (n + 6) a m → Works 0 0 n m b → weight b.stack ≤ weight a.stack → top_rank b.mode ≤ top_rank a.mode → Toils 0 a b
+-- text in a row in the body: the list is reopened, the text is put in, and the list is looked at for each other code point
+pub works-run : (n k : ℕ) (a m x b : State) → k ≤ 2 * n → Works 0 1 0 a m → Works n 0 n m x → Works 0 0 k x b → Works (n + 6) 1 (3 * n + 6) a b
+works-run n k a m x b l w v u =
+    let p = mul-le n (reach_of x) n (reach_of b) (omega arith) u.0 in
+    let z : (n + 6) * reach_of b ≡ n * reach_of b + 6 * reach_of b = grind arith in
+    (omega (arith, w.0, v.0, u.0), (omega (arith, w.1.0, v.1.0, u.1.0), omega (arith, w.1.0, v.1.0, u.1.0, w.1.1, v.1.1, u.1.1, p, z, l)))
+
+pub Toils-run : (n : ℕ) (a m b : State) → 0 < n → Grown n (length a.ledger.fates + 1) 0 1 0 a m → Grown 0 0 0 0 0 m b → Works (n + 6) 1 (3 * n + 6) a m → Works 0 0 n m b → weight b.stack ≤ weight a.stack → top_rank b.mode ≤ top_rank a.mode → Toils 0 a b
 Toils-run n a m b k g h w v l r =
-    let x = fees-many n (length a.ledger.fates) (length b.ledger.fates) (fee_of b) (toll_of b) k (omega (arith, g.0, h.0)) (omega arith) in
+    let x = fees-many n (length a.ledger.fates) (length b.ledger.fates) (fee_of b) (toll_of b + 6 * reach_of b + 6) (reach_of b + 4) k (omega (arith, g.0, h.0)) (omega arith) in
     let y = mul-le (weight b.stack + top_rank b.mode) (turn_of b) (weight a.stack + top_rank a.mode) (turn_of b) (omega (arith, l, r)) (omega arith) in
     let z : (weight a.stack + top_rank a.mode + 16) * turn_of b ≡ (weight a.stack + top_rank a.mode) * turn_of b + 16 * turn_of b = grind arith in
-    (omega (arith, w.0, v.0), (omega (arith, w.1.0, v.1.0), omega (arith, w.0, w.1.0, w.1.1, v.0, v.1.0, v.1.1, x, y, z)))
+    let u = mul-le (n + 6) (reach_of m) (n + 6) (reach_of b) (omega arith) v.0 in
+    let p : (n + 6) * reach_of b + 3 * n + n ≡ 6 * reach_of b + n * (reach_of b + 4) = grind arith in
+    (omega (arith, w.0, v.0), (omega (arith, w.1.0, v.1.0), omega (arith, w.0, w.1.0, w.1.1, v.0, v.1.0, v.1.1, x, y, z, u, p)))
+
+-- the same, between the beginning of the call and the count of its entries
+module _ (n : ℕ) (a s m b : State) (o : Mode) (d k : ℕ) (e : s ≡ record a { began = o; depth = d; nodes = k }) (i : 0 < n) (g : Grown n (length s.ledger.fates + 1) 0 1 0 s m)
+    (l : weight m.stack ≤ weight s.stack) (j : m.mode ≡ s.mode) (q : b ≡ record m { tree = b.tree }) (h : Grown 0 0 0 0 0 m b) where
+  lighter : weight b.stack ≤ weight s.stack
+  lighter = subst (λ (z : State). weight z.stack ≤ weight s.stack) (sym q) l
+
+  no_higher : top_rank b.mode ≤ top_rank s.mode
+  no_higher = subst (λ (x : Mode). top_rank x ≤ top_rank s.mode) (sym (ap (λ (z : State). z.mode) q ∙ j)) (omega arith)
+
+  pub Pays-called : Pays a b
+  Pays-called = subst (λ (z : State). Pays z b) e (Pays-run n s b i (
+    omega (arith, g.0, h.0),
+    (omega (arith, g.1.0, h.1.0), (omega (arith, g.1.1.0, h.1.1.0), (omega (arith, g.1.1.1.0, h.1.1.1.0), (omega (arith, g.1.1.1.1.0, h.1.1.1.1.0), omega (arith, g.1.1.1.1.1, h.1.1.1.1.1))))),
+  ) lighter no_higher)
+
+  pub Toils-called : Works (n + 6) 1 (3 * n + 6) s m → Works 0 0 n m b → Toils 0 a b
+  Toils-called w v = subst (λ (z : State). Toils 0 z b) e (Toils-run n s m b i g h w v lighter no_higher)
+
+-- text alone costs less than text in the body
+pub text-grown : (n f : ℕ) (s m : State) → Grown n 1 0 0 0 s m → Grown n (f + 1) 0 1 0 s m
+text-grown n f s m g = (g.0, (omega (arith, g.1.0), (g.1.1.0, (g.1.1.1.0, (omega (arith, g.1.1.1.1.0), g.1.1.1.1.1)))))
+
+pub text-works : (n : ℕ) (s m : State) → Works n 0 n s m → Works (n + 6) 1 (3 * n + 6) s m
+text-works n s m w = (w.0, (w.1.0, (let z : (n + 6) * reach_of m ≡ n * reach_of m + 6 * reach_of m = grind arith in let h = w.1.1 in omega (arith, h, z))))
 
 pub ruleset run_rules = (char-foreign, Pays-run, Toils-run, Fits-loose, Fits-opened, Fits-dropped, Fits-quiet, other-loose, other-runs, loose-runs, is-text, other-text, text-stack, any-refused, char-refused)
 

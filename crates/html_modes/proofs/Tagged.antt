@@ -4,7 +4,8 @@ use Rattle.std.proofs.lemmas.Bool.{false≢true}
 use Rattle.std.proofs.lemmas.Grind.{common_steps}
 use Rattle.html_names.specs.declared.tag.Tag.{Tag}
 use Rattle.html_names.specs.declared.tag.Tag.TheVariants as tag
-use Rattle.html_names.specs.Sets.{is_block, is_heading, is_headish, is_section, is_cell, is_formatting}
+use Rattle.html_names.specs.Sets.{is_block, is_heading, is_headish, is_section, is_cell, is_formatting, is_void}
+use Rattle.html_tree.specs.Proper.{is_foreign_root}
 use Rattle.html_tree.specs.Seats.{is_part}
 use Rattle.html_names.specs.Groups.{is_preformatted, takes_marker, is_head_text, is_table_piece, ends_section, ends_row, is_placed, is_table_part, ends_select, ends_select_in_table, is_void_phrase, is_void_part}
 use Rattle.html_names.specs.Tags.{is_same}
@@ -14,7 +15,9 @@ use Rattle.html_ledger.specs.declared.fate.Cause.TheVariants.{Misplaced}
 use Rattle.html_ledger.specs.Flags.{may_drop}
 use Rattle.html_ledger.specs.MayDrop.{is_in_select}
 use Rattle.html_ledger.specs.Spaces.{is_space}
+use Rattle.html_construction.specs.Tokens.{opens_own}
 use Rattle.html_construction.specs.Weights.{weight_of}
+use Rattle.html_modes.specs.RawText.{is_body_text}
 use Rattle.html_modes.specs.Ranks.{table_rank, table_body_rank, row_rank, caption_rank, column_group_rank}
 
 weight_if : (a b : Bool) → b ≡ false → (if a then 0 else (if b then 10 else 4)) ≤ 4
@@ -41,8 +44,28 @@ plain-other _ e = refl
 pub small-other : (t : Tag) → is_headish t ≡ false → weight_of t ≤ 4
 small-other t e = weight_of-plain t (plain-other t e)
 
-pub named-is_block : (t : Tag) → is_block t ≡ true → is_same t tag.Image ≡ false
+pub named-is_block : (t : Tag) → is_block t ≡ true → opens_own t ≡ true
+named-is_block tag.Area e = absurd (false≢true e)
+named-is_block tag.Base e = absurd (false≢true e)
+named-is_block tag.Basefont e = absurd (false≢true e)
+named-is_block tag.Bgsound e = absurd (false≢true e)
+named-is_block tag.Br e = absurd (false≢true e)
+named-is_block tag.Col e = absurd (false≢true e)
+named-is_block tag.Embed e = absurd (false≢true e)
+named-is_block tag.Frame e = absurd (false≢true e)
+named-is_block tag.Hr e = absurd (false≢true e)
 named-is_block tag.Image e = absurd (false≢true e)
+named-is_block tag.Img e = absurd (false≢true e)
+named-is_block tag.Input e = absurd (false≢true e)
+named-is_block tag.Keygen e = absurd (false≢true e)
+named-is_block tag.Link e = absurd (false≢true e)
+named-is_block tag.Math e = absurd (false≢true e)
+named-is_block tag.Meta e = absurd (false≢true e)
+named-is_block tag.Param e = absurd (false≢true e)
+named-is_block tag.Source e = absurd (false≢true e)
+named-is_block tag.Svg e = absurd (false≢true e)
+named-is_block tag.Track e = absurd (false≢true e)
+named-is_block tag.Wbr e = absurd (false≢true e)
 named-is_block _ e = refl
 
 -- no block is a formatting element
@@ -63,28 +86,148 @@ unlisted-is_block tag.Tt e = absurd (false≢true e)
 unlisted-is_block tag.U e = absurd (false≢true e)
 unlisted-is_block _ e = refl
 
-pub named-is_heading : (t : Tag) → is_heading t ≡ true → is_same t tag.Image ≡ false
+pub named-is_heading : (t : Tag) → is_heading t ≡ true → opens_own t ≡ true
+named-is_heading tag.Area e = absurd (false≢true e)
+named-is_heading tag.Base e = absurd (false≢true e)
+named-is_heading tag.Basefont e = absurd (false≢true e)
+named-is_heading tag.Bgsound e = absurd (false≢true e)
+named-is_heading tag.Br e = absurd (false≢true e)
+named-is_heading tag.Col e = absurd (false≢true e)
+named-is_heading tag.Embed e = absurd (false≢true e)
+named-is_heading tag.Frame e = absurd (false≢true e)
+named-is_heading tag.Hr e = absurd (false≢true e)
 named-is_heading tag.Image e = absurd (false≢true e)
+named-is_heading tag.Img e = absurd (false≢true e)
+named-is_heading tag.Input e = absurd (false≢true e)
+named-is_heading tag.Keygen e = absurd (false≢true e)
+named-is_heading tag.Link e = absurd (false≢true e)
+named-is_heading tag.Math e = absurd (false≢true e)
+named-is_heading tag.Meta e = absurd (false≢true e)
+named-is_heading tag.Param e = absurd (false≢true e)
+named-is_heading tag.Source e = absurd (false≢true e)
+named-is_heading tag.Svg e = absurd (false≢true e)
+named-is_heading tag.Track e = absurd (false≢true e)
+named-is_heading tag.Wbr e = absurd (false≢true e)
 named-is_heading _ e = refl
 
-pub named-is_preformatted : (t : Tag) → is_preformatted t ≡ true → is_same t tag.Image ≡ false
+pub named-is_preformatted : (t : Tag) → is_preformatted t ≡ true → opens_own t ≡ true
+named-is_preformatted tag.Area e = absurd (false≢true e)
+named-is_preformatted tag.Base e = absurd (false≢true e)
+named-is_preformatted tag.Basefont e = absurd (false≢true e)
+named-is_preformatted tag.Bgsound e = absurd (false≢true e)
+named-is_preformatted tag.Br e = absurd (false≢true e)
+named-is_preformatted tag.Col e = absurd (false≢true e)
+named-is_preformatted tag.Embed e = absurd (false≢true e)
+named-is_preformatted tag.Frame e = absurd (false≢true e)
+named-is_preformatted tag.Hr e = absurd (false≢true e)
 named-is_preformatted tag.Image e = absurd (false≢true e)
+named-is_preformatted tag.Img e = absurd (false≢true e)
+named-is_preformatted tag.Input e = absurd (false≢true e)
+named-is_preformatted tag.Keygen e = absurd (false≢true e)
+named-is_preformatted tag.Link e = absurd (false≢true e)
+named-is_preformatted tag.Math e = absurd (false≢true e)
+named-is_preformatted tag.Meta e = absurd (false≢true e)
+named-is_preformatted tag.Param e = absurd (false≢true e)
+named-is_preformatted tag.Source e = absurd (false≢true e)
+named-is_preformatted tag.Svg e = absurd (false≢true e)
+named-is_preformatted tag.Track e = absurd (false≢true e)
+named-is_preformatted tag.Wbr e = absurd (false≢true e)
 named-is_preformatted _ e = refl
 
-pub named-takes_marker : (t : Tag) → takes_marker t ≡ true → is_same t tag.Image ≡ false
+pub named-takes_marker : (t : Tag) → takes_marker t ≡ true → opens_own t ≡ true
+named-takes_marker tag.Area e = absurd (false≢true e)
+named-takes_marker tag.Base e = absurd (false≢true e)
+named-takes_marker tag.Basefont e = absurd (false≢true e)
+named-takes_marker tag.Bgsound e = absurd (false≢true e)
+named-takes_marker tag.Br e = absurd (false≢true e)
+named-takes_marker tag.Col e = absurd (false≢true e)
+named-takes_marker tag.Embed e = absurd (false≢true e)
+named-takes_marker tag.Frame e = absurd (false≢true e)
+named-takes_marker tag.Hr e = absurd (false≢true e)
 named-takes_marker tag.Image e = absurd (false≢true e)
+named-takes_marker tag.Img e = absurd (false≢true e)
+named-takes_marker tag.Input e = absurd (false≢true e)
+named-takes_marker tag.Keygen e = absurd (false≢true e)
+named-takes_marker tag.Link e = absurd (false≢true e)
+named-takes_marker tag.Math e = absurd (false≢true e)
+named-takes_marker tag.Meta e = absurd (false≢true e)
+named-takes_marker tag.Param e = absurd (false≢true e)
+named-takes_marker tag.Source e = absurd (false≢true e)
+named-takes_marker tag.Svg e = absurd (false≢true e)
+named-takes_marker tag.Track e = absurd (false≢true e)
+named-takes_marker tag.Wbr e = absurd (false≢true e)
 named-takes_marker _ e = refl
 
-pub named-is_head_text : (t : Tag) → is_head_text t ≡ true → is_same t tag.Image ≡ false
+pub named-is_head_text : (t : Tag) → is_head_text t ≡ true → opens_own t ≡ true
+named-is_head_text tag.Area e = absurd (false≢true e)
+named-is_head_text tag.Base e = absurd (false≢true e)
+named-is_head_text tag.Basefont e = absurd (false≢true e)
+named-is_head_text tag.Bgsound e = absurd (false≢true e)
+named-is_head_text tag.Br e = absurd (false≢true e)
+named-is_head_text tag.Col e = absurd (false≢true e)
+named-is_head_text tag.Embed e = absurd (false≢true e)
+named-is_head_text tag.Frame e = absurd (false≢true e)
+named-is_head_text tag.Hr e = absurd (false≢true e)
 named-is_head_text tag.Image e = absurd (false≢true e)
+named-is_head_text tag.Img e = absurd (false≢true e)
+named-is_head_text tag.Input e = absurd (false≢true e)
+named-is_head_text tag.Keygen e = absurd (false≢true e)
+named-is_head_text tag.Link e = absurd (false≢true e)
+named-is_head_text tag.Math e = absurd (false≢true e)
+named-is_head_text tag.Meta e = absurd (false≢true e)
+named-is_head_text tag.Param e = absurd (false≢true e)
+named-is_head_text tag.Source e = absurd (false≢true e)
+named-is_head_text tag.Svg e = absurd (false≢true e)
+named-is_head_text tag.Track e = absurd (false≢true e)
+named-is_head_text tag.Wbr e = absurd (false≢true e)
 named-is_head_text _ e = refl
 
-pub named-is_section : (t : Tag) → is_section t ≡ true → is_same t tag.Image ≡ false
+pub named-is_section : (t : Tag) → is_section t ≡ true → opens_own t ≡ true
+named-is_section tag.Area e = absurd (false≢true e)
+named-is_section tag.Base e = absurd (false≢true e)
+named-is_section tag.Basefont e = absurd (false≢true e)
+named-is_section tag.Bgsound e = absurd (false≢true e)
+named-is_section tag.Br e = absurd (false≢true e)
+named-is_section tag.Col e = absurd (false≢true e)
+named-is_section tag.Embed e = absurd (false≢true e)
+named-is_section tag.Frame e = absurd (false≢true e)
+named-is_section tag.Hr e = absurd (false≢true e)
 named-is_section tag.Image e = absurd (false≢true e)
+named-is_section tag.Img e = absurd (false≢true e)
+named-is_section tag.Input e = absurd (false≢true e)
+named-is_section tag.Keygen e = absurd (false≢true e)
+named-is_section tag.Link e = absurd (false≢true e)
+named-is_section tag.Math e = absurd (false≢true e)
+named-is_section tag.Meta e = absurd (false≢true e)
+named-is_section tag.Param e = absurd (false≢true e)
+named-is_section tag.Source e = absurd (false≢true e)
+named-is_section tag.Svg e = absurd (false≢true e)
+named-is_section tag.Track e = absurd (false≢true e)
+named-is_section tag.Wbr e = absurd (false≢true e)
 named-is_section _ e = refl
 
-pub named-is_cell : (t : Tag) → is_cell t ≡ true → is_same t tag.Image ≡ false
+pub named-is_cell : (t : Tag) → is_cell t ≡ true → opens_own t ≡ true
+named-is_cell tag.Area e = absurd (false≢true e)
+named-is_cell tag.Base e = absurd (false≢true e)
+named-is_cell tag.Basefont e = absurd (false≢true e)
+named-is_cell tag.Bgsound e = absurd (false≢true e)
+named-is_cell tag.Br e = absurd (false≢true e)
+named-is_cell tag.Col e = absurd (false≢true e)
+named-is_cell tag.Embed e = absurd (false≢true e)
+named-is_cell tag.Frame e = absurd (false≢true e)
+named-is_cell tag.Hr e = absurd (false≢true e)
 named-is_cell tag.Image e = absurd (false≢true e)
+named-is_cell tag.Img e = absurd (false≢true e)
+named-is_cell tag.Input e = absurd (false≢true e)
+named-is_cell tag.Keygen e = absurd (false≢true e)
+named-is_cell tag.Link e = absurd (false≢true e)
+named-is_cell tag.Math e = absurd (false≢true e)
+named-is_cell tag.Meta e = absurd (false≢true e)
+named-is_cell tag.Param e = absurd (false≢true e)
+named-is_cell tag.Source e = absurd (false≢true e)
+named-is_cell tag.Svg e = absurd (false≢true e)
+named-is_cell tag.Track e = absurd (false≢true e)
+named-is_cell tag.Wbr e = absurd (false≢true e)
 named-is_cell _ e = refl
 
 pub plain-is_block : (t : Tag) → is_block t ≡ true → is_same t tag.Template ≡ false
@@ -258,6 +401,33 @@ may_misplace-placed h t e = or_left (is_placed t) _ e
 
 pub is_visible-space : (c : ℕ) → is_space c ≡ true → (c == 0) ≡ false
 is_visible-space c e = grind (arith, common_steps)
+
+-- what is neither an image, nor void, nor a root of foreign content, is opened by its own name
+pub own-other : (t : Tag) → is_same t tag.Image ≡ false → is_void t ≡ false → is_foreign_root t ≡ false → opens_own t ≡ true
+own-other t a b c = rw (a, b, c) refl
+
+pub own-body_text : (t : Tag) → is_body_text t ≡ true → opens_own t ≡ true
+own-body_text tag.Textarea e = refl
+own-body_text tag.Xmp e = refl
+own-body_text tag.Iframe e = refl
+own-body_text tag.Noembed e = refl
+own-body_text _ e = absurd (false≢true e)
+
+pub root-is_headish : (t : Tag) → is_headish t ≡ true → is_foreign_root t ≡ false
+root-is_headish tag.Svg e = absurd (false≢true e)
+root-is_headish tag.Math e = absurd (false≢true e)
+root-is_headish _ e = refl
+
+pub apart-is_void : (t : Tag) → is_void t ≡ true → is_part t ≡ false
+apart-is_void tag.Caption e = absurd (false≢true e)
+apart-is_void tag.Colgroup e = absurd (false≢true e)
+apart-is_void tag.Tbody e = absurd (false≢true e)
+apart-is_void tag.Td e = absurd (false≢true e)
+apart-is_void tag.Tfoot e = absurd (false≢true e)
+apart-is_void tag.Th e = absurd (false≢true e)
+apart-is_void tag.Thead e = absurd (false≢true e)
+apart-is_void tag.Tr e = absurd (false≢true e)
+apart-is_void _ e = refl
 
 -- NO PARTS OF TABLES, AND PARTS
 

@@ -2,8 +2,6 @@
 -- What a call does of the insertion mode in which it begins (13.2.6).
 use Rattle.std.specs.Prelude.{◌≡◌, ◌||◌, ◌++◌, Bool, true, false, List}
 use Rattle.std.specs.List.{list_all}
-use Rattle.html_names.specs.declared.tag.Tag.{Tag}
-use Rattle.html_names.specs.declared.tag.Tag.TheVariants as tag
 use Rattle.html_ledger.specs.declared.fate.Fate.{Fate}
 use Rattle.html_ledger.specs.declared.symbol.Symbol.{Symbol}
 use Rattle.html_ledger.specs.declared.symbol.Symbol.TheVariants.{Start}
@@ -12,6 +10,7 @@ use Rattle.html_construction.specs.Built.{Handed, IsBuilt}
 use Rattle.html_construction.specs.Modes.{is_of_column_groups, is_of_frames, is_of_selects}
 use Rattle.html_construction.specs.States.{State}
 use Rattle.html_construction.specs.declared.mode.Mode.{Mode}
+use Rattle.html_tree.specs.Proper.{is_foreign_root}
 use Rattle.html_modes.specs.Steps.{is_code_point}
 use Rattle.html_modes.specs.declared.outcome.Outcome.{Outcome}
 use Rattle.html_modes.specs.declared.outcome.Outcome.TheVariants.{Done}
@@ -28,15 +27,9 @@ GivesIn a b = (h : Handed) → IsBuilt h a → Gives a.mode a.ledger.fates b.led
 
 -- FOREIGN CONTENT
 
--- the names of the roots of foreign content
-abbrev pub is_foreign : Tag → Bool
-is_foreign tag.Svg = true
-is_foreign tag.Math = true
-is_foreign _ = false
-
 -- the start tag of one
 abbrev pub begins_foreign : Symbol → Bool
-begins_foreign (Start t) = is_foreign t
+begins_foreign (Start t) = is_foreign_root t
 begins_foreign _ = false
 
 -- the modes in which it is ignored: those inside a select, and those of a page of frames (13.2.6.4.16, 13.2.6.4.17, 13.2.6.4.20, 13.2.6.4.21 and 13.2.6.4.23)

@@ -7,3 +7,5 @@ pub mod Plain
 pub mod Ranks
 pub mod RawText
 pub mod Steps
+-- For this crate's own functions.
+pub mod Runs

@@ -1,5 +1,5 @@
 -- A name that has a known tag is that tag's name, and so is ASCII.
-use Rattle.std.proofs.Common.{◌≡◌, ℕ, Bool, true, false, ◌==◌, List, [], ◌∷◌, ◌⊎◌, inl, inr, refl, sym, ◌∙◌, ap, ◌&&◌, length, ◌++◌, ◌<◌, arith}
+use Rattle.std.proofs.Common.{◌≡◌, ℕ, Bool, true, false, ◌==◌, List, [], ◌∷◌, ◌⊎◌, inl, inr, refl, sym, ◌∙◌, ap, ◌&&◌, length, ◌++◌, ◌<◌, arith, if◌then◌else◌}
 use Rattle.std.specs.Prelude.{nat_lt}
 use Rattle.std.proofs.lemmas.Bool.Decides.{nat_tests}
 use Rattle.std.specs.Str.{bytes_eq, chars, encode_utf8_all, IsUtf8}
@@ -7,52 +7,86 @@ use Rattle.std.proofs.lemmas.Slice.Eq.{bytes_eq-Decides}
 use Rattle.std.proofs.lemmas.Str.{chars_from_encodes, encode_ascii, encodes-chars}
 use Rattle.html_names.specs.declared.tag.Tag.{Tag}
 use Rattle.html_names.specs.declared.tag.Tag.TheVariants as tag
-use Rattle.html_names.specs.Names.{Row, name_of, is_known, look_up, rows_of, tag_of}
+use Rattle.html_names.specs.Names.{Row, name_of, is_known, look_up, rows_of, tag_of, known_tag, is_other, unknown_tag, begins_with, svg_prefix, math_prefix}
+use Rattle.html_names.proofs.Cases.{cases_bool, and_first, and_rest}
+use Rattle.html_names.proofs.Begins.{begins_chars}
 
-cases_bool : (b : Bool) → (b ≡ true) ⊎ (b ≡ false)
-cases_bool true = inl refl
-cases_bool false = inr refl
-
--- each row has its tag's own name
+-- each row has its tag's own name, which is a known one
 abbrev are_named : List Row → Bool
 are_named [] = true
-are_named (r ∷ rows) = bytes_eq r.name (name_of r.tag) && are_named rows
-
-and_first : (a b : Bool) → a && b ≡ true → a ≡ true
-and_first true b e = refl
-and_first false b e = e
-
-and_rest : (a b : Bool) → a && b ≡ true → b ≡ true
-and_rest true b e = e
-and_rest false b e = absurd cc
+are_named (r ∷ rows) = (is_known r.tag && bytes_eq r.name (name_of r.tag)) && are_named rows
 
 look_up-known : (name : List ℕ) (rows : List Row) → are_named rows ≡ true → is_known (look_up name rows) ≡ true → name ≡ name_of (look_up name rows)
 look_up-known name [] h k = absurd cc
 look_up-known name (r ∷ rows) h k = elim (cases_bool (bytes_eq name r.name)) [
   | inl e ↦
       let here : name ≡ r.name = (bytes_eq-Decides name r.name).0 e in
-      let own : r.name ≡ name_of r.tag = (bytes_eq-Decides r.name (name_of r.tag)).0 (and_first _ _ h) in
+      let own : r.name ≡ name_of r.tag = (bytes_eq-Decides r.name (name_of r.tag)).0 (and_rest _ _ (and_first _ _ h)) in
       rw e (here ∙ own)
   | inr e ↦ (let later : is_known (look_up name rows) ≡ true = rw e at k in rw e (look_up-known name rows (and_rest _ _ h) later))
 ]
 
 rows_of-named : (k : ℕ) → are_named (rows_of k) ≡ true
 rows_of-named k =
-    elim (cases_bool (k == 1)) [ inl e ↦ rw e refl | inr e ↦ rw e (elim (cases_bool (k == 2)) [ inl e ↦ rw e refl | inr e ↦ rw e (elim (cases_bool (k == 3)) [ inl e ↦ rw e refl | inr e ↦ rw e (elim (cases_bool (k == 4)) [ inl e ↦ rw e refl | inr e ↦ rw e (elim (cases_bool (k == 5)) [ inl e ↦ rw e refl | inr e ↦ rw e (elim (cases_bool (k == 6)) [ inl e ↦ rw e refl | inr e ↦ rw e (elim (cases_bool (k == 7)) [ inl e ↦ rw e refl | inr e ↦ rw e (elim (cases_bool (k == 8)) [ inl e ↦ rw e refl | inr e ↦ rw e (elim (cases_bool (k == 9)) [ inl e ↦ rw e refl | inr e ↦ rw e (elim (cases_bool (k == 10)) [ inl e ↦ rw e refl | inr e ↦ rw e (refl) ]) ]) ]) ]) ]) ]) ]) ]) ]) ]
+    elim (cases_bool (k == 1)) [ inl e ↦ rw e refl | inr e ↦ rw e (elim (cases_bool (k == 2)) [ inl e ↦ rw e refl | inr e ↦ rw e (elim (cases_bool (k == 3)) [ inl e ↦ rw e refl | inr e ↦ rw e (elim (cases_bool (k == 4)) [ inl e ↦ rw e refl | inr e ↦ rw e (elim (cases_bool (k == 5)) [ inl e ↦ rw e refl | inr e ↦ rw e (elim (cases_bool (k == 6)) [ inl e ↦ rw e refl | inr e ↦ rw e (elim (cases_bool (k == 7)) [ inl e ↦ rw e refl | inr e ↦ rw e (elim (cases_bool (k == 8)) [ inl e ↦ rw e refl | inr e ↦ rw e (elim (cases_bool (k == 9)) [ inl e ↦ rw e refl | inr e ↦ rw e (elim (cases_bool (k == 10)) [ inl e ↦ rw e refl | inr e ↦ rw e (elim (cases_bool (k == 17)) [ inl e ↦ rw e refl | inr e ↦ rw e (elim (cases_bool (k == 19)) [ inl e ↦ rw e refl | inr e ↦ rw e (refl) ]) ]) ]) ]) ]) ]) ]) ]) ]) ]) ]) ]
+
+apart : true ≡ false → ⊥
+apart e = absurd cc
+
+other_known : (t u : Tag) → is_known t ≡ true → (if is_other t then u else t) ≡ t
+other_known tag.Other u k = absurd cc
+other_known tag.SvgOther u k = absurd cc
+other_known tag.MathOther u k = absurd cc
+other_known _ u k = refl
+
+look_up-unknown : (name : List ℕ) (rows : List Row) → are_named rows ≡ true → is_known (look_up name rows) ≡ false → look_up name rows ≡ tag.Other
+look_up-unknown name [] h k = refl
+look_up-unknown name (r ∷ rows) h k = elim (cases_bool (bytes_eq name r.name)) [
+  | inl e ↦
+      let hit : look_up name (r ∷ rows) ≡ r.tag = rw e refl in
+      let no : true ≡ false = sym (and_first _ _ (and_first _ _ h)) ∙ ap is_known (sym hit) ∙ k in
+      absurd (apart no)
+  | inr e ↦ (let later : is_known (look_up name rows) ≡ false = rw e at k in rw e (look_up-unknown name rows (and_rest _ _ h) later))
+]
+
+pub known_tag-known : (name : List ℕ) → is_known (known_tag name) ≡ true → name ≡ name_of (known_tag name)
+known_tag-known name k = look_up-known name (rows_of (length name)) (rows_of-named (length name)) k
+
+known_tag-unknown : (name : List ℕ) → is_known (known_tag name) ≡ false → known_tag name ≡ tag.Other
+known_tag-unknown name k = look_up-unknown name (rows_of (length name)) (rows_of-named (length name)) k
+
+-- by whether the name is a known one
+pub of_known : (name : List ℕ) → is_known (known_tag name) ≡ true → tag_of name ≡ known_tag name
+unfolding tag_of
+of_known name k = other_known (known_tag name) (unknown_tag name) k
+
+pub of_unknown : (name : List ℕ) → is_known (known_tag name) ≡ false → tag_of name ≡ unknown_tag name
+unfolding tag_of
+of_unknown name k = rw (known_tag-unknown name k) refl
+
+unknown_tag-unknown : (name : List ℕ) → is_known (unknown_tag name) ≡ false
+unknown_tag-unknown name = elim (cases_bool (begins_with svg_prefix name)) [
+  | inl e ↦ rw e refl
+  | inr e ↦ rw e (elim (cases_bool (begins_with math_prefix name)) [ inl f ↦ rw f refl | inr f ↦ rw f refl ])
+]
 
 pub tag_of-known : (name : List ℕ) → is_known (tag_of name) ≡ true → name ≡ name_of (tag_of name)
-unfolding tag_of
-tag_of-known name k = look_up-known name (rows_of (length name)) (rows_of-named (length name)) k
+tag_of-known name k = elim (cases_bool (is_known (known_tag name))) [
+  | inl e ↦ rw (of_known name e) (known_tag-known name e)
+  | inr e ↦
+      let no : false ≡ true = sym (unknown_tag-unknown name) ∙ sym (ap is_known (of_unknown name e)) ∙ k in
+      absurd (apart (sym no))
+]
 
 ascii_below : (c : ℕ) → nat_lt c 128 ≡ true → c < 128
 ascii_below c h = grind (arith, nat_tests)
 
 -- all below 128
-abbrev is_ascii : List ℕ → Bool
+abbrev pub is_ascii : List ℕ → Bool
 is_ascii [] = true
 is_ascii (c ∷ cs) = nat_lt c 128 && is_ascii cs
 
-encodes-ascii : (cs : List ℕ) → is_ascii cs ≡ true → encode_utf8_all cs ≡ cs
+pub encodes-ascii : (cs : List ℕ) → is_ascii cs ≡ true → encode_utf8_all cs ≡ cs
 encodes-ascii [] h = refl
 encodes-ascii (c ∷ cs) h =
     let b : c < 128 = ascii_below c (and_first _ _ h) in
@@ -168,15 +202,22 @@ name_of-ascii tag.Ul = refl
 name_of-ascii tag.Wbr = refl
 name_of-ascii tag.Xmp = refl
 name_of-ascii tag.Other = refl
+name_of-ascii tag.SvgDesc = refl
+name_of-ascii tag.SvgForeignObject = refl
+name_of-ascii tag.SvgTitle = refl
+name_of-ascii tag.SvgOther = refl
+name_of-ascii tag.MathAnnotationXml = refl
+name_of-ascii tag.MathMi = refl
+name_of-ascii tag.MathMn = refl
+name_of-ascii tag.MathMo = refl
+name_of-ascii tag.MathMs = refl
+name_of-ascii tag.MathMtext = refl
+name_of-ascii tag.MathOther = refl
 
 encodes-name_of : (t : Tag) → encode_utf8_all (name_of t) ≡ name_of t
 encodes-name_of t = encodes-ascii (name_of t) (name_of-ascii t)
 
-unknown : (t : Tag) → is_known t ≡ false → t ≡ tag.Other
-unknown tag.Other e = refl
-unknown _ e = absurd cc
-
-module _ (f : List ℕ → Tag) (known : (name : List ℕ) → is_known (f name) ≡ true → name ≡ name_of (f name)) where
+module _ (f : List ℕ → Tag) (known : (name : List ℕ) → is_known (f name) ≡ true → name ≡ name_of (f name)) (unknown : (name : List ℕ) → is_known (f name) ≡ false → f name ≡ tag.Other) where
   -- of a text's bytes and of its code points
   both_ways : (bs : List ℕ) → IsUtf8 bs → f bs ≡ f (chars bs)
   both_ways bs u = elim (cases_bool (is_known (f bs))) [
@@ -189,9 +230,26 @@ module _ (f : List ℕ → Tag) (known : (name : List ℕ) → is_known (f name)
           let n = known (chars bs) l in
           let e : chars bs ≡ encode_utf8_all (chars bs) = n ∙ sym (encodes-name_of (f (chars bs))) ∙ ap encode_utf8_all (sym n) in
           sym (ap f (e ∙ encodes-chars bs u))
-      | inr l ↦ unknown (f bs) k ∙ sym (unknown (f (chars bs)) l)
+      | inr l ↦ unknown bs k ∙ sym (unknown (chars bs) l)
     ]
   ]
 
+pub svg_chars : chars svg_prefix ≡ svg_prefix
+unfolding chars
+svg_chars = refl
+
+pub math_chars : chars math_prefix ≡ math_prefix
+unfolding chars
+math_chars = refl
+
+unknown_tag-chars : (bs : List ℕ) → IsUtf8 bs → unknown_tag bs ≡ unknown_tag (chars bs)
+unfolding lib.Utf8.encode
+unknown_tag-chars bs u =
+    ap (λ b. if b then tag.SvgOther else (if begins_with math_prefix bs then tag.MathOther else tag.Other)) (begins_chars svg_prefix bs (svg_prefix, (refl, refl)) svg_chars refl u)
+    ∙ ap (λ b. if begins_with svg_prefix (chars bs) then tag.SvgOther else (if b then tag.MathOther else tag.Other)) (begins_chars math_prefix bs (math_prefix, (refl, refl)) math_chars refl u)
+
 pub tag_of-chars : (bs : List ℕ) → IsUtf8 bs → tag_of bs ≡ tag_of (chars bs)
-tag_of-chars bs u = both_ways tag_of tag_of-known bs u
+unfolding tag_of
+tag_of-chars bs u =
+    ap (λ t. if is_other t then unknown_tag bs else t) (both_ways known_tag known_tag-known known_tag-unknown bs u)
+    ∙ ap (λ t. if is_other (known_tag (chars bs)) then t else known_tag (chars bs)) (unknown_tag-chars bs u)

@@ -5,7 +5,7 @@ use Rattle.html_names.specs.declared.tag.Tag.TheVariants as tag
 use Rattle.html_names.specs.Tags.{number}
 
 abbrev all_tags : List Tag
-all_tags = tag.A ∷ tag.Address ∷ tag.Applet ∷ tag.Area ∷ tag.Article ∷ tag.Aside ∷ tag.B ∷ tag.Base ∷ tag.Basefont ∷ tag.Bgsound ∷ tag.Big ∷ tag.Blockquote ∷ tag.Body ∷ tag.Br ∷ tag.Button ∷ tag.Caption ∷ tag.Center ∷ tag.Code ∷ tag.Col ∷ tag.Colgroup ∷ tag.Dd ∷ tag.Details ∷ tag.Dialog ∷ tag.Dir ∷ tag.Div ∷ tag.Dl ∷ tag.Dt ∷ tag.Em ∷ tag.Embed ∷ tag.Fieldset ∷ tag.Figcaption ∷ tag.Figure ∷ tag.Font ∷ tag.Footer ∷ tag.Form ∷ tag.Frame ∷ tag.Frameset ∷ tag.H1 ∷ tag.H2 ∷ tag.H3 ∷ tag.H4 ∷ tag.H5 ∷ tag.H6 ∷ tag.Head ∷ tag.Header ∷ tag.Hgroup ∷ tag.Hr ∷ tag.Html ∷ tag.I ∷ tag.Iframe ∷ tag.Image ∷ tag.Img ∷ tag.Input ∷ tag.Keygen ∷ tag.Li ∷ tag.Link ∷ tag.Listing ∷ tag.Main ∷ tag.Marquee ∷ tag.Math ∷ tag.Menu ∷ tag.Meta ∷ tag.Nav ∷ tag.Nobr ∷ tag.Noembed ∷ tag.Noframes ∷ tag.Noscript ∷ tag.Object ∷ tag.Ol ∷ tag.Optgroup ∷ tag.Option ∷ tag.P ∷ tag.Param ∷ tag.Plaintext ∷ tag.Pre ∷ tag.Rb ∷ tag.Rp ∷ tag.Rt ∷ tag.Rtc ∷ tag.Ruby ∷ tag.S ∷ tag.Script ∷ tag.Search ∷ tag.Section ∷ tag.Select ∷ tag.Small ∷ tag.Source ∷ tag.Strike ∷ tag.Strong ∷ tag.Style ∷ tag.Summary ∷ tag.Svg ∷ tag.Table ∷ tag.Tbody ∷ tag.Td ∷ tag.Template ∷ tag.Textarea ∷ tag.Tfoot ∷ tag.Th ∷ tag.Thead ∷ tag.Title ∷ tag.Tr ∷ tag.Track ∷ tag.Tt ∷ tag.U ∷ tag.Ul ∷ tag.Wbr ∷ tag.Xmp ∷ tag.Other ∷ []
+all_tags = tag.A ∷ tag.Address ∷ tag.Applet ∷ tag.Area ∷ tag.Article ∷ tag.Aside ∷ tag.B ∷ tag.Base ∷ tag.Basefont ∷ tag.Bgsound ∷ tag.Big ∷ tag.Blockquote ∷ tag.Body ∷ tag.Br ∷ tag.Button ∷ tag.Caption ∷ tag.Center ∷ tag.Code ∷ tag.Col ∷ tag.Colgroup ∷ tag.Dd ∷ tag.Details ∷ tag.Dialog ∷ tag.Dir ∷ tag.Div ∷ tag.Dl ∷ tag.Dt ∷ tag.Em ∷ tag.Embed ∷ tag.Fieldset ∷ tag.Figcaption ∷ tag.Figure ∷ tag.Font ∷ tag.Footer ∷ tag.Form ∷ tag.Frame ∷ tag.Frameset ∷ tag.H1 ∷ tag.H2 ∷ tag.H3 ∷ tag.H4 ∷ tag.H5 ∷ tag.H6 ∷ tag.Head ∷ tag.Header ∷ tag.Hgroup ∷ tag.Hr ∷ tag.Html ∷ tag.I ∷ tag.Iframe ∷ tag.Image ∷ tag.Img ∷ tag.Input ∷ tag.Keygen ∷ tag.Li ∷ tag.Link ∷ tag.Listing ∷ tag.Main ∷ tag.Marquee ∷ tag.Math ∷ tag.Menu ∷ tag.Meta ∷ tag.Nav ∷ tag.Nobr ∷ tag.Noembed ∷ tag.Noframes ∷ tag.Noscript ∷ tag.Object ∷ tag.Ol ∷ tag.Optgroup ∷ tag.Option ∷ tag.P ∷ tag.Param ∷ tag.Plaintext ∷ tag.Pre ∷ tag.Rb ∷ tag.Rp ∷ tag.Rt ∷ tag.Rtc ∷ tag.Ruby ∷ tag.S ∷ tag.Script ∷ tag.Search ∷ tag.Section ∷ tag.Select ∷ tag.Small ∷ tag.Source ∷ tag.Strike ∷ tag.Strong ∷ tag.Style ∷ tag.Summary ∷ tag.Svg ∷ tag.Table ∷ tag.Tbody ∷ tag.Td ∷ tag.Template ∷ tag.Textarea ∷ tag.Tfoot ∷ tag.Th ∷ tag.Thead ∷ tag.Title ∷ tag.Tr ∷ tag.Track ∷ tag.Tt ∷ tag.U ∷ tag.Ul ∷ tag.Wbr ∷ tag.Xmp ∷ tag.Other ∷ tag.SvgDesc ∷ tag.SvgForeignObject ∷ tag.SvgTitle ∷ tag.SvgOther ∷ tag.MathAnnotationXml ∷ tag.MathMi ∷ tag.MathMn ∷ tag.MathMo ∷ tag.MathMs ∷ tag.MathMtext ∷ tag.MathOther ∷ []
 
 abbrev tag_at : ℕ → Tag
 tag_at n = get_or all_tags n tag.Other
@@ -120,6 +120,17 @@ tag_at-number tag.Ul = refl
 tag_at-number tag.Wbr = refl
 tag_at-number tag.Xmp = refl
 tag_at-number tag.Other = refl
+tag_at-number tag.SvgDesc = refl
+tag_at-number tag.SvgForeignObject = refl
+tag_at-number tag.SvgTitle = refl
+tag_at-number tag.SvgOther = refl
+tag_at-number tag.MathAnnotationXml = refl
+tag_at-number tag.MathMi = refl
+tag_at-number tag.MathMn = refl
+tag_at-number tag.MathMo = refl
+tag_at-number tag.MathMs = refl
+tag_at-number tag.MathMtext = refl
+tag_at-number tag.MathOther = refl
 
 pub number_injective : (a b : Tag) → number a ≡ number b → a ≡ b
 number_injective a b e = sym (tag_at-number a) ∙ ap tag_at e ∙ tag_at-number b

@@ -1,6 +1,6 @@
 -- Claimed.
 -- The names of the known elements, and the tag that a name has.
-use Rattle.std.specs.Prelude.{ℕ, Bool, true, false, List, [], ◌∷◌, codes, if◌then◌else◌, ◌==◌, length}
+use Rattle.std.specs.Prelude.{ℕ, Bool, true, false, List, [], ◌∷◌, codes, if◌then◌else◌, ◌==◌, ◌&&◌, length}
 use Rattle.std.specs.Str.{bytes_eq}
 use Rattle.html_names.specs.declared.tag.Tag.{Tag}
 use Rattle.html_names.specs.declared.tag.Tag.TheVariants as tag
@@ -116,10 +116,27 @@ name_of tag.Ul = codes "ul"
 name_of tag.Wbr = codes "wbr"
 name_of tag.Xmp = codes "xmp"
 name_of tag.Other = []
+name_of tag.SvgDesc = codes "svg desc"
+name_of tag.SvgForeignObject = codes "svg foreignObject"
+name_of tag.SvgTitle = codes "svg title"
+name_of tag.SvgOther = codes "svg "
+name_of tag.MathAnnotationXml = codes "math annotation-xml"
+name_of tag.MathMi = codes "math mi"
+name_of tag.MathMn = codes "math mn"
+name_of tag.MathMo = codes "math mo"
+name_of tag.MathMs = codes "math ms"
+name_of tag.MathMtext = codes "math mtext"
+name_of tag.MathOther = codes "math "
 
 abbrev pub is_known : Tag → Bool
 is_known tag.Other = false
+is_known tag.SvgOther = false
+is_known tag.MathOther = false
 is_known _ = true
+
+abbrev pub is_other : Tag → Bool
+is_other tag.Other = true
+is_other _ = false
 
 -- a name and its tag
 pub record Row : Type 0 where
@@ -160,25 +177,54 @@ rows_6 = row tag.Applet ∷ row tag.Button ∷ row tag.Center ∷ row tag.Dialog
 
 -- the known names of 7 letters
 abbrev pub rows_7 : List Row
-rows_7 = row tag.Address ∷ row tag.Article ∷ row tag.Bgsound ∷ row tag.Caption ∷ row tag.Details ∷ row tag.Listing ∷ row tag.Marquee ∷ row tag.Noembed ∷ row tag.Section ∷ row tag.Summary ∷ []
+rows_7 = row tag.Address ∷ row tag.Article ∷ row tag.Bgsound ∷ row tag.Caption ∷ row tag.Details ∷ row tag.Listing ∷ row tag.Marquee ∷ row tag.Noembed ∷ row tag.Section ∷ row tag.Summary ∷ row tag.MathMi ∷ row tag.MathMn ∷ row tag.MathMo ∷ row tag.MathMs ∷ []
 
 -- the known names of 8 letters
 abbrev pub rows_8 : List Row
-rows_8 = row tag.Basefont ∷ row tag.Colgroup ∷ row tag.Fieldset ∷ row tag.Frameset ∷ row tag.Noframes ∷ row tag.Noscript ∷ row tag.Optgroup ∷ row tag.Template ∷ row tag.Textarea ∷ []
+rows_8 = row tag.Basefont ∷ row tag.Colgroup ∷ row tag.Fieldset ∷ row tag.Frameset ∷ row tag.Noframes ∷ row tag.Noscript ∷ row tag.Optgroup ∷ row tag.Template ∷ row tag.Textarea ∷ row tag.SvgDesc ∷ []
 
 -- the known names of 9 letters
 abbrev pub rows_9 : List Row
-rows_9 = row tag.Plaintext ∷ []
+rows_9 = row tag.Plaintext ∷ row tag.SvgTitle ∷ []
 
 -- the known names of 10 letters
 abbrev pub rows_10 : List Row
-rows_10 = row tag.Blockquote ∷ row tag.Figcaption ∷ []
+rows_10 = row tag.Blockquote ∷ row tag.Figcaption ∷ row tag.MathMtext ∷ []
+
+-- the known names of 17 letters
+abbrev pub rows_17 : List Row
+rows_17 = row tag.SvgForeignObject ∷ []
+
+-- the known names of 19 letters
+abbrev pub rows_19 : List Row
+rows_19 = row tag.MathAnnotationXml ∷ []
 
 -- the known names of so many letters
 abbrev pub rows_of : ℕ → List Row
 rows_of k =
-    if k == 1 then rows_1 else (if k == 2 then rows_2 else (if k == 3 then rows_3 else (if k == 4 then rows_4 else (if k == 5 then rows_5 else (if k == 6 then rows_6 else (if k == 7 then rows_7 else (if k == 8 then rows_8 else (if k == 9 then rows_9 else (if k == 10 then rows_10 else ([]))))))))))
+    if k == 1 then rows_1 else (if k == 2 then rows_2 else (if k == 3 then rows_3 else (if k == 4 then rows_4 else (if k == 5 then rows_5 else (if k == 6 then rows_6 else (if k == 7 then rows_7 else (if k == 8 then rows_8 else (if k == 9 then rows_9 else (if k == 10 then rows_10 else (if k == 17 then rows_17 else (if k == 19 then rows_19 else ([]))))))))))))
+
+-- the names of the elements of SVG, and of MathML, begin so
+abbrev pub svg_prefix : List ℕ
+svg_prefix = codes "svg "
+
+abbrev pub math_prefix : List ℕ
+math_prefix = codes "math "
+
+-- these come first
+abbrev pub begins_with : List ℕ → List ℕ → Bool
+begins_with [] name = true
+begins_with (c ∷ cs) [] = false
+begins_with (c ∷ cs) (d ∷ ds) = (c == d) && begins_with cs ds
+
+-- the tag of a name that is none of the known ones: by what it begins with
+abbrev pub unknown_tag : List ℕ → Tag
+unknown_tag name = if begins_with svg_prefix name then tag.SvgOther else (if begins_with math_prefix name then tag.MathOther else tag.Other)
+
+-- the tag of a known name; `Other` where it is none
+abbrev pub known_tag : List ℕ → Tag
+known_tag name = look_up name (rows_of (length name))
 
 -- the tag that a name has
 unfoldable pub tag_of : List ℕ → Tag
-tag_of name = look_up name (rows_of (length name))
+tag_of name = if is_other (known_tag name) then unknown_tag name else known_tag name

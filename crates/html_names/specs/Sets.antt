@@ -109,6 +109,15 @@ is_special tag.Track = true
 is_special tag.Ul = true
 is_special tag.Wbr = true
 is_special tag.Xmp = true
+is_special tag.SvgDesc = true
+is_special tag.SvgForeignObject = true
+is_special tag.SvgTitle = true
+is_special tag.MathAnnotationXml = true
+is_special tag.MathMi = true
+is_special tag.MathMn = true
+is_special tag.MathMo = true
+is_special tag.MathMs = true
+is_special tag.MathMtext = true
 is_special _ = false
 
 -- Elements whose end tags are implied (13.2.6.3).
@@ -308,6 +317,15 @@ ends_default_scope tag.Table = true
 ends_default_scope tag.Td = true
 ends_default_scope tag.Template = true
 ends_default_scope tag.Th = true
+ends_default_scope tag.SvgDesc = true
+ends_default_scope tag.SvgForeignObject = true
+ends_default_scope tag.SvgTitle = true
+ends_default_scope tag.MathAnnotationXml = true
+ends_default_scope tag.MathMi = true
+ends_default_scope tag.MathMn = true
+ends_default_scope tag.MathMo = true
+ends_default_scope tag.MathMs = true
+ends_default_scope tag.MathMtext = true
 ends_default_scope _ = false
 
 -- Ends of the list item scope, beside those of the default scope (13.2.4.2).

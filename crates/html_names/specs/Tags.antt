@@ -115,6 +115,17 @@ number tag.Ul = 105
 number tag.Wbr = 106
 number tag.Xmp = 107
 number tag.Other = 108
+number tag.SvgDesc = 109
+number tag.SvgForeignObject = 110
+number tag.SvgTitle = 111
+number tag.SvgOther = 112
+number tag.MathAnnotationXml = 113
+number tag.MathMi = 114
+number tag.MathMn = 115
+number tag.MathMo = 116
+number tag.MathMs = 117
+number tag.MathMtext = 118
+number tag.MathOther = 119
 
 abbrev pub is_same : Tag → Tag → Bool
 is_same a b = eqb (number a) (number b)

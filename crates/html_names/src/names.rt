@@ -1,7 +1,7 @@
 // From names to tags and back.
-ghost use Rattle.std.specs.Prelude.{◌≡◌, true};
+ghost use Rattle.std.specs.Prelude.{◌≡◌, length, true};
 ghost use Rattle.std.specs.Str.{chars};
-ghost use Rattle.html_names.specs.Names.{is_known, look_up, name_of, tag_of, rows_1, rows_2, rows_3, rows_4, rows_5, rows_6, rows_7, rows_8, rows_9, rows_10};
+ghost use Rattle.html_names.specs.Names.{begins_with, is_known, is_other, look_up, name_of, rows_of, tag_of, unknown_tag, rows_1, rows_2, rows_3, rows_4, rows_5, rows_6, rows_7, rows_8, rows_9, rows_10, rows_17, rows_19};
 
 use crate::guess::guess;
 use crate::tag::Tag;
@@ -17,7 +17,14 @@ impl Tag {
         if guessed.has_name(name) {
             return guessed;
         }
-        of_known_length(name)
+        of_any(name)
+    }
+
+    /// The tag of no known name.
+    fn is_other(self) -> bool
+        ensures { result ≡ is_other self }
+    {
+        matches!(self, Tag::Other)
     }
 
     /// Whether a name is this tag's.
@@ -145,6 +152,17 @@ impl Tag {
             Tag::Wbr => "wbr",
             Tag::Xmp => "xmp",
             Tag::Other => "",
+            Tag::SvgDesc => "svg desc",
+            Tag::SvgForeignObject => "svg foreignObject",
+            Tag::SvgTitle => "svg title",
+            Tag::SvgOther => "svg ",
+            Tag::MathAnnotationXml => "math annotation-xml",
+            Tag::MathMi => "math mi",
+            Tag::MathMn => "math mn",
+            Tag::MathMo => "math mo",
+            Tag::MathMs => "math ms",
+            Tag::MathMtext => "math mtext",
+            Tag::MathOther => "math ",
         }
     }
 }
@@ -167,9 +185,8 @@ fn same(text: &[u8], other: &[u8]) -> bool
 }
 
 /// Looks among the names of the same length.
-#[tactic(auto, unfolding(crate::specs::Names::tag_of))]
 fn of_known_length(name: &str) -> Tag
-    ensures { result ≡ tag_of name.now }
+    ensures { result ≡ look_up name.now (rows_of (length name.now)) }
 {
     match name.len() {
         1 => of_1(name),
@@ -182,7 +199,50 @@ fn of_known_length(name: &str) -> Tag
         8 => of_8(name),
         9 => of_9(name),
         10 => of_10(name),
+        17 => of_17(name),
+        19 => of_19(name),
         _ => Tag::Other,
+    }
+}
+
+/// The tag of a name, sought among all.
+#[tactic(auto, unfolding(crate::specs::Names::tag_of))]
+fn of_any(name: &str) -> Tag
+    ensures { result ≡ tag_of name.now }
+{
+    let known = of_known_length(name);
+    if known.is_other() {
+        return of_unknown(name);
+    }
+    known
+}
+
+/// Whether these bytes come first.
+pub(crate) fn begins_with(front: &[u8], text: &[u8]) -> bool
+    ensures { result ≡ begins_with front.now text.now }
+{
+    if text.len() < front.len() {
+        return false;
+    }
+    for i in 0..front.len() {
+        let (c, w) = (text[i], front[i]);
+        if w != c {
+            return false;
+        }
+    }
+    true
+}
+
+/// The tag of a name that is none of the known ones: by what it begins with.
+fn of_unknown(name: &str) -> Tag
+    ensures { result ≡ unknown_tag name.now }
+{
+    if begins_with("svg ".as_bytes(), name.as_bytes()) {
+        Tag::SvgOther
+    } else if begins_with("math ".as_bytes(), name.as_bytes()) {
+        Tag::MathOther
+    } else {
+        Tag::Other
     }
 }
 
@@ -334,6 +394,10 @@ fn of_7(name: &str) -> Tag
         "noembed" => Tag::Noembed,
         "section" => Tag::Section,
         "summary" => Tag::Summary,
+        "math mi" => Tag::MathMi,
+        "math mn" => Tag::MathMn,
+        "math mo" => Tag::MathMo,
+        "math ms" => Tag::MathMs,
         _ => Tag::Other,
     }
 }
@@ -351,6 +415,7 @@ fn of_8(name: &str) -> Tag
         "optgroup" => Tag::Optgroup,
         "template" => Tag::Template,
         "textarea" => Tag::Textarea,
+        "svg desc" => Tag::SvgDesc,
         _ => Tag::Other,
     }
 }
@@ -360,6 +425,7 @@ fn of_9(name: &str) -> Tag
 {
     match name {
         "plaintext" => Tag::Plaintext,
+        "svg title" => Tag::SvgTitle,
         _ => Tag::Other,
     }
 }
@@ -370,6 +436,25 @@ fn of_10(name: &str) -> Tag
     match name {
         "blockquote" => Tag::Blockquote,
         "figcaption" => Tag::Figcaption,
+        "math mtext" => Tag::MathMtext,
+        _ => Tag::Other,
+    }
+}
+
+fn of_17(name: &str) -> Tag
+    ensures { result ≡ look_up name.now rows_17 }
+{
+    match name {
+        "svg foreignObject" => Tag::SvgForeignObject,
+        _ => Tag::Other,
+    }
+}
+
+fn of_19(name: &str) -> Tag
+    ensures { result ≡ look_up name.now rows_19 }
+{
+    match name {
+        "math annotation-xml" => Tag::MathAnnotationXml,
         _ => Tag::Other,
     }
 }

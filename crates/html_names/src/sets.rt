@@ -127,6 +127,15 @@ impl Tag {
                 | Tag::Ul
                 | Tag::Wbr
                 | Tag::Xmp
+                | Tag::SvgDesc
+                | Tag::SvgForeignObject
+                | Tag::SvgTitle
+                | Tag::MathAnnotationXml
+                | Tag::MathMi
+                | Tag::MathMn
+                | Tag::MathMo
+                | Tag::MathMs
+                | Tag::MathMtext
         )
     }
 
@@ -368,6 +377,15 @@ impl Tag {
                 | Tag::Td
                 | Tag::Template
                 | Tag::Th
+                | Tag::SvgDesc
+                | Tag::SvgForeignObject
+                | Tag::SvgTitle
+                | Tag::MathAnnotationXml
+                | Tag::MathMi
+                | Tag::MathMn
+                | Tag::MathMo
+                | Tag::MathMs
+                | Tag::MathMtext
         )
     }
 

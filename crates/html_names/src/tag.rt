@@ -114,6 +114,18 @@ pub enum Tag {
     Wbr,
     Xmp,
     Other,
+    /// Elements of SVG and of MathML: their names begin with `svg ` and `math `.
+    SvgDesc,
+    SvgForeignObject,
+    SvgTitle,
+    SvgOther,
+    MathAnnotationXml,
+    MathMi,
+    MathMn,
+    MathMo,
+    MathMs,
+    MathMtext,
+    MathOther,
 }
 
 impl Tag {

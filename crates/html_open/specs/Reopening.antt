@@ -1,6 +1,6 @@
 -- Claimed.
 -- Reconstructing the active formatting elements (13.2.4.3).
-use Rattle.std.specs.Prelude.{◌≡◌, ℕ, ◌+◌, ◌*◌, Bool, true, false, List, [], ◌∷◌, ◌++◌, length, map, Option, Some, None, Result, Ok, Err}
+use Rattle.std.specs.Prelude.{◌≡◌, ℕ, ◌+◌, ◌-◌, ◌*◌, Bool, true, false, List, [], ◌∷◌, ◌++◌, length, map, slice_get, Option, Some, None, Result, Ok, Err}
 use Rattle.std.specs.List.{range_with_len}
 use Rattle.html_arena.specs.declared.arena.ArenaError.{ArenaError}
 use Rattle.html_arena.specs.declared.arena.ArenaError.TheVariants as arena
@@ -88,6 +88,10 @@ end_steps (Some (Node x)) = 2
 -- each entry that is looked at costs one, and one more for the test of its presence unless it is a marker
 abbrev pub search_steps : (Entry → Bool) → List Entry → ℕ
 search_steps p list = 2 * length (above p list) + end_steps (last_where p list)
+
+-- the steps of that search where it ends at the last entry
+abbrev pub look_steps : List Entry → ℕ
+look_steps list = end_steps (slice_get list (length list - 1))
 
 -- for each clone the steps of its place, and four: it is made, linked and pushed, and it takes its entry's place
 abbrev pub clone_steps : Tree → List ℕ → Bool → List ℕ → ℕ

@@ -29,7 +29,7 @@ impl FormattingList {
     ghost use Rattle.html_open.specs.Opened.{IsOpen, open_at};
     ghost use Rattle.html_open.specs.Adopting.{IsFirstFree, MadeClones, Survives};
     ghost use Rattle.html_open.specs.Leaving.{listed_weight};
-    ghost use Rattle.html_open.specs.Reopening.{ClonedFirst, IsCause, IsTold, KeepsClosed, Reopened, ReopenedFirst, clones_of, closed, reopen_steps};
+    ghost use Rattle.html_open.specs.Reopening.{ClonedFirst, IsCause, IsTold, KeepsClosed, Reopened, ReopenedFirst, clones_of, closed, look_steps, reopen_steps};
     ghost use Rattle.html_open.specs.Rooting.{KeepsParents};
 
     /// Reconstructs the active formatting elements: those of the entries after the last one that is a marker or on the stack are opened
@@ -82,6 +82,19 @@ impl FormattingList {
         }
         arena.forest();
         Ok(())
+    }
+
+    /// How many steps `reopen` counts where the last entry, if there is one, is a marker or on the stack, so that nothing is opened anew.
+    pub fn look_steps(&self) -> u128
+        ensures value { result ≡ look_steps self.now }
+        ensures small { result ≤ 2 }
+    {
+        let entries = self.entries.as_slice();
+        match entries.get(entries.len().saturating_sub(1)) {
+            None => 0,
+            Some(Entry::Marker) => 1,
+            Some(Entry::Node(_)) => 2,
+        }
     }
 
     /// The index after that of the last entry that is a marker or marked as being on the stack.

@@ -2,6 +2,7 @@
 use Rattle.std.proofs.Common.{◌≡◌, ◌≢◌, ℕ, ◌<◌, Bool, true, false, eqb, List, length, Option, Some, None, ◌⊎◌, inl, inr, refl, ◌∙◌, ap, arith}
 use Rattle.std.proofs.lemmas.Bool.Decides.{nat_tests}
 use Rattle.html_names.specs.declared.tag.Tag.{Tag}
+use Rattle.html_names.specs.Foreign.{is_foreign}
 use Rattle.html_names.specs.Names.{tag_of}
 use Rattle.html_names.specs.Sets.{is_void as void, holds_literal_text}
 use Rattle.html_arena.specs.Below.{above, above_of, hides, kids, or_self}
@@ -12,7 +13,7 @@ use Rattle.html_arena.specs.declared.data.NodeData.{NodeData}
 use Rattle.html_arena.specs.declared.data.NodeData.TheVariants as node
 use Rattle.html_arena.specs.declared.walk.Show.{Show}
 use Rattle.html_arena.specs.declared.walk.Show.TheVariants.{Written}
-use Rattle.html_page.specs.Html.{is_raw, is_raw_name, is_void, is_void_name}
+use Rattle.html_page.specs.Html.{is_foreign_name, is_raw, is_raw_name, is_void, is_void_name}
 use Rattle.html_page.specs.Label.{label_for}
 use Rattle.html_page.specs.Shows.{label_at}
 
@@ -33,6 +34,10 @@ cases_option (Some x) = inr (x, refl)
 pub void_name : (g : Tag) (n : List ℕ) → g ≡ tag_of n → void g ≡ is_void_name n
 unfolding is_void_name
 void_name g n h = ap void h
+
+pub foreign_name : (g : Tag) (n : List ℕ) → g ≡ tag_of n → is_foreign g ≡ is_foreign_name n
+unfolding is_foreign_name
+foreign_name g n h = ap is_foreign h
 
 -- the code tells a void element, and one with raw text, by its tag
 pub void_is : (d : NodeData) → tag_in d ≡ tag_of (name_in d) → void (tag_in d) ≡ is_void (label_for d)

@@ -1,9 +1,10 @@
 -- What is written for a forest is no more than its nodes cost, and no node stands in it twice.
 use Rattle.std.proofs.Common.{◌≡◌, ◌≢◌, ℕ, zero, suc, ◌+◌, ◌*◌, ◌<◌, ◌≤◌, Bool, true, false, cond, eqb, List, [], ◌∷◌, ◌++◌, take, get_or, length, Option, Some, None, inl, inr, refl, sym, ◌∙◌, ap, arith, add-one}
-use Rattle.std.specs.Prelude.{codes, ◌==◌}
+use Rattle.std.specs.Prelude.{codes, drop, ◌==◌, if◌then◌else◌}
 use Rattle.std.specs.List.{AllByRecursion, flat_map, sum_by}
 use Rattle.std.proofs.lemmas.Bool.Decides.{nat_tests}
-use Rattle.std.proofs.lemmas.List.{length-append}
+use Rattle.std.proofs.lemmas.List.{length-append, length-drop}
+use Rattle.html_names.specs.Names.{begins_with, math_prefix, svg_prefix}
 use Rattle.std.proofs.lemmas.List.Sums.{sum_by-append, sum_by-cons, sum_by_more}
 use Rattle.std.proofs.Math.Seq.{take-length}
 use Rattle.html_tokens.specs.declared.attributes.Attr.{Attr}
@@ -19,11 +20,11 @@ use Rattle.html_arena.specs.declared.data.NodeData.TheVariants as node
 use Rattle.html_arena.specs.declared.walk.Show.TheVariants.{All}
 use Rattle.html_page.specs.declared.profile.Profile.{Profile}
 use Rattle.html_page.specs.declared.profile.Profile.TheVariants.{One, Two}
-use Rattle.html_page.specs.Html.{attribute, closing, end_tag, escaped_in_text, escaped_in_value, html_of, is_raw, is_void, is_void_name, opening, start_tag, text_or_empty}
+use Rattle.html_page.specs.Html.{attribute, attribute_name, closing, end_tag, escaped_in_text, escaped_in_value, html_of, is_foreign_name, is_raw, is_void, is_void_name, opening, qualified, start_tag, text_or_empty, written_name}
 use Rattle.html_page.specs.Label.{label_for}
 use Rattle.html_page.specs.Serialised.{HasNames, IsNamed, html_below, most_written}
 use Rattle.html_page.specs.Shows.{label_at}
-use Rattle.html_page.proofs.Kin.{cases_eqb, eqb-self}
+use Rattle.html_page.proofs.Kin.{cases_bool, cases_eqb, eqb-self}
 
 -- at most so much is written for a node
 abbrev cost : NodeData → ℕ
@@ -54,36 +55,62 @@ six_each : (f : ℕ → List ℕ) → ((c : ℕ) → length (f c) ≤ 6) → (s 
 six_each f h [] = omega arith
 six_each f h (c ∷ s) = let a = h c in let b = six_each f h s in let l = length-append (f c) (flat_map f s) in omega arith
 
-attribute_size : (p : Profile) (a : Attr) → 0 < length a.name → length (attribute p a) ≤ 12 * attr_weight a
-attribute_size p a h =
+qualified_size : (n : List ℕ) → length (qualified n) ≡ length n
+unfolding qualified
+qualified_size [] = refl
+qualified_size (c ∷ cs) = elim (cases_bool (c == 32)) [
+  | inl e ↦ rw e refl
+  | inr e ↦ rw (e, qualified_size cs) refl
+]
+
+attribute_name_size : (f : Bool) (n : List ℕ) → length (attribute_name f n) ≡ length n
+attribute_name_size true n = qualified_size n
+attribute_name_size false n = refl
+
+less_by : (k : ℕ) (n : List ℕ) → length (drop k n) ≤ length n
+less_by k n = rw length-drop (omega arith)
+
+either_size : (b : Bool) (k : ℕ) (n other : List ℕ) → length other ≤ length n → length (if b then drop k n else other) ≤ length n
+either_size true k n other h = less_by k n
+either_size false k n other h = h
+
+written_name_size : (f : Bool) (n : List ℕ) → length (written_name f n) ≤ length n
+written_name_size true n = either_size (begins_with svg_prefix n) 4 n _ (either_size (begins_with math_prefix n) 5 n n (omega arith))
+written_name_size false n = omega arith
+
+attribute_size : (p : Profile) (f : Bool) (a : Attr) → 0 < length a.name → length (attribute p f a) ≤ 12 * attr_weight a
+attribute_size p f a h =
+    let k = attribute_name_size f a.name in
     let v = six_each (escaped_in_value p) (in_value_6 p) a.value in
-    let l = length-append a.name (codes "=\"" ++ (flat_map (escaped_in_value p) a.value ++ codes "\"")) in
+    let l = length-append (attribute_name f a.name) (codes "=\"" ++ (flat_map (escaped_in_value p) a.value ++ codes "\"")) in
     let m = length-append (flat_map (escaped_in_value p) a.value) (codes "\"") in
     omega arith
 
 one_sum : (a : Attr) → sum_by attr_weight (a ∷ []) ≡ attr_weight a
 one_sum a = sum_by-cons attr_weight a [] ∙ omega arith
 
-attributes_size : (p : Profile) (attrs : List Attr) → AllByRecursion IsNamed attrs → length (flat_map (attribute p) attrs) ≤ 12 * attrs_weight attrs
-attributes_size p [] h = omega arith
-attributes_size p (a ∷ attrs) h =
-    let x = attribute_size p a h.0 in
-    let y = attributes_size p attrs h.1 in
-    let l = length-append (attribute p a) (flat_map (attribute p) attrs) in
+attributes_size : (p : Profile) (f : Bool) (attrs : List Attr) → AllByRecursion IsNamed attrs → length (flat_map (attribute p f) attrs) ≤ 12 * attrs_weight attrs
+attributes_size p f [] h = omega arith
+attributes_size p f (a ∷ attrs) h =
+    let x = attribute_size p f a h.0 in
+    let y = attributes_size p f attrs h.1 in
+    let l = length-append (attribute p f a) (flat_map (attribute p f) attrs) in
     let w : attrs_weight (a ∷ attrs) ≡ attr_weight a + attrs_weight attrs = sum_by-append attr_weight (a ∷ []) attrs ∙ ap (λ v. v + attrs_weight attrs) (one_sum a) in
-    let z : length (flat_map (attribute p) (a ∷ attrs)) ≡ length (attribute p a) + length (flat_map (attribute p) attrs) = l in
+    let z : length (flat_map (attribute p f) (a ∷ attrs)) ≡ length (attribute p f a) + length (flat_map (attribute p f) attrs) = l in
     omega (arith, w, z)
 
 start_size : (p : Profile) (n : List ℕ) (attrs : List Attr) → AllByRecursion IsNamed attrs → length (start_tag p n attrs) ≤ length n + 12 * attrs_weight attrs + 2
 start_size p n attrs h =
-    let x = attributes_size p attrs h in
-    let l = length-append n (flat_map (attribute p) attrs ++ codes ">") in
-    let m = length-append (flat_map (attribute p) attrs) (codes ">") in
+    let f = is_foreign_name n in
+    let x = attributes_size p f attrs h in
+    let k = written_name_size f n in
+    let l = length-append (written_name f n) (flat_map (attribute p f) attrs ++ codes ">") in
+    let m = length-append (flat_map (attribute p f) attrs) (codes ">") in
     omega arith
 
 end_size : (n : List ℕ) (b : Bool) → length (cond b [] (end_tag n)) ≤ length n + 3
 end_size n true = omega arith
-end_size n false = let l = length-append n (codes ">") in omega arith
+end_size n false = let k = written_name_size (is_foreign_name n) n in let l = length-append (written_name (is_foreign_name n) n) (codes ">") in omega arith
 
 name_size : (n : Option (List ℕ)) → length (text_or_empty n) ≤ optional_weight n
 name_size None = omega arith

@@ -28,7 +28,7 @@ use Rattle.html_page.proofs.TagReads.{cut_at_stop, tail_attrs, amp, lt, gt, nbsp
 use Rattle.html_page.specs.Forest.{single}
 use Rattle.html_page.specs.Label.{Label}
 use Rattle.html_page.specs.Label.Label.{document, doctype, element, text, comment}
-use Rattle.html_page.specs.Html.{html_of, opening, start_tag, end_tag, attribute as attribute_text, escaped_in_text, is_void_name, is_raw_name}
+use Rattle.html_page.specs.Html.{html_of, opening, start_tag, end_tag, attribute as attribute_text, escaped_in_text, is_foreign_name, is_void_name, is_raw_name, written_name}
 use Rattle.html_page.specs.Plain.{PlainName, name_of, page_of, IsPlainChar, ArePlainAttrs, IsContent, IsPlainPage}
 use Rattle.html_page.specs.PageTokens.{kinds, chars_then, kinds_then, page_kinds, HasCore}
 use Rattle.html_page.specs.TokenList.{tokens_in}
@@ -75,29 +75,30 @@ pub record IsTagName (n : List ℕ) : Type 0 where
   pub ends : (rest : List ℕ) → opener (60 ∷ 47 ∷ (n ++ rest)) ≡ opens.EndTag
   pub not_void : is_void_name n ≡ false
   pub not_raw : is_raw_name n ≡ false
+  pub not_foreign : is_foreign_name n ≡ false
 
 tag_html : IsTagName (codes "html")
-unfolding is_void_name is_raw_name names_tag_of
-tag_html = record { some = omega arith; stops = (refl, (refl, (refl, (refl, tt)))); same = refl; starts = λ rest. refl; ends = λ rest. refl; not_void = refl; not_raw = refl }
+unfolding is_void_name is_raw_name is_foreign_name names_tag_of
+tag_html = record { some = omega arith; stops = (refl, (refl, (refl, (refl, tt)))); same = refl; starts = λ rest. refl; ends = λ rest. refl; not_void = refl; not_raw = refl; not_foreign = refl }
 
 tag_head : IsTagName (codes "head")
-unfolding is_void_name is_raw_name names_tag_of
-tag_head = record { some = omega arith; stops = (refl, (refl, (refl, (refl, tt)))); same = refl; starts = λ rest. refl; ends = λ rest. refl; not_void = refl; not_raw = refl }
+unfolding is_void_name is_raw_name is_foreign_name names_tag_of
+tag_head = record { some = omega arith; stops = (refl, (refl, (refl, (refl, tt)))); same = refl; starts = λ rest. refl; ends = λ rest. refl; not_void = refl; not_raw = refl; not_foreign = refl }
 
 tag_body : IsTagName (codes "body")
-unfolding is_void_name is_raw_name names_tag_of
-tag_body = record { some = omega arith; stops = (refl, (refl, (refl, (refl, tt)))); same = refl; starts = λ rest. refl; ends = λ rest. refl; not_void = refl; not_raw = refl }
+unfolding is_void_name is_raw_name is_foreign_name names_tag_of
+tag_body = record { some = omega arith; stops = (refl, (refl, (refl, (refl, tt)))); same = refl; starts = λ rest. refl; ends = λ rest. refl; not_void = refl; not_raw = refl; not_foreign = refl }
 
 plain_tag : (n : PlainName) → IsTagName (name_of n)
-unfolding is_void_name is_raw_name names_tag_of
-plain_tag Div = record { some = omega arith; stops = (refl, (refl, (refl, tt))); same = refl; starts = λ rest. refl; ends = λ rest. refl; not_void = refl; not_raw = refl }
-plain_tag Span = record { some = omega arith; stops = (refl, (refl, (refl, (refl, tt)))); same = refl; starts = λ rest. refl; ends = λ rest. refl; not_void = refl; not_raw = refl }
-plain_tag Section = record { some = omega arith; stops = (refl, (refl, (refl, (refl, (refl, (refl, (refl, tt))))))); same = refl; starts = λ rest. refl; ends = λ rest. refl; not_void = refl; not_raw = refl }
-plain_tag Article = record { some = omega arith; stops = (refl, (refl, (refl, (refl, (refl, (refl, (refl, tt))))))); same = refl; starts = λ rest. refl; ends = λ rest. refl; not_void = refl; not_raw = refl }
-plain_tag B = record { some = omega arith; stops = (refl, tt); same = refl; starts = λ rest. refl; ends = λ rest. refl; not_void = refl; not_raw = refl }
-plain_tag I = record { some = omega arith; stops = (refl, tt); same = refl; starts = λ rest. refl; ends = λ rest. refl; not_void = refl; not_raw = refl }
-plain_tag Em = record { some = omega arith; stops = (refl, (refl, tt)); same = refl; starts = λ rest. refl; ends = λ rest. refl; not_void = refl; not_raw = refl }
-plain_tag Strong = record { some = omega arith; stops = (refl, (refl, (refl, (refl, (refl, (refl, tt)))))); same = refl; starts = λ rest. refl; ends = λ rest. refl; not_void = refl; not_raw = refl }
+unfolding is_void_name is_raw_name is_foreign_name names_tag_of
+plain_tag Div = record { some = omega arith; stops = (refl, (refl, (refl, tt))); same = refl; starts = λ rest. refl; ends = λ rest. refl; not_void = refl; not_raw = refl; not_foreign = refl }
+plain_tag Span = record { some = omega arith; stops = (refl, (refl, (refl, (refl, tt)))); same = refl; starts = λ rest. refl; ends = λ rest. refl; not_void = refl; not_raw = refl; not_foreign = refl }
+plain_tag Section = record { some = omega arith; stops = (refl, (refl, (refl, (refl, (refl, (refl, (refl, tt))))))); same = refl; starts = λ rest. refl; ends = λ rest. refl; not_void = refl; not_raw = refl; not_foreign = refl }
+plain_tag Article = record { some = omega arith; stops = (refl, (refl, (refl, (refl, (refl, (refl, (refl, tt))))))); same = refl; starts = λ rest. refl; ends = λ rest. refl; not_void = refl; not_raw = refl; not_foreign = refl }
+plain_tag B = record { some = omega arith; stops = (refl, tt); same = refl; starts = λ rest. refl; ends = λ rest. refl; not_void = refl; not_raw = refl; not_foreign = refl }
+plain_tag I = record { some = omega arith; stops = (refl, tt); same = refl; starts = λ rest. refl; ends = λ rest. refl; not_void = refl; not_raw = refl; not_foreign = refl }
+plain_tag Em = record { some = omega arith; stops = (refl, (refl, tt)); same = refl; starts = λ rest. refl; ends = λ rest. refl; not_void = refl; not_raw = refl; not_foreign = refl }
+plain_tag Strong = record { some = omega arith; stops = (refl, (refl, (refl, (refl, (refl, (refl, tt)))))); same = refl; starts = λ rest. refl; ends = λ rest. refl; not_void = refl; not_raw = refl; not_foreign = refl }
 
 doctype_piece_is : (rows : List Row) (place : ℕ) (rest : List ℕ) → begun_piece rows begins.Markup place (codes "<!DOCTYPE html>" ++ rest)
     ≡ piece (token (Doctype (Some (codes "html")) None None false) place (place + 9 + 6) ∷ []) 15
@@ -106,7 +107,7 @@ doctype_piece_is rows place rest = refl
 
 module _ (rows : List Row) (table : IsTable rows) (core : HasCore rows) (p : Profile) where
   abbrev attrs_text : List Attr → List ℕ
-  attrs_text attrs = flat_map (attribute_text p) attrs
+  attrs_text attrs = flat_map (attribute_text p false) attrs
 
   name_cut : (n : List ℕ) (attrs : List Attr) (rest : List ℕ) → IsTagName n → cut (stop_mark ends_name) (n ++ (attrs_text attrs ++ 62 ∷ rest)) ≡ record { before = n; len = length n }
   name_cut n [] rest h = cut_at_stop ends_name n 62 rest h.stops refl
@@ -125,25 +126,39 @@ module _ (rows : List Row) (table : IsTable rows) (core : HasCore rows) (p : Pro
       ∙ ap (tail_by (length n)) (tail_attrs rows table core p attrs rest a.0))
       ∙ ap (λ (x : List Attr). record { name = n; tail = record { attrs = x; self_closing = false; closed = true; len = length n + (length (attrs_text attrs) + 1) } }) (firsts_apart [] attrs a.1 (all_new attrs))
 
+  -- the tags as they are written
+  abbrev start_text : List ℕ → List Attr → List ℕ
+  start_text n attrs = codes "<" ++ (n ++ (attrs_text attrs ++ codes ">"))
+
+  abbrev end_text : List ℕ → List ℕ
+  end_text n = codes "</" ++ (n ++ codes ">")
+
+  start-is : (n : List ℕ) (attrs : List Attr) → IsTagName n → start_tag p n attrs ≡ start_text n attrs
+  start-is n attrs h = ap (λ (f : Bool). codes "<" ++ (written_name f n ++ (flat_map (attribute_text p f) attrs ++ codes ">"))) h.not_foreign
+
+  end-is : (n : List ℕ) → IsTagName n → end_tag n ≡ end_text n
+  end-is n h = ap (λ (f : Bool). codes "</" ++ (written_name f n ++ codes ">")) h.not_foreign
+
   pub reads-start : (n : List ℕ) (attrs : List Attr) → IsTagName n → ArePlainAttrs attrs → Reads rows (start_tag p n attrs) (λ k. Start n attrs false ∷ k)
   reads-start n attrs h a =
-      reads-piece rows (start_tag p n attrs) (Start n attrs false) begins.Markup refl (omega arith) refl (λ name rest. refl)
-      (λ place rest. (place + 1 + (length n + (length (attrs_text attrs) + 1)), whole place rest))
+      subst (λ (s : List ℕ). Reads rows s (λ k. Start n attrs false ∷ k)) (sym (start-is n attrs h))
+      (reads-piece rows (start_text n attrs) (Start n attrs false) begins.Markup refl (omega arith) refl (λ name rest. refl)
+      (λ place rest. (place + 1 + (length n + (length (attrs_text attrs) + 1)), whole place rest)))
     where
       body : List ℕ → List ℕ
       body rest = n ++ (attrs_text attrs ++ 62 ∷ rest)
 
-      text_is : (rest : List ℕ) → start_tag p n attrs ++ rest ≡ 60 ∷ (n ++ (attrs_text attrs ++ 62 ∷ rest))
+      text_is : (rest : List ℕ) → start_text n attrs ++ rest ≡ 60 ∷ (n ++ (attrs_text attrs ++ 62 ∷ rest))
       text_is rest = ap (λ (x : List ℕ). 60 ∷ x) (glue n (attrs_text attrs) (62 ∷ []) rest)
         where
           glue : (a b c d : List ℕ) → (a ++ (b ++ c)) ++ d ≡ a ++ (b ++ (c ++ d))
           glue a b c d = simp append_assoc
 
-      size : 1 + (length n + (length (attrs_text attrs) + 1)) ≡ length (start_tag p n attrs)
+      size : 1 + (length n + (length (attrs_text attrs) + 1)) ≡ length (start_text n attrs)
       size = omega (arith, length-append n (attrs_text attrs ++ 62 ∷ []), length-append (attrs_text attrs) (62 ∷ []))
 
-      whole : (place : ℕ) (rest : List ℕ) → begun_piece rows begins.Markup place (start_tag p n attrs ++ rest)
-          ≡ piece (token (Start n attrs false) place (place + 1 + (length n + (length (attrs_text attrs) + 1))) ∷ []) (length (start_tag p n attrs))
+      whole : (place : ℕ) (rest : List ℕ) → begun_piece rows begins.Markup place (start_text n attrs ++ rest)
+          ≡ piece (token (Start n attrs false) place (place + 1 + (length n + (length (attrs_text attrs) + 1))) ∷ []) (length (start_text n attrs))
       whole place rest =
           ap (begun_piece rows begins.Markup place) (text_is rest)
           ∙ ap (λ o. open_piece rows o place (60 ∷ (n ++ (attrs_text attrs ++ 62 ∷ rest)))) (h.starts (attrs_text attrs ++ 62 ∷ rest))
@@ -152,16 +167,17 @@ module _ (rows : List Row) (table : IsTable rows) (core : HasCore rows) (p : Pro
 
   pub reads-end : (n : List ℕ) → IsTagName n → Reads rows (end_tag n) (λ k. End n ∷ k)
   reads-end n h =
-      reads-piece rows (end_tag n) (End n) begins.Markup refl (omega arith) refl (λ name rest. refl)
-      (λ place rest. (place + 2 + (length n + (0 + 1)), whole place rest))
+      subst (λ (s : List ℕ). Reads rows s (λ k. End n ∷ k)) (sym (end-is n h))
+      (reads-piece rows (end_text n) (End n) begins.Markup refl (omega arith) refl (λ name rest. refl)
+      (λ place rest. (place + 2 + (length n + (0 + 1)), whole place rest)))
     where
-      text_is : (rest : List ℕ) → end_tag n ++ rest ≡ 60 ∷ 47 ∷ (n ++ (attrs_text [] ++ 62 ∷ rest))
+      text_is : (rest : List ℕ) → end_text n ++ rest ≡ 60 ∷ 47 ∷ (n ++ (attrs_text [] ++ 62 ∷ rest))
       text_is rest = ap (λ (x : List ℕ). 60 ∷ 47 ∷ x) (append_assoc n (62 ∷ []) rest)
 
-      size : 2 + (length n + (0 + 1)) ≡ length (end_tag n)
+      size : 2 + (length n + (0 + 1)) ≡ length (end_text n)
       size = omega (arith, length-append n (62 ∷ []))
 
-      whole : (place : ℕ) (rest : List ℕ) → begun_piece rows begins.Markup place (end_tag n ++ rest) ≡ piece (token (End n) place (place + 2 + (length n + (0 + 1))) ∷ []) (length (end_tag n))
+      whole : (place : ℕ) (rest : List ℕ) → begun_piece rows begins.Markup place (end_text n ++ rest) ≡ piece (token (End n) place (place + 2 + (length n + (0 + 1))) ∷ []) (length (end_text n))
       whole place rest =
           ap (begun_piece rows begins.Markup place) (text_is rest)
           ∙ ap (λ o. open_piece rows o place (60 ∷ 47 ∷ (n ++ (attrs_text [] ++ 62 ∷ rest)))) (h.ends (62 ∷ rest))

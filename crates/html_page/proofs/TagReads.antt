@@ -225,13 +225,13 @@ named_is rows cs ns after v len a e =
     ∙ ap (λ (x : List ℕ). record { attr = attr (cs ++ x) v; len = length ns + suc (suc len) }) (same_name ns a)
 
 module _ (rows : List Row) (table : IsTable rows) (core : HasCore rows) (p : Profile) where
-  attr_text : (c : ℕ) (ns v rest : List ℕ) → attribute_text p (attr (c ∷ ns) v) ++ rest ≡ 32 ∷ c ∷ (ns ++ 61 ∷ 34 ∷ (flat_map (escaped_in_value p) v ++ 34 ∷ rest))
+  attr_text : (c : ℕ) (ns v rest : List ℕ) → attribute_text p false (attr (c ∷ ns) v) ++ rest ≡ 32 ∷ c ∷ (ns ++ 61 ∷ 34 ∷ (flat_map (escaped_in_value p) v ++ 34 ∷ rest))
   attr_text c ns v rest = ap (λ (x : List ℕ). 32 ∷ c ∷ x) (glue ns (61 ∷ 34 ∷ []) (flat_map (escaped_in_value p) v) (34 ∷ []) rest)
     where
       glue : (a b d e f : List ℕ) → (a ++ (b ++ (d ++ e))) ++ f ≡ a ++ (b ++ (d ++ (e ++ f)))
       glue a b d e f = simp append_assoc
 
-  attr_size : (c : ℕ) (ns v : List ℕ) → length (attribute_text p (attr (c ∷ ns) v)) ≡ suc (suc (length ns + suc (suc (length (flat_map (escaped_in_value p) v) + 1))))
+  attr_size : (c : ℕ) (ns v : List ℕ) → length (attribute_text p false (attr (c ∷ ns) v)) ≡ suc (suc (length ns + suc (suc (length (flat_map (escaped_in_value p) v) + 1))))
   attr_size c ns v =
       let esc = flat_map (escaped_in_value p) v in
       omega (arith, length-append ns (61 ∷ 34 ∷ (esc ++ 34 ∷ [])), length-append esc (34 ∷ []))
@@ -249,14 +249,14 @@ module _ (rows : List Row) (table : IsTable rows) (core : HasCore rows) (p : Pro
       glue : (a b d e f : List ℕ) → (a ++ (b ++ (d ++ e))) ++ f ≡ a ++ (b ++ (d ++ (e ++ f)))
       glue a b d e f = simp append_assoc
 
-  tail_attr : (name v rest : List ℕ) → IsPlainAttr (attr name v) → tail rows 0 (attribute_text p (attr name v) ++ rest) ≡ with_attr (attr name v) (tail_by (length (attribute_text p (attr name v))) (tail rows 0 rest))
+  tail_attr : (name v rest : List ℕ) → IsPlainAttr (attr name v) → tail rows 0 (attribute_text p false (attr name v) ++ rest) ≡ with_attr (attr name v) (tail_by (length (attribute_text p false (attr name v))) (tail rows 0 rest))
   tail_attr [] v rest a = absurd (a.some refl)
   tail_attr (c ∷ ns) v rest a =
       let esc = flat_map (escaped_in_value p) v in
       let y : List ℕ = ns ++ 61 ∷ 34 ∷ (esc ++ 34 ∷ rest) in
       let k : ℕ = length ns + suc (suc (length esc + 1)) in
       let named = named_is rows (c ∷ []) ns (esc ++ 34 ∷ rest) v (length esc + 1) a.name.1 (value_text rows table core p v rest a.value) in
-      let size : suc (suc (k + (tail rows 0 rest).len)) ≡ length (attribute_text p (attr (c ∷ ns) v)) + (tail rows 0 rest).len = omega (arith, attr_size c ns v) in
+      let size : suc (suc (k + (tail rows 0 rest).len)) ≡ length (attribute_text p false (attr (c ∷ ns) v)) + (tail rows 0 rest).len = omega (arith, attr_size c ns v) in
       ap (λ (t : List ℕ). tail rows 0 t) (attr_text c ns v rest)
       ∙ tail_space rows (c ∷ y)
       ∙ ap longer_tail (tail_name rows c y (namely c a.name.0)
@@ -267,11 +267,11 @@ module _ (rows : List Row) (table : IsTable rows) (core : HasCore rows) (p : Pro
 
   -- all attributes of a tag, and its end
   pub tail_attrs : (attrs : List Attr) (rest : List ℕ) → AllByRecursion IsPlainAttr attrs
-      → tail rows 0 (flat_map (attribute_text p) attrs ++ 62 ∷ rest) ≡ record { attrs = attrs; self_closing = false; closed = true; len = length (flat_map (attribute_text p) attrs) + 1 }
+      → tail rows 0 (flat_map (attribute_text p false) attrs ++ 62 ∷ rest) ≡ record { attrs = attrs; self_closing = false; closed = true; len = length (flat_map (attribute_text p false) attrs) + 1 }
   tail_attrs [] rest a = tail_closed rows rest
   tail_attrs (x ∷ more) rest a =
-      let s = attribute_text p x in
-      let t = flat_map (attribute_text p) more in
+      let s = attribute_text p false x in
+      let t = flat_map (attribute_text p false) more in
       let size : length s + (length t + 1) ≡ length (s ++ t) + 1 = omega (arith, length-append s t) in
       ap (λ (u : List ℕ). tail rows 0 u) (append_assoc s t (62 ∷ rest))
       ∙ tail_attr x.name x.value (t ++ 62 ∷ rest) a.0

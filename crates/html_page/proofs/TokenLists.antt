@@ -23,7 +23,9 @@ drop_none (suc n) (s ∷ ss) h = drop_none n ss h.1
 
 same_mode : (tokens : List Token) (switches : List (Option TextMode)) (mode : TextMode) → AreNone switches → mode_after tokens switches mode ≡ mode_after tokens [] mode
 same_mode [] switches mode h = refl
-same_mode (t ∷ ts) switches mode h = ap (λ (s : Option TextMode). mode_after_kind t.kind s mode) (none_of switches h)
+same_mode (t ∷ ts) switches mode h =
+    ap (λ (s : Option TextMode). mode_after ts (drop 1 switches) (mode_after_kind t.kind s mode)) (none_of switches h)
+    ∙ same_mode ts (drop 1 switches) (mode_after_kind t.kind None mode) (drop_none 1 switches h)
 
 pub same_tokens : (rows : List Row) (k : ℕ) (mode : TextMode) (name : Option (List ℕ)) (place : ℕ) (text : List ℕ) (switches : List (Option TextMode)) → AreNone switches →
     tokens_after rows k mode name place text switches ≡ tokens_after rows k mode name place text []

@@ -1,8 +1,8 @@
 //! Trees as HTML.
 
-ghost use Rattle.std.specs.Prelude.{◌≡◌, ◌⊎◌, ◌<◌, ◌≤◌, true, length, OnOk, OnErr};
+ghost use Rattle.std.specs.Prelude.{◌≡◌, ◌⊎◌, ◌<◌, ◌≤◌, ◌++◌, true, false, codes, length, OnOk, OnErr};
 ghost use Rattle.std.specs.Io.KnownBytes.{Appends};
-ghost use Rattle.std.specs.Str.{encode_utf8_all};
+ghost use Rattle.std.specs.Str.{chars, encode_utf8_all};
 ghost use Rattle.html_device.specs.Device.{AppendsFront};
 ghost use Rattle.html_arena.specs.Below.{above, kids};
 ghost use Rattle.html_arena.specs.Data.{tag_in, name_in};
@@ -12,7 +12,7 @@ ghost use Rattle.html_arena.specs.Tree.{label_of};
 ghost use Rattle.html_arena.specs.Walking.{IsRoot};
 ghost use Rattle.html_names.specs.Names.{tag_of};
 ghost use Rattle.html_output.specs.Putting.{Puts, held};
-ghost use Rattle.html_page.specs.Html.{attribute, start_tag, closing, opening};
+ghost use Rattle.html_page.specs.Html.{attribute, end_tag, is_foreign_name, qualified, start_tag, closing, opening};
 ghost use Rattle.html_page.specs.Label.{Label, label_for};
 ghost use Rattle.html_page.specs.Serialised.{HasNames, event_text, forest_below, html_below, is_raw_below, most_written};
 ghost use Rattle.html_page.specs.Shows.{Shows};
@@ -22,17 +22,18 @@ use crate::profile::Profile;
 use html_arena::{Arena, ElementData, Event, NodeData, NodeId, Show, Walk};
 use html_charref::Str;
 use html_device::{DeviceFault, Sink};
+use html_names::local_name;
 use html_output::Output;
 use html_tokens::Attr;
 
-/// Puts an attribute.
+/// Puts an attribute of an element of HTML.
 fn put_attribute<W: Sink>(
     output: &mut Output,
     writer: &mut W,
     profile: Profile,
     attr: &Attr,
 ) -> Result<(), DeviceFault>
-    ensures bytes { Puts (W.taken writer.old) (held output.old) (W.taken writer.new) (held output.new) result (encode_utf8_all (attribute profile attr.now)) }
+    ensures bytes { Puts (W.taken writer.old) (held output.old) (W.taken writer.new) (held output.new) result (encode_utf8_all (attribute profile false attr.now)) }
     ensures fault { OnErr result ((W.failed writer.new ≡ true) ⊎ (W.stalled writer.new ≡ true)) }
 {
     output.put_between(writer, " ", attr.name.as_str(), "=\"")?;
@@ -40,14 +41,79 @@ fn put_attribute<W: Sink>(
     output.put(writer, b"\"")
 }
 
-/// Puts a start tag.
-fn put_start_tag<W: Sink>(
+/// Puts a name, its first space as a colon.
+fn put_qualified<W: Sink>(
+    output: &mut Output,
+    writer: &mut W,
+    name: &str,
+) -> Result<(), DeviceFault>
+    ensures bytes { Puts (W.taken writer.old) (held output.old) (W.taken writer.new) (held output.new) result (encode_utf8_all (qualified (chars name.now))) }
+    ensures fault { OnErr result ((W.failed writer.new ≡ true) ⊎ (W.stalled writer.new ≡ true)) }
+{
+    match name.split_once(' ') {
+        Some((prefix, local)) => output.put_between(writer, prefix, ":", local),
+        None => output.put(writer, name.as_bytes()),
+    }
+}
+
+/// Puts the name of an attribute of an element of foreign content, and what stands around it.
+fn put_foreign_name<W: Sink>(
+    output: &mut Output,
+    writer: &mut W,
+    name: &Str,
+) -> Result<(), DeviceFault>
+    ensures bytes { Puts (W.taken writer.old) (held output.old) (W.taken writer.new) (held output.new) result (codes " " ++ (encode_utf8_all (qualified name.now) ++ codes "=\"")) }
+    ensures fault { OnErr result ((W.failed writer.new ≡ true) ⊎ (W.stalled writer.new ≡ true)) }
+{
+    output.put(writer, b" ")?;
+    put_qualified(output, writer, name.as_str())?;
+    output.put(writer, b"=\"")
+}
+
+/// Puts an attribute of an element of foreign content.
+fn put_foreign_attribute<W: Sink>(
+    output: &mut Output,
+    writer: &mut W,
+    profile: Profile,
+    attr: &Attr,
+) -> Result<(), DeviceFault>
+    ensures bytes { Puts (W.taken writer.old) (held output.old) (W.taken writer.new) (held output.new) result (encode_utf8_all (attribute profile true attr.now)) }
+    ensures fault { OnErr result ((W.failed writer.new ≡ true) ⊎ (W.stalled writer.new ≡ true)) }
+{
+    put_foreign_name(output, writer, &attr.name)?;
+    put_escaped(output, writer, Escape::Value(profile), attr.value.as_str())?;
+    output.put(writer, b"\"")
+}
+
+/// Puts a start tag of an element of foreign content.
+#[inline(never)]
+fn put_foreign_tag<W: Sink>(
     output: &mut Output,
     writer: &mut W,
     profile: Profile,
     name: &Str,
     attrs: &[Attr],
 ) -> Result<(), DeviceFault>
+    requires foreign { is_foreign_name name.now ≡ true }
+    ensures bytes { Puts (W.taken writer.old) (held output.old) (W.taken writer.new) (held output.new) result (encode_utf8_all (start_tag profile name.now attrs.now)) }
+    ensures fault { OnErr result ((W.failed writer.new ≡ true) ⊎ (W.stalled writer.new ≡ true)) }
+{
+    output.put_between(writer, "<", local_name(name.as_str()), "")?;
+    for attr in attrs {
+        put_foreign_attribute(output, writer, profile, attr)?;
+    }
+    output.put(writer, b">")
+}
+
+/// Puts a start tag of an element of HTML.
+fn put_html_tag<W: Sink>(
+    output: &mut Output,
+    writer: &mut W,
+    profile: Profile,
+    name: &Str,
+    attrs: &[Attr],
+) -> Result<(), DeviceFault>
+    requires html { is_foreign_name name.now ≡ false }
     ensures bytes { Puts (W.taken writer.old) (held output.old) (W.taken writer.new) (held output.new) result (encode_utf8_all (start_tag profile name.now attrs.now)) }
     ensures fault { OnErr result ((W.failed writer.new ≡ true) ⊎ (W.stalled writer.new ≡ true)) }
 {
@@ -58,6 +124,35 @@ fn put_start_tag<W: Sink>(
     output.put(writer, b">")
 }
 
+/// Puts the start tag of an element.
+fn put_start_tag<W: Sink>(
+    output: &mut Output,
+    writer: &mut W,
+    profile: Profile,
+    element: &ElementData,
+) -> Result<(), DeviceFault>
+    requires tagged { element.now.tag ≡ tag_of element.now.name }
+    ensures bytes { Puts (W.taken writer.old) (held output.old) (W.taken writer.new) (held output.new) result (encode_utf8_all (start_tag profile element.now.name element.now.attrs)) }
+    ensures fault { OnErr result ((W.failed writer.new ≡ true) ⊎ (W.stalled writer.new ≡ true)) }
+{
+    if element.tag.is_foreign() {
+        return put_foreign_tag(
+            output,
+            writer,
+            profile,
+            &element.name,
+            element.attrs.as_slice(),
+        );
+    }
+    put_html_tag(
+        output,
+        writer,
+        profile,
+        &element.name,
+        element.attrs.as_slice(),
+    )
+}
+
 /// Puts what stands for a node before the nodes below it.
 fn put_opening<W: Sink>(
     output: &mut Output,
@@ -66,18 +161,13 @@ fn put_opening<W: Sink>(
     raw: bool,
     node: &NodeData,
 ) -> Result<(), DeviceFault>
+    requires tagged { tag_in node.now ≡ tag_of (name_in node.now) }
     ensures bytes { Puts (W.taken writer.old) (held output.old) (W.taken writer.new) (held output.new) result (encode_utf8_all (opening profile raw (label_for node.now))) }
     ensures fault { OnErr result ((W.failed writer.new ≡ true) ⊎ (W.stalled writer.new ≡ true)) }
 {
     match node {
         NodeData::Document | NodeData::Contents { .. } => Ok(()),
-        NodeData::Element(element) => put_start_tag(
-            output,
-            writer,
-            profile,
-            &element.name,
-            element.attrs.as_slice(),
-        ),
+        NodeData::Element(element) => put_start_tag(output, writer, profile, element),
         NodeData::Text { text } => {
             if raw {
                 output.put(writer, text.as_str().as_bytes())
@@ -111,6 +201,20 @@ fn put_closing<W: Sink>(
     }
 }
 
+/// Puts the end tag of an element of foreign content.
+#[inline(never)]
+fn put_foreign_end<W: Sink>(
+    output: &mut Output,
+    writer: &mut W,
+    name: &Str,
+) -> Result<(), DeviceFault>
+    requires foreign { is_foreign_name name.now ≡ true }
+    ensures bytes { Puts (W.taken writer.old) (held output.old) (W.taken writer.new) (held output.new) result (encode_utf8_all (end_tag name.now)) }
+    ensures fault { OnErr result ((W.failed writer.new ≡ true) ⊎ (W.stalled writer.new ≡ true)) }
+{
+    output.put_between(writer, "</", local_name(name.as_str()), ">")
+}
+
 /// Puts the end tag of an element, if it has one.
 fn put_end_tag<W: Sink>(
     output: &mut Output,
@@ -123,6 +227,9 @@ fn put_end_tag<W: Sink>(
 {
     if element.tag.is_void() {
         return Ok(());
+    }
+    if element.tag.is_foreign() {
+        return put_foreign_end(output, writer, &element.name);
     }
     output.put_between(writer, "</", element.name.as_str(), ">")
 }

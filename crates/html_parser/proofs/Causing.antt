@@ -25,7 +25,7 @@ use Rattle.html_parser.proofs.Ends.{kinds-append}
 use Rattle.html_parser.proofs.Openings.{one_listed}
 use Rattle.html_parser.proofs.Switching.{kept-more, says-kept, switches-length}
 use Rattle.html_parser.proofs.Taken.{kinds-plain}
-use Rattle.html_parser.proofs.Unsaid.{char-token, plain-split, text_listed}
+use Rattle.html_parser.proofs.Unsaid.{char-token, text_listed}
 
 kinds-length : (ts : List Token) → length (kinds ts) ≡ length ts
 kinds-length [] = refl
@@ -93,11 +93,6 @@ pub build_spent : {C : BuildError → Type 0} (spent : Bool) (e : ParseError) (a
 build_spent spent e at place k n o limited (inl (is, over)) told = limited over
 build_spent spent e at place k n o limited (inr (x, is, c)) told = absurd (never-spent x at (sym is ∙ told))
 
--- some of plain text after other tokens
-regroup : (given first later more : List Token) (x : Token) → (given ++ (first ++ x ∷ later)) ++ more ≡ (given ++ first) ++ x ∷ (later ++ more)
-regroup given first later more x =
-    ap (λ r. r ++ more) (sym (append_assoc given first (x ∷ later))) ∙ append_assoc (given ++ first) (x ∷ later) more
-
 -- a code point of plain text that was given, and then refused
 char-at : (start : Start) (finished : Bool) (p : Stages) (bytes : List ℕ) (run : Run) (t : Tokenizer) (place : ℕ) (text : List ℕ) (at : ℕ) → IsRun start finished p bytes run
     → HaveFates start.setting (kinds run.given) (fates_of p.builder) → Fed t (gave_all run (plain_tokens place text))
@@ -108,7 +103,6 @@ char-at start finished p bytes run t place text at r h f low high =
     let within : k < length text = omega (arith, low, high) in
     let first = plain_tokens place (take k text) in
     let nones = replicate (length (take k text)) None in
-    let split = plain-split place text k within in
     let are : kinds (run.given ++ first) ≡ kinds run.given ++ chars_of (take k text)
     = kinds-append run.given first ∙ ap (λ ks. kinds run.given ++ ks) (kinds-plain place (take k text)) in
     let said : switches_by (kinds (run.given ++ first)) fates ≡ run.switches ++ nones
@@ -119,10 +113,10 @@ char-at start finished p bytes run t place text at r h f low high =
       token = char-token place text k;
       fated = subst (λ ks. HaveFates start.setting ks fates) (sym are) (kept-more start.setting (kinds run.given) (take k text) fates h);
       listed = λ more switches follow.
-          let l = text_listed t run place text (said_each start finished p bytes run r) f more (nones ++ None ∷ switches) (subst (λ b. MayFollow b more) (sym r.ended) follow) in (
-            split.0 ++ l.0,
+          let l = text_listed t run place text k (said_each start finished p bytes run r) f within more (None ∷ switches) (subst (λ b. MayFollow b more) (sym r.ended) follow) in (
+            l.0,
             ap₂ (λ s begun. tokens_of (run.text ++ more) s begun) (ap (λ s. s ++ None ∷ switches) said ∙ append_assoc run.switches nones (None ∷ switches)) (sym r.begun)
-                ∙ l.1 ∙ ap (λ ts. (run.given ++ ts) ++ l.0) split.1 ∙ regroup run.given first split.0 l.0 (char-token place text k),
+                ∙ l.1,
           );
       place = omega (arith, low);
     }

@@ -1,9 +1,9 @@
 -- What the tokens of a text cost.
-use Rattle.std.proofs.Common.{ℕ, suc, ◌+◌, ◌<◌, ◌≤◌, ◌≡◌, ◌∙◌, arith, List, [], ◌∷◌, length, refl, ap, subst}
+use Rattle.std.proofs.Common.{ℕ, suc, ◌+◌, ◌<◌, ◌≤◌, ◌≡◌, ◌∙◌, arith, false, List, [], ◌∷◌, length, refl, ap, subst}
 use Rattle.std.specs.List.{AllByRecursion}
 use Rattle.std.proofs.lemmas.List.Sums.{sum_by-cons}
 use Rattle.html_charref.specs.Table.{IsTable}
-use Rattle.html_tokens.specs.Cost.{AreBetween, AreCosted, HasNames, attrs_len, own_len, tokens_len}
+use Rattle.html_tokens.specs.Cost.{AreBetween, AreCosted, HasNames, attrs_len, is_eof, own_len, tokens_len}
 use Rattle.html_tokens.specs.Given.{Fed}
 use Rattle.html_tokens.specs.declared.attributes.Attr.{Attr}
 use Rattle.html_tokens.specs.declared.token.TokenKind.{TokenKind}
@@ -12,7 +12,7 @@ use Rattle.html_tokens.specs.Stream.{Run, tokens_of}
 use Rattle.html_tokens.specs.declared.token.Token.{Token}
 use Rattle.html_tokens.specs.declared.tokenizer.Tokenizer.{Tokenizer}
 use Rattle.html_tokens.proofs.CostLemmas.{tokens_costed}
-use Rattle.html_builder.specs.Handed.{CostAtMost, attribute_count, attribute_total, own_total}
+use Rattle.html_builder.specs.Handed.{CostAtMost, attribute_count, attribute_total, own_total, start_count, start_one}
 use Rattle.html_parser.specs.Kinds.{kinds}
 
 -- the rows of a tokenizer are a table
@@ -49,9 +49,29 @@ kinds-attributes place end (t ∷ ts) b =
     let sum = sum_by-cons attribute_count t.kind (kinds ts) in
     omega (arith, one, rest, sum)
 
+-- a start tag has a code point at least
+kind-start : (t : TokenKind) (from to : ℕ) → (is_eof t ≡ false → from < to) → from ≤ to → from + start_one t ≤ to
+kind-start (kind.Start name attrs self_closing) from to h k = let p = h refl in omega (arith, p)
+kind-start (kind.End name) from to h k = omega (arith, k)
+kind-start (kind.Char c) from to h k = omega (arith, k)
+kind-start (kind.Comment text) from to h k = omega (arith, k)
+kind-start (kind.Doctype name public_id system_id force_quirks) from to h k = omega (arith, k)
+kind-start kind.Eof from to h k = omega (arith, k)
+
+kinds-starts : (place end : ℕ) (tokens : List Token) → AreBetween place end tokens → place + start_count (kinds tokens) ≤ end
+kinds-starts place end [] b = omega (arith, b)
+kinds-starts place end (t ∷ ts) b =
+    let starts = b.0.starts in
+    let holds = b.0.holds in
+    let one = kind-start t.kind t.span.start t.span.end b.0.some (omega (arith, holds)) in
+    let rest = kinds-starts t.span.end end ts b.2 in
+    let sum = sum_by-cons start_one t.kind (kinds ts) in
+    omega (arith, starts, one, rest, sum)
+
 pub costs : (m n : ℕ) (tokens : List Token) → AreCosted m tokens → m ≤ n → CostAtMost n (kinds tokens)
 costs m n tokens c less = record {
   count = omega (arith, c.count, kinds-length tokens);
+  starts = (let k = kinds-starts 0 m tokens c.order in omega (arith, k, less));
   own = omega (arith, c.own, kinds-own tokens);
   attributes = omega (arith, c.own, kinds-attributes 0 m tokens c.order);
 }

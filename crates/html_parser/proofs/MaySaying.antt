@@ -1,5 +1,5 @@
 -- What tree construction answers to a token is something that the token may say.
-use Rattle.std.proofs.Common.{List, Bool, Option, Some, None, ℕ}
+use Rattle.std.proofs.Common.{List, Bool, Option, Some, None, ℕ, inl}
 use Rattle.html_tokens.specs.declared.attributes.Attr.{Attr}
 use Rattle.html_tokens.specs.declared.token.TextMode.{TextMode}
 use Rattle.html_tokens.specs.declared.token.TokenKind.{TokenKind}
@@ -10,7 +10,7 @@ use Rattle.html_parser.specs.Saying.{MaySay}
 
 start-says : (name : List ℕ) (attrs : List Attr) (closes : Bool) (m : Option TextMode) → MaySay (Start name attrs closes) m
 start-says name attrs closes None = tt
-start-says name attrs closes (Some m) = tt
+start-says name attrs closes (Some m) = inl tt
 
 pub may_say : (kind : TokenKind) (f : Option Fate) → MaySay kind (switch_after kind f)
 may_say (Start name attrs closes) f = start-says name attrs closes (switch_after (Start name attrs closes) f)

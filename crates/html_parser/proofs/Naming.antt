@@ -1,8 +1,10 @@
 -- No attribute of a tree has an empty name, as no attribute of its tokens has.
-use Rattle.std.proofs.Common.{ℕ, zero, suc, ◌≡◌, Bool, cond, List, [], ◌∷◌, ◌++◌, Option, Some, None, inl, inr, sym, ap, subst}
+use Rattle.std.proofs.Common.{ℕ, zero, suc, ◌≡◌, Bool, true, false, cond, List, [], ◌∷◌, ◌++◌, Option, Some, None, inl, inr, sym, ap, subst, arith}
 use Rattle.std.proofs.lemmas.Bool.{cases_Bool}
 use Rattle.std.specs.Prelude.{filter, not, slice_get}
 use Rattle.std.specs.List.{AllByRecursion}
+use Rattle.html_names.specs.declared.foreign.Space.{Space}
+use Rattle.html_names.specs.declared.tag.Tag.{Tag}
 use Rattle.html_arena.specs.declared.data.NodeData.{NodeData}
 use Rattle.html_arena.specs.declared.data.NodeData.TheVariants as node
 use Rattle.html_arena.specs.declared.data.Origin.{Origin}
@@ -17,8 +19,9 @@ use Rattle.html_tokens.specs.declared.token.TokenKind.{TokenKind}
 use Rattle.html_tokens.specs.declared.token.TokenKind.TheVariants as kind
 use Rattle.html_tokens.specs.Cost.{AreBetween, HasNames as KindHasNames}
 use Rattle.html_ledger.specs.declared.fate.Fate.{Fate}
-use Rattle.html_construction.specs.Origins.{AreOrigins, HasElementOrigin, HasOrigin, with_later}
-use Rattle.html_construction.specs.Tokens.{attrs_of}
+use Rattle.html_construction.specs.Origins.{AreOrigins, HasElementOrigin, HasOrigin, IsOfTag, is_foreign_at, with_later}
+use Rattle.html_construction.specs.Tokens.{attrs_of, foreign_attrs}
+use Rattle.html_construction.proofs.Lengths.{attr-long}
 use Rattle.html_page.specs.Serialised.{HasNames, IsNamed}
 use Rattle.html_parser.specs.Kinds.{kinds}
 
@@ -70,18 +73,27 @@ later-named x own [] hs h k = k
 later-named x own (t ∷ ts) [] h k = k
 later-named x own (t ∷ ts) (o ∷ hs) h k = later-named x (cond (is_in x o) (merged own (attrs_of t)) own) ts hs h.1 (elim (cases_Bool (is_in x o)) [ inl e ↦ rw e (merged-named own (attrs_of t) k h.0) | inr e ↦ rw e k ])
 
-element-named : (x : ℕ) (ts : List TokenKind) (hs : List (Option ℕ)) (o : Origin) (name : List ℕ) (attrs : List Attr) → KindsNamed ts → HasElementOrigin x ts hs o name attrs → AreNamed attrs
-element-named x ts hs (FromToken i) name attrs h o = subst AreNamed (sym o.attrs_are) (later-named x o.own_attrs ts hs h (kind-at ts i (kind.Start o.own_name o.own_attrs o.self_closing) h o.token_is))
-element-named x ts hs Implied name attrs h o = subst AreNamed (sym o.attrs_are) (later-named x [] ts hs h tt)
-element-named x ts hs Nothing name attrs h o = absurd o
+-- adjusted attributes have names too
+foreign-named : (s : Space) (attrs : List Attr) → AreNamed attrs → AreNamed (foreign_attrs s attrs)
+foreign-named s [] h = tt
+foreign-named s (a ∷ attrs) h = (let e = attr-long s a.name in let k = h.0 in omega (arith, e, k), foreign-named s attrs h.1)
 
-node-named : (x : ℕ) (ts : List TokenKind) (hs : List (Option ℕ)) (d : NodeData) → KindsNamed ts → HasOrigin x ts hs d → AreNamed (attrs_in d)
-node-named x ts hs node.Document h o = tt
-node-named x ts hs (node.Contents k) h o = tt
-node-named x ts hs (node.Text s) h o = tt
-node-named x ts hs (node.Comment s i) h o = tt
-node-named x ts hs (node.Doctype n p s i) h o = tt
-node-named x ts hs (node.Element e) h o = element-named x ts hs e.origin e.name e.attrs h o
+tag-named : (b : Bool) (x i : ℕ) (g : Tag) (ts : List TokenKind) (hs : List (Option ℕ)) (name : List ℕ) (attrs : List Attr) → KindsNamed ts → IsOfTag b x i g name attrs ts hs → AreNamed attrs
+tag-named false x i g ts hs name attrs h o = subst AreNamed (sym o.attrs_are) (later-named x o.own_attrs ts hs h (kind-at ts i (kind.Start o.own_name o.own_attrs o.self_closing) h o.token_is))
+tag-named true x i g ts hs name attrs h o = subst AreNamed (sym o.attrs_are) (foreign-named o.space o.own_attrs (kind-at ts i (kind.Start o.own_name o.own_attrs o.self_closing) h o.token_is))
+
+element-named : (x : ℕ) (ts : List TokenKind) (fs : List Fate) (hs : List (Option ℕ)) (o : Origin) (g : Tag) (name : List ℕ) (attrs : List Attr) → KindsNamed ts → HasElementOrigin x ts fs hs o g name attrs → AreNamed attrs
+element-named x ts fs hs (FromToken i) g name attrs h o = tag-named (is_foreign_at fs i) x i g ts hs name attrs h o
+element-named x ts fs hs Implied g name attrs h o = subst AreNamed (sym o.attrs_are) (later-named x [] ts hs h tt)
+element-named x ts fs hs Nothing g name attrs h o = absurd o
+
+node-named : (x : ℕ) (ts : List TokenKind) (fs : List Fate) (hs : List (Option ℕ)) (d : NodeData) → KindsNamed ts → HasOrigin x ts fs hs d → AreNamed (attrs_in d)
+node-named x ts fs hs node.Document h o = tt
+node-named x ts fs hs (node.Contents k) h o = tt
+node-named x ts fs hs (node.Text s) h o = tt
+node-named x ts fs hs (node.Comment s i) h o = tt
+node-named x ts fs hs (node.Doctype n p s i) h o = tt
+node-named x ts fs hs (node.Element e) h o = element-named x ts fs hs e.origin e.tag e.name e.attrs h o
 
 pub named-tree : (ts : List TokenKind) (fates : List Fate) (t : Tree) → KindsNamed ts → AreOrigins ts fates t.labels → HasNames t
-named-tree ts fates t h o = λ x. node-named x ts o.homes (label_in t.labels x) h (o.each x)
+named-tree ts fates t h o = λ x. node-named x ts fates o.homes (label_in t.labels x) h (o.each x)

@@ -9,7 +9,7 @@ use Rattle.html_tokens.specs.declared.token.TextMode.TheVariants.{Data}
 use Rattle.html_tokens.specs.declared.token.Token.{Token}
 use Rattle.html_tokens.specs.declared.token.TokenKind.{TokenKind}
 use Rattle.html_tokens.specs.declared.token.TokenKind.TheVariants as kind
-use Rattle.html_tokens.specs.Tokens.{mode_after, name_after, next, tokens_after}
+use Rattle.html_tokens.specs.Tokens.{mode_after, mode_after_kind, name_after, next, tokens_after}
 use Rattle.html_arena.specs.Forest.{Forest}
 use Rattle.html_arena.specs.Forest.Forest.{empty, tree}
 use Rattle.html_ledger.specs.declared.fate.Fate.{Fate}
@@ -53,8 +53,8 @@ quiet-front (k ∷ ks) more q = let r = quiet-front ks more q.1 in ((q.0, r.0), 
 
 same-mode : (ts : List Token) (more : List TokenKind) (fates : List Fate) (mode : TextMode) → AreQuiet (kinds ts) → mode_after ts (switches_by (kinds ts ++ more) fates) mode ≡ mode_after ts [] mode
 same-mode [] more fates mode q = refl
-same-mode (t ∷ ts) more [] mode q = refl
-same-mode (t ∷ ts) more (f ∷ fates) mode q = rw (q.0 f) refl
+same-mode (t ∷ ts) more [] mode q = same-mode ts more [] (mode_after_kind t.kind None mode) q.1
+same-mode (t ∷ ts) more (f ∷ fates) mode q = rw (q.0 f) (same-mode ts more fates (mode_after_kind t.kind None mode) q.1)
 
 -- so the tokens are those of which nothing is said
 pub same-tokens : (rows : List Row) (passed : ℕ) (mode : TextMode) (name : Option (List ℕ)) (place : ℕ) (text : List ℕ) (said : List (Option TextMode)) (fates : List Fate)
@@ -93,6 +93,7 @@ same-tokens rows zero mode name place (c ∷ rest) said fates q e =
 
 quiet-start : (name : List ℕ) (attrs : List Attr) → switch_of (tag_of name) ≡ None → IsQuiet (kind.Start name attrs false)
 quiet-start name attrs e (fate.Made d) = e
+quiet-start name attrs e (fate.Foreign d) = refl
 quiet-start name attrs e fate.Merged = refl
 quiet-start name attrs e (fate.Text d) = refl
 quiet-start name attrs e (fate.Dropped cause) = refl

@@ -9,16 +9,18 @@ use Rattle.std.proofs.lemmas.List.{get_or_past}
 use Rattle.std.proofs.lemmas.Bool.Decides.{nat_tests}
 use Rattle.html_tokens.specs.declared.attributes.Attr.{Attr}
 use Rattle.html_names.specs.Names.{tag_of}
+use Rattle.html_names.specs.Foreign.{is_foreign as is_foreign_tag}
 use Rattle.html_names.specs.Sets.{is_template}
 use Rattle.html_arena.specs.Data.{attrs_in, contents_in, name_in, tag_in}
 use Rattle.html_arena.specs.Tree.{Tree, WellFormed, label_of}
 use Rattle.html_arena.specs.declared.data.NodeData.{NodeData}
 use Rattle.html_arena.specs.declared.data.NodeData.TheVariants as node
+use Rattle.html_page.specs.Html.{is_foreign_name}
 use Rattle.html_page.specs.Label.{Label, label_for}
 use Rattle.html_page.specs.Label.Label.{document, doctype, element, text, comment}
 use Rattle.html_page.specs.Shows.{label_at}
 use Rattle.html_print.specs.Arranged.{IsOrdered}
-use Rattle.html_print.specs.Lines.{has_contents, is_template_name, levels, line, lines_at, shown, shown_attribute}
+use Rattle.html_print.specs.Lines.{has_contents, is_foreign, is_template_name, levels, line, lines_at, shown, shown_attribute}
 use Rattle.html_print.specs.Order.{IsInOrder}
 use Rattle.html_print.proofs.Sorting.{in_order}
 
@@ -30,6 +32,18 @@ template_is (node.Element e) h = ap is_template h
 template_is (node.Text s) h = refl
 template_is (node.Comment s i) h = refl
 template_is (node.Doctype n p s i) h = refl
+
+foreign_is : (d : NodeData) → tag_in d ≡ tag_of (name_in d) → is_foreign_tag (tag_in d) ≡ is_foreign (label_for d)
+unfolding is_foreign_name
+foreign_is node.Document h = refl
+foreign_is (node.Contents x) h = refl
+foreign_is (node.Element e) h = ap is_foreign_tag h
+foreign_is (node.Text s) h = refl
+foreign_is (node.Comment s i) h = refl
+foreign_is (node.Doctype n p s i) h = refl
+
+pub foreign_at : (t : Tree) → WellFormed t → (x : ℕ) → is_foreign_tag (tag_in (label_of t x)) ≡ is_foreign (label_at t x)
+foreign_at t w x = foreign_is (label_of t x) (w.tagged x)
 
 module _ (t : Tree) (w : WellFormed t) (x : ℕ) where
   contents_is : is_some (contents_in (label_of t x)) ≡ has_contents (label_at t x)
@@ -57,8 +71,8 @@ few false = omega arith
 pub few_levels : (l : Label) → levels l ≤ 2
 few_levels l = few (has_contents l)
 
-nothing_in_order : (xs : List Attr) → IsInOrder [] xs → xs ≡ []
-nothing_in_order xs o = go o.same.moves o.same.below o.same.is
+nothing_in_order : (f : Bool) (xs : List Attr) → IsInOrder f [] xs → xs ≡ []
+nothing_in_order f xs o = go o.same.moves o.same.below o.same.is
   where
     go : (ms : List (ℕ × ℕ)) → SwapsInRange 0 ms → xs ≡ apply_swaps [] ms → xs ≡ []
     go [] b e = e
@@ -66,7 +80,7 @@ nothing_in_order xs o = go o.same.moves o.same.below o.same.is
 
 abbrev lines_with : ℕ → Label → List Attr → List ℕ
 lines_with depth l attrs =
-    line depth (shown l) ++ (flat_map (λ a. line (depth + 1) (shown_attribute a)) attrs ++ cond (has_contents l) (line (depth + 1) (codes "content")) [])
+    line depth (shown l) ++ (flat_map (λ a. line (depth + 1) (shown_attribute (is_foreign l) a)) attrs ++ cond (has_contents l) (line (depth + 1) (codes "content")) [])
 
 cases_less : (x n : ℕ) → (x < n) ⊎ (n ≤ x)
 cases_less x n = grind (arith, nat_tests)
@@ -86,18 +100,18 @@ one_more_node t i most n new h e m k l = elim (cases_less k i) [
 ]
 
 -- a node with its attributes in this order
-pub at_node : (d : NodeData) (xs : List Attr) → IsInOrder (attrs_in d) xs → (l : Label) × (IsOrdered (label_for d) l × ((depth : ℕ) → lines_at depth l ≡ lines_with depth (label_for d) xs))
-at_node node.Document xs o = (document, (refl, λ depth. ap (lines_with depth document) (sym (nothing_in_order xs o))))
-at_node (node.Contents h) xs o = (document, (refl, λ depth. ap (lines_with depth document) (sym (nothing_in_order xs o))))
+pub at_node : (d : NodeData) (xs : List Attr) → IsInOrder (is_foreign (label_for d)) (attrs_in d) xs → (l : Label) × (IsOrdered (label_for d) l × ((depth : ℕ) → lines_at depth l ≡ lines_with depth (label_for d) xs))
+at_node node.Document xs o = (document, (refl, λ depth. ap (lines_with depth document) (sym (nothing_in_order false xs o))))
+at_node (node.Contents h) xs o = (document, (refl, λ depth. ap (lines_with depth document) (sym (nothing_in_order false xs o))))
 at_node (node.Element e) xs o = (element e.name xs, ((xs, o, refl), λ depth. refl))
-at_node (node.Text s) xs o = (text s, (refl, λ depth. ap (lines_with depth (text s)) (sym (nothing_in_order xs o))))
-at_node (node.Comment s i) xs o = (comment s, (refl, λ depth. ap (lines_with depth (comment s)) (sym (nothing_in_order xs o))))
-at_node (node.Doctype n p s i) xs o = (doctype n p s, (refl, λ depth. ap (lines_with depth (doctype n p s)) (sym (nothing_in_order xs o))))
+at_node (node.Text s) xs o = (text s, (refl, λ depth. ap (lines_with depth (text s)) (sym (nothing_in_order false xs o))))
+at_node (node.Comment s i) xs o = (comment s, (refl, λ depth. ap (lines_with depth (comment s)) (sym (nothing_in_order false xs o))))
+at_node (node.Doctype n p s i) xs o = (doctype n p s, (refl, λ depth. ap (lines_with depth (doctype n p s)) (sym (nothing_in_order false xs o))))
 
 pub some_label : (l : Label) → (m : Label) × IsOrdered l m
 some_label document = (document, refl)
 some_label (doctype n p s) = (doctype n p s, refl)
-some_label (element n attrs) = let (xs, o) = in_order attrs in (element n xs, (xs, o, refl))
+some_label (element n attrs) = let (xs, o) = in_order (is_foreign_name n) attrs in (element n xs, (xs, o, refl))
 some_label (text s) = (text s, refl)
 some_label (comment s) = (comment s, refl)
 
@@ -112,15 +126,16 @@ ordered_levels (comment s) m h = ap levels h
 abbrev pub own_part : ℕ → Label → List ℕ
 own_part depth l = encode_utf8_all (line depth (shown l))
 
-abbrev pub attribute_part : ℕ → List Attr → List ℕ
-attribute_part depth attrs = encode_utf8_all (flat_map (λ a. line depth (shown_attribute a)) attrs)
+abbrev pub attribute_part : ℕ → Bool → List Attr → List ℕ
+attribute_part depth foreign attrs = encode_utf8_all (flat_map (λ a. line depth (shown_attribute foreign a)) attrs)
 
 abbrev pub contents_part : ℕ → Label → List ℕ
 contents_part depth l = encode_utf8_all (cond (has_contents l) (line depth (codes "content")) [])
 
-pub node_bytes : (depth : ℕ) (m l : Label) (attrs : List Attr) → lines_at depth m ≡ lines_with depth l attrs
-    → encode_utf8_all (lines_at depth m) ≡ own_part depth l ++ (attribute_part (depth + 1) attrs ++ contents_part (depth + 1) l)
-node_bytes depth m l attrs e =
+pub node_bytes : (depth : ℕ) (m l : Label) (foreign : Bool) (attrs : List Attr) → foreign ≡ is_foreign l → lines_at depth m ≡ lines_with depth l attrs
+    → encode_utf8_all (lines_at depth m) ≡ own_part depth l ++ (attribute_part (depth + 1) foreign attrs ++ contents_part (depth + 1) l)
+node_bytes depth m l foreign attrs f e =
     ap encode_utf8_all e
-    ∙ encodes-append (line depth (shown l)) (flat_map (λ a. line (depth + 1) (shown_attribute a)) attrs ++ cond (has_contents l) (line (depth + 1) (codes "content")) [])
-    ∙ ap (λ z. own_part depth l ++ z) (encodes-append (flat_map (λ a. line (depth + 1) (shown_attribute a)) attrs) (cond (has_contents l) (line (depth + 1) (codes "content")) []))
+    ∙ encodes-append (line depth (shown l)) (flat_map (λ a. line (depth + 1) (shown_attribute (is_foreign l) a)) attrs ++ cond (has_contents l) (line (depth + 1) (codes "content")) [])
+    ∙ ap (λ z. own_part depth l ++ z) (encodes-append (flat_map (λ a. line (depth + 1) (shown_attribute (is_foreign l) a)) attrs) (cond (has_contents l) (line (depth + 1) (codes "content")) []))
+    ∙ ap (λ b. own_part depth l ++ (attribute_part (depth + 1) b attrs ++ contents_part (depth + 1) l)) (sym f)

@@ -1,5 +1,5 @@
 -- The bytes of lines.
-use Rattle.std.proofs.Common.{◌≡◌, Bor, map, ℕ, zero, suc, ◌*◌, true, List, [], ◌∷◌, ◌++◌, replicate, refl, sym, ap, ◌∙◌, append_assoc}
+use Rattle.std.proofs.Common.{◌≡◌, Bool, Bor, map, ℕ, zero, suc, ◌*◌, true, List, [], ◌∷◌, ◌++◌, replicate, refl, sym, ap, ◌∙◌, append_assoc}
 use Rattle.std.specs.Prelude.{codes}
 use Rattle.std.specs.Str.{encode_utf8_all}
 use Rattle.std.specs.List.{flat_map}
@@ -9,6 +9,7 @@ use Rattle.html_tokens.specs.declared.attributes.Attr.{Attr}
 use Rattle.html_page.proofs.Ascii.{is_ascii}
 use Rattle.html_page.proofs.Tagged.{ascii_only, ascii_then}
 use Rattle.html_print.specs.Lines.{line, ids, quoted_ids, shown_attribute}
+use Rattle.html_print.specs.Order.{printed_name}
 
 pub text_then : (x x' rest rest' : List ℕ) → x' ≡ encode_utf8_all x → encode_utf8_all rest ≡ rest' → encode_utf8_all (x ++ rest) ≡ x' ++ rest'
 text_then x x' rest rest' e f = encodes-append x rest ∙ ap (λ l. l ++ encode_utf8_all rest) (sym e) ∙ ap (λ l. x' ++ l) f
@@ -30,10 +31,10 @@ line_bytes depth s s' e =
 pub between_bytes : (a x b x' : List ℕ) → is_ascii a ≡ true → is_ascii b ≡ true → x' ≡ encode_utf8_all x → encode_utf8_all (a ++ (x ++ b)) ≡ a ++ (x' ++ b)
 between_bytes a x b x' h k e = literal_then a (x ++ b) (x' ++ b) h (text_then x x' b b e (ascii_only b k))
 
-pub attribute_bytes : (a : Attr) (n v : List ℕ) → n ≡ encode_utf8_all a.name → v ≡ encode_utf8_all a.value
-    → encode_utf8_all (shown_attribute a) ≡ n ++ (codes "=\"" ++ (v ++ codes "\""))
-attribute_bytes a n v e f =
-    text_then a.name n (codes "=\"" ++ (a.value ++ codes "\"")) (codes "=\"" ++ (v ++ codes "\"")) e
+pub attribute_bytes : (foreign : Bool) (a : Attr) (n v : List ℕ) → n ≡ encode_utf8_all (printed_name foreign a.name) → v ≡ encode_utf8_all a.value
+    → encode_utf8_all (shown_attribute foreign a) ≡ n ++ (codes "=\"" ++ (v ++ codes "\""))
+attribute_bytes foreign a n v e f =
+    text_then (printed_name foreign a.name) n (codes "=\"" ++ (a.value ++ codes "\"")) (codes "=\"" ++ (v ++ codes "\"")) e
     (between_bytes (codes "=\"") a.value (codes "\"") v refl refl f)
 
 module _ (n p s n' : List ℕ) (e : n' ≡ encode_utf8_all n) where
@@ -58,14 +59,14 @@ pieces_bytes f [] = refl
 pieces_bytes f (x ∷ xs) = encodes-append (f x) (flat_map f xs) ∙ ap (λ l. encode_utf8_all (f x) ++ l) (pieces_bytes f xs)
 
 -- the bytes of an attribute's line, and of those of attributes
-abbrev pub attribute_line : ℕ → Bor Attr → List ℕ
-attribute_line depth a = encode_utf8_all (line depth (shown_attribute a.now))
+abbrev pub attribute_line : ℕ → Bool → Bor Attr → List ℕ
+attribute_line depth foreign a = encode_utf8_all (line depth (shown_attribute foreign a.now))
 
-pub attribute_lines : (depth : ℕ) (attrs : List (Bor Attr))
-    → encode_utf8_all (flat_map (λ a. line depth (shown_attribute a)) (map (λ (a : Bor Attr). a.now) attrs)) ≡ flat_map (attribute_line depth) attrs
-attribute_lines depth attrs =
-    ap encode_utf8_all (flat_map-map (λ a. line depth (shown_attribute a)) (λ (a : Bor Attr). a.now) attrs)
-    ∙ pieces_bytes (λ (a : Bor Attr). line depth (shown_attribute a.now)) attrs
+pub attribute_lines : (depth : ℕ) (foreign : Bool) (attrs : List (Bor Attr))
+    → encode_utf8_all (flat_map (λ a. line depth (shown_attribute foreign a)) (map (λ (a : Bor Attr). a.now) attrs)) ≡ flat_map (attribute_line depth foreign) attrs
+attribute_lines depth foreign attrs =
+    ap encode_utf8_all (flat_map-map (λ a. line depth (shown_attribute foreign a)) (λ (a : Bor Attr). a.now) attrs)
+    ∙ pieces_bytes (λ (a : Bor Attr). line depth (shown_attribute foreign a.now)) attrs
 
 pub line_between : (depth : ℕ) (a x b x' : List ℕ) → is_ascii a ≡ true → is_ascii b ≡ true → x' ≡ encode_utf8_all x → encode_utf8_all (line depth (a ++ (x ++ b))) ≡ line depth (a ++ (x' ++ b))
 line_between depth a x b x' h k e = line_bytes depth (a ++ (x ++ b)) (a ++ (x' ++ b)) (between_bytes a x b x' h k e)

@@ -3,3 +3,4 @@ pub mod Sorting
 pub mod Bytes
 pub mod AtNode
 pub mod Walks
+pub mod Xmlns

@@ -78,7 +78,7 @@ module _ {X : Type 0} (lt : X → X → Bool) (o : IsStrictWeakOrder lt) where
       let (ys, p, s) = sorted xs in
       (insert x ys, IsPermutation-trans (x ∷ xs) (x ∷ ys) (insert x ys) (IsPermutation-cons x xs ys p) (same_insert x ys), sorted_insert x ys s)
 
-pub in_order : (attrs : List Attr) → (ordered : List Attr) × IsInOrder attrs ordered
-in_order attrs =
-    let (ordered, p, s) = sorted (λ (a b : Attr). is_lt (slice_cmp nat_cmp (units_of_name a) (units_of_name b))) (ranks_by nat_list_cmp_total units_of_name) attrs in
+pub in_order : (foreign : Bool) (attrs : List Attr) → (ordered : List Attr) × IsInOrder foreign attrs ordered
+in_order foreign attrs =
+    let (ordered, p, s) = sorted (λ (a b : Attr). is_lt (slice_cmp nat_cmp (units_of_name foreign a) (units_of_name foreign b))) (ranks_by nat_list_cmp_total (units_of_name foreign)) attrs in
     (ordered, record { same = p; ascending = s })

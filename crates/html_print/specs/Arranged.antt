@@ -3,6 +3,7 @@
 use Rattle.std.specs.Prelude.{◌≡◌, List}
 use Rattle.html_arena.specs.Forest.{Forest}
 use Rattle.html_arena.specs.Forest.Forest.{empty, tree}
+use Rattle.html_page.specs.Html.{is_foreign_name}
 use Rattle.html_page.specs.Label.{Label}
 use Rattle.html_page.specs.Label.Label.{document, doctype, element, text, comment}
 use Rattle.html_print.specs.Order.{IsInOrder}
@@ -10,7 +11,7 @@ use Rattle.html_tokens.specs.declared.attributes.Attr.{Attr}
 
 -- the same label, the attributes of an element in order
 abbrev pub IsOrdered : Label → Label → Type 0
-IsOrdered (element n attrs) l = (ordered : List Attr) × IsInOrder attrs ordered × (l ≡ element n ordered)
+IsOrdered (element n attrs) l = (ordered : List Attr) × IsInOrder (is_foreign_name n) attrs ordered × (l ≡ element n ordered)
 IsOrdered document l = l ≡ document
 IsOrdered (doctype n p s) l = l ≡ doctype n p s
 IsOrdered (text s) l = l ≡ text s

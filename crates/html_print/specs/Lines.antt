@@ -6,9 +6,10 @@ use Rattle.html_arena.specs.Forest.{Forest}
 use Rattle.html_arena.specs.Forest.Forest.{empty, tree}
 use Rattle.html_names.specs.Names.{tag_of}
 use Rattle.html_names.specs.Sets.{is_template}
-use Rattle.html_page.specs.Html.{text_or_empty}
+use Rattle.html_page.specs.Html.{is_foreign_name, text_or_empty}
 use Rattle.html_page.specs.Label.{Label}
 use Rattle.html_page.specs.Label.Label.{document, doctype, element, text, comment}
+use Rattle.html_print.specs.Order.{printed_name}
 use Rattle.html_tokens.specs.declared.attributes.Attr.{Attr}
 
 -- a line, with its end: two spaces a level
@@ -33,9 +34,9 @@ shown (element n attrs) = codes "<" ++ (n ++ codes ">")
 shown (text s) = codes "\"" ++ (s ++ codes "\"")
 shown (comment s) = codes "<!-- " ++ (s ++ codes " -->")
 
--- what stands for an attribute on its line
-abbrev pub shown_attribute : Attr → List ℕ
-shown_attribute a = a.name ++ (codes "=\"" ++ (a.value ++ codes "\""))
+-- what stands for an attribute on its line, in foreign content or not
+abbrev pub shown_attribute : Bool → Attr → List ℕ
+shown_attribute foreign a = printed_name foreign a.name ++ (codes "=\"" ++ (a.value ++ codes "\""))
 
 abbrev pub attributes_in : Label → List Attr
 attributes_in (element n attrs) = attrs
@@ -43,6 +44,14 @@ attributes_in document = []
 attributes_in (doctype n public system) = []
 attributes_in (text s) = []
 attributes_in (comment s) = []
+
+-- an element of foreign content
+abbrev pub is_foreign : Label → Bool
+is_foreign (element n attrs) = is_foreign_name n
+is_foreign document = false
+is_foreign (doctype n public system) = false
+is_foreign (text s) = false
+is_foreign (comment s) = false
 
 -- a template, whose contents stand below a line of their own
 unfoldable pub is_template_name : List ℕ → Bool
@@ -58,7 +67,7 @@ has_contents (comment s) = false
 -- the lines of a node itself: its own, one for each attribute, and that of its contents
 abbrev pub lines_at : ℕ → Label → List ℕ
 lines_at depth l =
-    line depth (shown l) ++ (flat_map (λ a. line (depth + 1) (shown_attribute a)) (attributes_in l) ++ cond (has_contents l) (line (depth + 1) (codes "content")) [])
+    line depth (shown l) ++ (flat_map (λ a. line (depth + 1) (shown_attribute (is_foreign l) a)) (attributes_in l) ++ cond (has_contents l) (line (depth + 1) (codes "content")) [])
 
 -- how many levels deeper the nodes below a node stand
 abbrev pub levels : Label → ℕ

@@ -9,7 +9,7 @@ ghost use Rattle.html_output.specs.Putting.{Puts, held};
 ghost use Rattle.html_page.specs.Html.{text_or_empty};
 ghost use Rattle.html_page.specs.Label.{Label, label_for};
 ghost use Rattle.html_page.specs.Shows.{label_at};
-ghost use Rattle.html_print.specs.Lines.{has_contents, ids, levels, line, lines_at, quoted_ids, shown};
+ghost use Rattle.html_print.specs.Lines.{has_contents, ids, is_foreign, levels, line, lines_at, quoted_ids, shown};
 ghost use Rattle.html_print.specs.Arranged.{IsOrdered};
 
 use crate::attributes::{arrange, put_attributes};
@@ -36,10 +36,20 @@ pub(crate) fn put_node<'a, W: Sink>(
     ensures fault { OnErr result ((W.failed writer.new ≡ true) ⊎ (W.stalled writer.new ≡ true)) }
     ensures capacity { vec_capacity ordered.old ≤ vec_capacity ordered.new }
 {
-    arrange(ordered, arena.attrs(node));
+    let foreign = is_foreign(arena, node);
+    arrange(ordered, arena.attrs(node), foreign);
     put_own(output, writer, depth, arena.node(node))?;
-    put_attributes(output, writer, depth + 1, ordered.as_slice())?;
+    put_attributes(output, writer, depth + 1, foreign, ordered.as_slice())?;
     put_contents(output, writer, depth + 1, arena, node)
+}
+
+/// Whether a node is an element of foreign content.
+fn is_foreign(arena: &Arena, node: NodeId) -> bool
+    requires { node < length arena.now.labels }
+    ensures { result ≡ is_foreign (label_at arena.now node) }
+{
+    arena.forest();
+    arena.tag(node).is_foreign()
 }
 
 /// Puts a node's own line.

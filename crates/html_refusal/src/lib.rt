@@ -6,4 +6,4 @@ mod telling;
 
 pub use html_device::Sink;
 pub use status::{DONE, FILE_FAULT, REFUSED, WRONG_WORDS};
-pub use telling::{tell, tell_table};
+pub use telling::{outcome, tell, tell_table};

@@ -1,7 +1,8 @@
-//! The line of a refusal. It takes no memory, but for the key of an entry that breaks the table of references.
+//! The line of a refusal. Where there is no memory for it, it is written piece by piece.
 
-ghost use Rattle.std.specs.Prelude.{◌≡◌, ◌⊎◌, true, OnErr, OnOk};
+ghost use Rattle.std.specs.Prelude.{◌≡◌, ◌⊎◌, true, IfOk, IfSome, OnErr, OnOk};
 ghost use Rattle.std.specs.Io.KnownBytes.{Appends};
+ghost use Rattle.std.specs.String.{string_bytes};
 ghost use Rattle.html_charref.specs.declared.read.EntityError.{EntityError as EntityErrorType};
 ghost use Rattle.html_device.specs.Device.{AppendsFront};
 ghost use Rattle.html_refusal.specs.Outcome.{budget_line, foreign_line, foreign_text, key_line, line_of, status_of, table_line_of};
@@ -12,16 +13,75 @@ use html_charref::{EntityError, Key};
 use html_device::{DeviceFault, Sink};
 use html_output::{Piece, write_pieces};
 use html_parser::{Foreign, ParseError};
-use std::alloc::Global;
+use std::alloc::{AllocError, Global};
 
-/// Tells on `faults`, in one line, why there is no page, and answers the status. `input` is the name of the file, or
-/// `-`. Where the line can't be written, the status alone tells.
-pub fn tell<F: Sink>(error: &ParseError, input: &str, faults: &mut F) -> u8
+/// The status with which the program ends for want of a page, and the line that tells why, with its end; no line where memory for it was refused.
+/// `input` is the name of the file, or `-`.
+pub fn outcome(alloc: Global, error: &ParseError, input: &str) -> (u8, Option<String>)
+    ensures status { result.0 ≡ status_of error.now }
+    ensures line { IfSome result.1 (λ line. string_bytes line ≡ line_of error.now input.now) }
+{
+    (status(error), line(alloc, error, input).ok())
+}
+
+/// Tells on `faults`, in one line, why there is no page, and answers the status: both are those of `outcome`, and where that found no memory for
+/// the line, it is written piece by piece. `input` is the name of the file, or `-`. Where the line can't be written, the status alone tells.
+pub fn tell<F: Sink>(alloc: Global, error: &ParseError, input: &str, faults: &mut F) -> u8
     ensures status { result ≡ status_of error.now }
     ensures line { IsTold (F.taken faults.old) (F.taken faults.new) (F.failed faults.new) (F.stalled faults.new) (line_of error.now input.now) }
 {
-    let _ = write_line(error, input, faults);
-    status(error)
+    let (status, line) = outcome(alloc, error, input);
+    match line {
+        Some(line) => {
+            let _ = write_text(line.as_str(), faults);
+        }
+        None => {
+            let _ = write_line(error, input, faults);
+        }
+    }
+    status
+}
+
+/// Writes a text.
+fn write_text<F: Sink>(text: &str, faults: &mut F) -> Result<(), DeviceFault>
+    ensures ok { OnOk result (Appends (F.taken faults.old) (F.taken faults.new) text.now) }
+    ensures err { OnErr result (AppendsFront (F.taken faults.old) (F.taken faults.new) text.now) }
+    ensures fault { OnErr result ((F.failed faults.new ≡ true) ⊎ (F.stalled faults.new ≡ true)) }
+{
+    write_pieces(faults, &[Piece::Text(text)])
+}
+
+/// The line that tells why there is no page.
+fn line(alloc: Global, error: &ParseError, input: &str) -> Result<String, AllocError>
+    ensures { IfOk result (λ line. string_bytes line ≡ line_of error.now input.now) }
+{
+    match error {
+        ParseError::OutOfMemory => format!(in alloc; "refused: out of memory\n"),
+        ParseError::InputTooLong => format!(in alloc; "refused: input too long\n"),
+        ParseError::ForeignContent { name, at } => line_of_foreign(alloc, *name, *at),
+        ParseError::BadContext => format!(in alloc; "refused: bad context\n"),
+        ParseError::Read => format!(in alloc; "fault: cannot read {input}\n"),
+        ParseError::Write => format!(in alloc; "fault: cannot write\n"),
+        ParseError::Stopped => format!(in alloc; "refused: stopped\n"),
+        ParseError::NodeBudget { at } => line_of_budget(alloc, "node", *at),
+        ParseError::HeldBudget { at } => line_of_budget(alloc, "held", *at),
+        ParseError::StepBudget { at } => line_of_budget(alloc, "step", *at),
+    }
+}
+
+/// The line of foreign content.
+fn line_of_foreign(alloc: Global, name: Foreign, at: u64) -> Result<String, AllocError>
+    ensures { IfOk result (λ line. string_bytes line ≡ foreign_line name at) }
+{
+    let name = foreign_name(name);
+    format!(in alloc; "refused: foreign {name} at {at}\n")
+}
+
+/// The line of a budget that would be passed.
+fn line_of_budget(alloc: Global, budget: &str, at: u64) -> Result<String, AllocError>
+    ensures { IfOk result (λ line. string_bytes line ≡ budget_line budget.now at) }
+{
+    format!(in alloc; "refused: {budget} budget at {at}\n")
 }
 
 /// Tells on `faults`, in one line, why there is no table of character references, and answers the status. Where memory
@@ -38,7 +98,7 @@ pub fn tell_table<F: Sink>(alloc: Global, error: &EntityError, faults: &mut F) -
         EntityError::Name(key) => tell_key(alloc, "name", key, faults),
         EntityError::Text(key) => tell_key(alloc, "text", key, faults),
         EntityError::OutOfMemory => {
-            tell(&ParseError::OutOfMemory, "", faults);
+            tell(alloc, &ParseError::OutOfMemory, "", faults);
         }
     }
     REFUSED
@@ -53,7 +113,7 @@ fn tell_key<F: Sink>(alloc: Global, rule: &str, key: &Key, faults: &mut F)
             let _ = write_key(rule, text.as_str(), faults);
         }
         Err(_) => {
-            tell(&ParseError::OutOfMemory, "", faults);
+            tell(alloc, &ParseError::OutOfMemory, "", faults);
         }
     }
 }

@@ -55,16 +55,16 @@ pub fn run<R: Source, W: Sink, F: Sink>(
     };
     match answer(alloc, job, &table, reader, writer) {
         Ok(()) => DONE,
-        Err(error) => tell_cause(&error, job, faults),
+        Err(error) => tell_cause(alloc, &error, job, faults),
     }
 }
 
 /// Tells why a job was not done, and answers the status.
-fn tell_cause<F: Sink>(error: &ParseError, job: &Job<'_>, faults: &mut F) -> u8
+fn tell_cause<F: Sink>(alloc: Global, error: &ParseError, job: &Job<'_>, faults: &mut F) -> u8
     ensures status { result ≡ status_of error.now }
     ensures line { IsTold (F.taken faults.old) (F.taken faults.new) (F.failed faults.new) (F.stalled faults.new) (line_of error.now (input_name job.now)) }
 {
-    tell(error, input_of(job), faults)
+    tell(alloc, error, input_of(job), faults)
 }
 
 /// Reads the page, and writes what the command asks for.

@@ -8,7 +8,7 @@ use crate::texts::{CaseFault, Texts};
 use html_page::{EntityTable, TokenListError, tokenize};
 use html_tokens::{TextMode, Token};
 use serde_json::Value;
-use std::alloc::Global;
+use std::alloc::{AllocError, Global};
 
 /// A case without its state.
 #[derive(Drop)]
@@ -18,18 +18,33 @@ struct Case {
     output: Vec<Entry>,
 }
 
+/// Whether cases of foreign content are run.
+#[derive(Clone, Copy, Debug, PartialEq, Eq)]
+pub enum ForeignCases {
+    Skipped,
+    Run,
+}
+
+/// How the text of a case begins to be read: its text mode, and what stands before it.
+#[derive(Clone, Copy)]
+struct Begin {
+    mode: TextMode,
+    opener: &'static str,
+}
+
 /// Runs a test in one of its initial states.
 pub(crate) fn run_case(
     alloc: Global,
     test: &Value,
     state: &str,
     table: &EntityTable,
+    foreign: ForeignCases,
 ) -> Result<Outcome, CaseFault> {
-    let Some(mode) = mode_of(state) else {
+    let Some(begin) = begin_of(state, foreign) else {
         return Ok(Outcome::Skipped);
     };
     match read_case(alloc, test) {
-        Ok(case) => run_read(alloc, &case, mode, table),
+        Ok(case) => run_read(alloc, &case, begin, table),
         Err(CaseFault::NotRun) => Ok(Outcome::Skipped),
         Err(fault) => Err(fault),
     }
@@ -39,15 +54,23 @@ pub(crate) fn run_case(
 fn run_read(
     alloc: Global,
     case: &Case,
-    mode: TextMode,
+    begin: Begin,
     table: &EntityTable,
 ) -> Result<Outcome, CaseFault> {
     let last_name = case.last_name.as_deref();
-    match tokenize(alloc, table, mode, last_name, case.input.as_bytes()) {
+    let input = input_of(alloc, case, begin)?;
+    match tokenize(alloc, table, begin.mode, last_name, input.as_bytes()) {
         Ok(list) => compared(alloc, list.tokens.as_slice(), case.output.as_slice()),
         Err(TokenListError::OutOfMemory) => Err(CaseFault::OutOfMemory),
         Err(_) => Ok(Outcome::Failed),
     }
+}
+
+/// The input of a case behind what stands before it.
+fn input_of(alloc: Global, case: &Case, begin: Begin) -> Result<String, AllocError> {
+    let mut input = begin.opener.to_string(alloc)?;
+    input.push_str(case.input.as_str())?;
+    Ok(input)
 }
 
 /// Whether these are the tokens that are wanted.
@@ -85,7 +108,27 @@ fn read_case(alloc: Global, test: &Value) -> Result<Case, CaseFault> {
     })
 }
 
-/// The text mode of an initial state, by the names that the cases use.
+/// How the text begins in an initial state, by the names that the cases use.
+fn begin_of(state: &str, foreign: ForeignCases) -> Option<Begin> {
+    if state == "CDATA section state" {
+        return section_begin(foreign);
+    }
+    let mode = mode_of(state)?;
+    Some(Begin { mode, opener: "" })
+}
+
+/// How a text begins that is the front of a section.
+fn section_begin(foreign: ForeignCases) -> Option<Begin> {
+    match foreign {
+        ForeignCases::Skipped => None,
+        ForeignCases::Run => Some(Begin {
+            mode: TextMode::Foreign,
+            opener: "<![CDATA[",
+        }),
+    }
+}
+
+/// The text mode of an initial state.
 fn mode_of(state: &str) -> Option<TextMode> {
     match state {
         "Data state" => Some(TextMode::Data),

@@ -12,4 +12,5 @@ mod suite;
 mod texts;
 mod tree_case;
 
+pub use case::ForeignCases;
 pub use suite::suite_file;

@@ -13,7 +13,7 @@ ghost use Rattle.html_suite.specs.Report.{HasRun, IsCountOf, IsReported, counts_
 ghost use Rattle.html_suite.specs.declared.counts.Outcome.{Outcome as OutcomeType};
 ghost use Rattle.html_suite.specs.declared.suite.SuiteFault.TheVariants.{Malformed, OutOfMemory, Write as WriterFailed};
 
-use crate::case::run_case;
+use crate::case::{ForeignCases, run_case};
 use crate::counts::{Counts, Outcome};
 use crate::dat::cases_of;
 use crate::texts::CaseFault;
@@ -42,7 +42,8 @@ enum SuiteFault {
 ///
 /// A file whose name ends in `.test` has cases of tokens, as JSON: an object whose `tests` are objects with `input` and
 /// `output`, and perhaps `initialStates`, `lastStartTag` and `doubleEscaped`. Each initial state is a case of its own. A
-/// case is skipped where its state is none of the text modes, or its texts have halves of surrogate pairs.
+/// case is skipped where its state is none of the text modes, or its texts have halves of surrogate pairs; one that begins
+/// in a CDATA section is run where `foreign` asks for it.
 ///
 /// A file whose name ends in `.dat` has cases of trees: the input stands under a line `#data`, up to a line `#errors`, and
 /// the tree under a line `#document`, as the command `tree` prints it; between them a line `#document-fragment` is followed
@@ -53,6 +54,7 @@ pub fn suite_file<W: Sink, F: Sink>(
     name: &str,
     bytes: &[u8],
     table: &EntityTable,
+    foreign: ForeignCases,
     writer: &mut W,
     faults: &mut F,
 ) -> u8
@@ -72,10 +74,10 @@ pub fn suite_file<W: Sink, F: Sink>(
         × IsTold (F.taken faults.old) (F.taken faults.new) (F.failed faults.new) (F.stalled faults.new) (malformed_line name.now) }
     ensures status { (result ≡ DONE) ⊎ ((result ≡ REFUSED) ⊎ (result ≡ FILE_FAULT)) }
 {
-    match run_file(alloc, name, bytes, table, writer) {
+    match run_file(alloc, name, bytes, table, foreign, writer) {
         Ok(counts) => status_of(&counts),
-        Err(SuiteFault::OutOfMemory) => tell(&ParseError::OutOfMemory, name, faults),
-        Err(SuiteFault::Write) => tell(&ParseError::Write, name, faults),
+        Err(SuiteFault::OutOfMemory) => tell(alloc, &ParseError::OutOfMemory, name, faults),
+        Err(SuiteFault::Write) => tell(alloc, &ParseError::Write, name, faults),
         Err(SuiteFault::Malformed) => {
             tell_malformed(name, faults);
             FILE_FAULT
@@ -128,6 +130,7 @@ fn run_file<W: Sink>(
     name: &str,
     bytes: &[u8],
     table: &EntityTable,
+    foreign: ForeignCases,
     writer: &mut W,
 ) -> Result<Counts, SuiteFault>
     ensures run { IfOk result (λ counts. (cases : List OutcomeType) × IsCountOf counts cases × IsReported name.now cases (W.taken writer.old) (W.taken writer.new)) }
@@ -135,7 +138,7 @@ fn run_file<W: Sink>(
     ensures trees { HasEnd name.now (codes ".dat") → result ≢ Err Malformed }
     ensures other { IsOfNoKind name.now → result ≡ Err Malformed }
 {
-    let counts = run_cases(alloc, name, bytes, table, writer)?;
+    let counts = run_cases(alloc, name, bytes, table, foreign, writer)?;
     write_counts(name, &counts, writer)?;
     Ok(counts)
 }
@@ -146,6 +149,7 @@ fn run_cases<W: Sink>(
     name: &str,
     bytes: &[u8],
     table: &EntityTable,
+    foreign: ForeignCases,
     writer: &mut W,
 ) -> Result<Counts, SuiteFault>
     ensures run { IfOk result (λ counts. HasRun name.now (W.taken writer.old) (W.taken writer.new) counts) }
@@ -157,7 +161,7 @@ fn run_cases<W: Sink>(
     if has_end(name, ".dat") {
         run_trees(alloc, name, bytes, table, &mut counts, writer)?;
     } else if has_end(name, ".test") {
-        run_tests(alloc, name, bytes, table, &mut counts, writer)?;
+        run_tests(alloc, name, bytes, table, foreign, &mut counts, writer)?;
     } else {
         return Err(SuiteFault::Malformed);
     }
@@ -170,6 +174,7 @@ fn run_tests<W: Sink>(
     name: &str,
     bytes: &[u8],
     table: &EntityTable,
+    foreign: ForeignCases,
     counts: &mut Counts,
     writer: &mut W,
 ) -> Result<(), SuiteFault>
@@ -177,7 +182,7 @@ fn run_tests<W: Sink>(
     ensures fault { result ≡ Err WriterFailed → (W.failed writer.new ≡ true) ⊎ (W.stalled writer.new ≡ true) }
 {
     let value = Value::from_slice(alloc, bytes)?;
-    run_value(alloc, name, &value, table, counts, writer)
+    run_value(alloc, name, &value, table, foreign, counts, writer)
 }
 
 fn run_value<W: Sink>(
@@ -185,6 +190,7 @@ fn run_value<W: Sink>(
     name: &str,
     value: &Value,
     table: &EntityTable,
+    foreign: ForeignCases,
     counts: &mut Counts,
     writer: &mut W,
 ) -> Result<(), SuiteFault>
@@ -201,7 +207,7 @@ fn run_value<W: Sink>(
         return Err(SuiteFault::Malformed);
     };
     'tests: for test in tests {
-        run_test(alloc, name, test, table, counts, writer)?;
+        run_test(alloc, name, test, table, foreign, counts, writer)?;
     }
     Ok(())
 }
@@ -233,6 +239,7 @@ fn run_test<W: Sink>(
     name: &str,
     test: &Value,
     table: &EntityTable,
+    foreign: ForeignCases,
     counts: &mut Counts,
     writer: &mut W,
 ) -> Result<(), SuiteFault>
@@ -240,14 +247,14 @@ fn run_test<W: Sink>(
     ensures fault { result ≡ Err WriterFailed → (W.failed writer.new ≡ true) ⊎ (W.stalled writer.new ≡ true) }
 {
     let Some(states) = test.get("initialStates") else {
-        let outcome = run_case(alloc, test, DATA_STATE, table)?;
+        let outcome = run_case(alloc, test, DATA_STATE, table, foreign)?;
         return Ok(count(name, counts, outcome, writer)?);
     };
     let Some(states) = states.as_array() else {
         return Err(SuiteFault::Malformed);
     };
     'states: for state in states {
-        let outcome = run_case(alloc, test, state.as_str().unwrap_or(""), table)?;
+        let outcome = run_case(alloc, test, state.as_str().unwrap_or(""), table, foreign)?;
         count(name, counts, outcome, writer)?;
     }
     Ok(())

@@ -17,7 +17,7 @@ use Rattle.html_tokens.specs.Tag.{between, name_char, ends_name, ends_attr, tail
 use Rattle.html_tokens.specs.Tag.{Tag as WholeTag}
 use Rattle.html_tokens.specs.Runs.{is_plain}
 use Rattle.html_tokens.specs.declared.token.TextMode.{TextMode}
-use Rattle.html_tokens.specs.declared.token.TextMode.TheVariants.{Data, Rcdata, Rawtext, Script, Plaintext}
+use Rattle.html_tokens.specs.declared.token.TextMode.TheVariants.{Data, Rcdata, Rawtext, Script, Plaintext, Foreign}
 use Rattle.html_tokens.specs.declared.copied.Copied.TheVariants as copied
 use Rattle.html_tokens.specs.declared.tag.TagDraft.{TagDraft}
 use Rattle.html_tokens.specs.declared.tag.Part.TheVariants as parts
@@ -51,6 +51,7 @@ clean_in Rcdata c a b d = rw (b, d, a) refl
 clean_in Rawtext c a b d = rw (b, a) refl
 clean_in Script c a b d = rw (b, a) refl
 clean_in Plaintext c a b d = rw a refl
+clean_in Foreign c a b d = rw (b, d) refl
 
 clean_one : (mode : TextMode) (c : ℕ) → is_without 60 38 c ≡ true → is_plain mode c ≡ true
 clean_one mode c h =

@@ -12,7 +12,7 @@ use Rattle.html_charref.specs.declared.number.Base.{Base}
 use Rattle.html_charref.specs.declared.number.Base.TheVariants.{Decimal, Hex}
 use Rattle.html_charref.proofs.Maximum.{longest-IsLongest}
 use Rattle.html_tokens.proofs.RefLemmas.{found_short}
-use Rattle.html_tokens.specs.Cut.{Cut, cut, cut_or, longer, is, passes, mark_if, comment_mark, greater_mark, quote_mark, stop_mark, ends_unquoted, is_space, null_replaced}
+use Rattle.html_tokens.specs.Cut.{Cut, cut, cut_or, longer, is, passes, mark_if, comment_mark, greater_mark, section_mark, quote_mark, stop_mark, ends_unquoted, is_space, null_replaced}
 use Rattle.html_tokens.specs.Draft.{passed}
 use Rattle.html_tokens.specs.Reference.{Reference, literal, named_by, numeric_by, numbered, reference, reference_by, ref_opener, semicolon, ends_digits, opened_by, is_digit}
 use Rattle.html_tokens.specs.Tag.{value, after_name, after_some}
@@ -85,6 +85,12 @@ comment_fits text =
     (if_fits 1 (length text) (a && is_none (slice_get text 1)) m4 (λ h. let i = is_there 45 text 0 (left a (is_none (slice_get text 1)) h) in omega arith)
     (if_fits 2 (length text) (a && b && third_end) m5 (λ h. let i = is_there 45 text 1 (right a b (left (a && b) third_end h)) in omega arith)
     (if_fits 3 (length text) (a && b && bang && fourth_end) None (λ h. let i = is_there 33 text 2 (right (a && b) bang (left (a && b && bang) fourth_end h)) in omega arith) tt))))
+
+pub section_fits : MarkFits section_mark
+section_fits text =
+    let a = is 93 (slice_get text 0) in
+    let b = is 93 (slice_get text 1) in
+    if_fits 3 (length text) (a && b && is 62 (slice_get text 2)) None (λ h. third a b 62 text h) tt
 
 -- a cut is no longer than the text, and what stands before the mark no longer than the cut
 abbrev pub CutFits : Cut → ℕ → Type 0

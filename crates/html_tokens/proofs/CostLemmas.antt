@@ -7,14 +7,14 @@ use Rattle.std.specs.Option.{IfSome}
 use Rattle.html_charref.specs.Table.{IsTable}
 use Rattle.html_charref.specs.declared.table.Row.{Row}
 use Rattle.html_tokens.specs.Cost.{attrs_len, is_eof, AreNamed, Fits, AreBetween, tokens_len, AreCosted}
-use Rattle.html_tokens.specs.Cut.{cut, is, passes, greater_mark, comment_mark, null_replaced}
-use Rattle.html_tokens.specs.Marks.{begin_at, is_end_mark, is_stop, is_tag_name, front, region_in, spells}
+use Rattle.html_tokens.specs.Cut.{cut, is, passes, greater_mark, comment_mark, section_mark, null_replaced}
+use Rattle.html_tokens.specs.Marks.{begin_at, is_end_mark, is_stop, is_tag_name, front, opens_section, region_in, spells}
 use Rattle.html_tokens.specs.Reference.{reference}
 use Rattle.html_tokens.specs.Fed.{to_come}
 use Rattle.html_tokens.specs.Stream.{Start, Run, IsAt, gave, answered, tokens_of}
 use Rattle.html_tokens.specs.declared.machine.Machine.{Machine}
 use Rattle.html_tokens.specs.Tag.{Tag, tag_of}
-use Rattle.html_tokens.specs.Tokens.{Piece, token, chars_at, comment_piece, tag_kind, tag_piece, when, open_piece, opener, opened_len, ref_tokens, ref_piece, begun_piece, text_or, next, mode_after, name_after, tokens_after, is_letter}
+use Rattle.html_tokens.specs.Tokens.{Piece, token, chars_at, comment_piece, tag_kind, tag_piece, when, open_piece, opener, opened_len, ref_tokens, ref_piece, section_piece, begun_piece, text_or, next, mode_after, name_after, tokens_after, is_letter}
 use Rattle.html_tokens.specs.declared.token.Begin.{Begin}
 use Rattle.html_tokens.specs.declared.token.Begin.TheVariants as begins
 use Rattle.html_tokens.specs.declared.token.Opener.{Opener}
@@ -22,9 +22,9 @@ use Rattle.html_tokens.specs.declared.token.Opener.TheVariants as opens
 use Rattle.html_tokens.specs.declared.token.Region.{Region}
 use Rattle.html_tokens.specs.declared.token.Region.TheVariants.{Plain}
 use Rattle.html_tokens.specs.declared.token.TextMode.{TextMode}
-use Rattle.html_tokens.specs.declared.token.TextMode.TheVariants.{Data, Rcdata, Rawtext, Script, Plaintext}
+use Rattle.html_tokens.specs.declared.token.TextMode.TheVariants.{Data, Rcdata, Rawtext, Script, Plaintext, Foreign}
 use Rattle.html_tokens.specs.declared.token.Token.{Token}
-use Rattle.html_tokens.proofs.CostCuts.{cond_both, left, right, is_there, MarkFits, greater_fits, comment_fits, cut_fits, reference_fits}
+use Rattle.html_tokens.proofs.CostCuts.{cond_both, left, right, is_there, MarkFits, greater_fits, comment_fits, section_fits, cut_fits, reference_fits}
 use Rattle.html_tokens.specs.Doctype.{doctype_of, doctype_word, spells_word}
 use Rattle.html_tokens.proofs.CostDoctypes.{doctype_fits, spelled_fits}
 use Rattle.html_tokens.proofs.CostTags.{tag_fits}
@@ -52,6 +52,11 @@ chars_inside mode [] place end e = omega arith
 chars_inside mode (c ∷ cs) place end e =
     (record { starts = omega arith; holds = omega arith; some = (λ h. omega arith); names = tt }, refl, chars_inside mode cs (place + 1) end (omega arith))
 
+chars_within : (mode : TextMode) (cs : List ℕ) (from place end : ℕ) → from ≤ place → place + length cs ≤ end → AreInside from end (chars_at mode place cs)
+chars_within mode [] from place end h e = omega arith
+chars_within mode (c ∷ cs) from place end h e =
+    (record { starts = omega arith; holds = omega arith; some = (λ i. omega arith); names = tt }, refl, chars_within mode cs (place + 1) (place + 1) end (omega arith) (omega arith))
+
 front_fits : (mode : TextMode) (region : Region) (name : Option (List ℕ)) (text : List ℕ) → length (front mode region name text) ≤ length text
 unfolding front
 front_fits mode region name [] = omega arith
@@ -69,6 +74,14 @@ comment_fits_piece mark m opened place text s h =
     let b : data_cut.len ≤ length text - opened = rw (← length-drop opened text) f.1 in
     let l : length (map null_replaced data_cut.before) ≡ length data_cut.before = length-map data_cut.before null_replaced in
     record { inside = (record { starts = omega arith; holds = omega arith; some = (λ e. omega arith); names = tt }, refl, omega arith); within = omega arith }
+
+section_fits_piece : (place : ℕ) (text : List ℕ) → 9 ≤ length text → PieceFits place (section_piece place text) (length text)
+section_fits_piece place text h =
+    let section = cut section_mark (drop 9 text) in
+    let f = cut_fits section_mark section_fits (drop 9 text) in
+    let a = f.0 in
+    let b : section.len ≤ length text - 9 = rw (← length-drop 9 text) f.1 in
+    record { inside = chars_within Foreign section.before place (place + 9) (place + (9 + section.len)) (omega arith) (omega arith); within = omega arith }
 
 tag_inside : (is_end closed : Bool) (t : Tag) (start end : ℕ) → start < end → start + (length t.name + attrs_len t.tail.attrs) ≤ end → AreNamed t.tail.attrs → AreInside start end (when closed (token (tag_kind is_end t) start end))
 tag_inside true true t start end s h n = (record { starts = omega arith; holds = omega arith; some = (λ e. s); names = tt }, refl, omega arith)
@@ -162,33 +175,58 @@ open_fits rows (opens.ShortComment len) place text t h =
     let a = h.0 in
     record { inside = (record { starts = omega arith; holds = omega arith; some = (λ e. omega arith); names = tt }, refl, omega arith); within = h.1 }
 
--- an end mark has two code points at least
+-- an end mark has two code points at least, and what opens a section nine
 abbrev EndFits : ℕ → Begin → Type 0
-EndFits n b = b ≡ begins.EndMark → 2 ≤ n
+EndFits n b = (b ≡ begins.EndMark → 2 ≤ n) × (b ≡ begins.Section → 9 ≤ n)
 
 end_mark_fits : (name : Option (List ℕ)) (text : List ℕ) → is_end_mark name text ≡ true → 2 ≤ length text
 end_mark_fits None text h = absurd (false≢true h)
 end_mark_fits (Some name) text h = let i = is_there 47 text 1 (right (is_tag_name name && is 60 (slice_get text 0)) (is 47 (slice_get text 1)) (left (is_tag_name name && is 60 (slice_get text 0) && is 47 (slice_get text 1)) (spells name 2 text) h)) in omega arith
 
 end_or_char : (name : Option (List ℕ)) (text : List ℕ) → EndFits (length text) (cond (is_end_mark name text) begins.EndMark begins.Char)
-end_or_char name text = cond_both (λ (b : Begin). EndFits (length text) b) (is_end_mark name text) begins.EndMark begins.Char (λ e f. end_mark_fits name text e) (λ e f. cc)
+end_or_char name text = cond_both (λ (b : Begin). EndFits (length text) b) (is_end_mark name text) begins.EndMark begins.Char (λ e. (λ f. end_mark_fits name text e, λ f. cc)) (λ e. (λ f. cc, λ f. cc))
+
+-- what opens a section is there
+opens_fits : (text : List ℕ) → opens_section text ≡ true → 9 ≤ length text
+opens_fits text h =
+    let b = λ (k c : ℕ). is c (slice_get text k) in
+    let tail = right (b 0 60) _ h in
+    let tail = right (b 1 33) _ tail in
+    let tail = right (b 2 91) _ tail in
+    let tail = right (b 3 67) _ tail in
+    let tail = right (b 4 68) _ tail in
+    let tail = right (b 5 65) _ tail in
+    let tail = right (b 6 84) _ tail in
+    let tail = right (b 7 65) _ tail in
+    let i = is_there 91 text 8 (left (b 8 91) true tail) in omega arith
+
+ref_or_char : (text : List ℕ) → EndFits (length text) (cond (is 38 (slice_get text 0)) begins.Reference begins.Char)
+ref_or_char text = cond_both (λ (b : Begin). EndFits (length text) b) (is 38 (slice_get text 0)) begins.Reference begins.Char (λ e. (λ f. cc, λ f. cc)) (λ e. (λ f. cc, λ f. cc))
 
 begin_fits : (mode : TextMode) (name : Option (List ℕ)) (text : List ℕ) → EndFits (length text) (begin_at mode Plain name text)
 begin_fits Data name text =
     let P : Begin → Type 0 = λ b. EndFits (length text) b in
     let other = cond (is 38 (slice_get text 0)) begins.Reference begins.Char in
-    cond_both P (is 60 (slice_get text 0)) begins.Markup other (λ e f. cc) (λ e. cond_both P (is 38 (slice_get text 0)) begins.Reference begins.Char (λ g f. cc) (λ g f. cc))
+    cond_both P (is 60 (slice_get text 0)) begins.Markup other (λ e. (λ f. cc, λ f. cc)) (λ e. ref_or_char text)
 begin_fits Rcdata name text =
-    cond_both (λ (b : Begin). EndFits (length text) b) (is 38 (slice_get text 0)) begins.Reference (cond (is_end_mark name text) begins.EndMark begins.Char) (λ e f. cc) (λ e. end_or_char name text)
+    cond_both (λ (b : Begin). EndFits (length text) b) (is 38 (slice_get text 0)) begins.Reference (cond (is_end_mark name text) begins.EndMark begins.Char) (λ e. (λ f. cc, λ f. cc)) (λ e. end_or_char name text)
 begin_fits Rawtext name text = end_or_char name text
 begin_fits Script name text = end_or_char name text
-begin_fits Plaintext name text = λ f. cc
+begin_fits Plaintext name text = (λ f. cc, λ f. cc)
+begin_fits Foreign name text =
+    let P : Begin → Type 0 = λ b. EndFits (length text) b in
+    let «open» = cond (opens_section text) begins.Section begins.Markup in
+    let other = cond (is 38 (slice_get text 0)) begins.Reference begins.Char in
+    cond_both P (is 60 (slice_get text 0)) «open» other
+    (λ e. cond_both P (opens_section text) begins.Section begins.Markup (λ g. (λ f. cc, λ f. opens_fits text g)) (λ g. (λ f. cc, λ f. cc)))
+    (λ e. ref_or_char text)
 
 begun_fits : (rows : List Row) (b : Begin) (place : ℕ) (text : List ℕ) → IsTable rows → 0 < length text → EndFits (length text) b → PieceFits place (begun_piece rows b place text) (length text)
 begun_fits rows begins.Char place text t h f = record { inside = omega arith; within = h }
 begun_fits rows begins.Markup place text t h f = open_fits rows (opener text) place text t (opener_fits text h)
-begun_fits rows begins.EndMark place text t h f = tag_fits_piece rows true 2 place text t (omega arith) (f refl)
+begun_fits rows begins.EndMark place text t h f = tag_fits_piece rows true 2 place text t (omega arith) (f.0 refl)
 begun_fits rows begins.Reference place text t h f = ref_fits_piece rows place text t h
+begun_fits rows begins.Section place text t h f = section_fits_piece place text (f.1 refl)
 
 text_or_fits : (cs : List ℕ) (mode : TextMode) (place : ℕ) (other : Piece) (n : ℕ) → length cs ≤ n → PieceFits place other n → PieceFits place (text_or cs mode place other) n
 text_or_fits [] mode place other n h f = f

@@ -29,7 +29,7 @@ use Rattle.html_tokens.specs.declared.machine.Progress.TheVariants.{More, Wait}
 use Rattle.html_tokens.specs.declared.machine.State.TheVariants.{Text}
 use Rattle.html_tokens.specs.declared.machine.State.TheVariants.{Doctype as Doctype'}
 use Rattle.html_tokens.specs.Marks.{begin_at}
-use Rattle.html_tokens.specs.Tokens.{tokens_after, token, doctype_kind, doctype_piece, opener}
+use Rattle.html_tokens.specs.Tokens.{tokens_after, token, doctype_kind, doctype_piece, opener, stays, switch_of}
 use Rattle.html_tokens.specs.Fed.{coming, Passes, Steps, BeginsDoctype, EndsDoctype}
 use Rattle.html_tokens.proofs.TokensLemmas.{tokens_begun, tokens_past}
 use Rattle.html_tokens.proofs.StepLemmas.{going_on, passes_count, passes_less}
@@ -309,7 +309,7 @@ other_read d input c e first some s h found = (
 
 -- the tokens from a doctype on, which is this and began there
 abbrev doctype_coming : List Row → ℕ → ℕ → Doctype → TextMode → Option (List ℕ) → List ℕ → List (Option TextMode) → List Token
-doctype_coming rows start place d mode name rest switches = token (doctype_kind d) start (place + d.len) ∷ tokens_after rows d.len mode name place rest (drop 1 switches)
+doctype_coming rows start place d mode name rest switches = token (doctype_kind d) start (place + d.len) ∷ tokens_after rows d.len (stays (switch_of switches) mode) name place rest (drop 1 switches)
 
 new_doctype_of : (d : DoctypeDraft) (start : ℕ) (rest : List ℕ) → new_doctype d start → draft_doctype d rest ≡ doctype_of rest
 new_doctype_of d start rest n = rw (n.1, n.2, n.3, n.4) refl
@@ -322,7 +322,7 @@ doctype_begins rows region mode name place items more switches e o k =
     let d = doctype_of (drop 9 items ++ more) in
     tokens_begun rows begins.Markup mode region name place (items ++ more) switches (doctype_piece place (items ++ more)) e refl (rw o refl) (omega arith) (not_empty items more (omega arith))
     ∙ rw (drop-append-le 9 items more k)
-    (ap (λ (ts : List Token). token (doctype_kind d) place (place + 9 + d.len) ∷ ts) (tokens_past rows 9 d.len mode name place items more (drop 1 switches) k))
+    (ap (λ (ts : List Token). token (doctype_kind d) place (place + 9 + d.len) ∷ ts) (tokens_past rows 9 d.len (stays (switch_of switches) mode) name place items more (drop 1 switches) k))
 
 pub doctype_opens : (old new : Machine) (region : Region) → old.state ≡ Text region → BeginsDoctype old new → 9 ≤ length old.input.queue.items →
     Decided old.input (begin_at old.mode region old.last_name) begins.Markup → Decided old.input opener opens.Doctype → Steps old More new
@@ -340,7 +340,7 @@ doctype_on : (rows : List Row) (start place n : ℕ) (d : Doctype) (mode : TextM
     doctype_coming rows start place (longer_doctype n d) mode name (items ++ more) switches ≡ doctype_coming rows start (place + n) d mode name (drop n items ++ more) switches
 doctype_on rows start place n d mode name items more switches k =
     let e : place + (n + d.len) ≡ place + n + d.len = omega arith in
-    rw e (ap (λ (ts : List Token). token (doctype_kind d) start (place + n + d.len) ∷ ts) (tokens_past rows n d.len mode name place items more (drop 1 switches) k))
+    rw e (ap (λ (ts : List Token). token (doctype_kind d) start (place + n + d.len) ∷ ts) (tokens_past rows n d.len (stays (switch_of switches) mode) name place items more (drop 1 switches) k))
 
 pub doctype_more : (old new : Machine) (d d' : DoctypeDraft) (n : ℕ) → old.state ≡ Doctype' d → PassesIn d old.input n d' →
     Passes (record old { state = Doctype' d' }) n (Doctype' d') new → Steps old More new
@@ -362,7 +362,7 @@ doctype_given old new d d' force_quirks n progress s (e, k, b) ends =
     rw given (
       (λ more switch switches f. rw (s, p.state, p.mode, p.name, p.place, p.items, p.table, b)
           (ap (λ (x : Doctype). doctype_coming old.table.now d.start old.place x old.mode old.last_name (old.input.queue.items ++ more) (switch ∷ switches)) (e more f)
-          ∙ ap (λ (ts : List Token). token (doctype_kind whole) d.start (old.place + n) ∷ ts) (rw add-zero at (tokens_past old.table.now n 0 old.mode old.last_name old.place old.input.queue.items more switches k)))),
+          ∙ ap (λ (ts : List Token). token (doctype_kind whole) d.start (old.place + n) ∷ ts) (rw add-zero at (tokens_past old.table.now n 0 (stays switch old.mode) old.last_name old.place old.input.queue.items more switches k)))),
       record { count = rw (p.place, p.items) (simp length-drop (omega arith)); finished = p.finished; table = p.table; drained = going_on old new _ p.state (λ e. e) },
       p.name,
     )

@@ -4,6 +4,7 @@ pub mod RefLemmas
 pub mod Cuts
 pub mod TokensLemmas
 pub mod StepLemmas
+pub mod SectionLemmas
 pub mod StreamLemmas
 pub mod TagLemmas
 pub mod ValueLemmas

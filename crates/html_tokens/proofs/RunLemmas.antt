@@ -13,11 +13,11 @@ use Rattle.html_tokens.specs.Runs.{is_plain, plain_front, is_text, plain_tokens,
 use Rattle.html_tokens.specs.declared.machine.Machine.{Machine}
 use Rattle.html_tokens.specs.declared.machine.Progress.TheVariants.{Given}
 use Rattle.html_tokens.specs.declared.machine.State.{State}
-use Rattle.html_tokens.specs.declared.machine.State.TheVariants.{Text, Number, Second, Comment, Doctype, Tag, Ended}
+use Rattle.html_tokens.specs.declared.machine.State.TheVariants.{Text, Number, Second, Comment, Doctype, Tag, Section, Ended}
 use Rattle.html_tokens.specs.declared.token.Begin.TheVariants as begins
 use Rattle.html_tokens.specs.declared.token.Region.TheVariants.{Plain, Escaped, Double}
 use Rattle.html_tokens.specs.declared.token.TextMode.{TextMode}
-use Rattle.html_tokens.specs.declared.token.TextMode.TheVariants.{Data, Rcdata, Rawtext, Script, Plaintext}
+use Rattle.html_tokens.specs.declared.token.TextMode.TheVariants.{Data, Rcdata, Rawtext, Script, Plaintext, Foreign}
 use Rattle.html_tokens.specs.declared.token.Token.{Token}
 use Rattle.html_tokens.specs.declared.token.TokenKind.TheVariants as kinds
 use Rattle.html_tokens.proofs.StepLemmas.{open_given, char_given}
@@ -31,6 +31,7 @@ plain_begins Rawtext (Some name) c rest h = grind (arith, nat_tests)
 plain_begins Script None c rest h = refl
 plain_begins Script (Some name) c rest h = grind (arith, nat_tests)
 plain_begins Plaintext name c rest h = refl
+plain_begins Foreign name c rest h = grind (arith, nat_tests)
 
 plain_region : (mode : TextMode) (c : ℕ) (rest : List ℕ) → is_plain mode c ≡ true → region_in mode Plain (c ∷ rest) ≡ Plain
 plain_region Data c rest h = refl
@@ -38,6 +39,7 @@ plain_region Rcdata c rest h = refl
 plain_region Rawtext c rest h = refl
 plain_region Script c rest h = grind (arith, nat_tests)
 plain_region Plaintext c rest h = refl
+plain_region Foreign c rest h = refl
 
 plain_char : (mode : TextMode) (c : ℕ) → is_plain mode c ≡ true → text_char mode c ≡ c
 plain_char Data c h = refl
@@ -45,12 +47,13 @@ plain_char Rcdata c h = grind (arith, nat_tests)
 plain_char Rawtext c h = grind (arith, nat_tests)
 plain_char Script c h = grind (arith, nat_tests)
 plain_char Plaintext c h = grind (arith, nat_tests)
+plain_char Foreign c h = refl
 
 -- a code point of plain text is given
 plain_steps : (old new : Machine) (c : ℕ) (items : List ℕ) → old.state ≡ Text Plain → is_plain old.mode c ≡ true → old.input.queue.items ≡ c ∷ items → Passes old 1 (Text Plain) new → 1 ≤ length old.input.queue.items →
     Steps old (Given (token (kinds.Char c) old.place (old.place + 1))) new
 plain_steps old new c items s h e p n =
-    open_given old new Plain (token (kinds.Char c) old.place (old.place + 1)) 1 (Text Plain) s p n (λ e. e) (λ switch mode. refl) refl
+    open_given old new Plain (token (kinds.Char c) old.place (old.place + 1)) 1 (Text Plain) s p n (λ e. e) refl
     (λ more switch switches f.
     let i : drop 1 old.input.queue.items ≡ items = rw e refl in
     rw i (char_given old.table.now Plain Plain old.mode old.last_name old.place (old.place + 1) c c old.input.queue.items items more switch switches e
@@ -96,6 +99,7 @@ text_state (Second c start) h = absurd (false≢true h)
 text_state (Comment draft) h = absurd (false≢true h)
 text_state (Doctype draft) h = absurd (false≢true h)
 text_state (Tag draft) h = absurd (false≢true h)
+text_state Section h = absurd (false≢true h)
 text_state Ended h = absurd (false≢true h)
 
 -- so much plain text has been taken, from one machine to another and from one text to another

@@ -2,7 +2,7 @@
 use Rattle.std.proofs.Common.{◌≡◌, ℕ, suc, ◌+◌, ◌<◌, ◌≤◌, List, [], ◌∷◌, ◌++◌, length, map, drop, Bool, Option, Some, None, true, false, refl, ap, sym, subst, ◌∙◌, arith, length-append}
 use Rattle.html_tokens.specs.Cut.{Cut, null_replaced}
 use Rattle.html_tokens.specs.Draft.{draft_cut}
-use Rattle.html_tokens.specs.Tokens.{tokens_after, text_char, token, begun_piece}
+use Rattle.html_tokens.specs.Tokens.{tokens_after, text_char, token, begun_piece, stays, switch_of}
 use Rattle.html_tokens.specs.Marks.{begin_at, is_stop, region_in}
 use Rattle.html_tokens.specs.Reference.{numbered, Numbered, reference, ref_opener, semicolon, is_digit, ends_digits}
 use Rattle.html_charref.specs.Number.{char_of, radix, capped}
@@ -58,7 +58,7 @@ capped-capped v = omega arith
 
 pub char_given : (rows : List Row) (region after : Region) (mode : TextMode) (name : Option (List ℕ)) (place place' c d : ℕ) (items items' more : List ℕ) (switch : Option TextMode) (switches : List (Option TextMode)) →
     items ≡ c ∷ items' → begin_at mode region name (items ++ more) ≡ begins.Char → region_in mode region (items ++ more) ≡ after → d ≡ text_char mode c → place' ≡ place + 1 →
-    coming rows (Text region) mode name place (items ++ more) (switch ∷ switches) ≡ token (Char d) place place' ∷ coming rows (Text after) mode name place' (items' ++ more) switches
+    coming rows (Text region) mode name place (items ++ more) (switch ∷ switches) ≡ token (Char d) place place' ∷ coming rows (Text after) (stays switch mode) name place' (items' ++ more) switches
 char_given rows region after mode name place place' c d items items' more switch switches e t r f p =
     let t' = rw e at t in
     let r' = rw e at r in
@@ -78,7 +78,7 @@ comment_begins rows region mode kind opened name place items more switches e p h
     tokens_begun rows begins.Markup mode region name place (items ++ more) switches (comment_piece (mark_of kind) opened place (items ++ more)) e refl p (omega arith) (there items more (omega arith))
     ∙ rw (drop-append-le opened items more k)
     (ap (λ (ts : List Token). token (kinds.Comment (map null_replaced (cut (mark_of kind) (drop opened items ++ more)).before)) place (place + opened + (cut (mark_of kind) (drop opened items ++ more)).len) ∷ ts)
-    (tokens_past rows opened (cut (mark_of kind) (drop opened items ++ more)).len mode name place items more (drop 1 switches) k))
+    (tokens_past rows opened (cut (mark_of kind) (drop opened items ++ more)).len (stays (switch_of switches) mode) name place items more (drop 1 switches) k))
 
 -- nothing is given
 pub empty_passed : (rows : List Row) (b : Begin) (region : Region) (mode : TextMode) (name : Option (List ℕ)) (place len : ℕ) (items more : List ℕ) (switches : List (Option TextMode)) →
@@ -93,11 +93,11 @@ empty_passed rows b region mode name place len items more switches e s p h k =
 pub piece_given : (rows : List Row) (b : Begin) (region : Region) (mode : TextMode) (given : Token) (len : ℕ) (name : Option (List ℕ)) (place : ℕ) (items more : List ℕ) (switch : Option TextMode) (switches : List (Option TextMode)) →
     begin_at mode region name (items ++ more) ≡ b → is_stop b ≡ true →
     begun_piece rows b place (items ++ more) ≡ piece (given ∷ []) len → 0 < len → len ≤ length items →
-    mode_after_kind given.kind switch mode ≡ mode → name_after_kind given.kind name ≡ name →
-    coming rows (Text region) mode name place (items ++ more) (switch ∷ switches) ≡ given ∷ tokens_after rows 0 mode name (place + len) (drop len items ++ more) switches
-piece_given rows b region mode given len name place items more switch switches e s p h k m n =
+    name_after_kind given.kind name ≡ name →
+    coming rows (Text region) mode name place (items ++ more) (switch ∷ switches) ≡ given ∷ tokens_after rows 0 (mode_after_kind given.kind switch mode) name (place + len) (drop len items ++ more) switches
+piece_given rows b region mode given len name place items more switch switches e s p h k n =
     tokens_begun rows b mode region name place (items ++ more) (switch ∷ switches) (piece (given ∷ []) len) e s p h (there items more (omega arith))
-    ∙ rw (m, n) (ap (λ (ts : List Token). given ∷ ts) (rw add-zero at (tokens_past rows len 0 mode name place items more switches k)))
+    ∙ rw n (ap (λ (ts : List Token). given ∷ ts) (rw add-zero at (tokens_past rows len 0 (mode_after_kind given.kind switch mode) name place items more switches k)))
 
 pub passes_come : (old new : Machine) (k : ℕ) (after : State) → Passes old k after new → (more : List ℕ) (switches : List (Option TextMode)) →
     to_come new more switches ≡ coming old.table.now after old.mode old.last_name (old.place + k) (drop k old.input.queue.items ++ more) switches
@@ -130,26 +130,26 @@ open_more old new region k after s p g h off step = (
 
 -- a step in text that gives a token
 pub open_given : (old new : Machine) (region : Region) (given : Token) (k : ℕ) (after : State) → old.state ≡ Text region → Passes old k after new → k ≤ length old.input.queue.items → (IsEnded after → ⊥) →
-    ((switch : Option TextMode) (mode : TextMode) → switch_to given.kind switch mode ≡ mode) → name_after_kind given.kind old.last_name ≡ old.last_name →
+    name_after_kind given.kind old.last_name ≡ old.last_name →
     ((more : List ℕ) (switch : Option TextMode) (switches : List (Option TextMode)) → MayFollow old.input.finished more →
-    coming old.table.now (Text region) old.mode old.last_name old.place (old.input.queue.items ++ more) (switch ∷ switches) ≡ given ∷ coming old.table.now after old.mode old.last_name (old.place + k) (drop k old.input.queue.items ++ more) switches) →
+    coming old.table.now (Text region) old.mode old.last_name old.place (old.input.queue.items ++ more) (switch ∷ switches) ≡ given ∷ coming old.table.now after (switch_to given.kind switch old.mode) old.last_name (old.place + k) (drop k old.input.queue.items ++ more) switches) →
     Steps old (Given given) new
-open_given old new region given k after s p h off same named step = (
-  (λ more switch switches f. rw s (step more switch switches f ∙ rw (p.state, p.mode, p.name, p.place, p.items, p.table, same switch old.mode) refl)),
+open_given old new region given k after s p h off named step = (
+  (λ more switch switches f. rw s (step more switch switches f ∙ rw (p.state, p.mode, p.name, p.place, p.items, p.table) refl)),
   passes_count old new k after p h off,
   p.name ∙ sym named,
 )
 
 -- one that is a whole piece
 pub open_gives : (old new : Machine) (region : Region) (b : Begin) (given : Token) (k : ℕ) → old.state ≡ Text region → Passes old k (Text Plain) new → 0 < k → k ≤ length old.input.queue.items →
-    ((switch : Option TextMode) (mode : TextMode) → switch_to given.kind switch mode ≡ mode) →
-    ((switch : Option TextMode) (mode : TextMode) → mode_after_kind given.kind switch mode ≡ mode) → ((name : Option (List ℕ)) → name_after_kind given.kind name ≡ name) →
+    ((switch : Option TextMode) (mode : TextMode) → mode_after_kind given.kind switch mode ≡ switch_to given.kind switch mode) → ((name : Option (List ℕ)) → name_after_kind given.kind name ≡ name) →
     is_stop b ≡ true → Decided old.input (begin_at old.mode region old.last_name) b →
     ((more : List ℕ) → MayFollow old.input.finished more → begun_piece old.table.now b old.place (old.input.queue.items ++ more) ≡ piece (given ∷ []) k) →
     Steps old (Given given) new
-open_gives old new region b given k s p g h same kept named stop begun whole =
-    open_given old new region given k (Text Plain) s p h (λ e. e) same (named old.last_name)
-    (λ more switch switches f. piece_given old.table.now b region old.mode given k old.last_name old.place old.input.queue.items more switch switches (begun more f) stop (whole more f) g h (kept switch old.mode) (named old.last_name))
+open_gives old new region b given k s p g h same named stop begun whole =
+    open_given old new region given k (Text Plain) s p h (λ e. e) (named old.last_name)
+    (λ more switch switches f. piece_given old.table.now b region old.mode given k old.last_name old.place old.input.queue.items more switch switches (begun more f) stop (whole more f) g h (named old.last_name)
+    ∙ rw (same switch old.mode) refl)
 
 -- the state is set after the pass
 pub passes_to : (old new : Machine) (k : ℕ) (before after : State) → Passes old k before new → Passes old k after (record new { state = after })
@@ -180,16 +180,16 @@ pub comment_reads : (rows : List Row) (draft draft' : CommentDraft) (mode : Text
 comment_reads rows draft draft' mode name place items items' more switches e s i h =
     let r = draft_cut draft' (items' ++ more) in
     let n : place + suc r.len ≡ place + 1 + r.len = omega arith in
-    ap (λ (c : Cut). token (kinds.Comment c.before) draft.start (place + c.len) ∷ tokens_after rows c.len mode name place (items ++ more) (drop 1 switches)) e
-    ∙ rw (n, tokens_past_one rows r.len mode name place items items' more (drop 1 switches) i h, s) refl
+    ap (λ (c : Cut). token (kinds.Comment c.before) draft.start (place + c.len) ∷ tokens_after rows c.len (stays (switch_of switches) mode) name place (items ++ more) (drop 1 switches)) e
+    ∙ rw (n, tokens_past_one rows r.len (stays (switch_of switches) mode) name place items items' more (drop 1 switches) i h, s) refl
 
 -- a comment closes
 pub comment_closes : (rows : List Row) (draft draft' : CommentDraft) (mode : TextMode) (name : Option (List ℕ)) (place n : ℕ) (items more : List ℕ) (switch : Option TextMode) (switches : List (Option TextMode)) →
     draft_cut draft (items ++ more) ≡ record { before = draft'.«data»; len = n } → draft'.start ≡ draft.start → n ≤ length items →
-    coming rows (Comment draft) mode name place (items ++ more) (switch ∷ switches) ≡ token (kinds.Comment draft'.«data») draft'.start (place + n) ∷ tokens_after rows 0 mode name (place + n) (drop n items ++ more) switches
+    coming rows (Comment draft) mode name place (items ++ more) (switch ∷ switches) ≡ token (kinds.Comment draft'.«data») draft'.start (place + n) ∷ tokens_after rows 0 (stays switch mode) name (place + n) (drop n items ++ more) switches
 comment_closes rows draft draft' mode name place n items more switch switches e s h =
-    ap (λ (c : Cut). token (kinds.Comment c.before) draft.start (place + c.len) ∷ tokens_after rows c.len mode name place (items ++ more) (drop 1 (switch ∷ switches))) e
-    ∙ rw s (ap (λ (ts : List Token). token (kinds.Comment draft'.«data») draft.start (place + n) ∷ ts) (rw add-zero at (tokens_past rows n 0 mode name place items more switches h)))
+    ap (λ (c : Cut). token (kinds.Comment c.before) draft.start (place + c.len) ∷ tokens_after rows c.len (stays switch mode) name place (items ++ more) switches) e
+    ∙ rw s (ap (λ (ts : List Token). token (kinds.Comment draft'.«data») draft.start (place + n) ∷ ts) (rw add-zero at (tokens_past rows n 0 (stays switch mode) name place items more switches h)))
 
 pub comment_more : (old : Machine) (input' : Input) (draft draft' : CommentDraft) → old.state ≡ Comment draft → Reads draft old.input More' draft' input' →
     Steps old More (record old { input = input'; place = old.place + 1; state = Comment draft' })
@@ -221,11 +221,12 @@ within rows name input k s h = (s.0, omega arith)
 pair_given : (rows : List Row) (region : Region) (mode : TextMode) (first second : Token) (len : ℕ) (name : Option (List ℕ)) (place : ℕ) (items more : List ℕ) (switch : Option TextMode) (switches : List (Option TextMode)) →
     begin_at mode region name (items ++ more) ≡ begins.Reference →
     begun_piece rows begins.Reference place (items ++ more) ≡ piece (first ∷ second ∷ []) len → 0 < len → len ≤ length items →
-    mode_after_kind first.kind switch mode ≡ mode → name_after_kind first.kind name ≡ name →
-    coming rows (Text region) mode name place (items ++ more) (switch ∷ switches) ≡ first ∷ second ∷ tokens_after rows 0 mode name (place + len) (drop len items ++ more) (drop 1 switches)
-pair_given rows region mode first second len name place items more switch switches e p h k m n =
+    name_after_kind first.kind name ≡ name →
+    coming rows (Text region) mode name place (items ++ more) (switch ∷ switches)
+    ≡ first ∷ second ∷ tokens_after rows 0 (mode_after_kind second.kind (switch_of switches) (mode_after_kind first.kind switch mode)) name (place + len) (drop len items ++ more) (drop 1 switches)
+pair_given rows region mode first second len name place items more switch switches e p h k n =
     tokens_begun rows begins.Reference mode region name place (items ++ more) (switch ∷ switches) (piece (first ∷ second ∷ []) len) e refl p h (there items more (omega arith))
-    ∙ rw (m, n) (ap (λ (ts : List Token). first ∷ second ∷ ts) (rw add-zero at (tokens_past rows len 0 mode name place items more (drop 1 switches) k)))
+    ∙ rw n (ap (λ (ts : List Token). first ∷ second ∷ ts) (rw add-zero at (tokens_past rows len 0 (mode_after_kind second.kind (switch_of switches) (mode_after_kind first.kind switch mode)) name place items more (drop 1 switches) k)))
 
 -- the code points of a reference are given
 pub chars_given : (old new : Machine) (region : Region) (len first : ℕ) (second : Option ℕ) (progress : Progress) → old.state ≡ Text region → Decided old.input (begin_at old.mode region old.last_name) begins.Reference →
@@ -233,19 +234,19 @@ pub chars_given : (old new : Machine) (region : Region) (len first : ℕ) (secon
     ((more : List ℕ) → MayFollow old.input.finished more → reference old.table.now (old.input.queue.items ++ more) ≡ record { codes = codes_with first second; len = len }) →
     GivesChars old len first second progress new → Steps old progress new
 chars_given old new region len first None progress s begun h k found (e, p) =
-    rw e (open_gives old new region begins.Reference (token (kinds.Char first) old.place (old.place + len)) len s p h k (λ switch mode. refl) (λ switch mode. refl) (λ name. refl) refl begun
+    rw e (open_gives old new region begins.Reference (token (kinds.Char first) old.place (old.place + len)) len s p h k (λ switch mode. refl) (λ name. refl) refl begun
     (λ more f. rw (found more f) refl))
 chars_given old new region len first (Some second) progress s begun h k found (e, p) =
-    rw e (open_given old new region (token (kinds.Char first) old.place (old.place + 1)) len (Second second (old.place + 1)) s p k (λ e. e) (λ switch mode. refl) refl
+    rw e (open_given old new region (token (kinds.Char first) old.place (old.place + 1)) len (Second second (old.place + 1)) s p k (λ e. e) refl
     (λ more switch switches f. pair_given old.table.now region old.mode (token (kinds.Char first) old.place (old.place + 1)) (token (kinds.Char second) (old.place + 1) (old.place + len)) len old.last_name old.place old.input.queue.items more switch switches
-    (begun more f) (rw (found more f) refl) h k refl refl))
+    (begun more f) (rw (found more f) refl) h k refl))
 
 pub second_given : (old new : Machine) (c start : ℕ) → old.state ≡ Second c start → new ≡ record old { state = Text Plain } → Steps old (Given (token (kinds.Char c) start old.place)) new
 second_given old new c start s n = ((λ more switch switches f. rw (s, n) refl), rw n (record { count = refl; finished = refl; table = refl; drained = λ _ h. absurd h }), rw n refl)
 
 -- the token of a number, and those after it
 abbrev number_coming : List Row → ℕ → ℕ → Numbered → TextMode → Option (List ℕ) → List ℕ → List (Option TextMode) → List Token
-number_coming rows start place n mode name rest switches = token (kinds.Char (char_of n.value)) start (place + n.len) ∷ tokens_after rows n.len mode name place rest (drop 1 switches)
+number_coming rows start place n mode name rest switches = token (kinds.Char (char_of n.value)) start (place + n.len) ∷ tokens_after rows n.len (stays (switch_of switches) mode) name place rest (drop 1 switches)
 
 -- a number begins
 pub number_begins : (old new : Machine) (region : Region) (base : Base) (opened : ℕ) → old.state ≡ Text region → Decided old.input (begin_at old.mode region old.last_name) begins.Reference →
@@ -260,7 +261,7 @@ number_begins old new region base opened s begun h k found p =
     rw (found more f, drop-append-le opened items more k) refl in
     let e : old.place + (opened + n.len) ≡ old.place + opened + n.len = omega arith in
     tokens_begun old.table.now begins.Reference old.mode region old.last_name old.place (items ++ more) switches _ (begun more f) refl whole (omega arith) (there items more (omega arith))
-    ∙ rw e (ap (λ (ts : List Token). token (kinds.Char (char_of n.value)) old.place (old.place + opened + n.len) ∷ ts) (tokens_past old.table.now opened n.len old.mode old.last_name old.place items more (drop 1 switches) k)))
+    ∙ rw e (ap (λ (ts : List Token). token (kinds.Char (char_of n.value)) old.place (old.place + opened + n.len) ∷ ts) (tokens_past old.table.now opened n.len (stays (switch_of switches) old.mode) old.last_name old.place items more (drop 1 switches) k)))
 
 -- the number so far counts only up to the first number past the code points
 number_capped : (b v : ℕ) (ds : List ℕ) → 0 < b → capped (number_from_digits_after b (capped v) ds) ≡ capped (number_from_digits_after b v ds)
@@ -313,7 +314,7 @@ number_more old new draft c d value s first h digit e v p = (
       let i : old.place + suc n.len ≡ old.place + 1 + n.len = omega arith in
       rw (s, p.state, p.mode, p.name, p.place, p.items, p.table)
       (ap (λ (x : Numbered). number_coming old.table.now draft.start old.place x old.mode old.last_name (items ++ more) switches) (ap (λ (x : List ℕ). numbered draft.base draft.value x) text ∙ digit_first draft.base draft.value c rest digit)
-      ∙ rw (i, tokens_past_one old.table.now n.len old.mode old.last_name old.place items (drop 1 items) more (drop 1 switches) refl h, same) refl)),
+      ∙ rw (i, tokens_past_one old.table.now n.len (stays (switch_of switches) old.mode) old.last_name old.place items (drop 1 items) more (drop 1 switches) refl h, same) refl)),
   passes_less old new 1 _ p (omega arith) h,
   passes_count old new 1 _ p h (λ e. e),
   p.name,
@@ -327,7 +328,7 @@ number_given old new draft len progress s h whole (g, p) =
     rw g (
       (λ more switch switches f. rw (s, p.state, p.mode, p.name, p.place, p.items, p.table)
           (ap (λ (x : Numbered). number_coming old.table.now draft.start old.place x old.mode old.last_name (old.input.queue.items ++ more) (switch ∷ switches)) (whole more f)
-          ∙ ap (λ (ts : List Token). token (kinds.Char (char_of draft.value)) draft.start (old.place + len) ∷ ts) (rw add-zero at (tokens_past old.table.now len 0 old.mode old.last_name old.place old.input.queue.items more switches h)))),
+          ∙ ap (λ (ts : List Token). token (kinds.Char (char_of draft.value)) draft.start (old.place + len) ∷ ts) (rw add-zero at (tokens_past old.table.now len 0 (stays switch old.mode) old.last_name old.place old.input.queue.items more switches h)))),
       passes_count old new len _ p h (λ e. e),
       p.name,
     )
@@ -352,13 +353,13 @@ named_none rows text e n = rw (e, n) refl
 
 -- the tokens from a comment on, which is this and began there
 abbrev comment_coming : List Row → ℕ → ℕ → Cut → TextMode → Option (List ℕ) → List ℕ → List (Option TextMode) → List Token
-comment_coming rows start place c mode name rest switches = token (kinds.Comment c.before) start (place + c.len) ∷ tokens_after rows c.len mode name place rest (drop 1 switches)
+comment_coming rows start place c mode name rest switches = token (kinds.Comment c.before) start (place + c.len) ∷ tokens_after rows c.len (stays (switch_of switches) mode) name place rest (drop 1 switches)
 
 comment_on : (rows : List Row) (start place n : ℕ) (c : Cut) (mode : TextMode) (name : Option (List ℕ)) (items more : List ℕ) (switches : List (Option TextMode)) → n ≤ length items →
     comment_coming rows start place (cut_by n c) mode name (items ++ more) switches ≡ comment_coming rows start (place + n) c mode name (drop n items ++ more) switches
 comment_on rows start place n c mode name items more switches h =
     let e : place + (n + c.len) ≡ place + n + c.len = omega arith in
-    rw e (ap (λ (ts : List Token). token (kinds.Comment c.before) start (place + n + c.len) ∷ ts) (tokens_past rows n c.len mode name place items more (drop 1 switches) h))
+    rw e (ap (λ (ts : List Token). token (kinds.Comment c.before) start (place + n + c.len) ∷ ts) (tokens_past rows n c.len (stays (switch_of switches) mode) name place items more (drop 1 switches) h))
 
 -- a front of the rest is copied
 pub comment_skips : (old new : Machine) (d d' : CommentDraft) (n : ℕ) → old.state ≡ Comment d → CopiesComment d old.input.queue.items n d' →

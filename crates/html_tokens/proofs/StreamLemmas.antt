@@ -1,8 +1,8 @@
 -- A run of the machine goes on.
-use Rattle.std.proofs.Common.{◌≡◌, ℕ, zero, suc, ◌+◌, ◌≤◌, List, [], ◌∷◌, ◌++◌, length, drop, Option, Some, None, Bool, true, false, refl, ap, ap₂, sym, ◌∙◌, ◌-◌, arith, append_assoc, append-nil}
+use Rattle.std.proofs.Common.{◌≡◌, ℕ, zero, suc, ◌+◌, ◌≤◌, List, [], ◌∷◌, ◌++◌, length, drop, Option, Some, None, Bool, true, false, refl, ap, ap₂, inl, inr, sym, ◌∙◌, ◌-◌, arith, append_assoc, append-nil}
 use Rattle.std.specs.List.{AllByRecursion}
 use Rattle.std.specs.Option.{IfNone, IfSome}
-use Rattle.html_tokens.specs.Tokens.{tokens_after, mode_after, name_after, tag_tokens, token, chars_at, next, text_or, text_after, begun_piece, ref_tokens, open_piece, opener, Piece, name_after_kind, when}
+use Rattle.html_tokens.specs.Tokens.{tokens_after, mode_after, name_after, tag_tokens, token, chars_at, next, text_or, text_after, begun_piece, ref_tokens, open_piece, opener, Piece, name_after_kind, when, is_data, switched}
 use Rattle.html_tokens.specs.Marks.{begin_at, front}
 use Rattle.html_tokens.specs.Reference.{reference}
 use Rattle.html_charref.specs.declared.table.Row.{Row}
@@ -10,17 +10,19 @@ use Rattle.html_tokens.specs.declared.token.Region.TheVariants.{Plain, Escaped, 
 use Rattle.html_tokens.specs.declared.token.Begin.{Begin}
 use Rattle.html_tokens.specs.declared.token.Begin.TheVariants as begins
 use Rattle.html_tokens.specs.Tag.{draft_tag}
+use Rattle.html_tokens.specs.Cut.{cut, section_mark}
 use Rattle.html_tokens.specs.Fed.{IsEnded, Skips, coming, to_come, switch_to, Steps, slack}
-use Rattle.html_tokens.specs.Given.{IsStart}
+use Rattle.html_tokens.specs.Given.{IsStart, MaySwitch}
 use Rattle.html_tokens.specs.Stream.{Run, IsAt, last_name, name_of, gave, answered, tokens_of, IsPrompt, IsLate, ended}
 use Rattle.html_tokens.specs.declared.token.Token.{Token}
 use Rattle.html_tokens.specs.declared.token.TokenKind.{TokenKind}
 use Rattle.html_tokens.specs.declared.token.TokenKind.TheVariants as kinds
 use Rattle.html_tokens.specs.declared.token.TextMode.{TextMode}
+use Rattle.html_tokens.specs.declared.token.TextMode.TheVariants.{Foreign}
 use Rattle.html_tokens.specs.declared.token.Opener.{Opener}
 use Rattle.html_tokens.specs.declared.token.Opener.TheVariants as opens
 use Rattle.html_tokens.specs.declared.machine.State.{State}
-use Rattle.html_tokens.specs.declared.machine.State.TheVariants.{Text, Number, Second, Comment, Doctype, Tag, Ended}
+use Rattle.html_tokens.specs.declared.machine.State.TheVariants.{Text, Number, Second, Comment, Doctype, Tag, Section, Ended}
 use Rattle.html_tokens.specs.declared.machine.Machine.{Machine}
 use Rattle.html_tokens.specs.declared.machine.Progress.TheVariants.{Given, More, Wait}
 
@@ -136,6 +138,7 @@ reach_begun rows begins.Char place from text h = tt
 reach_begun rows begins.Markup place from text h = reach_open rows (opener text) place from text h
 reach_begun rows begins.EndMark place from text h = reach_when _ _ from (omega arith)
 reach_begun rows begins.Reference place from text h = reach_ref (reference rows text).codes place _ from h (omega arith)
+reach_begun rows begins.Section place from text h = reach_chars Foreign (place + 9) from _ (omega arith)
 
 reach_tokens : (rows : List Row) (k : ℕ) (mode : TextMode) (name : Option (List ℕ)) (place from : ℕ) (text : List ℕ) (switches : List (Option TextMode)) → from ≤ place →
     AllByRecursion (Reaches from) (tokens_after rows k mode name place text switches)
@@ -149,18 +152,20 @@ reach_tokens rows (suc k) mode name place from (c ∷ rest) switches h = reach_t
 
 reach_text : (rows : List Row) (cs : List ℕ) (mode : TextMode) (name : Option (List ℕ)) (place : ℕ) (text : List ℕ) (switches : List (Option TextMode)) → AllByRecursion (Reaches place) (text_after rows cs mode name place text switches)
 reach_text rows cs mode name place text switches =
-    all_append (Reaches place) (chars_at mode place cs) _ (reach_chars mode place place cs (omega arith)) (reach_tokens rows (length cs) mode name place place text _ (omega arith))
+    all_append (Reaches place) (chars_at mode place cs) _ (reach_chars mode place place cs (omega arith)) (reach_tokens rows (length cs) _ name place place text _ (omega arith))
 
 reach_coming : (rows : List Row) (state : State) (mode : TextMode) (name : Option (List ℕ)) (place : ℕ) (text : List ℕ) (switches : List (Option TextMode)) → AllByRecursion (Reaches place) (coming rows state mode name place text switches)
 reach_coming rows (Text Plain) mode name place text switches = reach_tokens rows 0 mode name place place text switches (omega arith)
 reach_coming rows (Text Escaped) mode name place text switches = reach_text rows (front mode Escaped name text) mode name place text switches
 reach_coming rows (Text Double) mode name place text switches = reach_text rows (front mode Double name text) mode name place text switches
-reach_coming rows (Number draft) mode name place text switches = (omega arith, reach_tokens rows _ mode name place place text (drop 1 switches) (omega arith))
-reach_coming rows (Second c start) mode name place text switches = (omega arith, reach_tokens rows 0 mode name place place text (drop 1 switches) (omega arith))
-reach_coming rows (Comment draft) mode name place text switches = (omega arith, reach_tokens rows _ mode name place place text (drop 1 switches) (omega arith))
-reach_coming rows (Doctype draft) mode name place text switches = (omega arith, reach_tokens rows _ mode name place place text (drop 1 switches) (omega arith))
+reach_coming rows (Number draft) mode name place text switches = (omega arith, reach_tokens rows _ _ name place place text (drop 1 switches) (omega arith))
+reach_coming rows (Second c start) mode name place text switches = (omega arith, reach_tokens rows 0 _ name place place text (drop 1 switches) (omega arith))
+reach_coming rows (Comment draft) mode name place text switches = (omega arith, reach_tokens rows _ _ name place place text (drop 1 switches) (omega arith))
+reach_coming rows (Doctype draft) mode name place text switches = (omega arith, reach_tokens rows _ _ name place place text (drop 1 switches) (omega arith))
 reach_coming rows (Tag draft) mode name place text switches =
     all_append (Reaches place) _ _ (reach_when _ _ place (omega arith)) (reach_tokens rows _ _ _ place place text _ (omega arith))
+reach_coming rows Section mode name place text switches =
+    all_append (Reaches place) _ _ (reach_chars Foreign place place (cut section_mark text).before (omega arith)) (reach_tokens rows _ _ _ place place text _ (omega arith))
 reach_coming rows Ended mode name place text switches = tt
 
 -- where little is unread, all but the last tokens have been given
@@ -195,19 +200,32 @@ same_mode (kinds.Comment text) t = refl
 same_mode (kinds.Doctype name public_id system_id force_quirks) t = refl
 same_mode kinds.Eof t = refl
 
-switched : (kind : TokenKind) (mode : TextMode) (t : Machine) → IsStart kind → record t { mode = switch_to kind (Some mode) t.mode } ≡ record t { mode = mode }
-switched (kinds.Start name attrs self_closing) mode t h = refl
-switched (kinds.End name) mode t h = absurd h
-switched (kinds.Char c) mode t h = absurd h
-switched (kinds.Comment text) mode t h = absurd h
-switched (kinds.Doctype name public_id system_id force_quirks) mode t h = absurd h
-switched kinds.Eof mode t h = absurd h
+switches_start : (kind : TokenKind) (mode old : TextMode) → IsStart kind → switch_to kind (Some mode) old ≡ switched (Some mode) old
+switches_start (kinds.Start name attrs self_closing) mode old h = refl
+switches_start (kinds.End name) mode old h = absurd h
+switches_start (kinds.Char c) mode old h = absurd h
+switches_start (kinds.Comment text) mode old h = absurd h
+switches_start (kinds.Doctype name public_id system_id force_quirks) mode old h = absurd h
+switches_start kinds.Eof mode old h = absurd h
+
+switches_data : (kind : TokenKind) (mode old : TextMode) → is_data mode ≡ true → switch_to kind (Some mode) old ≡ switched (Some mode) old
+switches_data (kinds.Start name attrs self_closing) mode old h = refl
+switches_data (kinds.End name) mode old h = rw h refl
+switches_data (kinds.Char c) mode old h = rw h refl
+switches_data (kinds.Comment text) mode old h = rw h refl
+switches_data (kinds.Doctype name public_id system_id force_quirks) mode old h = rw h refl
+switches_data kinds.Eof mode old h = rw h refl
+
+switch_is : (kind : TokenKind) (mode old : TextMode) → MaySwitch kind mode → switch_to kind (Some mode) old ≡ switched (Some mode) old
+switch_is kind mode old (inl h) = switches_start kind mode old h
+switch_is kind mode old (inr h) = switches_data kind mode old h
 
 pub unsaid : (given : Token) (t : Machine) (run : Run) → ((switch : Option TextMode) → IsAt (answered given switch t) (gave run given switch)) → IsAt t (gave run given None)
 unsaid given t run i = rw (same_mode given.kind t) at (i None)
 
-pub said : (given : Token) (mode : TextMode) (t : Machine) (run : Run) → IsStart given.kind → ((switch : Option TextMode) → IsAt (answered given switch t) (gave run given switch)) → IsAt (record t { mode = mode }) (gave run given (Some mode))
-said given mode t run h i = rw (switched given.kind mode t h) at (i (Some mode))
+pub said : (given : Token) (mode : TextMode) (t : Machine) (run : Run) → MaySwitch given.kind mode → ((switch : Option TextMode) → IsAt (answered given switch t) (gave run given switch))
+    → IsAt (record t { mode = switched (Some mode) t.mode }) (gave run given (Some mode))
+said given mode t run h i = rw (switch_is given.kind mode t.mode h) at (i (Some mode))
 
 pub unsaid_some : (answer : Option Token) (old new : Machine) →
     IfSome answer (λ token. (run : Run) → IsAt old run → (switch : Option TextMode) → IsAt (answered token switch new) (gave run token switch)) →
@@ -245,8 +263,8 @@ tokens_some rows (suc k) mode name place (c ∷ rest) switches e = tokens_some r
 -- where nothing is to come, the end was given
 none_to_come : (rows : List Row) (state : State) (mode : TextMode) (name : Option (List ℕ)) (place : ℕ) (rest : List ℕ) (switches : List (Option TextMode)) → coming rows state mode name place rest switches ≡ [] → IsEnded state
 none_to_come rows (Text Plain) mode name place rest switches e = absurd (tokens_some rows 0 mode name place rest switches e)
-none_to_come rows (Text Escaped) mode name place rest switches e = absurd (tokens_some rows _ mode name place rest _ (last_none (chars_at mode place (front mode Escaped name rest)) _ e))
-none_to_come rows (Text Double) mode name place rest switches e = absurd (tokens_some rows _ mode name place rest _ (last_none (chars_at mode place (front mode Double name rest)) _ e))
+none_to_come rows (Text Escaped) mode name place rest switches e = absurd (tokens_some rows _ _ name place rest _ (last_none (chars_at mode place (front mode Escaped name rest)) _ e))
+none_to_come rows (Text Double) mode name place rest switches e = absurd (tokens_some rows _ _ name place rest _ (last_none (chars_at mode place (front mode Double name rest)) _ e))
 none_to_come rows (Number draft) mode name place rest switches e = cc
 none_to_come rows (Second c start) mode name place rest switches e = cc
 none_to_come rows (Comment draft) mode name place rest switches e = cc
@@ -254,6 +272,8 @@ none_to_come rows (Doctype draft) mode name place rest switches e = cc
 none_to_come rows (Tag draft) mode name place rest switches e =
     let t = draft_tag rows draft rest in
     absurd (tokens_some rows _ _ _ place rest _ (last_none (tag_tokens draft.is_end draft.start (place + t.tail.len) t) _ e))
+none_to_come rows Section mode name place rest switches e =
+    absurd (tokens_some rows _ _ name place rest _ (last_none (chars_at Foreign place (cut section_mark rest).before) _ e))
 none_to_come rows Ended mode name place rest switches e = tt
 
 same_front : {X : Type 0} (xs ys : List X) → xs ≡ xs ++ ys → ys ≡ []

@@ -1,5 +1,5 @@
 -- What the steps in a tag give.
-use Rattle.std.proofs.Common.{◌≡◌, ℕ, suc, ◌+◌, ◌<◌, ◌≤◌, List, [], ◌∷◌, ◌++◌, length, drop, Option, Some, None, Bool, true, false, refl, ap, sym, ◌∙◌, arith, length-append, length-drop, add-zero, Result, Ok, Err}
+use Rattle.std.proofs.Common.{◌≡◌, ℕ, suc, ◌+◌, ◌<◌, ◌≤◌, List, [], ◌∷◌, ◌++◌, length, drop, Option, Some, Bool, true, false, refl, ap, sym, ◌∙◌, arith, length-append, length-drop, add-zero, Result, Ok, Err}
 use Rattle.std.specs.List.{slice_get}
 use Rattle.std.specs.Option.{option_to_list}
 use Rattle.std.specs.Result.{IfOk}
@@ -25,7 +25,7 @@ use Rattle.html_tokens.specs.declared.machine.Machine.{Machine}
 use Rattle.html_tokens.specs.declared.machine.Progress.{Progress}
 use Rattle.html_tokens.specs.declared.machine.Progress.TheVariants.{Given, More}
 use Rattle.html_tokens.specs.declared.machine.State.{State}
-use Rattle.html_tokens.specs.declared.machine.State.TheVariants.{Text, Number, Second, Comment, Doctype, Tag, Ended}
+use Rattle.html_tokens.specs.declared.machine.State.TheVariants.{Text, Number, Second, Comment, Doctype, Tag, Section, Ended}
 use Rattle.html_tokens.proofs.TokensLemmas.{tokens_begun, tokens_past, tokens_past_one}
 use Rattle.html_tokens.proofs.Cuts.{first_of}
 use Rattle.html_tokens.proofs.StepLemmas.{all_read, going_on}
@@ -107,8 +107,7 @@ tag_more old new d d' c after s (e, st, en) first second k p =
 
 mode_same : (is_end : Bool) (t : WholeTag) (switch : Option TextMode) (mode : TextMode) → mode_after_kind (tag_kind is_end t) switch mode ≡ switch_to (tag_kind is_end t) switch (mode_after_tag is_end mode)
 mode_same true t switch mode = refl
-mode_same false t None mode = refl
-mode_same false t (Some m) mode = refl
+mode_same false t switch mode = refl
 
 name_same : (is_end : Bool) (t : WholeTag) (name : Option (List ℕ)) → name_after_kind (tag_kind is_end t) name ≡ name_after_tag is_end t.name name
 name_same true t name = refl
@@ -159,6 +158,7 @@ tag_dropped rows (Second c start) mode name place switches h = absurd h
 tag_dropped rows (Comment d) mode name place switches h = absurd h
 tag_dropped rows (Doctype d) mode name place switches h = absurd h
 tag_dropped rows (Tag d) mode name place switches h = rw (tag_open rows d.part d.attr_name d.attr_value) refl
+tag_dropped rows Section mode name place switches h = absurd h
 tag_dropped rows Ended mode name place switches h = absurd h
 
 pub tag_ends : (old new : Machine) → IsTag old.state → new ≡ record old { state = Ended } →

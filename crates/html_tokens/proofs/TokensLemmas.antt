@@ -1,7 +1,8 @@
-use Rattle.std.proofs.Common.{◌≡◌, ℕ, zero, suc, ◌+◌, ◌-◌, ◌<◌, ◌≤◌, List, [], ◌∷◌, ◌++◌, length, drop, Option, true, refl, ap, sym, ◌∙◌, arith, length-append, add-zero, zero-add}
+use Rattle.std.proofs.Common.{◌≡◌, ℕ, zero, suc, ◌+◌, ◌-◌, ◌<◌, ◌≤◌, List, [], ◌∷◌, ◌++◌, length, drop, Bool, Option, None, Some, cond, true, false, refl, ap, sym, ◌∙◌, arith, length-append, add-zero, zero-add}
 use Rattle.std.proofs.lemmas.List.{drop-append-le}
-use Rattle.html_tokens.specs.Tokens.{tokens_after, text_after, char_at, chars_at, next, token, begun_piece, mode_after, name_after, Piece}
-use Rattle.html_tokens.specs.Marks.{begin_at, is_stop, front, region_in}
+use Rattle.std.specs.Prelude.{◌==◌}
+use Rattle.html_tokens.specs.Tokens.{tokens_after, text_after, char_at, chars_at, next, text_char, token, begun_piece, stays, mode_after, name_after, Piece}
+use Rattle.html_tokens.specs.Marks.{begin_at, is_stop, front, opens_section, region_in}
 use Rattle.html_tokens.specs.Fed.{coming}
 use Rattle.html_charref.specs.declared.table.Row.{Row}
 use Rattle.html_tokens.specs.declared.token.Region.{Region}
@@ -10,7 +11,7 @@ use Rattle.html_tokens.specs.declared.token.Begin.{Begin}
 use Rattle.html_tokens.specs.declared.token.Begin.TheVariants as begins
 use Rattle.html_tokens.specs.declared.machine.State.TheVariants.{Text}
 use Rattle.html_tokens.specs.declared.token.TextMode.{TextMode}
-use Rattle.html_tokens.specs.declared.token.TextMode.TheVariants.{Data, Rcdata, Rawtext, Script, Plaintext}
+use Rattle.html_tokens.specs.declared.token.TextMode.TheVariants.{Data, Rcdata, Rawtext, Script, Plaintext, Foreign}
 use Rattle.html_tokens.specs.declared.token.Token.{Token}
 use Rattle.html_tokens.specs.declared.token.TokenKind.TheVariants.{Eof}
 
@@ -43,6 +44,53 @@ begin_plain Script Plain name text b e s = e
 begin_plain Script Escaped name text b e s = e
 begin_plain Script Double name text b e s = cc
 begin_plain Plaintext region name text b e s = e
+begin_plain Foreign region name text b e s = e
+
+-- DATA IN FOREIGN CONTENT OR NOT
+
+-- what holds of data in foreign content and of other data alike, holds whatever is said of the mode
+pub mode_cases : (P : TextMode → TextMode → Type 0) → ((m : TextMode) → P m m) → P Data Foreign → P Foreign Data → (said : Option TextMode) (mode : TextMode) → P mode (stays said mode)
+mode_cases P same to back None mode = same mode
+mode_cases P same to back (Some Data) Data = same Data
+mode_cases P same to back (Some Data) Rcdata = same Rcdata
+mode_cases P same to back (Some Data) Rawtext = same Rawtext
+mode_cases P same to back (Some Data) Script = same Script
+mode_cases P same to back (Some Data) Plaintext = same Plaintext
+mode_cases P same to back (Some Data) Foreign = back
+mode_cases P same to back (Some Rcdata) mode = same mode
+mode_cases P same to back (Some Rawtext) mode = same mode
+mode_cases P same to back (Some Script) mode = same mode
+mode_cases P same to back (Some Plaintext) mode = same mode
+mode_cases P same to back (Some Foreign) Data = to
+mode_cases P same to back (Some Foreign) Rcdata = same Rcdata
+mode_cases P same to back (Some Foreign) Rawtext = same Rawtext
+mode_cases P same to back (Some Foreign) Script = same Script
+mode_cases P same to back (Some Foreign) Plaintext = same Plaintext
+mode_cases P same to back (Some Foreign) Foreign = same Foreign
+
+chars_turned : (said : Option TextMode) (mode : TextMode) (place : ℕ) (cs : List ℕ) → chars_at mode place cs ≡ chars_at (stays said mode) place cs
+chars_turned said mode place [] = refl
+chars_turned said mode place (c ∷ cs) =
+    let one : text_char mode c ≡ text_char (stays said mode) c = mode_cases (λ m n. text_char m c ≡ text_char n c) (λ m. refl) refl refl said mode in
+    rw one (ap (λ (ts : List Token). char_at (stays said mode) place c ∷ ts) (chars_turned said mode (place + 1) cs))
+
+stops_in : (a b : Bool) (other : Begin) → is_stop (cond a begins.Markup other) ≡ is_stop (cond a (cond b begins.Section begins.Markup) other)
+stops_in true true other = refl
+stops_in true false other = refl
+stops_in false b other = refl
+
+front_foreign : (region : Region) (name : Option (List ℕ)) (text : List ℕ) → front Data region name text ≡ front Foreign region name text
+unfolding front
+front_foreign region name [] = refl
+front_foreign region name (c ∷ rest) =
+    let stop : is_stop (begin_at Data region name (c ∷ rest)) ≡ is_stop (begin_at Foreign region name (c ∷ rest)) = stops_in (c == 60) (opens_section (c ∷ rest)) (cond (c == 38) begins.Reference begins.Char) in
+    rw (stop, front_foreign Plain name rest) refl
+
+front_turned : (said : Option TextMode) (mode : TextMode) (region : Region) (name : Option (List ℕ)) (text : List ℕ) → front mode region name text ≡ front (stays said mode) region name text
+front_turned said mode region name text =
+    mode_cases (λ m n. front m region name text ≡ front n region name text) (λ m. refl) (front_foreign region name text) (sym (front_foreign region name text)) said mode
+
+-- A FRONT OF TEXT
 
 front_stop : (mode : TextMode) (region : Region) (name : Option (List ℕ)) (c : ℕ) (rest : List ℕ) (b : Begin) → begin_at mode region name (c ∷ rest) ≡ b → is_stop b ≡ true → front mode region name (c ∷ rest) ≡ []
 unfolding front
@@ -72,7 +120,7 @@ text_plain_by : (rows : List Row) (cs : List ℕ) (mode : TextMode) (name : Opti
 text_plain_by rows [] mode name place c rest switches e = refl
 text_plain_by rows (d ∷ ds) mode name place c rest switches e =
     tokens_unroll rows mode name place c rest switches
-    ∙ rw e (ap (λ (ts : List Token). chars_at mode place (d ∷ ds) ++ ts) (tokens_pred rows (length ds) mode name place c rest (drop (length (chars_at mode place (d ∷ ds))) switches)))
+    ∙ rw e (ap (λ (ts : List Token). chars_at mode place (d ∷ ds) ++ ts) (tokens_pred rows (length ds) (mode_after (chars_at mode place (d ∷ ds)) switches mode) name place c rest (drop (length (chars_at mode place (d ∷ ds))) switches)))
 
 text_plain : (rows : List Row) (mode : TextMode) (name : Option (List ℕ)) (place : ℕ) (text : List ℕ) (switches : List (Option TextMode)) →
     tokens_after rows 0 mode name place text switches ≡ text_after rows (front mode Plain name text) mode name place text switches
@@ -87,19 +135,21 @@ text_coming rows Escaped mode name place text switches = refl
 text_coming rows Double mode name place text switches = refl
 
 text_on : (rows : List Row) (cs : List ℕ) (mode : TextMode) (name : Option (List ℕ)) (place c : ℕ) (rest : List ℕ) (switch : Option TextMode) (switches : List (Option TextMode)) →
-    text_after rows (c ∷ cs) mode name place (c ∷ rest) (switch ∷ switches) ≡ char_at mode place c ∷ text_after rows cs mode name (place + 1) rest switches
+    text_after rows (c ∷ cs) mode name place (c ∷ rest) (switch ∷ switches) ≡ char_at mode place c ∷ text_after rows cs (stays switch mode) name (place + 1) rest switches
 unfolding tokens_after
-text_on rows cs mode name place c rest switch switches = refl
+text_on rows cs mode name place c rest switch switches = rw (← chars_turned switch mode (place + 1) cs) refl
 
 -- in text, one code point is one Char
 pub tokens_text : (rows : List Row) (mode : TextMode) (region after : Region) (name : Option (List ℕ)) (place c : ℕ) (rest : List ℕ) (switch : Option TextMode) (switches : List (Option TextMode)) →
     begin_at mode region name (c ∷ rest) ≡ begins.Char → region_in mode region (c ∷ rest) ≡ after →
-    coming rows (Text region) mode name place (c ∷ rest) (switch ∷ switches) ≡ char_at mode place c ∷ coming rows (Text after) mode name (place + 1) rest switches
+    coming rows (Text region) mode name place (c ∷ rest) (switch ∷ switches) ≡ char_at mode place c ∷ coming rows (Text after) (stays switch mode) name (place + 1) rest switches
 tokens_text rows mode region after name place c rest switch switches e r =
     text_coming rows region mode name place (c ∷ rest) (switch ∷ switches)
     ∙ rw (front_go mode region name c rest e, r)
     (text_on rows (front mode after name rest) mode name place c rest switch switches
-    ∙ ap (λ (ts : List Token). char_at mode place c ∷ ts) (sym (text_coming rows after mode name (place + 1) rest switches)))
+    ∙ ap (λ (ts : List Token). char_at mode place c ∷ ts)
+    (ap (λ (cs : List ℕ). text_after rows cs (stays switch mode) name (place + 1) rest switches) (front_turned switch mode after name rest)
+    ∙ sym (text_coming rows after (stays switch mode) name (place + 1) rest switches)))
 
 tokens_back : (rows : List Row) (k : ℕ) (mode : TextMode) (name : Option (List ℕ)) (place c : ℕ) (rest : List ℕ) (switches : List (Option TextMode)) → 0 < k →
     tokens_after rows (k - 1) mode name (place + 1) rest switches ≡ tokens_after rows k mode name place (c ∷ rest) switches

@@ -4,7 +4,7 @@ use Rattle.std.specs.Prelude.{ℕ, ◌+◌, ◌*◌, ◌≤◌, length}
 use Rattle.html_tokens.specs.declared.faults.Faults.{Faults}
 use Rattle.html_tokens.specs.declared.machine.Machine.{Machine}
 use Rattle.html_tokens.specs.declared.machine.State.{State}
-use Rattle.html_tokens.specs.declared.machine.State.TheVariants.{Text, Number, Second, Comment, Doctype, Tag, Ended}
+use Rattle.html_tokens.specs.declared.machine.State.TheVariants.{Text, Number, Second, Comment, Doctype, Tag, Section, Ended}
 
 -- at most so many errors more, and so many comparisons
 abbrev pub Told : ℕ → ℕ → Faults → Faults → Type 0
@@ -18,6 +18,7 @@ due (Second c start) = 8
 due (Comment draft) = 10
 due (Doctype draft) = 10
 due (Tag draft) = 15
+due Section = 8
 due Ended = 0
 
 -- the comparisons that a state at a place may still make before a code point is passed
@@ -28,6 +29,7 @@ searches (Second c start) place = 0
 searches (Comment draft) place = 0
 searches (Doctype draft) place = 0
 searches (Tag draft) place = place
+searches Section place = 0
 searches Ended place = 0
 
 -- the attributes of the tag that is being read
@@ -38,6 +40,7 @@ attr_count (Second c start) = 0
 attr_count (Comment draft) = 0
 attr_count (Doctype draft) = 0
 attr_count (Tag draft) = length draft.attrs
+attr_count Section = 0
 attr_count Ended = 0
 
 -- the errors and comparisons so far, at a place

@@ -46,6 +46,10 @@ comment_mark text = comment_mark_at (slice_get text 0) (slice_get text 1) (slice
 abbrev pub greater_mark : List ℕ → Option ℕ
 greater_mark text = mark_if (is 62 (slice_get text 0)) 1 None
 
+-- `]]>` closes a section (HTML 13.2.5.69 to 13.2.5.71).
+abbrev pub section_mark : List ℕ → Option ℕ
+section_mark text = mark_if (is 93 (slice_get text 0) && is 93 (slice_get text 1) && is 62 (slice_get text 2)) 3 None
+
 -- U+0000 becomes U+FFFD (HTML 13.2.5.3 and on).
 abbrev pub null_replaced : ℕ → ℕ
 null_replaced c = cond (c == 0) 65533 c

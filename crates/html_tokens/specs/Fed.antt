@@ -1,13 +1,14 @@
 -- Claimed, but for this crate's own functions: SameCount, to_come_after, Steps, Skips, Passes, IsComment, IsTag, IsDoctype, EndsDoctype, BeginsDoctype, EndsComment, new_tag, BeginsTag, mode_after_tag, name_after_tag, read_tag, EndsTagAt, EndsTag, GivesChars.
 -- What a tokenizer has still to give, and what it was fed.
 use Rattle.std.specs.Prelude.{◌≡◌, ℕ, ◌+◌, ◌<◌, List, [], ◌∷◌, ◌++◌, length, drop, Bool, true, false, Option, Some, None}
+use Rattle.html_tokens.specs.Cut.{cut, section_mark}
 use Rattle.html_tokens.specs.Draft.{draft_cut}
 use Rattle.html_tokens.specs.Doctype.{draft_doctype, new_doctype, ids_of, closes}
 use Rattle.html_tokens.specs.declared.doctype.DoctypeDraft.{DoctypeDraft}
 use Rattle.html_tokens.specs.Input.{MayFollow, IsShort}
 use Rattle.html_tokens.specs.Tag.{draft_tag}
 use Rattle.html_tokens.specs.Tag.{Tag as WholeTag}
-use Rattle.html_tokens.specs.Tokens.{token, tokens_after, text_after, tag_tokens, tag_kind, doctype_kind, mode_after, name_after, name_after_kind}
+use Rattle.html_tokens.specs.Tokens.{token, tokens_after, text_after, chars_at, tag_tokens, tag_kind, doctype_kind, stays, switch_of, switched, mode_after, name_after, name_after_kind}
 use Rattle.html_tokens.specs.Marks.{front, name_len}
 use Rattle.html_tokens.specs.Reference.{numbered}
 use Rattle.html_charref.specs.Number.{char_of}
@@ -17,13 +18,13 @@ use Rattle.html_tokens.specs.declared.token.Region.TheVariants.{Plain, Escaped, 
 use Rattle.html_tokens.specs.declared.comment.CommentDraft.{CommentDraft}
 use Rattle.html_tokens.specs.declared.tag.TagDraft.{TagDraft}
 use Rattle.html_tokens.specs.declared.tag.Part.TheVariants as parts
-use Rattle.html_tokens.specs.declared.token.TextMode.TheVariants.{Data}
+use Rattle.html_tokens.specs.declared.token.TextMode.TheVariants.{Data, Foreign}
 use Rattle.html_tokens.specs.declared.token.Token.{Token}
 use Rattle.html_tokens.specs.declared.token.TokenKind.{TokenKind}
 use Rattle.html_tokens.specs.declared.token.TokenKind.TheVariants as kinds
 use Rattle.html_tokens.specs.declared.token.TextMode.{TextMode}
 use Rattle.html_tokens.specs.declared.machine.State.{State}
-use Rattle.html_tokens.specs.declared.machine.State.TheVariants.{Text, Number, Second, Comment, Doctype, Tag, Ended}
+use Rattle.html_tokens.specs.declared.machine.State.TheVariants.{Text, Number, Second, Comment, Doctype, Tag, Section, Ended}
 use Rattle.html_tokens.specs.declared.machine.Machine.{Machine}
 use Rattle.html_tokens.specs.declared.machine.Progress.{Progress}
 use Rattle.html_tokens.specs.declared.machine.Progress.TheVariants.{Given, More, Wait}
@@ -35,18 +36,22 @@ coming rows (Text Escaped) mode name place rest switches = text_after rows (fron
 coming rows (Text Double) mode name place rest switches = text_after rows (front mode Double name rest) mode name place rest switches
 coming rows (Number draft) mode name place rest switches =
     let n = numbered draft.base draft.value rest in
-    token (kinds.Char (char_of n.value)) draft.start (place + n.len) ∷ tokens_after rows n.len mode name place rest (drop 1 switches)
-coming rows (Second c start) mode name place rest switches = token (kinds.Char c) start place ∷ tokens_after rows 0 mode name place rest (drop 1 switches)
+    token (kinds.Char (char_of n.value)) draft.start (place + n.len) ∷ tokens_after rows n.len (stays (switch_of switches) mode) name place rest (drop 1 switches)
+coming rows (Second c start) mode name place rest switches = token (kinds.Char c) start place ∷ tokens_after rows 0 (stays (switch_of switches) mode) name place rest (drop 1 switches)
 coming rows (Comment draft) mode name place rest switches =
     let c = draft_cut draft rest in
-    token (kinds.Comment c.before) draft.start (place + c.len) ∷ tokens_after rows c.len mode name place rest (drop 1 switches)
+    token (kinds.Comment c.before) draft.start (place + c.len) ∷ tokens_after rows c.len (stays (switch_of switches) mode) name place rest (drop 1 switches)
 coming rows (Doctype draft) mode name place rest switches =
     let d = draft_doctype draft rest in
-    token (doctype_kind d) draft.start (place + d.len) ∷ tokens_after rows d.len mode name place rest (drop 1 switches)
+    token (doctype_kind d) draft.start (place + d.len) ∷ tokens_after rows d.len (stays (switch_of switches) mode) name place rest (drop 1 switches)
 coming rows (Tag draft) mode name place rest switches =
     let t = draft_tag rows draft rest in
     let given = tag_tokens draft.is_end draft.start (place + t.tail.len) t in
     given ++ tokens_after rows t.tail.len (mode_after given switches mode) (name_after given name) place rest (drop (length given) switches)
+coming rows Section mode name place rest switches =
+    let section = cut section_mark rest in
+    let given = chars_at Foreign place section.before in
+    given ++ tokens_after rows section.len (mode_after given switches mode) name place rest (drop (length given) switches)
 coming rows Ended mode name place rest switches = []
 
 abbrev pub to_come : Machine → List ℕ → List (Option TextMode) → List Token
@@ -60,6 +65,7 @@ IsEnded (Second c start) = ⊥
 IsEnded (Comment draft) = ⊥
 IsEnded (Doctype draft) = ⊥
 IsEnded (Tag draft) = ⊥
+IsEnded Section = ⊥
 IsEnded Ended = Unit {0}
 
 -- where the end was given, all was fed and read
@@ -77,15 +83,14 @@ pub record SameCount (old new : Machine) : Type 0 where
 abbrev pub slack : List Row → Option (List ℕ) → ℕ
 slack rows name = longest_len rows + name_len name + 8
 
--- the tokenizer after the answer to a token, which may be another mode for the text after a start tag
+-- the mode after the answer to a token that was given
 abbrev pub switch_to : TokenKind → Option TextMode → TextMode → TextMode
-switch_to (kinds.Start name attrs self_closing) (Some mode) old = mode
-switch_to (kinds.Start name attrs self_closing) None old = old
-switch_to (kinds.End name) switch old = old
-switch_to (kinds.Char c) switch old = old
-switch_to (kinds.Comment text) switch old = old
-switch_to (kinds.Doctype name public_id system_id force_quirks) switch old = old
-switch_to kinds.Eof switch old = old
+switch_to (kinds.Start name attrs self_closing) said mode = switched said mode
+switch_to (kinds.End name) said mode = stays said mode
+switch_to (kinds.Char c) said mode = stays said mode
+switch_to (kinds.Comment text) said mode = stays said mode
+switch_to (kinds.Doctype name public_id system_id force_quirks) said mode = stays said mode
+switch_to kinds.Eof said mode = stays said mode
 
 abbrev pub to_come_after : Token → Option TextMode → Machine → List ℕ → List (Option TextMode) → List Token
 to_come_after given switch t more switches = coming t.table.now t.state (switch_to given.kind switch t.mode) t.last_name t.place (t.input.queue.items ++ more) switches
@@ -123,6 +128,7 @@ IsComment (Second c start) = ⊥
 IsComment (Comment draft) = Unit {0}
 IsComment (Doctype draft) = ⊥
 IsComment (Tag draft) = ⊥
+IsComment Section = ⊥
 IsComment Ended = ⊥
 
 abbrev pub IsTag : State → Type 0
@@ -132,6 +138,7 @@ IsTag (Second c start) = ⊥
 IsTag (Comment draft) = ⊥
 IsTag (Doctype draft) = ⊥
 IsTag (Tag draft) = Unit {0}
+IsTag Section = ⊥
 IsTag Ended = ⊥
 
 abbrev pub IsDoctype : State → Type 0
@@ -141,6 +148,7 @@ IsDoctype (Second c start) = ⊥
 IsDoctype (Comment draft) = ⊥
 IsDoctype (Doctype draft) = Unit {0}
 IsDoctype (Tag draft) = ⊥
+IsDoctype Section = ⊥
 IsDoctype Ended = ⊥
 
 abbrev pub EndsDoctype : Machine → Bool → ℕ → Progress → Machine → Type 0

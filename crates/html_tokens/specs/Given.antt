@@ -1,9 +1,10 @@
 -- Claimed.
 -- What callers of a tokenizer know of it: its run.
-use Rattle.std.specs.Prelude.{◌≡◌, ℕ, ◌+◌, ◌-◌, ◌^◌, min, List, [], length, Bool, true, false, cond, Option}
+use Rattle.std.specs.Prelude.{◌≡◌, ◌⊎◌, ℕ, ◌+◌, ◌-◌, ◌^◌, min, List, [], length, Bool, true, false, cond, Option}
 use Rattle.html_tokens.specs.Stream.{Run, Start, IsAt, gave, answered, tokens_of}
 use Rattle.html_charref.specs.declared.table.Row.{Row}
 use Rattle.html_tokens.specs.Runs.{is_text, plain_front}
+use Rattle.html_tokens.specs.Tokens.{is_data}
 use Rattle.html_tokens.specs.declared.token.Token.{Token}
 use Rattle.html_tokens.specs.declared.token.TokenKind.{TokenKind}
 use Rattle.html_tokens.specs.declared.token.TokenKind.TheVariants as kinds
@@ -76,3 +77,7 @@ IsStart (kinds.Char c) = ⊥
 IsStart (kinds.Comment text) = ⊥
 IsStart (kinds.Doctype name public_id system_id force_quirks) = ⊥
 IsStart kinds.Eof = ⊥
+
+-- What may be said of the mode after a token: anything after a start tag, and after each token whether it is data of foreign content.
+abbrev pub MaySwitch : TokenKind → TextMode → Type 0
+MaySwitch kind mode = IsStart kind ⊎ (is_data mode ≡ true)

@@ -8,9 +8,9 @@ use Rattle.html_tokens.specs.Tag.{ends_name, between}
 use Rattle.html_tokens.specs.declared.token.Region.{Region}
 use Rattle.html_tokens.specs.declared.token.Region.TheVariants.{Plain, Escaped, Double}
 use Rattle.html_tokens.specs.declared.token.TextMode.{TextMode}
-use Rattle.html_tokens.specs.declared.token.TextMode.TheVariants.{Data, Rcdata, Rawtext, Script, Plaintext}
+use Rattle.html_tokens.specs.declared.token.TextMode.TheVariants.{Data, Rcdata, Rawtext, Script, Plaintext, Foreign}
 use Rattle.html_tokens.specs.declared.token.Begin.{Begin}
-use Rattle.html_tokens.specs.declared.token.Begin.TheVariants.{Char, Markup, EndMark, Reference}
+use Rattle.html_tokens.specs.declared.token.Begin.TheVariants.{Char, Markup, EndMark, Reference, Section}
 
 -- the code point is there, in either case; it is the lower one
 abbrev pub is_lowered : ℕ → Option ℕ → Bool
@@ -60,6 +60,18 @@ opens_script text = is 60 (slice_get text 0) && spells script_name 1 text
 abbrev pub closes_script : List ℕ → Bool
 closes_script text = is 60 (slice_get text 0) && is 47 (slice_get text 1) && spells script_name 2 text
 
+-- at a place stands this word, as it is written
+abbrev pub stands : List ℕ → ℕ → List ℕ → Bool
+stands [] at text = true
+stands (n ∷ ns) at text = is n (slice_get text at) && stands ns (at + 1) text
+
+-- `<![CDATA[`
+abbrev pub section_opener : List ℕ
+section_opener = 60 ∷ 33 ∷ 91 ∷ 67 ∷ 68 ∷ 65 ∷ 84 ∷ 65 ∷ 91 ∷ []
+
+abbrev pub opens_section : List ℕ → Bool
+opens_section text = stands section_opener 0 text
+
 -- The region after the code point at the front (HTML 13.2.5.18 to 13.2.5.31). A mark changes it from its first code point on: no mark of the
 -- next region begins inside it but the dashes of `<!--`, which count for `-->`.
 abbrev pub region_after : Region → List ℕ → Region
@@ -73,6 +85,7 @@ region_in Rcdata region text = Plain
 region_in Rawtext region text = Plain
 region_in Script region text = region_after region text
 region_in Plaintext region text = Plain
+region_in Foreign region text = Plain
 
 -- what begins at the front of script text
 abbrev pub script_begin : Region → Option (List ℕ) → List ℕ → Begin
@@ -80,13 +93,15 @@ script_begin Plain name text = cond (is_end_mark name text) EndMark Char
 script_begin Escaped name text = cond (is_end_mark name text) EndMark Char
 script_begin Double name text = Char
 
--- what begins at the front of the rest (HTML 13.2.5.1 to 13.2.5.5)
+-- What begins at the front of the rest (HTML 13.2.5.1 to 13.2.5.5). In foreign content `<![CDATA[` begins a section (HTML 13.2.5.42).
 abbrev pub begin_at : TextMode → Region → Option (List ℕ) → List ℕ → Begin
 begin_at Data region name text = cond (is 60 (slice_get text 0)) Markup (cond (is 38 (slice_get text 0)) Reference Char)
 begin_at Rcdata region name text = cond (is 38 (slice_get text 0)) Reference (cond (is_end_mark name text) EndMark Char)
 begin_at Rawtext region name text = cond (is_end_mark name text) EndMark Char
 begin_at Script region name text = script_begin region name text
 begin_at Plaintext region name text = Char
+begin_at Foreign region name text =
+    cond (is 60 (slice_get text 0)) (cond (opens_section text) Section Markup) (cond (is 38 (slice_get text 0)) Reference Char)
 
 -- another piece than text begins
 abbrev pub is_stop : Begin → Bool
@@ -94,6 +109,7 @@ is_stop Char = false
 is_stop Markup = true
 is_stop EndMark = true
 is_stop Reference = true
+is_stop Section = true
 
 -- The longest front of the rest that is text, by the regions.
 unfoldable pub front : TextMode → Region → Option (List ℕ) → List ℕ → List ℕ

@@ -6,10 +6,10 @@ use Rattle.html_tokens.specs.Tokens.{token}
 use Rattle.html_tokens.specs.declared.token.Token.{Token}
 use Rattle.html_tokens.specs.declared.token.TokenKind.TheVariants as kinds
 use Rattle.html_tokens.specs.declared.token.TextMode.{TextMode}
-use Rattle.html_tokens.specs.declared.token.TextMode.TheVariants.{Data, Rcdata, Rawtext, Script, Plaintext}
+use Rattle.html_tokens.specs.declared.token.TextMode.TheVariants.{Data, Rcdata, Rawtext, Script, Plaintext, Foreign}
 use Rattle.html_tokens.specs.declared.token.Region.TheVariants.{Plain, Escaped, Double}
 use Rattle.html_tokens.specs.declared.machine.State.{State}
-use Rattle.html_tokens.specs.declared.machine.State.TheVariants.{Text, Number, Second, Comment, Doctype, Tag, Ended}
+use Rattle.html_tokens.specs.declared.machine.State.TheVariants.{Text, Number, Second, Comment, Doctype, Tag, Section, Ended}
 
 -- The code point stands for itself, and begins no markup and no reference (HTML 13.2.5.1 to 13.2.5.5).
 abbrev pub is_plain : TextMode → ℕ → Bool
@@ -18,6 +18,7 @@ is_plain Rcdata c = not (c == 60 || c == 38 || c == 0)
 is_plain Rawtext c = not (c == 60 || c == 0)
 is_plain Script c = not (c == 60 || c == 0)
 is_plain Plaintext c = not (c == 0)
+is_plain Foreign c = not (c == 60 || c == 38)
 
 -- the longest front that is plain text
 unfoldable pub plain_front : TextMode → List ℕ → List ℕ
@@ -34,6 +35,7 @@ is_text (Second c start) = false
 is_text (Comment draft) = false
 is_text (Doctype draft) = false
 is_text (Tag draft) = false
+is_text Section = false
 is_text Ended = false
 
 -- the tokens of plain text from a place on

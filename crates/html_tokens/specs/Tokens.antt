@@ -1,14 +1,14 @@
 -- Claimed, but for this crate's own functions: lowered, opened_len.
 -- The tokens of a text: it is cut into pieces, each a tag, a comment or a front of text.
-use Rattle.std.specs.Prelude.{ℕ, zero, suc, ◌+◌, ◌-◌, List, [], ◌∷◌, ◌++◌, length, map, drop, Bool, true, false, ◌&&◌, ◌||◌, cond, Option, Some, None, unwrap_or, slice_get, is_none}
-use Rattle.html_tokens.specs.Cut.{cut, is, comment_mark, greater_mark, null_replaced, passes}
+use Rattle.std.specs.Prelude.{ℕ, zero, suc, ◌+◌, ◌-◌, List, [], ◌∷◌, ◌++◌, length, map, drop, Bool, true, false, ◌&&◌, ◌||◌, cond, Option, Some, None, slice_get, is_none}
+use Rattle.html_tokens.specs.Cut.{cut, is, comment_mark, greater_mark, section_mark, null_replaced, passes}
 use Rattle.html_tokens.specs.Tag.{Tag, tag_of, between}
 use Rattle.html_tokens.specs.Doctype.{Doctype, doctype_of, spells_word, doctype_word}
 use Rattle.html_tokens.specs.declared.token.Token.{Token}
 use Rattle.html_tokens.specs.declared.token.TokenKind.{TokenKind}
 use Rattle.html_tokens.specs.declared.token.TokenKind.TheVariants as kinds
 use Rattle.html_tokens.specs.declared.token.TextMode.{TextMode}
-use Rattle.html_tokens.specs.declared.token.TextMode.TheVariants.{Data, Rcdata, Rawtext, Script, Plaintext}
+use Rattle.html_tokens.specs.declared.token.TextMode.TheVariants.{Data, Rcdata, Rawtext, Script, Plaintext, Foreign}
 use Rattle.html_tokens.specs.declared.token.Region.TheVariants.{Plain}
 use Rattle.html_tokens.specs.declared.token.Begin.{Begin}
 use Rattle.html_tokens.specs.declared.token.Begin.TheVariants as begins
@@ -57,6 +57,7 @@ text_char Rcdata c = null_replaced c
 text_char Rawtext c = null_replaced c
 text_char Script c = null_replaced c
 text_char Plaintext c = null_replaced c
+text_char Foreign c = c
 
 abbrev pub token : TokenKind → ℕ → ℕ → Token
 token kind start end = record { kind = kind; span = record { start = start; end = end } }
@@ -132,12 +133,19 @@ ref_piece rows place text =
     let found = reference rows text in
     piece (ref_tokens found.codes place (place + found.len)) found.len
 
+-- A section: each of its code points is a Char as it stands, and neither what opens it nor what closes it is any token's (HTML 13.2.5.69 to 13.2.5.71).
+abbrev pub section_piece : ℕ → List ℕ → Piece
+section_piece place text =
+    let section = cut section_mark (drop 9 text) in
+    piece (chars_at Foreign (place + 9) section.before) (9 + section.len)
+
 -- the piece that begins
 abbrev pub begun_piece : List Row → Begin → ℕ → List ℕ → Piece
 begun_piece rows begins.Char place text = piece [] 1
 begun_piece rows begins.Markup place text = open_piece rows (opener text) place text
 begun_piece rows begins.EndMark place text = tag_piece rows true 2 place text
 begun_piece rows begins.Reference place text = ref_piece rows place text
+begun_piece rows begins.Section place text = section_piece place text
 
 -- the front of text, or where there is none the piece that begins
 abbrev pub text_or : List ℕ → TextMode → ℕ → Piece → Piece
@@ -152,18 +160,39 @@ abbrev pub switch_of : List (Option TextMode) → Option TextMode
 switch_of [] = None
 switch_of (s ∷ ss) = s
 
--- The mode after a piece: after a Start token what the switches say, if they say it, and Data after an End token (HTML 13.2.6.2 and 13.2.6.4.8).
-abbrev pub mode_after_kind : TokenKind → Option TextMode → TextMode → TextMode
-mode_after_kind (kinds.Start name attrs self_closing) switch mode = unwrap_or switch mode
-mode_after_kind (kinds.End name) switch mode = Data
-mode_after_kind (kinds.Char c) switch mode = mode
-mode_after_kind (kinds.Comment text) switch mode = mode
-mode_after_kind (kinds.Doctype name public_id system_id force_quirks) switch mode = mode
-mode_after_kind kinds.Eof switch mode = mode
+-- data, in foreign content or not
+abbrev pub is_data : TextMode → Bool
+is_data Data = true
+is_data Rcdata = false
+is_data Rawtext = false
+is_data Script = false
+is_data Plaintext = false
+is_data Foreign = true
 
+-- What is said after a start tag: text that was data is read so. Other text has no start tags.
+abbrev pub switched : Option TextMode → TextMode → TextMode
+switched None mode = mode
+switched (Some said) mode = cond (is_data mode) said mode
+
+-- What is said after another token: data is read as that of foreign content, or no longer so.
+abbrev pub stays : Option TextMode → TextMode → TextMode
+stays None mode = mode
+stays (Some said) mode = cond (is_data said) (switched (Some said) mode) mode
+
+-- The mode after a token, by what is said after it; after an End token, where nothing is said, it is Data (HTML 13.2.6.2, 13.2.6.4.8, and 13.2.5.42
+-- for foreign content).
+abbrev pub mode_after_kind : TokenKind → Option TextMode → TextMode → TextMode
+mode_after_kind (kinds.Start name attrs self_closing) said mode = switched said mode
+mode_after_kind (kinds.End name) said mode = stays said Data
+mode_after_kind (kinds.Char c) said mode = stays said mode
+mode_after_kind (kinds.Comment text) said mode = stays said mode
+mode_after_kind (kinds.Doctype name public_id system_id force_quirks) said mode = stays said mode
+mode_after_kind kinds.Eof said mode = stays said mode
+
+-- the mode after a piece, by what is said after each of its tokens
 abbrev pub mode_after : List Token → List (Option TextMode) → TextMode → TextMode
 mode_after [] switches mode = mode
-mode_after (t ∷ ts) switches mode = mode_after_kind t.kind (switch_of switches) mode
+mode_after (t ∷ ts) switches mode = mode_after ts (drop 1 switches) (mode_after_kind t.kind (switch_of switches) mode)
 
 -- the last start tag's name, by which an end tag is appropriate (HTML 13.2.5)
 abbrev pub name_after_kind : TokenKind → Option (List ℕ) → Option (List ℕ)
@@ -190,4 +219,4 @@ tokens_after rows (suc k) mode name place (c ∷ rest) switches = tokens_after r
 abbrev pub text_after : List Row → List ℕ → TextMode → Option (List ℕ) → ℕ → List ℕ → List (Option TextMode) → List Token
 text_after rows chars mode name place text switches =
     let given = chars_at mode place chars in
-    given ++ tokens_after rows (length chars) mode name place text (drop (length given) switches)
+    given ++ tokens_after rows (length chars) (mode_after given switches mode) name place text (drop (length given) switches)

@@ -50,6 +50,8 @@ pub enum FaultName {
     IncorrectlyOpenedComment,
     #[error("cdata-in-html-content")]
     CdataInHtmlContent,
+    #[error("eof-in-cdata")]
+    EofInCdata,
     #[error("missing-doctype-name")]
     MissingDoctypeName,
     #[error("missing-whitespace-before-doctype-name")]

@@ -213,6 +213,13 @@ impl Faults {
         self.null(c, place);
     }
 
+    /// What the end tells in a section.
+    pub(crate) fn section_end(&mut self, place: u64)
+        ensures told { Told 1 0 self.old self.new }
+    {
+        self.tell(FaultName::EofInCdata, place);
+    }
+
     /// What the end tells in text.
     pub(crate) fn text_end(&mut self, region: Region, place: u64)
         ensures told { Told 1 0 self.old self.new }

@@ -32,6 +32,7 @@ fn is_plain(mode: TextMode, c: char) -> bool
 {
     match mode {
         TextMode::Data => !(c == '<' || c == '&'),
+        TextMode::Foreign => !(c == '<' || c == '&'),
         TextMode::Rcdata => !(c == '<' || c == '&' || c == '\0'),
         TextMode::Rawtext | TextMode::Script => !(c == '<' || c == '\0'),
         TextMode::Plaintext => c != '\0',

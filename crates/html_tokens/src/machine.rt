@@ -1,7 +1,7 @@
 // The state machine.
 ghost use Rattle.std.specs.Prelude.{◌≡◌, ◌≤◌, ◌+◌, ◌^◌, ◌<◌, [], false, length, IfOk, OnErr, OnOk, IfSome, IfNone, true};
 ghost use Rattle.html_tokens.specs.Fed.{Steps, Passes};
-ghost use Rattle.html_tokens.specs.Tokens.{token};
+ghost use Rattle.html_tokens.specs.Tokens.{switched, token};
 ghost use Rattle.html_tokens.specs.Bounds.{IsBounded, IsWithin};
 ghost use Rattle.html_tokens.specs.Stream.{Run, IsAt, gave, fed, ended, answered, IsPrompt, tokens_of};
 ghost use Rattle.html_tokens.specs.declared.token.TextMode.{TextMode};
@@ -24,6 +24,7 @@ mod going_on;
 mod opening;
 mod references;
 mod runs;
+mod sections;
 mod tags;
 mod text;
 
@@ -36,6 +37,7 @@ pub enum State {
     Comment(CommentDraft),
     Doctype(DoctypeDraft),
     Tag(TagDraft),
+    Section,
     Ended,
 }
 
@@ -137,10 +139,13 @@ impl<'a> Machine<'a> {
         self.input.finished = true;
     }
 
+    /// Reads text that is data in another mode from here on.
     pub(crate) fn switch(&mut self, mode: TextMode)
-        ensures { self.new ≡ record self.old { mode = mode } }
+        ensures { self.new ≡ record self.old { mode = switched (Option.Some mode) self.old.mode } }
     {
-        self.mode = mode;
+        if self.mode.is_data() {
+            self.mode = mode;
+        }
     }
 
     /// Goes past so many code points.
@@ -187,6 +192,7 @@ impl<'a> Machine<'a> {
             State::Comment(_) => self.comment_step(faults),
             State::Doctype(_) => self.doctype_step(faults),
             State::Tag(_) => self.tag_step(faults),
+            State::Section => Ok(self.section_step(faults)),
             State::Ended => Ok(Progress::Wait),
         }
     }

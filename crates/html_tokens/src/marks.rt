@@ -1,8 +1,8 @@
 // What ends text: the end marks of RCDATA, RAWTEXT and script text, and the regions of script text.
-ghost use Rattle.std.specs.Prelude.{◌≡◌, ℕ, ◌≤◌, ◌+◌, ◌<◌, length, MatchOption, IsTrue, Some, slice_get, true, ◌∷◌, [], List};
-ghost use Rattle.html_tokens.specs.Cut.{is};
+ghost use Rattle.std.specs.Prelude.{◌≡◌, ℕ, ◌≤◌, ◌+◌, ◌<◌, cond, length, MatchOption, Option, IsTrue, Some, slice_get, true, ◌∷◌, [], List};
+ghost use Rattle.html_tokens.specs.Cut.{is, section_mark};
 ghost use Rattle.html_tokens.specs.Input.{Decided, IsShort};
-ghost use Rattle.html_tokens.specs.Marks.{is_end_mark, is_name_char, is_tag_name, is_lowered, spells, declares, leaves, opens_script, closes_script, region_after, script_name};
+ghost use Rattle.html_tokens.specs.Marks.{is_end_mark, is_name_char, is_tag_name, is_lowered, spells, stands, declares, leaves, opens_script, opens_section, closes_script, region_after, script_name};
 ghost use Rattle.html_tokens.specs.Doctype.{spells_word};
 ghost use Rattle.std.specs.List.{list_all};
 
@@ -12,6 +12,9 @@ use crate::token::Region;
 
 /// The name of the tags that script text looks for.
 const SCRIPT: [char; 6] = ['s', 'c', 'r', 'i', 'p', 't'];
+
+/// What opens a section.
+const SECTION: [char; 9] = ['<', '!', '[', 'C', 'D', 'A', 'T', 'A', '['];
 
 /// Whether this code point stands at a place of the rest.
 pub(crate) fn is_at(input: &Input, at: usize, c: char) -> Option<bool>
@@ -76,6 +79,41 @@ pub(crate) fn begins_word(input: &Input, word: &[char], from: usize) -> Option<b
         at += 1;
     }
     Some(true)
+}
+
+/// Whether at a place of the rest stands this word, as it is written.
+fn stands(input: &Input, word: &[char], from: usize) -> Option<bool>
+    requires { from + length word.now ≤ 9 }
+    ensures { MatchOption result (IsShort input.now 8) (λ found. Decided input.now (stands word.now from) found × (found ≡ true → 0 < length word.now → from + length word.now ≤ length input.now.queue.items)) }
+{
+    let mut at = from;
+    for letter in word {
+        match input.peek(at) {
+            Peek::Wait => return None,
+            Peek::Is(None) => return Some(false),
+            Peek::Is(Some(c)) => {
+                if c != *letter {
+                    return Some(false);
+                }
+            }
+        }
+        at += 1;
+    }
+    Some(true)
+}
+
+/// Whether a section is opened at the front of the rest.
+pub(crate) fn opens_section(input: &Input) -> Option<bool>
+    ensures { MatchOption result (IsShort input.now 8) (λ found. Decided input.now opens_section found × (found ≡ true → 9 ≤ length input.now.queue.items)) }
+{
+    stands(input, &SECTION, 0)
+}
+
+/// Whether a section is closed at the front of the rest.
+pub(crate) fn closes_section(input: &Input) -> Option<bool>
+    ensures { MatchOption result (IsShort input.now 8) (λ found. Decided input.now section_mark (cond found (Some 3) Option.None) × (found ≡ true → 3 ≤ length input.now.queue.items)) }
+{
+    Some(is_at(input, 0, ']')? && is_at(input, 1, ']')? && is_at(input, 2, '>')?)
 }
 
 /// Whether this code point may stand in the name of a tag.

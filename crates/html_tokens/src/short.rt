@@ -1,6 +1,7 @@
 // Tags without attributes whose whole text was fed, which are read at once.
 ghost use Rattle.std.specs.Prelude.{chars, ◌≡◌, ℕ, ◌≤◌, ◌+◌, ◌<◌, ◌^◌, List, ◌++◌, drop, take, length, slice_get, Some, true, false, IfOk, OnErr, OnOk, IfSome, IfNone};
 ghost use Rattle.html_tokens.specs.Bounds.{IsBounded, IsWithin};
+ghost use Rattle.html_tokens.specs.Cut.{is};
 ghost use Rattle.html_tokens.specs.Copied.{AllPass, EndsAt, is_copied};
 ghost use Rattle.html_tokens.specs.Fed.{EndsTagAt, Skips, Steps};
 ghost use Rattle.html_tokens.specs.Input.{Decided, MayFollow};
@@ -67,7 +68,20 @@ impl<'a> Machine<'a> {
     {
         match (&self.state, self.mode, self.input.peek(0)) {
             (State::Text(Region::Plain), TextMode::Data, Peek::Is(Some('<'))) => true,
+            (State::Text(Region::Plain), TextMode::Foreign, Peek::Is(Some('<'))) => {
+                self.is_no_declaration()
+            }
             _ => false,
+        }
+    }
+
+    /// Whether another code point than `!` follows the first one.
+    fn is_no_declaration(&self) -> bool
+        ensures { result ≡ true → Decided self.now.input (λ rest. is 33 (slice_get rest 1)) false }
+    {
+        match self.input.peek(1) {
+            Peek::Is(Some(c)) => c != '!',
+            Peek::Is(None) | Peek::Wait => false,
         }
     }
 

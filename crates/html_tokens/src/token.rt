@@ -1,6 +1,6 @@
 // Tokens.
 ghost use Rattle.std.specs.Prelude.{chars, ◌≡◌, ℕ, ◌≤◌, ◌+◌, ◌∷◌, [], ◌++◌, OnOk, IfOk, OnErr};
-ghost use Rattle.html_tokens.specs.Tokens.{text_char};
+ghost use Rattle.html_tokens.specs.Tokens.{is_data, text_char};
 
 use crate::attributes::Attrs;
 use crate::nulls::null_replaced;
@@ -77,7 +77,7 @@ pub struct Token {
     pub span: Span,
 }
 
-/// How text is read (HTML 13.2.5.1 to 13.2.5.5).
+/// How text is read (HTML 13.2.5.1 to 13.2.5.5). `Foreign` is data in foreign content, where `<![CDATA[` begins a section.
 #[derive(Clone, Copy, Debug, PartialEq, Eq)]
 pub enum TextMode {
     Data,
@@ -85,6 +85,7 @@ pub enum TextMode {
     Rawtext,
     Script,
     Plaintext,
+    Foreign,
 }
 
 /// The part of script text that a place is in.
@@ -102,6 +103,7 @@ pub enum Begin {
     Markup,
     EndMark,
     Reference,
+    Section,
 }
 
 /// What a `&` begins.
@@ -126,12 +128,26 @@ pub enum Opener {
 }
 
 impl TextMode {
+    /// Whether it is data, in foreign content or not.
+    pub(crate) fn is_data(self) -> bool
+        ensures { result ≡ is_data self }
+    {
+        match self {
+            TextMode::Data => true,
+            TextMode::Rcdata => false,
+            TextMode::Rawtext => false,
+            TextMode::Script => false,
+            TextMode::Plaintext => false,
+            TextMode::Foreign => true,
+        }
+    }
+
     /// U+0000 is kept in data, and becomes U+FFFD in other text.
     pub(crate) fn text_char(self, c: char) -> char
         ensures { result ≡ text_char self c }
     {
         match self {
-            TextMode::Data => c,
+            TextMode::Data | TextMode::Foreign => c,
             TextMode::Rcdata | TextMode::Rawtext | TextMode::Script | TextMode::Plaintext => {
                 null_replaced(c)
             },

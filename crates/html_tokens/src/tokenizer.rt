@@ -40,7 +40,7 @@ pub enum TokenError {
 
 impl<'a> Tokenizer<'a> {
     ghost use Rattle.html_tokens.specs.Stream.{Run, Start, gave, fed, ended, IsPrompt, tokens_of};
-    ghost use Rattle.html_tokens.specs.Given.{Fed, Awaits, fed_len, is_stopped, is_finished, told, plain_next, steps_taken, visits_made, comparisons_made, IsStart, run_from};
+    ghost use Rattle.html_tokens.specs.Given.{Fed, Awaits, fed_len, is_stopped, is_finished, told, plain_next, steps_taken, visits_made, comparisons_made, MaySwitch, run_from};
     ghost use Rattle.html_tokens.specs.Runs.{gave_all};
     ghost use Rattle.html_tokens.specs.Marks.{front};
     ghost use Rattle.html_tokens.specs.Script.{before_end, IsScriptEnd};
@@ -216,13 +216,14 @@ impl<'a> Tokenizer<'a> {
         }
     }
 
-    /// Tells how the text after the start tag just given is read. Script text ends by the first marks of its regions.
+    /// Tells how the text after the token just given is read: after a start tag in any mode, after each token as data or as data in foreign
+    /// content. It changes nothing in text that is no data. Script text ends by the first marks of its regions.
     #[tactic(auto, using(crate::proofs::StreamLemmas::unsaid, crate::proofs::StreamLemmas::said), unfolding(crate::specs::Given::Fed, crate::specs::Given::Awaits, crate::specs::Given::fed_len, crate::specs::Given::is_stopped, crate::specs::Given::is_finished))]
     pub fn switch(&mut self, mode: TextMode)
         ensures script { (name : Option (List ℕ)) (text : List ℕ) (end : Option ℕ) → IsScriptEnd Region.Plain name text end
             → front TextMode.Script Region.Plain name text ≡ before_end end text }
         ensures ends { (name : Option (List ℕ)) (text : List ℕ) → (end : Option ℕ) × IsScriptEnd Region.Plain name text end }
-        ensures awaited { (run : Run) (token : Token) → IsStart token.kind → Awaits self.old run token → Fed self.new (gave run token (Option.Some mode)) }
+        ensures awaited { (run : Run) (token : Token) → MaySwitch token.kind mode → Awaits self.old run token → Fed self.new (gave run token (Option.Some mode)) }
         ensures stopped { is_stopped self.new ≡ is_stopped self.old }
         ensures finished { is_finished self.new ≡ is_finished self.old }
         ensures count { fed_len self.new ≡ fed_len self.old }

@@ -80,7 +80,7 @@ module _ (s : List ℕ) (l : List Entry) (t : Tree) (n : ℕ) (hd fm dt : Option
     pub adopted-keeps : (a : State) → state_of s l t n hd fm dt ≡ a → WellFormed t → MadeClones (open_at s l t) u → KeepsClosed (open_at s l t) u → KeepsRoots (open_at s l t) u
         → (is_special name ≡ false → Survives (open_at s l t) (open_at s' l' u)) → more t.steps 0 ≤ u.steps → Keeps a (state_of s' l' u n hd fm dt)
     adopted-keeps a w wf m k r v steps = subst (λ (b : State). Keeps b (state_of s' l' u n hd fm dt)) w (keeps-since (state_of s l t n hd fm dt) (state_of s' l' u n hd fm dt)
-        (clones-since s s' l l' t u n hd fm dt m wf k first-stays off r.linked (λ p. r.roots 0 h.some_node p zero-off) steps))
+        (clones-since s s' l l' t u n hd fm dt m wf k first-stays off r.linked (λ p. r.roots 0 h.some_node p zero-off) steps h.is_open))
       where
         off : (x : ℕ) → x < length t.labels → has x s ≡ false → has x s' ≡ false
         off x b c = elim (cases_bool (has x s')) [

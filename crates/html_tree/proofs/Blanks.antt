@@ -68,7 +68,7 @@ put-listed t at d w = by at
     by (Last q) = let e = length-set (made t d).children q (get_or (made t d).children q [] ++ length t.labels ∷ []) in let k = more in omega (arith, e, k)
     by (Before b) = of b (parent_of (made t d) b)
 
-blank-new : (t u : Tree) (at : Place) (d : NewNode) (k : ℕ) → IsNew t u at d k → IsBlank (label_for t d) (length t.labels) u
+pub blank-new : (t u : Tree) (at : Place) (d : NewNode) (k : ℕ) → IsNew t u at d k → IsBlank (label_for t d) (length t.labels) u
 blank-new t u at d k e =
     let c : u.children ≡ (put (made t d) at (length t.labels)).children = ap (λ (v : Tree). v.children) (e.tree_is ∙ sym (bare-new t at d)) in
     record {

@@ -1,11 +1,11 @@
 -- Reopening and adoption: the nodes that are made are clones.
-use Rattle.std.proofs.Common.{◌≡◌, ℕ, zero, suc, ◌+◌, ◌<◌, ◌≤◌, false, List, [], ◌∷◌, ◌++◌, length, map, get_or, Option, Some, None, inr, sym, ◌∙◌, ap, subst, arith, length-append}
+use Rattle.std.proofs.Common.{◌≡◌, ℕ, zero, suc, ◌+◌, ◌<◌, ◌≤◌, false, List, [], ◌∷◌, ◌++◌, length, map, get_or, Option, Some, None, ◌⊎◌, inl, inr, sym, ◌∙◌, ap, subst, arith, length-append}
 use Rattle.html_arena.specs.declared.data.NodeData.{NodeData}
 use Rattle.html_arena.specs.declared.data.NodeData.TheVariants as node
 use Rattle.html_arena.specs.declared.data.Origin.TheVariants.{Nothing, Token}
 use Rattle.html_arena.specs.Data.{cloned, label_in, origin_in}
 use Rattle.html_arena.specs.Siblings.{first_of, has}
-use Rattle.html_arena.specs.Tree.{Tree, WellFormed, label_of, parent_of, more}
+use Rattle.html_arena.specs.Tree.{Tree, WellFormed, label_of, parent_of, more, tag_at}
 use Rattle.html_open.specs.declared.entry.Entry.{Entry}
 use Rattle.html_open.specs.Adopting.{MadeClones}
 use Rattle.html_open.specs.Opened.{IsOpen, open_at}
@@ -14,7 +14,8 @@ use Rattle.html_open.proofs.Inserted.{cloned-origin, get-before}
 use Rattle.html_tree.specs.Listing.{HasCloned}
 use Rattle.html_tree.specs.Since.{Grown, Since, essence}
 use Rattle.html_tree.specs.States.{State, IsUnderWay, state_of}
-use Rattle.html_tree.proofs.Kept.{same-first-under_way, some-first}
+use Rattle.html_tree.proofs.Kept.{formatting-opens, old-proper, proper-opened, same-first-under_way, some-first}
+use Rattle.html_tree.proofs.OpenTags.{clone-formatting}
 
 -- what holds of two lists holds of one after the other
 both : (P : NodeData → Type 0) (d : NodeData) (xs ys : List NodeData) → ((y : ℕ) → P (get_or xs y d)) → ((y : ℕ) → P (get_or ys y d)) → (y : ℕ) → P (get_or (xs ++ ys) y d)
@@ -26,6 +27,9 @@ of-map : (P : NodeData → Type 0) (d : NodeData) (f : ℕ → NodeData) (xs : L
 of-map P d f [] h k y = h
 of-map P d f (x ∷ xs) h k zero = k x
 of-map P d f (x ∷ xs) h k (suc y) = of-map P d f xs h k y
+
+order : (a b : ℕ) → (a < b) ⊎ (b ≤ a)
+order a b = grind arith
 
 none-token : {i : ℕ} → Nothing ≡ Token i → ⊥
 none-token e = absurd (let q : Nothing ≡ Token _ = e in cc)
@@ -49,8 +53,8 @@ module _ (s s' : List ℕ) (l l' : List Entry) (t u : Tree) (n : ℕ) (h f d : O
 
   pub clones-since : WellFormed t → KeepsClosed (open_at s l t) u → ((x : ℕ) → first_of s ≡ Some x → first_of s' ≡ Some x) → ((x : ℕ) → x < length t.labels → has x s ≡ false → has x s' ≡ false)
       → ((x : ℕ) → x < length u.labels → parent_of u x ≡ None → (x < length t.labels) × (parent_of t x ≡ None)) → (parent_of t 0 ≡ None → parent_of u 0 ≡ None) → more t.steps 0 ≤ u.steps
-      → Since (state_of s l t n h f d) (state_of s' l' u n h f d)
-  clones-since w k first off linked root steps = record {
+      → IsOpen (open_at s l t) → Since (state_of s l t n h f d) (state_of s' l' u n h f d)
+  clones-since w k first off linked root steps opened = record {
     first = first;
     no_fewer = clones-more;
     tokens = omega arith;
@@ -62,6 +66,11 @@ module _ (s s' : List ℕ) (l l' : List Entry) (t u : Tree) (n : ℕ) (h f d : O
     root = root;
     steps = steps;
     detached = λ x i. i;
+    replaced = λ x i. inl i;
+    proper = λ x p b. elim (order x (length t.labels)) [
+      | inl q ↦ old-proper (state_of s l t n h f d) (state_of s' l' u n h f d) (λ y b. ap essence (clones-label y b)) (λ y i. off y i.node_in i.off) (λ y i none. k y i.element i.off none) x q (p q)
+      | inr q ↦ proper-opened (state_of s' l' u n h f d) x (formatting-opens (tag_at u x) (clone-formatting s l t u c opened x q b))
+    ];
   }
 
   pub clones-grown : (a : State) (k m e w : ℕ) → state_of s l t n h f d ≡ a → first_of s' ≡ first_of s → length u.labels ≤ length t.labels + k → length s' ≤ length s + m → length l' ≤ length l + e → u.held ≤ t.held + w

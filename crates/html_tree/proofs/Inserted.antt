@@ -32,10 +32,12 @@ use Rattle.html_open.proofs.Standing.{not-parent, place-by}
 use Rattle.html_tree.specs.declared.groups.Target.{Target}
 use Rattle.html_tree.specs.declared.groups.Target.TheVariants as target
 use Rattle.html_tree.specs.Inserting.{CanBeFirst, IsFor, IsNew, rest_of, with_new, with_open}
+use Rattle.html_tree.specs.Proper.{IsProper, is_foreign_root, opens}
 use Rattle.html_tree.specs.Since.{Grown, IsClosed, Keeps, Since, essence}
 use Rattle.html_tree.specs.States.{State, IsUnderWay, state_of}
 use Rattle.html_tree.specs.Targets.{CanTarget, place_at, place_for, target_steps}
-use Rattle.html_tree.proofs.Kept.{keeps-since, same-element, later-under_way, looked-most, more-most, same-first-under_way, same-state}
+use Rattle.html_tree.proofs.Counted.{target-bare}
+use Rattle.html_tree.proofs.Kept.{keeps-since, later-under_way, looked-most, more-most, old-proper, proper-host, proper-opened, proper-shut, same-element, same-first-under_way, same-state}
 
 -- the first element is an html, so it can take what has no better place
 pub under-way-place : (s : List ℕ) (l : List Entry) (t : Tree) (n : ℕ) (h f d : Option ℕ) → IsUnderWay s l t n h f d → 0 < length s → CanPlace t s
@@ -160,8 +162,8 @@ module _ (s s' : List ℕ) (l l' : List Entry) (t u v : Tree) (at : Place) (new 
   pub new-since : IsNew t u at new k → ((x : ℕ) → IsClosed (state_of s l t n h f d) x → HoldsNoElement t x → parent_at t at ≢ Some x) → n ≤ m → 0 < length t.labels
       → v.labels ≡ u.labels → v.children ≡ u.children → v.parents ≡ u.parents → more u.steps 0 ≤ v.steps
       → ((x : ℕ) → first_of s ≡ Some x → first_of s' ≡ Some x) → ((x : ℕ) → x < length t.labels → has x s ≡ false → has x s' ≡ false)
-      → Since (state_of s l t n h f d) (state_of s' l' v m h f d)
-  new-since e free nm some vl vc vp steps first off =
+      → IsProper (state_of s' l' v m h f d) (length t.labels) → Since (state_of s l t n h f d) (state_of s' l' v m h f d)
+  new-since e free nm some vl vc vp steps first off own =
       let w = e.laws in
       let longer = w.longer in
       let same : length v.labels ≡ length u.labels = ap length vl in
@@ -187,6 +189,17 @@ module _ (s s' : List ℕ) (l l' : List Entry) (t u v : Tree) (at : Place) (new 
         ];
         root = λ p. ap (λ ps. get_or ps 0 None) vp ∙ w.same_parents 0 some ∙ p;
         detached = λ x p. p;
+        replaced = λ x p. inl p;
+        proper = λ x p b. elim (order x (length t.labels)) [
+          | inl q ↦ old-proper (state_of s l t n h f d) (state_of s' l' v m h f d) (λ y b. ap essence (label y b)) (λ y i. off y i.node_in i.off)
+              (λ y i none. ap (λ cs. get_or cs y []) vc ∙ w.same_children y i.node_in (free y i none)) x q (p q)
+          | inr q ↦ elim q [
+            | inl r ↦ subst (IsProper (state_of s' l' v m h f d)) (sym r) own
+            | inr r ↦ proper-host (state_of s' l' v m h f d) x (length t.labels)
+                (ap (λ ds. host_in (label_in ds x)) (vl ∙ e.labels_are)
+                ∙ beyond-contents (length t.labels) (has_contents new) (label_for t new) t.labels x r (subst (λ ds. x < length ds) (vl ∙ e.labels_are) b))
+          ]
+        ];
         steps = (let i = e.steps_least in omega (arith, i, steps));
       }
 
@@ -435,11 +448,12 @@ module _ (l l' : List Entry) (t u v : Tree) (at : Place) (k n m : ℕ) (h f d : 
 
 -- the new element was opened
 module _ (a : State) (s s' : List ℕ) (l : List Entry) (t u v : Tree) (at : Target) (new : NewNode) (k n m x : ℕ) (h f d : Option ℕ) (w : state_of s l t n h f d ≡ a) (e : IsNew t u (place_at t s h at) new k) (i : s' ≡ s ++ x ∷ []) (j : x ≡ length t.labels) (q : v ≡ charged (with_marked u OnStack x true) 1) where
-  pub opened-keeps : CanTarget s at → n ≤ m → IsUnderWay s l t n h f d → Keeps a (state_of s' l v m h f d)
-  opened-keeps o r g = subst (λ (b : State). Keeps b (state_of s' l v m h f d)) w (keeps-since (state_of s l t n h f d) (state_of s' l v m h f d)
+  pub opened-keeps : opens (tag_in (label_for t new)) ≡ true → CanTarget s at → n ≤ m → IsUnderWay s l t n h f d → Keeps a (state_of s' l v m h f d)
+  opened-keeps own o r g = subst (λ (b : State). Keeps b (state_of s' l v m h f d)) w (keeps-since (state_of s l t n h f d) (state_of s' l v m h f d)
       (new-since s s' l l t u v (place_at t s h at) new k n m h f d e (target-free s l t n h f d at g e.well_formed o) r g.some_node
       (ap (λ (b : Tree). b.labels) q) (ap (λ (b : Tree). b.children) q) (ap (λ (b : Tree). b.parents) q) (let z : v.steps ≡ more u.steps 1 = ap (λ (b : Tree). b.steps) q in omega (arith, z))
-      (λ y z. ap first_of i ∙ first-more s x y z) (λ y b z. ap (has y) i ∙ off-more s x y (omega arith) z)))
+      (λ y z. ap first_of i ∙ first-more s x y z) (λ y b z. ap (has y) i ∙ off-more s x y (omega arith) z)
+      (proper-opened (state_of s' l v m h f d) (length t.labels) (ap opens (ap (λ (b : Tree). tag_in (label_in b.labels (length t.labels))) q ∙ ap tag_in e.laws.label_is) ∙ own))))
 
   pub opened-grown : Grown 2 1 0 (weight (label_for t new)) a (state_of s' l v m h f d)
   opened-grown =
@@ -458,6 +472,12 @@ module _ (a : State) (s s' : List ℕ) (l : List Entry) (t u v : Tree) (at : Tar
       let z = more-most u.steps 1 in
       subst (λ (b : State). v.steps ≤ b.steps + length b.stack + 4) w (omega (arith, p, r, z, b))
 
+  pub opened-counted : u.steps ≡ more t.steps (target_steps t s at + 2) → v.steps ≡ more a.steps (target_steps a.tree a.stack at + 3)
+  opened-counted c =
+      let r : v.steps ≡ more u.steps 1 = ap (λ (b : Tree). b.steps) q in
+      let z : target_steps (bare t) s at ≡ target_steps t s at = target-bare t s at in
+      subst (λ (b : State). v.steps ≡ more b.steps (target_steps b.tree b.stack at + 3)) w (omega (arith, c, r, z))
+
   pub opened-exact : state_of s' l v m h f d ≡ record a { stack = with_open a; tree = with_new a.tree (place_for a at) new; steps = v.steps; tokens = m }
   opened-exact =
       subst (λ (b : State). state_of s' l v m h f d ≡ record b { stack = with_open b; tree = with_new b.tree (place_for b at) new; steps = v.steps; tokens = m }) w
@@ -466,6 +486,11 @@ module _ (a : State) (s s' : List ℕ) (l : List Entry) (t u v : Tree) (at : Tar
 
 -- the new node is not opened
 module _ (a : State) (s : List ℕ) (l : List Entry) (t u : Tree) (at : Target) (new : NewNode) (k n m : ℕ) (h f d : Option ℕ) (w : state_of s l t n h f d ≡ a) (e : IsNew t u (place_at t s h at) new k) where
+  pub placed-counted : u.steps ≡ more t.steps (target_steps t s at + 2) → u.steps ≡ more a.steps (target_steps a.tree a.stack at + 2)
+  placed-counted c =
+      let z : target_steps (bare t) s at ≡ target_steps t s at = target-bare t s at in
+      subst (λ (b : State). u.steps ≡ more b.steps (target_steps b.tree b.stack at + 2)) w (omega (arith, c, z))
+
   pub placed-exact : state_of s l u m h f d ≡ record a { tree = with_new a.tree (place_for a at) new; steps = u.steps; tokens = m }
   placed-exact =
       subst (λ (b : State). state_of s l u m h f d ≡ record b { tree = with_new b.tree (place_for b at) new; steps = u.steps; tokens = m }) w
@@ -477,9 +502,16 @@ module _ (a : State) (s : List ℕ) (l : List Entry) (t u : Tree) (at : Target) 
       subst (λ (b : State). state_of s l u n h f d ≡ record b { tree = with_new b.tree (place_for b at) new; steps = u.steps }) w
       (same-state s s l l (with_new (bare t) (place_at (bare t) s h at) new) (bare u) u.steps n h f d refl refl (e.tree_is ∙ ap (λ p. with_new (bare t) p new) (sym (place-bare t s h at))))
 
-  pub placed-keeps : CanTarget s at → n ≤ m → IsUnderWay s l t n h f d → Keeps a (state_of s l u m h f d)
-  placed-keeps o r g = subst (λ (b : State). Keeps b (state_of s l u m h f d)) w (keeps-since (state_of s l t n h f d) (state_of s l u m h f d)
-      (new-since s s l l t u u (place_at t s h at) new k n m h f d e (target-free s l t n h f d at g e.well_formed o) r g.some_node refl refl refl (omega arith) (λ y z. z) (λ y b z. z)))
+  pub placed-keeps : is_foreign_root (tag_in (label_for t new)) ≡ false → get_or u.children (length t.labels) [] ≡ [] → CanTarget s at → n ≤ m → IsUnderWay s l t n h f d → Keeps a (state_of s l u m h f d)
+  placed-keeps own none o r g = subst (λ (b : State). Keeps b (state_of s l u m h f d)) w (keeps-since (state_of s l t n h f d) (state_of s l u m h f d)
+      (new-since s s l l t u u (place_at t s h at) new k n m h f d e (target-free s l t n h f d at g e.well_formed o) r g.some_node refl refl refl (omega arith) (λ y z. z) (λ y b z. z)
+      (proper-shut (state_of s l u m h f d) (length t.labels) (ap (λ b. is_foreign_root (tag_in b)) e.laws.label_is ∙ own) off none)))
+    where
+      off : has (length t.labels) s ≡ false
+      off = elim (cases_bool (has (length t.labels) s)) [
+        | inl b ↦ absurd (let k = g.is_open.stack_in (length t.labels) b in omega (arith, k))
+        | inr b ↦ b
+      ]
 
   pub placed-grown : Grown 2 0 0 (weight (label_for t new)) a (state_of s l u m h f d)
   placed-grown =

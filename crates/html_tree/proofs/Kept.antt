@@ -1,6 +1,8 @@
 -- What is always true of a tree under construction is kept, and so is what was so before.
-use Rattle.std.proofs.Common.{◌≡◌, ℕ, zero, suc, ◌+◌, ◌<◌, ◌≤◌, Bool, true, false, List, [], ◌∷◌, length, take, min, Option, Some, inl, inr, refl, sym, ◌∙◌, ap, subst, arith, length-append, length-take}
+use Rattle.std.proofs.Common.{◌≡◌, ℕ, zero, suc, ◌+◌, ◌<◌, ◌≤◌, Bool, true, false, List, [], ◌∷◌, length, take, min, Option, None, Some, cond, inl, inr, refl, sym, ◌∙◌, ap, subst, arith, length-append, length-take}
 use Rattle.std.specs.List.{list_any}
+use Rattle.std.proofs.lemmas.Bool.{false≢true}
+use Rattle.html_names.specs.Sets.{is_formatting, is_void}
 use Rattle.html_names.specs.Tags.{is_same}
 use Rattle.html_names.specs.declared.tag.Tag.{Tag}
 use Rattle.html_names.specs.declared.tag.Tag.TheVariants as tag
@@ -10,7 +12,7 @@ use Rattle.html_arena.specs.declared.data.Origin.TheVariants.{Token}
 use Rattle.html_arena.specs.declared.marks.Mark.{Mark}
 use Rattle.html_arena.specs.Data.{IsElement, host_in, label_in, origin_in, tag_in}
 use Rattle.html_arena.specs.Siblings.{first_of, has}
-use Rattle.html_arena.specs.Tree.{Tree, children_of, label_of, more, parent_of}
+use Rattle.html_arena.specs.Tree.{Tree, children_of, label_of, more, parent_of, tag_at}
 use Rattle.html_open.specs.declared.entry.Entry.{Entry}
 use Rattle.html_open.specs.Lists.{above, below, looked}
 use Rattle.html_open.specs.Marking.{all_unmarked, bare, charged}
@@ -18,7 +20,8 @@ use Rattle.html_open.specs.Opened.{IsOpen, open_at, origin_at}
 use Rattle.html_open.specs.Reopening.{HoldsNoElement}
 use Rattle.html_open.proofs.Keeps.{cases_bool, has-tail, split-last}
 use Rattle.html_tree.specs.Closing.{first_few, kept_to}
-use Rattle.html_tree.specs.Since.{Grown, IsClosed, Keeps, Since, essence}
+use Rattle.html_tree.specs.Proper.{IsProper, is_foreign_root, opens}
+use Rattle.html_tree.specs.Since.{Grown, HasFrameset, IsClosed, Keeps, Since, SinceBy, essence}
 use Rattle.html_tree.specs.States.{IsNamed, IsUnderWay, State, state_of}
 
 -- what stays of a node tells its kind, its tag, its token and its template
@@ -74,6 +77,95 @@ same-host_in d e h = sym (host-essence e) ∙ ap host_in h ∙ host-essence d
 pub same-element : (d e : NodeData) → essence e ≡ essence d → IsElement d → IsElement e
 same-element d e h i = essence-element e (subst IsElement (sym h) (element-essence d i))
 
+-- a node that was proper is so, where its name stays, and what was closed stays closed and keeps its children
+void-element : (d : NodeData) → is_void (tag_in d) ≡ true → IsElement d
+void-element (node.Element e) v = tt
+void-element node.Document v = absurd (false≢true v)
+void-element (node.Contents h) v = absurd (false≢true v)
+void-element (node.Text s) v = absurd (false≢true v)
+void-element (node.Comment s i) v = absurd (false≢true v)
+void-element (node.Doctype n p s i) v = absurd (false≢true v)
+
+void-head : (g : Tag) → is_void g ≡ true → is_same g tag.Head ≡ false
+void-head tag.Head v = absurd (false≢true v)
+void-head _ v = refl
+
+pub old-proper : (a b : State) → ((x : ℕ) → x < length a.tree.labels → essence (label_of b.tree x) ≡ essence (label_of a.tree x)) → ((x : ℕ) → IsClosed a x → has x b.stack ≡ false)
+    → ((x : ℕ) → IsClosed a x → HoldsNoElement a.tree x → children_of b.tree x ≡ children_of a.tree x) → (x : ℕ) → x < length a.tree.labels → IsProper a x → IsProper b x
+old-proper a b labels off children x q p =
+    let t : tag_at b.tree x ≡ tag_at a.tree x = same-tag_in (label_of a.tree x) (label_of b.tree x) (labels x q) in
+    let before : is_void (tag_at b.tree x) ≡ true → is_void (tag_at a.tree x) ≡ true = λ v. sym (ap is_void t) ∙ v in
+    let closed : is_void (tag_at b.tree x) ≡ true → IsClosed a x = λ v. record {
+      node_in = q;
+      element = void-element (label_of a.tree x) (before v);
+      not_head = void-head (tag_at a.tree x) (before v);
+      off = p.shut (before v);
+    } in
+    let none : is_void (tag_at b.tree x) ≡ true → HoldsNoElement a.tree x =
+    λ v c i e. (let k : has c [] ≡ true = subst (λ ks. has c ks ≡ true) (p.empty (before v)) i in false≢true k) in
+    record {
+      own = ap is_foreign_root t ∙ p.own;
+      shut = λ v. off x (closed v);
+      empty = λ v. children x (closed v) (none v) ∙ p.empty (before v);
+    }
+
+opens-void : (g : Tag) → opens g ≡ true → is_void g ≡ false
+opens-void g = by (is_void g) (is_foreign_root g)
+  where
+    by : (v r : Bool) → cond v false (cond r false true) ≡ true → v ≡ false
+    by true r e = absurd (false≢true e)
+    by false r e = refl
+
+opens-root : (g : Tag) → opens g ≡ true → is_foreign_root g ≡ false
+opens-root g = by (is_void g) (is_foreign_root g)
+  where
+    by : (v r : Bool) → cond v false (cond r false true) ≡ true → r ≡ false
+    by true r e = absurd (false≢true e)
+    by false true e = absurd (false≢true e)
+    by false false e = refl
+
+-- an element that is opened is proper, and so is what is not opened and has no children
+pub proper-opened : (a : State) (x : ℕ) → opens (tag_at a.tree x) ≡ true → IsProper a x
+proper-opened a x o =
+    let v = opens-void (tag_at a.tree x) o in
+    record {
+      own = opens-root (tag_at a.tree x) o;
+      shut = λ w. absurd (false≢true (sym v ∙ w));
+      empty = λ w. absurd (false≢true (sym v ∙ w));
+    }
+
+pub proper-shut : (a : State) (x : ℕ) → is_foreign_root (tag_at a.tree x) ≡ false → has x a.stack ≡ false → children_of a.tree x ≡ [] → IsProper a x
+proper-shut a x o h c = record { own = o; shut = λ v. h; empty = λ v. c }
+
+pub host-opens : (d : NodeData) (x : ℕ) → host_in d ≡ Some x → opens (tag_in d) ≡ true
+host-opens (node.Contents h) x e = refl
+host-opens node.Document x e = refl
+host-opens (node.Element r) x e = absurd (let k : None ≡ Some x = e in cc)
+host-opens (node.Text s) x e = refl
+host-opens (node.Comment s i) x e = refl
+host-opens (node.Doctype n p s i) x e = refl
+
+-- the contents of a template are proper
+pub proper-host : (a : State) (x h : ℕ) → host_in (label_of a.tree x) ≡ Some h → IsProper a x
+proper-host a x h e = proper-opened a x (host-opens (label_of a.tree x) h e)
+
+pub formatting-opens : (g : Tag) → is_formatting g ≡ true → opens g ≡ true
+formatting-opens tag.A e = refl
+formatting-opens tag.B e = refl
+formatting-opens tag.Big e = refl
+formatting-opens tag.Code e = refl
+formatting-opens tag.Em e = refl
+formatting-opens tag.Font e = refl
+formatting-opens tag.I e = refl
+formatting-opens tag.Nobr e = refl
+formatting-opens tag.S e = refl
+formatting-opens tag.Small e = refl
+formatting-opens tag.Strike e = refl
+formatting-opens tag.Strong e = refl
+formatting-opens tag.Tt e = refl
+formatting-opens tag.U e = refl
+formatting-opens _ e = absurd (false≢true e)
+
 pub since-self : (a : State) → Since a a
 since-self a = record {
   first = λ x h. h;
@@ -86,11 +178,21 @@ since-self a = record {
   linked = λ x i h. inr (inr (i, h));
   root = λ h. h;
   detached = λ x h. h;
+  replaced = λ x h. inl h;
+  proper = λ x p l. p l;
   steps = omega arith;
 }
 
-pub since-since : (s a b : State) → Since s a → Since a b → Since s b
-since-since s a b f g =
+-- a frameset that was made stays one
+pub frameset-later : (F : Type 0) (a b : State) → SinceBy F a b → HasFrameset a.tree → HasFrameset b.tree
+frameset-later F a b g y = (
+  y.0,
+  (let l = y.1 in let fewer = g.no_fewer in omega (arith, l, fewer)),
+  ap (λ v. is_same v tag.Frameset) (same-tag_in (label_of a.tree y.0) (label_of b.tree y.0) (g.labels y.0 y.1)) ∙ y.2,
+)
+
+pub since-by : (F G H : Type 0) (s a b : State) → (F → H) → (G → H) → SinceBy F s a → SinceBy G a b → SinceBy H s b
+since-by F G H s a b left right f g =
     let fewer = f.no_fewer in
     let tokens = f.tokens in
     let more_nodes = g.no_fewer in
@@ -129,8 +231,13 @@ since-since s a b f g =
       ];
       root = λ h. g.root (f.root h);
       detached = λ x h. g.detached x (f.detached x h);
+      replaced = λ x h. elim (g.replaced x h) [ inl d ↦ elim (f.replaced x d) [ inl e ↦ inl e | inr e ↦ inr (left e) ] | inr d ↦ inr (right d) ];
+      proper = λ x p l. g.proper x (λ h. f.proper x p h) l;
       steps = omega arith;
     }
+
+pub since-since : (s a b : State) → Since s a → Since a b → Since s b
+since-since s a b f g = since-by (HasFrameset a.tree) (HasFrameset b.tree) (HasFrameset b.tree) s a b (frameset-later (HasFrameset b.tree) a b g) (λ h. h) f g
 
 pub keeps-since : (a b : State) → Since a b → Keeps a b
 keeps-since a b h = λ s k. since-since s a b k h
@@ -188,6 +295,9 @@ fewer-since a b e n d f o k =
       linked = λ x b h. inr (inr (omega arith, sym (ap (λ (v : Tree). parent_of v x) e) ∙ h));
       root = λ h. ap (λ (v : Tree). parent_of v 0) e ∙ h;
       detached = λ x h. d ∙ h;
+      replaced = λ x h. inl (sym d ∙ h);
+      proper = λ x p l. (let q : x < length a.tree.labels = omega arith in
+          old-proper a b (λ y b. ap (λ (v : Tree). essence (label_of v y)) e) (λ y h. o y h.off) (λ y h n. ap (λ (v : Tree). children_of v y) e) x q (p q));
       steps = k;
     }
 

@@ -1,4 +1,5 @@
 pub mod Kept
+pub mod Counted
 pub mod OpenTags
 pub mod Inserted
 pub mod Blanks
@@ -9,6 +10,7 @@ pub mod Closings
 pub mod Spelled
 pub mod Listed
 pub mod Merged
+pub mod Replaced
 pub mod Texted
 pub mod Clones
 pub mod Adopted

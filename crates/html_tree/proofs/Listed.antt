@@ -4,7 +4,7 @@ use Rattle.std.specs.Prelude.{◌&&◌, count_by, sum_by}
 use mathlib.Core.Path.{fun_ext}
 use Rattle.html_names.specs.Tags.{is_same}
 use Rattle.html_arena.specs.Data.{attrs_in, label_in, tag_in}
-use Rattle.html_arena.specs.Tree.{Tree}
+use Rattle.html_arena.specs.Tree.{Tree, more}
 use Rattle.html_open.specs.declared.entry.Entry.{Entry}
 use Rattle.html_open.specs.declared.entry.Entry.TheVariants.{Marker, Node}
 use Rattle.html_open.specs.Attributes.{same_attrs}
@@ -83,5 +83,10 @@ module _ (a m b : State) (x y : ℕ) (s : List ℕ) (t : Tree) (n : ℕ) (e : m 
 
   pub enlisted-steps : (k : ℕ) → b.steps ≤ m.steps + push_steps m.tree x m.list → m.steps ≤ a.steps + k → b.steps ≤ a.steps + k + push_steps t y a.list
   enlisted-steps k f g =
+      let q : push_steps m.tree x m.list ≡ push_steps t y a.list = ap (λ (v : State). push_steps v.tree x v.list) e ∙ ap (λ z. push_steps t z a.list) i in
+      omega (arith, f, g, q)
+
+  pub enlisted-counted : (k : ℕ) → b.steps ≡ more m.steps (push_steps m.tree x m.list) → m.steps ≡ more a.steps k → b.steps ≡ more a.steps (k + push_steps t y a.list)
+  enlisted-counted k f g =
       let q : push_steps m.tree x m.list ≡ push_steps t y a.list = ap (λ (v : State). push_steps v.tree x v.list) e ∙ ap (λ z. push_steps t z a.list) i in
       omega (arith, f, g, q)

@@ -12,13 +12,13 @@ use Rattle.html_arena.specs.Tree.{Tree, children_of, label_of, named, parent_of,
 use Rattle.html_arena.proofs.Laws.{without-none}
 use Rattle.html_tokens.specs.declared.attributes.Attr.{Attr}
 use Rattle.html_open.specs.declared.entry.Entry.{Entry}
-use Rattle.html_open.specs.Marking.{charged}
+use Rattle.html_open.specs.Marking.{bare, charged}
 use Rattle.html_open.specs.Opened.{IsOpen, open_at}
 use Rattle.html_open.specs.Reopening.{HoldsNoElement}
 use Rattle.html_open.proofs.Keeps.{cases_bool, cases_eqb}
-use Rattle.html_tree.specs.Since.{IsClosed, Keeps, Since, essence}
+use Rattle.html_tree.specs.Since.{HasFrameset, IsClosed, Keeps, Since, SinceBy, essence}
 use Rattle.html_tree.specs.States.{IsUnderWay, State, state_of}
-use Rattle.html_tree.proofs.Kept.{keeps-since, read-keeps, same-first-under_way, same-origin_in}
+use Rattle.html_tree.proofs.Kept.{keeps-since, old-proper, read-keeps, same-first-under_way, same-origin_in, since-by}
 
 -- a node has another label of the same essence
 module _ (s : List ℕ) (l : List Entry) (t u : Tree) (n x : ℕ) (h f d : Option ℕ) (e : NodeData) (r : IsRelabelled t u x e) (i : essence e ≡ essence (label_of t x)) where
@@ -48,6 +48,9 @@ module _ (s : List ℕ) (l : List Entry) (t u : Tree) (n x : ℕ) (h f d : Optio
     linked = λ y b k. inr (inr (subst (λ v. y < v) q b, sym (ap (λ ps. get_or ps y None) r.same_parents) ∙ k));
     root = λ k. ap (λ ps. get_or ps 0 None) r.same_parents ∙ k;
     detached = λ y k. k;
+    replaced = λ y k. inl k;
+    proper = λ y p b. (let b' : y < length t.labels = subst (λ v. y < v) q b in
+        old-proper (state_of s l t n h f d) (state_of s l u n h f d) (λ z b. relabelled z) (λ z k. k.off) (λ z k none. ap (λ cs. get_or cs z []) r.same_lists) y b' (p b'));
     steps = steps;
   })
 
@@ -88,7 +91,7 @@ module _ (s : List ℕ) (l : List Entry) (t u : Tree) (n x : ℕ) (h f d : Optio
             (subst (λ v. v < length u.labels) z (omega arith), subst (λ v. named u tag.Body v ≡ true) z (ap (λ ls. is_same (tag_in (label_in ls x)) tag.Body) r.same_labels ∙ b)));
       })
 
-  pub detached-since : IsElement (label_of t x) → d ≡ None → more t.steps 0 ≤ u.steps → Since (state_of s l t n h f d) (state_of s l u n h f (Some x))
+  pub detached-since : IsElement (label_of t x) → d ≡ None → more t.steps 0 ≤ u.steps → SinceBy (Unit {0}) (state_of s l t n h f d) (state_of s l u n h f (Some x))
   detached-since i none steps = (let q : length u.labels ≡ length t.labels = ap length r.same_labels in record {
     first = λ y k. k;
     no_fewer = omega arith;
@@ -103,6 +106,10 @@ module _ (s : List ℕ) (l : List Entry) (t u : Tree) (n x : ℕ) (h f d : Optio
     ];
     root = λ k. (elim (cases_eqb 0 x) [ inl w ↦ r.parent_is 0 ∙ rw w.0 refl | inr w ↦ (let c : parent_of u 0 ≡ parent_of t 0 = r.parent_is 0 ∙ rw w.0 refl in c ∙ k) ]);
     detached = λ y k. absurd (let c : None ≡ Some y = sym none ∙ k in cc);
+    replaced = λ y k. inr tt;
+    proper = λ y p b. (let b' : y < length t.labels = subst (λ v. y < v) q b in
+        old-proper (state_of s l t n h f d) (state_of s l u n h f (Some x)) (λ z b. ap (λ ls. essence (label_in ls z)) r.same_labels) (λ z k. k.off)
+        (λ z k e. r.children_are z ∙ without-none x (children_of t z) (element-free t x i z e)) y b' (p b'));
     steps = steps;
   })
 
@@ -113,3 +120,22 @@ detached-steps t u x (Some p) e = (let k : u.steps ≡ more t.steps 1 = ap (λ (
 -- a step is counted first
 pub keeps-charged : (a b : State) (s : List ℕ) (l : List Entry) (t t1 : Tree) (n k : ℕ) (h f d : Option ℕ) → state_of s l t n h f d ≡ a → t1 ≡ charged t k → Since (state_of s l t1 n h f d) b → Keeps a b
 keeps-charged a b s l t t1 n k h f d w e i = λ z y. keeps-since (state_of s l t1 n h f d) b i z (read-keeps a s l t t1 n k h f d w e z y)
+
+-- so is it where the node was taken out of the tree, and a frameset was made since
+pub apart-charged : (a b : State) (s : List ℕ) (l : List Entry) (t t1 : Tree) (n k : ℕ) (h f d : Option ℕ) → state_of s l t n h f d ≡ a → t1 ≡ charged t k → SinceBy (Unit {0}) (state_of s l t1 n h f d) b
+    → (z c : State) → Since z a → Since b c → HasFrameset c.tree → Since z c
+apart-charged a b s l t t1 n k h f d w e i z c y g p =
+    since-by (Unit {0}) (HasFrameset c.tree) (HasFrameset c.tree) z b c (λ u. p) (λ u. u)
+    (since-by (HasFrameset (bare t1)) (Unit {0}) (Unit {0}) z (state_of s l t1 n h f d) b (λ u. tt) (λ u. u) (read-keeps a s l t t1 n k h f d w e z y) i) g
+
+pub detached-one : (t u : Tree) (x : ℕ) (o : Option ℕ) → u ≡ detached t x o → u.steps ≡ more t.steps 1
+detached-one t u x None e = ap (λ (v : Tree). v.steps) e
+detached-one t u x (Some p) e = ap (λ (v : Tree). v.steps) e
+
+pub detached-limits : (t u : Tree) (x : ℕ) (o : Option ℕ) → u ≡ detached t x o → u.limits ≡ t.limits
+detached-limits t u x None e = ap (λ (v : Tree). v.limits) e
+detached-limits t u x (Some p) e = ap (λ (v : Tree). v.limits) e
+
+pub detached-held : (t u : Tree) (x : ℕ) (o : Option ℕ) → u ≡ detached t x o → u.held ≡ t.held
+detached-held t u x None e = ap (λ (v : Tree). v.held) e
+detached-held t u x (Some p) e = ap (λ (v : Tree). v.held) e

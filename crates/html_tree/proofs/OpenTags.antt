@@ -320,21 +320,25 @@ all-tags p t (x ∷ s) h = ap (list_all p) (cons-tags t x s) ∙ all-push p (tag
 order : (a b : ℕ) → (a < b) ⊎ (b ≤ a)
 order a b = grind arith
 
+-- a node that was made is a formatting element
+pub clone-formatting : (s : List ℕ) (l : List Entry) (t u : Tree) → MadeClones (open_at s l t) u → IsOpen (open_at s l t) → (x : ℕ) → length t.labels ≤ x → x < length u.labels → is_formatting (tag_at u x) ≡ true
+clone-formatting s l t u m o x a b =
+    let k : length u.labels ≡ length t.labels + length m.elements =
+    ap length m.labels_are ∙ length-append t.labels (map (λ y. cloned (label_of t y)) m.elements) ∙ ap (λ v. length t.labels + v) (length_map m.elements (λ y. cloned (label_of t y))) in
+    let within : x - length t.labels < length m.elements = omega (arith, a, b, k) in
+    let member = has-at m.elements (x - length t.labels) 0 within in
+    let e : tag_at u x ≡ tag_at t (get_or m.elements (x - length t.labels) 0) =
+    ap (λ ds. tag_in (label_in ds x)) m.labels_are
+    ∙ ap tag_in (get_or-append_right t.labels (map (λ y. cloned (label_of t y)) m.elements) (length t.labels) x node.Document refl a ∙ get_or-map (λ y. cloned (label_of t y)) m.elements (x - length t.labels) 0 node.Document within)
+    ∙ cloned-tag (label_of t (get_or m.elements (x - length t.labels) 0)) in
+    ap is_formatting e ∙ o.formatting (get_or m.elements (x - length t.labels) 0) (m.listed (get_or m.elements (x - length t.labels) 0) member)
+
 module _ (s s' : List ℕ) (l l' : List Entry) (t u : Tree) (n : ℕ) (h f d : Option ℕ) (m : MadeClones (open_at s l t) u) (o : IsOpen (open_at s l t)) (nodes : AreNodes u s') where
   old-tag : (x : ℕ) → x < length t.labels → tag_at u x ≡ tag_at t x
   old-tag x b = ap (λ ds. tag_in (label_in ds x)) m.labels_are ∙ ap tag_in (get-before t.labels (map (λ y. cloned (label_of t y)) m.elements) x node.Document b)
 
   pub clone-tag : (x : ℕ) → length t.labels ≤ x → x < length u.labels → is_formatting (tag_at u x) ≡ true
-  clone-tag x a b =
-      let k : length u.labels ≡ length t.labels + length m.elements =
-      ap length m.labels_are ∙ length-append t.labels (map (λ y. cloned (label_of t y)) m.elements) ∙ ap (λ v. length t.labels + v) (length_map m.elements (λ y. cloned (label_of t y))) in
-      let within : x - length t.labels < length m.elements = omega (arith, a, b, k) in
-      let member = has-at m.elements (x - length t.labels) 0 within in
-      let e : tag_at u x ≡ tag_at t (get_or m.elements (x - length t.labels) 0) =
-      ap (λ ds. tag_in (label_in ds x)) m.labels_are
-      ∙ ap tag_in (get_or-append_right t.labels (map (λ y. cloned (label_of t y)) m.elements) (length t.labels) x node.Document refl a ∙ get_or-map (λ y. cloned (label_of t y)) m.elements (x - length t.labels) 0 node.Document within)
-      ∙ cloned-tag (label_of t (get_or m.elements (x - length t.labels) 0)) in
-      ap is_formatting e ∙ o.formatting (get_or m.elements (x - length t.labels) 0) (m.listed (get_or m.elements (x - length t.labels) 0) member)
+  clone-tag x a b = clone-formatting s l t u m o x a b
 
   pub reopened-tags : (k : ℕ) → s' ≡ s ++ fresh t k → HasReopened (state_of s l t n h f d) (state_of s' l' u n h f d)
   reopened-tags k e = record {

@@ -162,6 +162,15 @@ p-special tag.Table h = refl
 p-special tag.Td h = refl
 p-special tag.Template h = refl
 p-special tag.Th h = refl
+p-special tag.SvgDesc h = refl
+p-special tag.SvgForeignObject h = refl
+p-special tag.SvgTitle h = refl
+p-special tag.MathAnnotationXml h = refl
+p-special tag.MathMi h = refl
+p-special tag.MathMn h = refl
+p-special tag.MathMo h = refl
+p-special tag.MathMs h = refl
+p-special tag.MathMtext h = refl
 p-special _ h = absurd (let k = h in cc)
 
 filter-filter : (p q : ℕ → Bool) (xs : List ℕ) → ((x : ℕ) → q x ≡ true → p x ≡ true) → filter q (filter p xs) ≡ filter q xs

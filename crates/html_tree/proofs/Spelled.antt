@@ -1,7 +1,6 @@
 -- The names of known tags as code points, and refusals of elements of such names.
-use Rattle.std.proofs.Common.{◌≡◌, ℕ, false, List, [], inl, inr, Result, Ok, Err, IfErr, refl, sym, ◌∙◌, ap, subst, arith}
+use Rattle.std.proofs.Common.{◌≡◌, ℕ, false, List, inl, inr, Result, Ok, Err, IfErr, refl, sym, ◌∙◌, ap, subst}
 use Rattle.std.specs.Str.{IsUtf8, chars}
-use Rattle.std.proofs.lemmas.Str.{chars-IsAscii}
 use Rattle.html_names.specs.declared.tag.Tag.{Tag}
 use Rattle.html_names.specs.declared.tag.Tag.TheVariants as tag
 use Rattle.html_names.specs.Names.{is_known, name_of, tag_of}
@@ -12,17 +11,18 @@ use Rattle.html_open.specs.declared.error.OpenError.{OpenError}
 use Rattle.html_open.proofs.Keeps.{cases_bool}
 use Rattle.html_tree.specs.Inserting.{IsBudget, IsLack}
 
-unknown : (t : Tag) → is_known t ≡ false → t ≡ tag.Other
+-- what stands for the names of unknown elements is its own code points
+unknown : (t : Tag) → is_known t ≡ false → chars (name_of t) ≡ name_of t
+unfolding chars
 unknown tag.Other e = refl
+unknown tag.SvgOther e = refl
+unknown tag.MathOther e = refl
 unknown _ e = absurd cc
-
-empty : chars [] ≡ []
-empty = chars-IsAscii [] (λ i. omega arith)
 
 pub chars-name : (g : Tag) (bs n : List ℕ) → IsUtf8 bs → bs ≡ name_of g → tag_of bs ≡ g → n ≡ chars bs → n ≡ name_of g
 chars-name g bs n u e b i = elim (cases_bool (is_known g)) [
   | inl k ↦ (let q : tag_of n ≡ g = ap tag_of i ∙ (sym (tag_of-chars bs u) ∙ b) in tag_of-known n (ap is_known q ∙ k) ∙ ap name_of q)
-  | inr k ↦ (let o = unknown g k in i ∙ ap chars (e ∙ ap name_of o) ∙ empty ∙ sym (ap name_of o))
+  | inr k ↦ i ∙ ap chars e ∙ unknown g k
 ]
 
 -- what is told of the budget is told of it where memory may have been wanted before

@@ -1,8 +1,10 @@
 -- Claimed.
 -- What stays on the stack of open elements (13.2.4.2).
-use Rattle.std.specs.Prelude.{ℕ, ◌-◌, cond, eqb, List, length, min, max, take, Option, Some, None}
+use Rattle.std.specs.Prelude.{ℕ, ◌-◌, cond, eqb, List, length, min, max, slice_index, take, Option, Some, None}
 use Rattle.html_arena.specs.Siblings.{first_of, is_in}
+use Rattle.html_arena.specs.Tree.{detached, parent_of}
 use Rattle.html_open.specs.Lists.{after_index, last_index, without_last}
+use Rattle.html_open.specs.Marking.{bare}
 use Rattle.html_tree.specs.declared.groups.Group.{Group}
 use Rattle.html_tree.specs.declared.groups.Stop.{Stop}
 use Rattle.html_tree.specs.declared.groups.TableContext.{TableContext}
@@ -41,3 +43,12 @@ cleared_to a c = first_few (context_end a c) a.stack
 -- the stack without an element, unless that is the first, which is never closed
 abbrev pub remaining : ℕ → List ℕ → List ℕ
 remaining x s = cond (is_in x (first_of s)) s (without_last (eqb x) s)
+
+-- the body that is the second open element is taken out of the tree, and only the first element is open
+abbrev pub bodiless : State → State
+bodiless a =
+    record a {
+      stack = first_few 1 a.stack;
+      tree = bare (detached a.tree (slice_index a.stack 1) (parent_of a.tree (slice_index a.stack 1)));
+      detached = Some (slice_index a.stack 1);
+    }

@@ -1,4 +1,4 @@
--- Claimed, but for this crate's own functions: member_or_stop, is_sought_at, name_or_special.
+-- Claimed, but for this crate's own functions: is_sought_at.
 -- Searches from the current node down the stack of open elements (13.2.4.2).
 use Rattle.std.specs.Prelude.{ℕ, ◌==◌, Bool, cond, ◌||◌, List, Option, Some, None}
 use Rattle.std.specs.Cmp.Lexicographic.{pointwise}
@@ -6,14 +6,14 @@ use Rattle.html_names.specs.declared.tag.Tag.{Tag}
 use Rattle.html_names.specs.Sets.{is_special}
 use Rattle.html_arena.specs.Data.{name_in}
 use Rattle.html_arena.specs.Siblings.{last_of}
-use Rattle.html_arena.specs.Tree.{Tree, label_of, tag_at}
+use Rattle.html_arena.specs.Tree.{Tree, label_of, named, tag_at}
 use Rattle.html_open.specs.Lists.{last_index}
 use Rattle.html_open.specs.Scopes.{in_scope, stays}
 use Rattle.html_tree.specs.declared.groups.Group.{Group}
 use Rattle.html_tree.specs.declared.groups.Stop.{Stop}
 use Rattle.html_tree.specs.declared.groups.TableContext.{TableContext}
 use Rattle.html_tree.specs.declared.search.Sought.{Sought}
-use Rattle.html_tree.specs.declared.search.Sought.TheVariants.{Member, Context, Staying}
+use Rattle.html_tree.specs.declared.search.Sought.TheVariants as sought
 use Rattle.html_tree.specs.Groups.{in_group, is_context, is_stop}
 use Rattle.html_tree.specs.States.{State}
 
@@ -41,9 +41,10 @@ context_at t c x = is_context c (tag_at t x)
 
 -- at which elements a search stops
 abbrev pub is_sought_at : Tree → Sought → ℕ → Bool
-is_sought_at t (Member g e) x = member_or_stop t g e x
-is_sought_at t (Context c) x = context_at t c x
-is_sought_at t (Staying except) x = stays t except x
+is_sought_at t (sought.Member g e) x = member_or_stop t g e x
+is_sought_at t (sought.Context c) x = context_at t c x
+is_sought_at t (sought.Staying except) x = stays t except x
+is_sought_at t (sought.Tag g) x = named t g x
 
 -- a search for a name stops at an element of the name, or at a special one
 abbrev pub has_name : Tree → List ℕ → ℕ → Bool

@@ -6,8 +6,9 @@ use Rattle.html_arena.specs.declared.data.NodeData.{NodeData}
 use Rattle.html_arena.specs.declared.data.NodeData.TheVariants.{Document, Contents, Element, Text, Comment, Doctype}
 use Rattle.html_arena.specs.Data.{IsElement}
 use Rattle.html_arena.specs.Siblings.{first_of, has}
-use Rattle.html_arena.specs.Tree.{children_of, host_at, label_of, more, named, parent_of}
+use Rattle.html_arena.specs.Tree.{Tree, children_of, host_at, label_of, more, named, parent_of}
 use Rattle.html_open.specs.Reopening.{HoldsNoElement}
+use Rattle.html_tree.specs.Proper.{IsProper}
 use Rattle.html_tree.specs.States.{State}
 
 -- what stays of a node for good: all but the attributes of an element, to which others are merged, and the code points of a text, which
@@ -31,10 +32,15 @@ pub record IsClosed (a : State) (x : ℕ) : Type 0 where
 abbrev pub IsContents : State → ℕ → Type 0
 IsContents a x = (h : ℕ) × (host_at a.tree x ≡ Some h)
 
+-- a frameset was made
+abbrev pub HasFrameset : Tree → Type 0
+HasFrameset t = (y : ℕ) × (y < length t.labels) × (named t tag.Frameset y ≡ true)
+
 -- Of a state and a later one. The first open element stays first; nodes stay what they are; what was closed stays closed, and where it holds
 -- no element it keeps its children and their texts; a node without a parent had none before, or is a template's contents, or is the
--- body that a frameset took the place of; node 0 stays without a parent; steps are not fewer, up to the greatest number that is counted.
-pub record Since (a b : State) : Type 0 where
+-- body that a frameset took the place of; where it took its place since, this is so; each node is proper that was so where it was there; node 0 stays
+-- without a parent; steps are not fewer, up to the greatest number that is counted.
+pub record SinceBy (framed : Type 0) (a b : State) : Type 0 where
   pub first : (x : ℕ) → first_of a.stack ≡ Some x → first_of b.stack ≡ Some x
   pub no_fewer : length a.tree.labels ≤ length b.tree.labels
   pub tokens : a.tokens ≤ b.tokens
@@ -46,7 +52,13 @@ pub record Since (a b : State) : Type 0 where
       → IsContents b x ⊎ ((b.detached ≡ Some x) ⊎ ((x < length a.tree.labels) × (parent_of a.tree x ≡ None)))
   pub root : parent_of a.tree 0 ≡ None → parent_of b.tree 0 ≡ None
   pub detached : (x : ℕ) → a.detached ≡ Some x → b.detached ≡ Some x
+  pub replaced : (x : ℕ) → b.detached ≡ Some x → (a.detached ≡ Some x) ⊎ framed
+  pub proper : (x : ℕ) → (x < length a.tree.labels → IsProper a x) → x < length b.tree.labels → IsProper b x
   pub steps : more a.steps 0 ≤ b.steps
+
+-- a body that was replaced since was replaced by a frameset
+abbrev pub Since : State → State → Type 0
+Since a b = SinceBy (HasFrameset b.tree) a b
 
 -- what was so since an earlier state is so still
 abbrev pub Keeps : State → State → Type 0

@@ -1,4 +1,4 @@
--- Claimed, but for this crate's own functions: target_steps.
+-- Claimed.
 -- Where a new node goes (13.2.6.1).
 use Rattle.std.specs.Prelude.{ℕ, ◌<◌, List, length, Option, None}
 use Rattle.html_arena.specs.Siblings.{first_of}

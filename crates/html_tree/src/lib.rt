@@ -2,7 +2,9 @@
 //! (13.2.4), with every operation of tree construction that gives no token its fate.
 #![tactic(auto)]
 
+mod foreign;
 mod groups;
+mod naming;
 mod paragraphs;
 mod search;
 mod seats;
@@ -11,5 +13,6 @@ mod tree;
 
 pub use groups::{Group, Stop, TableContext, Target};
 pub use html_open::{AdoptEnd, OpenError, Scope};
+pub use naming::{is_foreign_root, opens};
 pub use seats::is_part;
 pub use tree::OpenTree;

@@ -20,6 +20,8 @@ pub(crate) enum Sought {
     Context(TableContext),
     /// One whose end tag is not implied, or whose name is the excepted one.
     Staying(Option<Tag>),
+    /// One of this tag.
+    Tag(Tag),
 }
 
 /// Whether a search stops at an element.
@@ -32,6 +34,7 @@ fn is_sought(arena: &Arena, node: NodeId, sought: Sought) -> bool
         Sought::Member(group, stop) => group.has(tag) || stop.is_at(tag),
         Sought::Context(context) => context.is_met(tag),
         Sought::Staying(except) => !tag.is_implied() || is_excepted(tag, except),
+        Sought::Tag(name) => tag.is(name),
     }
 }
 

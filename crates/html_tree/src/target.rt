@@ -4,7 +4,7 @@ ghost use Rattle.html_names.specs.Sets.{is_formatting};
 ghost use Rattle.html_arena.specs.Budget.{RefusedBy, budget};
 ghost use Rattle.html_arena.specs.Data.{IsElement, IsText, tag_in};
 ghost use Rattle.html_arena.specs.Make.{CanMake, label_for, made_weight, makes_child, nodes_made};
-ghost use Rattle.html_arena.specs.Tree.{Tree, WellFormed, label_of, parent_of};
+ghost use Rattle.html_arena.specs.Tree.{Tree, WellFormed, label_of, more, parent_of};
 ghost use Rattle.html_open.specs.declared.entry.Entry.{Entry};
 ghost use Rattle.html_open.specs.Marking.{charged};
 ghost use Rattle.html_open.specs.Opened.{AreNodes, CanList, CanPush, IsOpen, IsUnseen, open_at};
@@ -78,6 +78,7 @@ pub(crate) fn put_new(
     requires child { makes_child new ≡ true }
     ensures id { IfOk result (λ id. id ≡ length arena.old.labels) }
     ensures new { OnOk result (IsNew arena.old arena.new (place_at arena.old stack.now head target) new (length stack.now + 3)) }
+    ensures steps { OnOk result (arena.new.steps ≡ more arena.old.steps (target_steps arena.old stack.now target + 2)) }
     ensures well_formed { WellFormed arena.old × WellFormed arena.new }
     ensures within { OnOk result (budget arena.old (nodes_made new) (made_weight arena.old new) ≡ Ok tt) }
     ensures same { OnErr result (arena.new ≡ record arena.old { steps = arena.new.steps }) }

@@ -24,6 +24,7 @@ use std::alloc::Global;
 use std::marker::Model;
 
 mod closing;
+mod foreign;
 mod inserting;
 mod listing;
 mod merging;
@@ -73,6 +74,7 @@ impl OpenTree {
     pub fn document(alloc: Global) -> Result<OpenTree, OpenError>
         ensures state { IfOk result (λ p. p ≡ document_state None p.steps) }
         ensures steps { IfOk result (λ p. p.steps ≤ 1) }
+        ensures counted { IfOk result (λ p. p.steps ≡ 1) }
         ensures cause { IfErr result (λ e. e ≡ OpenError.OutOfMemory) }
     {
         OpenTree::over(alloc, Arena::new(alloc))
@@ -86,6 +88,7 @@ impl OpenTree {
     pub fn document_within(alloc: Global, limits: Limits) -> Result<OpenTree, OpenError>
         ensures state { IfOk result (λ p. p ≡ document_state (Some limits) p.steps) }
         ensures steps { IfOk result (λ p. p.steps ≤ 1) }
+        ensures counted { IfOk result (λ p. p.steps ≡ 1) }
         ensures cause { IfErr result (λ e. IsLack (budget (empty_tree (Some limits)) 1 0) e) }
     {
         OpenTree::over(alloc, Arena::within(alloc, limits))
@@ -103,6 +106,7 @@ impl OpenTree {
         requires { (l : Option Limits) × (arena ≡ empty_tree l) }
         ensures state { (l : Option Limits) → arena ≡ empty_tree l → IfOk result (λ p. p ≡ document_state l p.steps) }
         ensures steps { (l : Option Limits) → arena ≡ empty_tree l → IfOk result (λ p. p.steps ≤ 1) }
+        ensures counted { (l : Option Limits) → arena ≡ empty_tree l → IfOk result (λ p. p.steps ≡ 1) }
         ensures cause { (l : Option Limits) → arena ≡ empty_tree l → IfErr result (λ e. IsLack (budget (empty_tree l) 1 0) e) }
     {
         let mut arena = arena;
@@ -128,6 +132,7 @@ impl OpenTree {
     pub fn fragment(alloc: Global) -> Result<OpenTree, OpenError>
         ensures state { IfOk result (λ p. p ≡ fragment_state None p.steps) }
         ensures steps { IfOk result (λ p. p.steps ≤ 2) }
+        ensures counted { IfOk result (λ p. p.steps ≡ 2) }
         ensures cause { IfErr result (λ e. e ≡ OpenError.OutOfMemory) }
     {
         OpenTree::over_root(alloc, Arena::new(alloc))
@@ -141,6 +146,7 @@ impl OpenTree {
     pub fn fragment_within(alloc: Global, limits: Limits) -> Result<OpenTree, OpenError>
         ensures state { IfOk result (λ p. p ≡ fragment_state (Some limits) p.steps) }
         ensures steps { IfOk result (λ p. p.steps ≤ 2) }
+        ensures counted { IfOk result (λ p. p.steps ≡ 2) }
         ensures cause { IfErr result (λ e. IsBudget (root_budget (empty_tree (Some limits))) e) }
     {
         OpenTree::over_root(alloc, Arena::within(alloc, limits))
@@ -151,6 +157,7 @@ impl OpenTree {
         requires { (l : Option Limits) × (arena ≡ empty_tree l) }
         ensures state { (l : Option Limits) → arena ≡ empty_tree l → IfOk result (λ p. p ≡ fragment_state l p.steps) }
         ensures steps { (l : Option Limits) → arena ≡ empty_tree l → IfOk result (λ p. p.steps ≤ 2) }
+        ensures counted { (l : Option Limits) → arena ≡ empty_tree l → IfOk result (λ p. p.steps ≡ 2) }
         ensures cause { (l : Option Limits) → arena ≡ empty_tree l → IfErr result (λ e. IsBudget (root_budget (empty_tree l)) e) }
     {
         let mut arena = arena;
@@ -250,7 +257,7 @@ fn push_root(stack: &mut OpenStack, arena: &mut Arena, alloc: Global) -> Result<
     ensures stack { OnOk result (stack.new ≡ 0 ∷ []) }
     ensures seats { OnOk result (HasSeats arena.new stack.new) }
     ensures tree { OnOk result (bare arena.new ≡ bare (made arena.old (Element (name_of tag.Html) [] Implied))) }
-    ensures steps { OnOk result (arena.new.steps ≤ arena.old.steps + 2) }
+    ensures steps { OnOk result (arena.new.steps ≡ more arena.old.steps 2) }
     ensures cause { IfErr result (λ e. IsBudget (root_budget arena.old) e) }
 {
     kept_by_edits();

@@ -8,6 +8,7 @@
 //! - `tokens`, `errors`, `both` and `steps`: each text is also fed code point by code point, and what it gives then has to
 //!   be the same.
 //! - `runs`, `switch`, `count`: runs of plain text, a change of the text mode, tokens before the end of the text is known.
+//! - `turns`: what follows `(` is read as data of foreign content, and what follows `)` no longer.
 //! - `stopped`: what each call answers after one that is refused.
 //! - `input`: how `tokenize` reads the text as bytes. `beyond`: how it reads an input of the first of these alone, once more
 //!   often than it may have code points.
@@ -18,11 +19,13 @@ mod given;
 mod show;
 
 use self::calls::{attributes, beyond, input, refuse};
-use self::given::{Begin, Given, MOST, feed, give, give_one, read_by_points, read_in_pieces};
+use self::given::{
+    Begin, Given, MOST, feed, give, give_one, read_by_points, read_in_pieces, show_next,
+};
 use crate::words::first_word;
 use anyhow::{Result, bail};
 use html_charref::EntityTable;
-use html_tokens::{TextMode, Tokenizer};
+use html_tokens::{TextMode, Token, TokenKind, Tokenizer};
 use std::alloc::{AllocError, Global};
 
 /// The text mode of a word.
@@ -33,6 +36,7 @@ fn mode_of(word: &str) -> Result<TextMode> {
         "rawtext" => TextMode::Rawtext,
         "script" => TextMode::Script,
         "plaintext" => TextMode::Plaintext,
+        "foreign" => TextMode::Foreign,
         _ => bail!("no text mode"),
     })
 }
@@ -126,7 +130,9 @@ fn ask_tokenizer(
     let mut given = Given::new(alloc);
     with_tokenizer(alloc, table, begin, asked, text, &mut given)?;
     match asked {
-        "runs" | "switch" | "count" | "stopped" => Ok(out.push_str(given.tokens.as_str())?),
+        "runs" | "switch" | "turns" | "count" | "stopped" => Ok(out.push_str(
+            given.tokens.as_str(),
+        )?),
         _ => both_ways(alloc, table, begin, asked, text, &given, out),
     }
 }
@@ -194,6 +200,7 @@ fn use_tokenizer(
     match asked {
         "runs" => runs(alloc, t, text, &mut given.tokens),
         "switch" => switched(alloc, t, text, &mut given.tokens),
+        "turns" => turned(alloc, t, text, &mut given.tokens),
         "count" => counted(alloc, t, text, &mut given.tokens),
         "stopped" => refuse(alloc, t, text, &mut given.tokens),
         "by points" => read_by_points(t, text, given),
@@ -234,6 +241,31 @@ fn switched(alloc: Global, t: &mut Tokenizer<'_>, text: &str, out: &mut String) 
     t.finish()?;
     give(t, out)?;
     Ok(())
+}
+
+/// The tokens of a text, of which what follows `(` is read as data of foreign content, and what follows `)` no longer.
+fn turned(alloc: Global, t: &mut Tokenizer<'_>, text: &str, out: &mut String) -> Result<()> {
+    feed(alloc, t, text)?;
+    t.finish()?;
+    for _ in 0..MOST {
+        let token = t.next()?;
+        if let Some(mode) = said_after(token.as_ref()) {
+            t.switch(mode);
+        }
+        if !show_next(out, token.as_ref())? {
+            break;
+        }
+    }
+    Ok(())
+}
+
+/// What is said after a token of how the text after it is read.
+fn said_after(token: Option<&Token>) -> Option<TextMode> {
+    match token.map(|token| &token.kind) {
+        Some(TokenKind::Char('(')) => Some(TextMode::Foreign),
+        Some(TokenKind::Char(')')) => Some(TextMode::Data),
+        _ => None,
+    }
 }
 
 /// How many tokens a text gives before its end is known, and how many after.

@@ -24,6 +24,22 @@ fn push_attributes(alloc: Global, list: &mut Vec<Attr>, words: &str) -> Result<(
     Ok(())
 }
 
+/// The attributes that a text tells, with `&` between them.
+pub(crate) fn attributes_between(alloc: Global, text: &str) -> Result<Attrs, AllocError> {
+    let mut list = Vec::new(alloc);
+    push_between(alloc, &mut list, text)?;
+    Attrs::from_vec(list)
+}
+
+fn push_between(alloc: Global, list: &mut Vec<Attr>, text: &str) -> Result<(), AllocError> {
+    for part in text.split('&') {
+        if !part.is_empty() {
+            list.push(attribute_of(alloc, part)?)?;
+        }
+    }
+    Ok(())
+}
+
 fn attribute_of(alloc: Global, word: &str) -> Result<Attr, AllocError> {
     let (name, value) = word.split_once('=').unwrap_or((word, ""));
     let name = Str::of(alloc, name)?;

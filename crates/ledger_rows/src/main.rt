@@ -4,7 +4,7 @@
 //!
 //! - What is parsed: `document`, `fragment:td` with the name of the context, `form:div` where a form stands around it.
 //! - A token: `<p>`, `</p>`, `comment`, `doctype`, `eof`, or one code point; `␣` is a space, `␊` U+000A, `␀` U+0000.
-//! - Its fate: `made`, `merged`, `text`, `ended`, or the cause by which it is dropped; `ignored` for an end tag that has
+//! - Its fate: `made`, `foreign`, `merged`, `text`, `ended`, or the cause by which it is dropped; `ignored` for an end tag that has
 //!   no effect.
 //!
 //! `may` has tokens, each but the last with its fate, and is answered by the fates that the last one may have: told by

@@ -61,9 +61,10 @@ pub(crate) fn symbol_of(word: &str) -> Result<Symbol> {
 }
 
 /// The fates, with the nodes that the rows have, and their words.
-pub(crate) fn fates() -> [(&'static str, Fate); 11] {
+pub(crate) fn fates() -> [(&'static str, Fate); 12] {
     [
         ("made", Fate::Made(NodeId::at(4))),
+        ("foreign", Fate::Foreign(NodeId::at(6))),
         ("merged", Fate::Merged),
         ("text", Fate::Text(NodeId::at(5))),
         ("ended", Fate::Ended),

@@ -11,6 +11,7 @@ pub(crate) fn print_audit(out: &mut String, page: &Page) -> Result<(), AllocErro
     print_ledger(out, page)?;
     print_errors(out, page.errors.as_slice())?;
     print_counts(out, page.n, page.tokens.len(), &page.arena)?;
+    print_steps(out, page.steps)?;
     if page.tokens.len() != page.fates.len() {
         let fates = page.fates.len();
         writeln!(out, "fates {fates}")?;
@@ -112,6 +113,10 @@ fn print_kind(out: &mut String, kind: &TokenKind) -> Result<(), AllocError> {
 fn print_fate(out: &mut String, fate: Fate) -> Result<(), AllocError> {
     match fate {
         Fate::Made(node) => {
+            let number = node.index();
+            writeln!(out, " made {number}")
+        }
+        Fate::Foreign(node) => {
             let number = node.index();
             writeln!(out, " made {number}")
         }

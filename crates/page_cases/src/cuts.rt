@@ -11,7 +11,7 @@ use std::alloc::{AllocError, Global};
 /// How the text of a refusal begins.
 const REFUSED: &str = "refused: ";
 
-/// Of an input of which this text comes whole: whether the same comes of it in two pieces for every cut, and byte by byte.
+/// Of an input of which this text comes whole: whether the same comes of it in two pieces for every cut, byte by byte, and in pieces of other lengths.
 pub(crate) fn is_same_cut(
     alloc: Global,
     table: &EntityTable,
@@ -24,7 +24,11 @@ pub(crate) fn is_same_cut(
             return Ok(false);
         }
     }
-    gives(alloc, table, Reading::Bytes, ask, input, whole)
+    Ok(
+        gives(alloc, table, Reading::Bytes, ask, input, whole)?
+            && gives(alloc, table, Reading::Pieces(1), ask, input, whole)?
+            && gives(alloc, table, Reading::Pieces(3), ask, input, whole)?,
+    )
 }
 
 /// Of an input that has a page, or holds foreign content: the length of its first front for which neither is so, or of which something else

@@ -1,7 +1,8 @@
 //! Worked pages, a row each on standard input, with what the parser gives for them on standard output: the tree in one line, its counts, and
-//! where a row asks for it the ledger and the errors, or the page as HTML. Each page is also parsed cut in two after every byte, and byte by
-//! byte, and by each other call that takes such an input, and where anything else comes of it, a line says so; and so is every front of the
-//! page, which has a page too, or foreign content.
+//! where a row asks for it the ledger and the errors, or the page as HTML. Each page is also parsed cut in two after every byte, byte by
+//! byte, in pieces of other lengths, and by each other call that takes such an input, and where anything else comes of it, its steps included,
+//! a line says so; so is every front of the page, which has a page too, or foreign content. A page without limits is also parsed within a
+//! limit of its own steps, and refused within one less.
 //!
 //! The first line is a table of named character references, as JSON. A row is `NAME|WORDS|PAGE`. Words are `audit`, `html`, `context=NAME`,
 //! `in_form`, `quirks`, and limits: `nodes=N`, `held=N`, `input=N`, `steps=N`. In a page and in the name of a context `␊`, `␍`, `␀` and `␠` stand for what they show.
@@ -9,6 +10,7 @@
 
 mod audit;
 mod brackets;
+mod budgets;
 mod calls;
 mod cuts;
 mod page;

@@ -16,6 +16,8 @@ pub(crate) enum Reading {
     Bytes,
     /// A parser is fed so many bytes, and then the others.
     Cut(usize),
+    /// A parser is fed pieces of one to seven bytes, which begin so.
+    Pieces(usize),
     /// A parser takes all of a reader.
     Fed,
     /// By the call that takes all of it.
@@ -124,8 +126,22 @@ fn fed(parser: &mut Parser<'_>, reading: Reading, bytes: &[u8]) -> Result<(), Pa
             parser.feed(first)?;
             parser.feed(rest)
         }
+        Reading::Pieces(first) => fed_pieces(parser, first, bytes),
         _ => parser.feed(bytes),
     }
+}
+
+/// Feeds a parser pieces of one to seven bytes, of which the first has a length that follows from a number.
+fn fed_pieces(parser: &mut Parser<'_>, first: usize, bytes: &[u8]) -> Result<(), ParseError> {
+    let mut length = first;
+    let mut rest = bytes;
+    for _ in 0..bytes.len() {
+        length = length % 7 * 5 % 7 + 1;
+        let (piece, later) = rest.split_at(length.min(rest.len()));
+        parser.feed(piece)?;
+        rest = later;
+    }
+    Ok(())
 }
 
 /// A parser as asked.

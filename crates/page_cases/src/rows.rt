@@ -2,6 +2,7 @@
 
 use crate::audit::print_audit;
 use crate::brackets::print_brackets;
+use crate::budgets::is_exact;
 use crate::calls::{html_text, other_call, tokens_in_hand};
 use crate::cuts::{is_same_cut, odd_front, print_input};
 use crate::page::{Ask, Reading, page_of};
@@ -73,6 +74,9 @@ fn print_others(rt: &HostRuntime, table: &EntityTable, ask: Ask<'_>, input: &[u8
     let mut whole = String::new(rt.alloc());
     print_input(rt.alloc(), table, Reading::Whole, ask, input, &mut whole)?;
     print_other_cuts(rt, table, ask, input, whole.as_str())?;
+    if !is_exact(rt.alloc(), table, ask, input, whole.as_str())? {
+        println!(rt; "  another number of steps within a limit")?;
+    }
     print_other_call(rt, table, ask, input, whole.as_str())
 }
 
@@ -242,7 +246,9 @@ fn print_lines(rt: &HostRuntime, is_audited: bool, audit: &str) -> Result<()> {
     Ok(())
 }
 
-/// Whether a line tells how many nodes, clones or held code points there are.
+/// Whether a line tells how many nodes, clones, held code points or steps there are.
 fn is_count(line: &str) -> bool {
-    line.starts_with("nodes ") || line.starts_with("clones ") || line.starts_with("held ")
+    ["nodes ", "clones ", "held ", "steps "]
+        .iter()
+        .any(|name| line.starts_with(*name))
 }

@@ -6,7 +6,9 @@ use crate::shown::{push_bool, push_end, push_index, push_node, push_tag};
 use crate::words::{Word, number};
 use html_arena::{Limits, NodeId};
 use html_charref::Str;
+use html_names::Space;
 use html_tokens::{Attr, Attrs, OptionalStr};
+use html_tree::Target;
 use std::alloc::{AllocError, Global};
 
 /// Makes the call that a word names, and writes its answer.
@@ -26,8 +28,11 @@ pub(crate) fn make_call(
         | "listed"
         | "implied"
         | "implied-void"
+        | "replace-body"
         | "comment"
-        | "doctype" => push_node(out, Some(insert(page, alloc, word)?)),
+        | "doctype"
+        | "svg"
+        | "math" => push_node(out, Some(insert(page, alloc, word)?)),
         "pop"
         | "pop-to"
         | "close"
@@ -36,8 +41,9 @@ pub(crate) fn make_call(
         | "clear"
         | "unlist"
         | "remove"
+        | "leave-foreign"
         | "no-form" => close(page, word, out),
-        "within" | "text" | "merge" | "detach-body" | "marker" | "reopen" | "adopt" => {
+        "within" | "text" | "merge" | "marker" | "reopen" | "adopt" => {
             change(page, alloc, word, out)
         }
         _ => ask(page, word, out),
@@ -50,7 +56,6 @@ fn change(page: &mut Page, alloc: Global, word: Word<'_>, out: &mut String) -> R
         "within" => within(page, alloc, word),
         "text" => append(page, alloc, word, out),
         "merge" => page.merge(number(word.first)?, attributes(alloc, word.second)?),
-        "detach-body" => page.detach_body(),
         "marker" => page.add_marker(),
         "reopen" => page.reopen(word.first == "foster"),
         _ => push_end(out, page.adopt(word.tag(), word.fosters())?),
@@ -77,6 +82,8 @@ fn insert(page: &mut Page, alloc: Global, word: Word<'_>) -> Result<NodeId, Refu
         "head" => page.insert_head(),
         "implied" => page.insert_implied(word.tag(), word.fosters()),
         "implied-void" => page.insert_implied_void(word.tag(), word.fosters()),
+        "svg" => insert_foreign(page, alloc, Space::Svg, word),
+        "math" => insert_foreign(page, alloc, Space::Math, word),
         _ => insert_named(page, alloc, word),
     }
 }
@@ -92,6 +99,34 @@ fn insert_named(page: &mut Page, alloc: Global, word: Word<'_>) -> Result<NodeId
     }
 }
 
+/// An element of foreign content, of which a second part is the value of its attribute `encoding`.
+fn insert_foreign(
+    page: &mut Page,
+    alloc: Global,
+    space: Space,
+    word: Word<'_>,
+) -> Result<NodeId, Refusal> {
+    let (prefix, local) = (space.prefix(), word.first);
+    let name = format!(in alloc; "{prefix}{local}")?;
+    let attrs = encoding(alloc, word.second)?;
+    page.insert(
+        Str::of(alloc, name.as_str())?,
+        attrs,
+        Target::Current(false),
+    )
+}
+
+/// An attribute `encoding` of this value, or none.
+fn encoding(alloc: Global, value: &str) -> Result<Attrs, AllocError> {
+    let mut attrs = Vec::new(alloc);
+    if value != "" {
+        let name = Str::of(alloc, "encoding")?;
+        let value = Str::of(alloc, value)?;
+        attrs.push(Attr { name, value })?;
+    }
+    Attrs::from_vec(attrs)
+}
+
 /// Calls that make elements of a name.
 fn insert_element(
     page: &mut Page,
@@ -103,6 +138,7 @@ fn insert_element(
         "form" => page.insert_form(name, attrs),
         "listed" => page.insert_listed(name, attrs, word.fosters()),
         "void" => page.insert_void(name, attrs, word.target()?),
+        "replace-body" => page.replace_body(name, attrs),
         _ => page.insert(name, attrs, word.target()?),
     }
 }
@@ -136,6 +172,7 @@ fn close(page: &mut Page, word: Word<'_>, out: &mut String) -> Result<(), Refusa
         "imply" => page.implied(word.tag_if_named()),
         "clear" => page.clear_to_marker(),
         "no-form" => page.forget_form(),
+        "leave-foreign" => page.leave_foreign(),
         "close" => {
             let is_found = page.close(word.group(), word.stop()?);
             push_bool(out, is_found)?;
@@ -160,6 +197,8 @@ fn ask(page: &mut Page, word: Word<'_>, out: &mut String) -> Result<(), Refusal>
         "the-form" => push_node(out, page.form()),
         "depth" => push_index(out, Some(page.depth())),
         "current" => push_tag(out, page.current_tag()),
+        "top" => push_tag(out, page.top_tag()),
+        "html-point" => push_bool(out, page.is_at_html_point()),
         _ => seek(page, word, out),
     }
 }
@@ -170,6 +209,7 @@ fn seek(page: &mut Page, word: Word<'_>, out: &mut String) -> Result<(), Refusal
         "find" => push_index(out, page.find(word.group(), word.stop()?)),
         "has" => push_bool(out, page.has(word.group(), word.stop()?)),
         "find-name" => push_index(out, page.find_name(word.first)),
+        "find-foreign" => push_index(out, page.find_foreign(word.first)),
         "in-scope" => push_bool(out, page.is_in_scope(word.node()?)),
         "at" => push_tag(out, Some(page.tag_at(number(word.first)?)?)),
         _ => Err(Refusal::NoCall),

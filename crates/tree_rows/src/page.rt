@@ -7,7 +7,10 @@ use html_arena::{Limits, NodeId};
 use html_charref::Str;
 use html_names::Tag;
 use html_tokens::{Attrs, OptionalStr};
-use html_tree::{AdoptEnd, Group, OpenError, OpenTree, Stop, TableContext, Target, is_part};
+use html_tree::{
+    AdoptEnd, Group, OpenError, OpenTree, Stop, TableContext, Target, is_foreign_root, is_part,
+    opens,
+};
 use std::alloc::Global;
 use std::marker::Model;
 
@@ -86,7 +89,8 @@ impl Page {
         target: Target,
     ) -> Result<NodeId, Refusal> {
         let token = next_token(self.next, self.known)?;
-        if !self.takes(target) || !self.tree.can_seat(Tag::of(name.as_str()), target) {
+        let tag = Tag::of(name.as_str());
+        if !self.takes(target) || !opens(tag) || !self.tree.can_seat(tag, target) {
             return Err(Refusal::Condition);
         }
         self.known = false;
@@ -104,7 +108,8 @@ impl Page {
         target: Target,
     ) -> Result<NodeId, Refusal> {
         let token = next_token(self.next, self.known)?;
-        if !self.takes(target) || is_part(Tag::of(name.as_str())) {
+        let tag = Tag::of(name.as_str());
+        if !self.takes(target) || is_part(tag) || is_foreign_root(tag) {
             return Err(Refusal::Condition);
         }
         self.known = false;
@@ -134,7 +139,10 @@ impl Page {
 
     /// An element that no token asked for, opened.
     pub(crate) fn insert_implied(&mut self, tag: Tag, foster: bool) -> Result<NodeId, Refusal> {
-        if self.tree.depth() == 0 || !self.tree.can_seat(tag, Target::Current(foster)) {
+        if self.tree.depth() == 0 || !opens(tag) {
+            return Err(Refusal::Condition);
+        }
+        if !self.tree.can_seat(tag, Target::Current(foster)) {
             return Err(Refusal::Condition);
         }
         let known = self.known;
@@ -150,7 +158,7 @@ impl Page {
         tag: Tag,
         foster: bool,
     ) -> Result<NodeId, Refusal> {
-        if self.tree.depth() == 0 || is_part(tag) {
+        if self.tree.depth() == 0 || is_part(tag) || is_foreign_root(tag) {
             return Err(Refusal::Condition);
         }
         let known = self.known;
@@ -196,7 +204,8 @@ impl Page {
     pub(crate) fn insert_form(&mut self, name: Str, attrs: Attrs) -> Result<NodeId, Refusal> {
         let token = next_token(self.next, self.known)?;
         let target = Target::Current(false);
-        if !self.takes(target) || !Tag::of(name.as_str()).is(Tag::Form) {
+        let tag = Tag::of(name.as_str());
+        if !self.takes(target) || !opens(tag) || !tag.is(Tag::Form) {
             return Err(Refusal::Condition);
         }
         self.known = false;
@@ -281,17 +290,21 @@ impl Page {
         Ok(())
     }
 
-    /// Takes the body that is the second open element out of the tree, once.
-    pub(crate) fn detach_body(&mut self) -> Result<(), Refusal> {
-        if !self.known || !self.attached || self.tree.depth() < 2 {
+    /// The frameset of the next token, in place of the body that is the second open element, once.
+    pub(crate) fn replace_body(&mut self, name: Str, attrs: Attrs) -> Result<NodeId, Refusal> {
+        let token = next_token(self.next, self.known)?;
+        if !self.attached || self.tree.depth() < 2 || !Tag::of(name.as_str()).is(Tag::Frameset) {
             return Err(Refusal::Condition);
         }
         if !self.tree.tag_at(1).is(Tag::Body) {
             return Err(Refusal::Condition);
         }
+        self.known = false;
         self.attached = false;
-        self.tree.detach_body();
-        Ok(())
+        let node = self.tree.replace_body(name, attrs, token)?;
+        self.next = token + 1;
+        self.known = true;
+        Ok(node)
     }
 
     pub(crate) fn add_marker(&mut self) -> Result<(), Refusal> {
@@ -383,6 +396,22 @@ impl Page {
 
     pub(crate) fn find_name(&mut self, name: &str) -> Option<usize> {
         self.tree.find_name(name)
+    }
+
+    pub(crate) fn find_foreign(&mut self, name: &str) -> Option<usize> {
+        self.tree.find_foreign(name)
+    }
+
+    pub(crate) fn leave_foreign(&mut self) {
+        self.tree.leave_foreign();
+    }
+
+    pub(crate) fn top_tag(&self) -> Option<Tag> {
+        self.tree.top_tag()
+    }
+
+    pub(crate) fn is_at_html_point(&self) -> bool {
+        self.tree.is_at_html_point()
     }
 
     pub(crate) fn is_in_scope(&mut self, node: NodeId) -> bool {

@@ -36,13 +36,24 @@ pub(crate) fn push_end(out: &mut String, end: AdoptEnd) -> Result<(), Refusal> {
     Ok(())
 }
 
-/// A name that some rule knows, a question mark for another, or a dash.
+/// A name that some rule knows, a question mark for another, or a dash. Behind the namespace of foreign content stands a colon.
 pub(crate) fn push_tag(out: &mut String, tag: Option<Tag>) -> Result<(), Refusal> {
     match tag {
         None => out.push_str("-")?,
-        Some(tag) => out.push_str(if tag.is(Tag::Other) { "?" } else { tag.name() })?,
+        Some(tag) => match tag.name().split_once(' ') {
+            None => out.push_str(known_or(tag.name()))?,
+            Some((space, local)) => {
+                let local = known_or(local);
+                write!(out, "{space}:{local}")?;
+            }
+        },
     }
     Ok(())
+}
+
+/// A name, or a question mark.
+fn known_or(name: &str) -> &str {
+    if name == "" { "?" } else { name }
 }
 
 /// The names of the open elements, the current node last.

@@ -1,6 +1,7 @@
 // What a node is, and its marks.
 ghost use Rattle.std.specs.Prelude.{◌≡◌, ◌<◌, length, Some, IfSome};
 ghost use Rattle.std.specs.Str.{chars};
+ghost use Rattle.html_names.specs.Foreign.{attr_space, local_name, space_of};
 ghost use Rattle.html_names.specs.Names.{tag_of};
 ghost use Rattle.html_arena.specs.Data.{attrs_in, contents_in, host_in, is_clone_in, is_linkable, kind_in, name_in, origin_in, text_in};
 ghost use Rattle.html_arena.specs.Tree.{label_of, marked, named, tag_at, with_marked};
@@ -9,7 +10,7 @@ use super::Arena;
 use crate::data::{Kind, NodeData, Origin, label_at};
 use crate::links::NodeId;
 use crate::marks::Mark;
-use html_names::Tag;
+use html_names::{AttrSpace, Space, Tag, attr_space, local_name};
 use html_tokens::Attr;
 
 impl Arena {
@@ -43,6 +44,30 @@ impl Arena {
         ensures { chars result.now ≡ name_in (label_of self.now node) }
     {
         label_at(&self.nodes, node).name()
+    }
+
+    /// The local name of an element, without its namespace: `path` of the name `svg path`; empty for other nodes.
+    pub fn local_name(&self, node: NodeId) -> &str
+        requires { node < length self.now.labels }
+        ensures { chars result.now ≡ local_name (name_in (label_of self.now node)) }
+    {
+        local_name(self.name(node))
+    }
+
+    /// The namespace of an element; that of HTML for other nodes.
+    pub fn namespace(&self, node: NodeId) -> Space
+        requires { node < length self.now.labels }
+        ensures { result ≡ space_of (tag_at self.now node) }
+    {
+        self.tag(node).space()
+    }
+
+    /// The namespace of an attribute of an element, by its name; none for those of other nodes.
+    pub fn attr_namespace(&self, node: NodeId, attr: &Attr) -> AttrSpace
+        requires { node < length self.now.labels }
+        ensures { result ≡ attr_space (space_of (tag_at self.now node)) attr.now.name }
+    {
+        attr_space(self.namespace(node), attr.name.as_str())
     }
 
     /// The tag of an element's name; `Other` for other nodes.

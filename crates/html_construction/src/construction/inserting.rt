@@ -2,12 +2,11 @@
 // without a fate, also where the node is refused.
 ghost use Rattle.std.specs.Prelude.{◌≡◌, ◌+◌, ◌*◌, ◌<◌, ◌≤◌, ◌∷◌, [], IfOk, IsTrue, OnOk, false, length, true, slice_index, if◌then◌else◌, IfErr};
 ghost use Rattle.html_names.specs.declared.tag.Tag.TheVariants as tag;
-ghost use Rattle.html_names.specs.declared.tag.Tag.TheVariants.{Image};
 ghost use Rattle.html_names.specs.Groups.{is_outermost};
 ghost use Rattle.html_names.specs.Sets.{is_formatting};
 ghost use Rattle.html_arena.specs.Make.{label_for};
 ghost use Rattle.html_arena.specs.Tree.{named, tag_at, with_merged};
-ghost use Rattle.html_names.specs.Tags.{is_same};
+ghost use Rattle.html_tree.specs.Proper.{is_foreign_root, opens};
 ghost use Rattle.html_tree.specs.Seats.{CanSeat, has_seat, is_part};
 ghost use Rattle.html_ledger.specs.declared.fate.Cause.TheVariants.{Misplaced};
 ghost use Rattle.html_construction.specs.Budgets.{Refuses, RefusesAny};
@@ -24,7 +23,7 @@ ghost use Rattle.html_tree.specs.declared.groups.Target.TheVariants.{Current, Do
 ghost use Rattle.html_tree.specs.Inserting.{IsBlank};
 ghost use Rattle.html_ledger.specs.declared.fate.Fate.TheVariants.{Dropped, Made, Merged};
 ghost use Rattle.html_ledger.specs.Entries.{number_of};
-ghost use Rattle.html_construction.specs.Tokens.{attrs_of, element_tag, tag_name};
+ghost use Rattle.html_construction.specs.Tokens.{attrs_of, element_tag, opens_own, tag_name};
 ghost use Rattle.html_construction.specs.Calls.{HasFate, IsTree, comment_of, counting, doctype_of, element_of, implied_of, listed_at, opened_at, placed_at, root_of, void_of};
 
 use super::Construction;
@@ -40,7 +39,7 @@ impl Construction {
     /// Makes the element of a start tag, puts it at the place for the current node and opens it. Its fate is Made, of that node.
     pub fn insert(&mut self, token: &TokenKind, tag: Tag) -> Result<(), Refusal>
         requires symbol { symbol_of token.now ≡ Start tag }
-        requires named { is_same tag Image ≡ false }
+        requires named { opens_own tag ≡ true }
         requires part { is_part tag ≡ false }
         requires opened { 0 < length self.old.stack }
         requires quiet { self.old.ledger.kept ≡ [] }
@@ -60,7 +59,7 @@ impl Construction {
     /// Makes the element of a start tag, puts it at a target and opens it.
     pub fn insert_at(&mut self, token: &TokenKind, tag: Tag, target: Target) -> Result<(), Refusal>
         requires symbol { symbol_of token.now ≡ Start tag }
-        requires named { is_same tag Image ≡ false }
+        requires named { opens_own tag ≡ true }
         requires part { is_part tag ≡ false }
         requires opened { 0 < length self.old.stack }
         requires quiet { self.old.ledger.kept ≡ [] }
@@ -86,7 +85,7 @@ impl Construction {
         target: Target,
     ) -> Result<NodeId, Refusal>
         requires symbol { symbol_of token.now ≡ Start tag }
-        requires named { is_same tag Image ≡ false }
+        requires named { opens_own tag ≡ true }
         requires seat { CanSeat self.old.tree tag target }
         requires opened { 0 < length self.old.stack }
         requires quiet { self.old.ledger.kept ≡ [] }
@@ -142,6 +141,7 @@ impl Construction {
     pub fn insert_void(&mut self, token: &TokenKind, tag: Tag) -> Result<(), Refusal>
         requires symbol { symbol_of token.now ≡ Start tag }
         requires part { is_part tag ≡ false }
+        requires named { is_foreign_root tag ≡ false }
         requires opened { 0 < length self.old.stack }
         requires quiet { self.old.ledger.kept ≡ [] }
         ensures rest { OnOk result (self.new ≡ record self.old { tree = self.new.tree; ledger = self.new.ledger }) }
@@ -166,6 +166,7 @@ impl Construction {
     ) -> Result<(), Refusal>
         requires symbol { symbol_of token.now ≡ Start tag }
         requires part { is_part tag ≡ false }
+        requires named { is_foreign_root tag ≡ false }
         requires opened { 0 < length self.old.stack }
         requires quiet { self.old.ledger.kept ≡ [] }
         ensures rest { OnOk result (self.new ≡ record self.old { tree = self.new.tree; ledger = self.new.ledger }) }
@@ -190,6 +191,7 @@ impl Construction {
     ) -> Result<NodeId, Refusal>
         requires symbol { symbol_of token.now ≡ Start tag }
         requires part { is_part tag ≡ false }
+        requires named { is_foreign_root tag ≡ false }
         requires opened { 0 < length self.old.stack }
         requires quiet { self.old.ledger.kept ≡ [] }
         ensures rest { OnOk result (self.new ≡ record self.old { tree = self.new.tree; ledger = self.new.ledger }) }
@@ -382,6 +384,7 @@ impl Construction {
     pub fn insert_implied(&mut self, tag: Tag) -> Result<(), Refusal>
         requires alone { is_made_alone tag ≡ true }
         requires part { is_part tag ≡ false }
+        requires named { opens tag ≡ true }
         requires opened { 0 < length self.old.stack }
         ensures rest { OnOk result (self.new ≡ record self.old { tree = self.new.tree; stack = tag ∷ self.old.stack }) }
         ensures keeps { OnOk result (Keeps self.old self.new) }
@@ -398,6 +401,7 @@ impl Construction {
     pub(super) fn open_implied(&mut self, tag: Tag) -> Result<NodeId, Refusal>
         requires alone { is_made_alone tag ≡ true }
         requires part { is_part tag ≡ false }
+        requires named { opens tag ≡ true }
         requires opened { 0 < length self.old.stack }
         ensures rest { OnOk result (self.new ≡ record self.old { tree = self.new.tree; stack = tag ∷ self.old.stack }) }
         ensures keeps { OnOk result (Keeps self.old self.new) }
@@ -439,6 +443,7 @@ impl Construction {
     fn open_implied_part(&mut self, tag: Tag) -> Result<(), Refusal>
         requires alone { is_made_alone tag ≡ true }
         requires seat { has_seat self.old.tree tag ≡ true }
+        requires named { opens tag ≡ true }
         requires opened { 0 < length self.old.stack }
         ensures rest { OnOk result (self.new ≡ record self.old { tree = self.new.tree; stack = tag ∷ self.old.stack }) }
         ensures keeps { OnOk result (Keeps self.old self.new) }
@@ -456,6 +461,7 @@ impl Construction {
     pub fn insert_implied_void(&mut self, tag: Tag) -> Result<(), Refusal>
         requires alone { is_made_alone tag ≡ true }
         requires part { is_part tag ≡ false }
+        requires named { is_foreign_root tag ≡ false }
         requires opened { 0 < length self.old.stack }
         ensures rest { OnOk result (self.new ≡ record self.old { tree = self.new.tree }) }
         ensures keeps { OnOk result (Keeps self.old self.new) }

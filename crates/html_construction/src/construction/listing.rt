@@ -1,7 +1,7 @@
 // The list of active formatting elements (13.2.4.3). No call gives a token its fate.
-ghost use Rattle.std.specs.Prelude.{◌≡◌, ℕ, ◌<◌, ◌≤◌, IfSome, OnOk, length, true, ◌++◌, ◌∷◌, [], IfOk, IfErr};
+ghost use Rattle.std.specs.Prelude.{◌≡◌, ℕ, ◌*◌, ◌<◌, ◌≤◌, IfSome, OnOk, length, true, ◌++◌, ◌∷◌, [], IfOk, IfErr};
 ghost use Rattle.html_names.specs.Sets.{is_formatting};
-ghost use Rattle.html_arena.specs.Tree.{tag_at};
+ghost use Rattle.html_arena.specs.Tree.{more, tag_at};
 ghost use Rattle.html_construction.specs.Budgets.{RefusesAny};
 ghost use Rattle.html_construction.specs.Built.{Keeps};
 ghost use Rattle.html_construction.specs.Grown.{Grown};
@@ -11,7 +11,9 @@ ghost use Rattle.html_open.specs.declared.entry.Entry.TheVariants.{Marker};
 ghost use Rattle.html_open.specs.Entries.{is_marker, last_named, without_node};
 ghost use Rattle.html_open.specs.Lists.{below};
 ghost use Rattle.html_tree.specs.Listing.{IsAdopted, IsReopened};
+ghost use Rattle.html_open.specs.Reopening.{look_steps};
 ghost use Rattle.html_tree.specs.OpenTags.{open_tags};
+ghost use Rattle.html_tree.specs.Steps.{CountsReopening};
 ghost use Rattle.html_construction.specs.Calls.{HasEnded, IsTree};
 
 use super::Construction;
@@ -59,11 +61,24 @@ impl Construction {
         ensures opened { OnOk result (0 < length self.new.stack) }
         ensures tags { OnOk result (self.new.stack ≡ open_tags self.new.tree) }
         ensures exact { OnOk result (IsReopened self.old.fostering self.old.tree self.new.tree) }
+        ensures counted { OnOk result (CountsReopening self.old.fostering self.old.tree self.new.tree) }
         ensures refuses { IfErr result (λ e. RefusesAny e self.old self.new) }
     {
         self.tree.laws();
         self.tree.reopen(self.registers.fostering)?;
         Ok(())
+    }
+
+    /// Counts, so many times, the look at the list by which a reconstruction finds that there is nothing to open anew.
+    pub fn look_again(&mut self, times: usize)
+        ensures rest { self.new ≡ record self.old { tree = self.new.tree } }
+        ensures keeps { Keeps self.old self.new }
+        ensures grown { Grown 0 0 0 0 0 self.old self.new }
+        ensures works { Works 0 0 (2 * times) self.old self.new }
+        ensures counted { self.new.tree.steps ≡ more self.old.tree.steps (times * look_steps self.old.tree.list) }
+        ensures same { IsTree self.old.tree self.new }
+    {
+        self.tree.look_again(times);
     }
 
     /// The end tag of a formatting element: the adoption agency, and where it says so the rules for any other end tag.

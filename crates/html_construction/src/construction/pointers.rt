@@ -19,7 +19,9 @@ use super::Construction;
 use crate::mode::Mode;
 use crate::refusal::Refusal;
 use crate::registers::Call;
+use crate::token::{copy_attrs, copy_name};
 use html_arena::NodeId;
+use html_ledger::Symbol;
 use html_names::Tag;
 use html_tokens::TokenKind;
 use html_tree::Target;
@@ -191,27 +193,44 @@ impl Construction {
         self.depth() > 1 && self.tag_at(1).is(Tag::Body)
     }
 
-    /// Takes the body, where it is the second open element, out of the tree for a frameset, closes all but the first element, and says
-    /// whether it did. A body is taken out once.
-    pub fn replace_body(&mut self) -> bool
-        requires opened { 0 < length self.old.stack }
-        ensures rest { self.new ≡ record self.old { tree = self.new.tree; stack = self.new.stack } }
+    /// Whether a frameset may take the place of the body: the second open element is one, and no body was replaced before.
+    pub fn can_replace_body(&mut self) -> bool
+        ensures rest { self.new ≡ record self.old { tree = self.new.tree } }
         ensures keeps { Keeps self.old self.new }
         ensures grown { Grown 0 0 0 0 0 self.old self.new }
-        ensures works { Works 1 0 3 self.old self.new }
-        ensures lighter { weight self.new.stack ≤ weight self.old.stack }
-        ensures opened { 0 < length self.new.stack }
-        ensures left { result ≡ false → self.new.stack ≡ self.old.stack }
+        ensures works { Works 0 0 1 self.old self.new }
+        ensures second { result ≡ true → 1 < length self.new.tree.stack }
+        ensures body { result ≡ true → named self.new.tree.tree tag.Body (slice_index self.new.tree.stack 1) ≡ true }
+        ensures once { result ≡ true → self.new.tree.detached ≡ None }
         ensures other { result ≡ false → self.old.tree.detached ≡ None → 1 < length self.old.stack
             → named self.new.tree.tree tag.Body (slice_index self.new.tree.stack 1) ≡ false }
-        ensures alone { result ≡ true → length self.new.stack ≡ 1 }
+        ensures same { IsTree self.old.tree self.new }
     {
-        if self.has_detached_body() || !self.has_body() {
-            return false;
-        }
-        self.detach_body();
-        self.pop_to(1);
-        true
+        !self.has_detached_body() && self.has_body()
+    }
+
+    /// Makes the frameset element of a start tag in place of the body, which is the second open element: takes that out of the tree, closes all
+    /// elements but the first, puts the frameset into this, and opens it. Its fate is Made, of that node.
+    pub fn replace_body(&mut self, token: &TokenKind) -> Result<(), Refusal>
+        requires symbol { symbol_of token.now ≡ Start tag.Frameset }
+        requires second { 1 < length self.old.tree.stack }
+        requires body { named self.old.tree.tree tag.Body (slice_index self.old.tree.stack 1) ≡ true }
+        requires once { self.old.tree.detached ≡ None }
+        requires quiet { self.old.ledger.kept ≡ [] }
+        ensures rest { OnOk result (self.new ≡ record self.old { tree = self.new.tree; ledger = self.new.ledger; stack = tag.Frameset ∷ tag.Html ∷ [] }) }
+        ensures takes { OnOk result (Takes token.now self.old self.new) }
+        ensures quiet { OnOk result (self.new.ledger.kept ≡ []) }
+        ensures grown { OnOk result (Grown 1 2 0 0 0 self.old self.new) }
+        ensures works { OnOk result (Works 1 0 0 self.old self.new) }
+        ensures fate { OnOk result (HasFate (Start tag.Frameset) (Made (length self.old.tree.tree.labels)) self.old self.new) }
+        ensures refuses { IfErr result (λ e. Refuses token.now e self.old self.new) }
+    {
+        let name = copy_name(self.alloc(), token)?;
+        let attrs = copy_attrs(self.alloc(), token)?;
+        let number = self.give_made(Symbol::Start(Tag::Frameset))?;
+        self.tree.laws();
+        self.tree.replace_body(name, attrs, number)?;
+        Ok(())
     }
 
     /// Whether a frameset took the place of the body before.
@@ -220,19 +239,6 @@ impl Construction {
         ensures some { result ≡ true → self.now.tree.detached ≢ None }
     {
         self.tree.detached_body().is_some()
-    }
-
-    /// Takes the body, which is the second open element, out of the tree.
-    fn detach_body(&mut self)
-        requires second { 1 < length self.old.tree.stack }
-        requires body { named self.old.tree.tree tag.Body (slice_index self.old.tree.stack 1) ≡ true }
-        requires once { self.old.tree.detached ≡ None }
-        ensures rest { self.new ≡ record self.old { tree = self.new.tree } }
-        ensures keeps { Keeps self.old self.new }
-        ensures grown { Grown 0 0 0 0 0 self.old self.new }
-        ensures works { Works 0 0 2 self.old self.new }
-    {
-        self.tree.detach_body();
     }
 
     /// Begins the rules for a token: nothing of the tree or of the ledger changes.

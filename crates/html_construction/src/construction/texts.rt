@@ -7,6 +7,8 @@ ghost use Rattle.html_construction.specs.Budgets.{RefusesAny};
 ghost use Rattle.html_construction.specs.Built.{Takes, TakesRun};
 ghost use Rattle.html_construction.specs.Grown.{Grown};
 ghost use Rattle.html_construction.specs.Works.{Works};
+ghost use Rattle.html_arena.specs.Tree.{more};
+ghost use Rattle.html_tree.specs.Steps.{text_steps};
 ghost use Rattle.html_tree.specs.Texts.{text_node, with_text};
 ghost use Rattle.html_ledger.specs.declared.fate.Fate.TheVariants.{Text};
 ghost use Rattle.html_ledger.specs.Entries.{given_run};
@@ -30,6 +32,7 @@ impl Construction {
         ensures quiet { OnOk result (self.new.ledger.kept ≡ []) }
         ensures grown { OnOk result (Grown 1 1 0 0 0 self.old self.new) }
         ensures works { OnOk result (Works 1 0 1 self.old self.new) }
+        ensures counted { OnOk result (self.new.tree.steps ≡ more self.old.tree.steps (text_steps self.old.tree self.old.fostering 1)) }
         ensures exact { OnOk result (IsTree (record self.old.tree { tree = with_text self.old.tree self.old.fostering (c ∷ []) }) self.new) }
         ensures fate { OnOk result (HasFate (Char c) (Text (text_node self.old.tree self.old.fostering)) self.old self.new) }
         ensures refuses { IfErr result (λ e. RefusesAny e self.old self.new) }
@@ -55,7 +58,8 @@ impl Construction {
         ensures quiet { OnOk result (self.new.ledger.kept ≡ []) }
         ensures count { IfOk result (λ n. (0 < n) × (n ≤ length run.now)) }
         ensures grown { IfOk result (λ n. Grown n 1 0 0 0 self.old self.new) }
-        ensures works { IfOk result (λ n. Works 1 0 n self.old self.new) }
+        ensures works { IfOk result (λ n. Works n 0 n self.old self.new) }
+        ensures counted { IfOk result (λ n. self.new.tree.steps ≡ more self.old.tree.steps (text_steps self.old.tree self.old.fostering n)) }
         ensures exact { IfOk result (λ n. IsTree (record self.old.tree { tree = with_text self.old.tree self.old.fostering (take n run.now) }) self.new) }
         ensures fate { IfOk result (λ n. self.new.ledger ≡ given_run self.old.ledger (take n run.now) (Text (text_node self.old.tree self.old.fostering))) }
         ensures refuses { IfErr result (λ e. RefusesAny e self.old self.new) }

@@ -1,5 +1,5 @@
 // The mode in body (13.2.6.4.7): what a token meets there, its text and its end.
-ghost use Rattle.std.specs.Prelude.{◌≡◌, ◌+◌, ◌<◌, ◌≤◌, [], IfOk, OnOk, IsTrue, length, take, IfErr};
+ghost use Rattle.std.specs.Prelude.{◌≡◌, ◌+◌, ◌*◌, ◌<◌, ◌≤◌, [], IfOk, IfSome, None, OnOk, IsTrue, false, length, take, IfErr};
 ghost use Rattle.html_ledger.specs.Symbols.{symbol_of};
 ghost use Rattle.html_ledger.specs.Flags.{is_free, may_text_run};
 ghost use Rattle.html_construction.specs.Budgets.{Refuses, RefusesAny};
@@ -10,7 +10,9 @@ ghost use Rattle.html_construction.specs.Weights.{weight};
 ghost use Rattle.html_modes.specs.Begun.{TextStays};
 ghost use Rattle.html_modes.specs.Fitting.{Fits, Calls};
 ghost use Rattle.html_modes.specs.Plain.{IsPlainState, IsRunTurn, Turns, TurnsInBody};
-ghost use Rattle.html_modes.specs.Steps.{Falls, Grows, Steps, Worked};
+ghost use Rattle.html_modes.specs.Runs.{CountsRun};
+ghost use Rattle.html_modes.specs.Steps.{Falls, Grows, Steps, Worked, root_of};
+ghost use Rattle.html_tree.specs.Proper.{is_foreign_root};
 ghost use Rattle.html_modes.specs.declared.outcome.Outcome.TheVariants.{Done};
 ghost use Rattle.html_modes.specs.RawText.{Opens};
 
@@ -91,11 +93,11 @@ pub(crate) fn body_rules(
         Symbol::Comment => page.insert_comment(token)?,
         // A DOCTYPE token: ignore the token.
         Symbol::Doctype => doctype(page, token)?,
-        // A start tag whose tag name is "math", or "svg": foreign content is refused.
-        Symbol::Start(Tag::Math) => return Ok(Outcome::Foreign(Foreign::Math)),
-        Symbol::Start(Tag::Svg) => return Ok(Outcome::Foreign(Foreign::Svg)),
-        // Any other start tag.
-        Symbol::Start(tag) => body_start(page, token, tag)?,
+        // A start tag.
+        Symbol::Start(tag) => {
+            let outcome = any_start(page, token, tag)?;
+            return Ok(outcome);
+        }
         // An end tag.
         Symbol::End(tag) => body_end(page, token, tag)?,
         // An end-of-file token.
@@ -105,6 +107,43 @@ pub(crate) fn body_rules(
         }
     }
     Ok(Outcome::Done)
+}
+
+/// A start tag: that of the root of foreign content is refused.
+#[tactic(auto, using(crate::proofs::Settled::body_rules, crate::proofs::RawText::open_rules))]
+fn any_start(page: &mut Construction, token: &TokenKind, tag: Tag) -> Result<Outcome, Refusal>
+    requires symbol { symbol_of token.now ≡ Symbol.Start tag }
+    requires calls { Calls page.old }
+    ensures fits { OnOk result (Fits page.new) }
+    ensures takes { IfOk result (λ o. Steps o token.now page.old page.new) }
+    ensures falls { IfOk result (λ o. Falls o (Symbol.Start tag) page.old page.new) }
+    ensures grows { IfOk result (λ o. Grows o page.old page.new) }
+    ensures works { IfOk result (λ o. Worked o token.now page.old page.new) }
+    ensures plain { IfOk result (λ o. TurnsInBody o (Symbol.Start tag) token.now page.old page.new) }
+    ensures opens { IfOk result (λ o. Opens o (Symbol.Start tag) page.new) }
+    ensures refuses { IfErr result (λ e. Refuses token.now e page.old page.new) }
+{
+    // A start tag whose tag name is "math", or "svg": foreign content is refused.
+    if let Some(name) = foreign_root(tag) {
+        return Ok(Outcome::Foreign(name));
+    }
+    // Any other start tag.
+    body_start(page, token, tag)?;
+    Ok(Outcome::Done)
+}
+
+/// The kind of foreign content of which an element of this tag is the root.
+fn foreign_root(tag: Tag) -> Option<Foreign>
+    ensures none { result ≡ None → is_foreign_root tag ≡ false }
+    ensures some { IfSome result (λ name. Symbol.Start tag ≡ root_of name) }
+{
+    if tag.is(Tag::Math) {
+        return Some(Foreign::Math);
+    }
+    if tag.is(Tag::Svg) {
+        return Some(Foreign::Svg);
+    }
+    None
 }
 
 /// The end of the page.
@@ -168,7 +207,8 @@ pub(crate) fn body_run(page: &mut Construction, run: &[char]) -> Result<usize, R
     ensures quiet { OnOk result (page.new.ledger.kept ≡ []) }
     ensures count { IfOk result (λ n. (0 < n) × (n ≤ length run.now)) }
     ensures grown { IfOk result (λ n. Grown n (length page.old.ledger.fates + 1) 0 1 0 page.old page.new) }
-    ensures works { IfOk result (λ n. Works 6 1 (n + 6) page.old page.new) }
+    ensures works { IfOk result (λ n. Works (n + 6) 1 (3 * n + 6) page.old page.new) }
+    ensures counted { IfOk result (λ n. CountsRun n page.old page.new) }
     ensures lighter { OnOk result (weight page.new.stack ≤ weight page.old.stack) }
     ensures opened { OnOk result (0 < length page.new.stack) }
     ensures plain { IfOk result (λ n. IsPlainState page.old → page.old.mode ≡ Mode.InBody → IsRunTurn (take n run.now) page.old page.new) }
@@ -176,6 +216,7 @@ pub(crate) fn body_run(page: &mut Construction, run: &[char]) -> Result<usize, R
 {
     page.reconstruct()?;
     let count = page.insert_run(run)?;
+    page.look_again(count - 1);
     if !are_spaces(&run[..count]) {
         page.frameset_off();
     }

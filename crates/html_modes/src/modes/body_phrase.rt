@@ -1,5 +1,5 @@
 // The mode in body (13.2.6.4.7): the start tags of what stands among text.
-ghost use Rattle.std.specs.Prelude.{◌≡◌, ◌<◌, ◌≤◌, OnOk, length, false, IfErr};
+ghost use Rattle.std.specs.Prelude.{◌≡◌, ◌<◌, ◌≤◌, OnOk, length, false, IfErr, true};
 ghost use Rattle.html_ledger.specs.Symbols.{symbol_of};
 ghost use Rattle.html_construction.specs.Budgets.{Refuses};
 ghost use Rattle.html_construction.specs.Built.{Keeps, Takes};
@@ -13,6 +13,8 @@ ghost use Rattle.html_modes.specs.declared.outcome.Outcome.TheVariants.{Done};
 ghost use Rattle.html_modes.specs.RawText.{HasOpened, holds_text_alone, is_body_text};
 ghost use Rattle.html_names.specs.Sets.{is_formatting, is_headish};
 ghost use Rattle.html_names.specs.Tags.{is_same as same_tag};
+ghost use Rattle.html_construction.specs.Tokens.{opens_own};
+ghost use Rattle.html_tree.specs.Proper.{is_foreign_root};
 ghost use Rattle.html_tree.specs.Seats.{is_part};
 
 use crate::modes::body_text::{body_text_start, is_body_text};
@@ -33,6 +35,7 @@ pub(crate) fn phrase_start(
 ) -> Result<(), Refusal>
     requires small { weight_of tag ≤ 4 }
     requires other { is_headish tag ≡ false }
+    requires root { is_foreign_root tag ≡ false }
     requires symbol { symbol_of token.now ≡ Symbol.Start tag }
     requires calls { Calls page.old }
     ensures fits { OnOk result (Fits page.new) }
@@ -80,6 +83,7 @@ pub(crate) fn phrase_start(
 fn other_start(page: &mut Construction, token: &TokenKind, tag: Tag) -> Result<(), Refusal>
     requires small { weight_of tag ≤ 4 }
     requires named { same_tag tag Tag.Image ≡ false }
+    requires root { is_foreign_root tag ≡ false }
     requires other { holds_text_alone tag ≡ false }
     requires symbol { symbol_of token.now ≡ Symbol.Start tag }
     requires calls { Calls page.old }
@@ -100,6 +104,8 @@ fn other_start(page: &mut Construction, token: &TokenKind, tag: Tag) -> Result<(
         // A start tag whose tag name is one of: "caption", "col", "colgroup", "frame", "head", "tbody", "td",
         // "tfoot", "th", "thead", "tr": ignore the token.
         _ if tag.is_placed() => page.drop_token(token, Symbol::Start(tag), Cause::Misplaced),
+        // Void elements come before: this is none.
+        _ if tag.is_void() => void_start(page, token, tag),
         // Any other start tag.
         _ => plain_start(page, token, tag),
     }
@@ -113,7 +119,7 @@ pub(crate) fn plain_start(
     tag: Tag,
 ) -> Result<(), Refusal>
     requires small { weight_of tag ≤ 4 }
-    requires named { same_tag tag Tag.Image ≡ false }
+    requires named { opens_own tag ≡ true }
     requires part { is_part tag ≡ false }
     requires symbol { symbol_of token.now ≡ Symbol.Start tag }
     requires calls { Calls page.old }
@@ -134,6 +140,7 @@ pub(crate) fn plain_start(
 fn void_start(page: &mut Construction, token: &TokenKind, tag: Tag) -> Result<(), Refusal>
     requires symbol { symbol_of token.now ≡ Symbol.Start tag }
     requires part { is_part tag ≡ false }
+    requires root { is_foreign_root tag ≡ false }
     requires calls { Calls page.old }
     ensures fits { OnOk result (Fits page.new) }
     ensures takes { OnOk result (Takes token.now page.old page.new) }
@@ -189,7 +196,7 @@ fn button_start(page: &mut Construction, token: &TokenKind) -> Result<(), Refusa
 #[tactic(auto, using(crate::proofs::Settled::body_rules))]
 fn marker_start(page: &mut Construction, token: &TokenKind, tag: Tag) -> Result<(), Refusal>
     requires small { weight_of tag ≤ 4 }
-    requires named { same_tag tag Tag.Image ≡ false }
+    requires named { opens_own tag ≡ true }
     requires part { is_part tag ≡ false }
     requires symbol { symbol_of token.now ≡ Symbol.Start tag }
     requires calls { Calls page.old }
@@ -216,7 +223,7 @@ fn ruby_start(
     except: Option<Tag>,
 ) -> Result<(), Refusal>
     requires small { weight_of tag ≤ 4 }
-    requires named { same_tag tag Tag.Image ≡ false }
+    requires named { opens_own tag ≡ true }
     requires part { is_part tag ≡ false }
     requires symbol { symbol_of token.now ≡ Symbol.Start tag }
     requires calls { Calls page.old }
@@ -280,7 +287,7 @@ fn is_in_table(mode: Mode) -> bool {
 #[tactic(auto, using(crate::proofs::Settled::body_rules))]
 fn option_start(page: &mut Construction, token: &TokenKind, tag: Tag) -> Result<(), Refusal>
     requires small { weight_of tag ≤ 4 }
-    requires named { same_tag tag Tag.Image ≡ false }
+    requires named { opens_own tag ≡ true }
     requires part { is_part tag ≡ false }
     requires symbol { symbol_of token.now ≡ Symbol.Start tag }
     requires calls { Calls page.old }

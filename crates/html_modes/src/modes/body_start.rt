@@ -1,5 +1,5 @@
 // The mode in body (13.2.6.4.7): the start tags of the parts of a page, and of blocks.
-ghost use Rattle.std.specs.Prelude.{◌≡◌, ◌+◌, ◌<◌, ◌≤◌, [], OnOk, length, false, IfErr};
+ghost use Rattle.std.specs.Prelude.{◌≡◌, ◌+◌, ◌<◌, ◌≤◌, [], OnOk, length, false, IfErr, true};
 ghost use Rattle.html_ledger.specs.Symbols.{symbol_of};
 ghost use Rattle.html_construction.specs.Budgets.{Refuses};
 ghost use Rattle.html_construction.specs.Built.{Keeps, Takes};
@@ -12,7 +12,8 @@ ghost use Rattle.html_modes.specs.Steps.{Falls, Grows, Worked, compared};
 ghost use Rattle.html_modes.specs.declared.outcome.Outcome.TheVariants.{Done};
 ghost use Rattle.html_modes.specs.RawText.{HasOpened};
 ghost use Rattle.html_names.specs.Sets.{is_formatting};
-ghost use Rattle.html_names.specs.Tags.{is_same as same_tag};
+ghost use Rattle.html_construction.specs.Tokens.{opens_own};
+ghost use Rattle.html_tree.specs.Proper.{is_foreign_root};
 ghost use Rattle.html_tree.specs.Seats.{is_part};
 
 use crate::guards::has_form;
@@ -31,6 +32,7 @@ pub(crate) fn body_start(
     token: &TokenKind,
     tag: Tag,
 ) -> Result<(), Refusal>
+    requires root { is_foreign_root tag ≡ false }
     requires symbol { symbol_of token.now ≡ Symbol.Start tag }
     requires calls { Calls page.old }
     ensures fits { OnOk result (Fits page.new) }
@@ -130,10 +132,10 @@ fn late_frameset_start(page: &mut Construction, token: &TokenKind) -> Result<(),
     ensures works { OnOk result (Worked Done token.now page.old page.new) }
     ensures refuses { IfErr result (λ e. Refuses token.now e page.old page.new) }
 {
-    if !page.is_frameset_ok() || !page.replace_body() {
+    if !page.is_frameset_ok() || !page.can_replace_body() {
         return page.drop_token(token, Symbol::Start(Tag::Frameset), Cause::Misplaced);
     }
-    page.insert(token, Tag::Frameset)?;
+    page.replace_body(token)?;
     page.set_mode(Mode::InFrameset);
     Ok(())
 }
@@ -142,7 +144,7 @@ fn late_frameset_start(page: &mut Construction, token: &TokenKind) -> Result<(),
 #[tactic(auto, using(crate::proofs::Settled::body_rules))]
 fn block_start(page: &mut Construction, token: &TokenKind, tag: Tag) -> Result<(), Refusal>
     requires small { weight_of tag ≤ 4 }
-    requires named { same_tag tag Tag.Image ≡ false }
+    requires named { opens_own tag ≡ true }
     requires part { is_part tag ≡ false }
     requires symbol { symbol_of token.now ≡ Symbol.Start tag }
     requires calls { Calls page.old }
@@ -161,7 +163,7 @@ fn block_start(page: &mut Construction, token: &TokenKind, tag: Tag) -> Result<(
 #[tactic(auto, using(crate::proofs::Settled::body_rules))]
 fn heading_start(page: &mut Construction, token: &TokenKind, tag: Tag) -> Result<(), Refusal>
     requires small { weight_of tag ≤ 4 }
-    requires named { same_tag tag Tag.Image ≡ false }
+    requires named { opens_own tag ≡ true }
     requires part { is_part tag ≡ false }
     requires symbol { symbol_of token.now ≡ Symbol.Start tag }
     requires calls { Calls page.old }
@@ -180,7 +182,7 @@ fn heading_start(page: &mut Construction, token: &TokenKind, tag: Tag) -> Result
 #[tactic(auto, using(crate::proofs::Settled::body_rules))]
 fn preformatted_start(page: &mut Construction, token: &TokenKind, tag: Tag) -> Result<(), Refusal>
     requires small { weight_of tag ≤ 4 }
-    requires named { same_tag tag Tag.Image ≡ false }
+    requires named { opens_own tag ≡ true }
     requires part { is_part tag ≡ false }
     requires symbol { symbol_of token.now ≡ Symbol.Start tag }
     requires calls { Calls page.old }
@@ -223,7 +225,7 @@ fn form_start(page: &mut Construction, token: &TokenKind) -> Result<(), Refusal>
 #[tactic(auto, using(crate::proofs::Settled::body_rules))]
 fn item_start(page: &mut Construction, token: &TokenKind, tag: Tag) -> Result<(), Refusal>
     requires small { weight_of tag ≤ 4 }
-    requires named { same_tag tag Tag.Image ≡ false }
+    requires named { opens_own tag ≡ true }
     requires part { is_part tag ≡ false }
     requires symbol { symbol_of token.now ≡ Symbol.Start tag }
     requires calls { Calls page.old }

@@ -8,7 +8,7 @@ ghost use Rattle.html_modes.specs.Fitting.{Fits, Calls};
 ghost use Rattle.html_modes.specs.Steps.{Falls, Grows, Worked};
 ghost use Rattle.html_modes.specs.declared.outcome.Outcome.TheVariants.{Done};
 ghost use Rattle.html_modes.specs.RawText.{HasOpened, is_body_text};
-ghost use Rattle.html_names.specs.Tags.{is_same as same_tag};
+ghost use Rattle.html_construction.specs.Tokens.{opens_own};
 
 use crate::modes::text::text_start;
 use html_construction::{Construction, Refusal};
@@ -24,7 +24,7 @@ pub(crate) fn body_text_start(
     tag: Tag,
 ) -> Result<(), Refusal>
     requires small { weight_of tag ≤ 4 }
-    requires named { same_tag tag Tag.Image ≡ false }
+    requires named { opens_own tag ≡ true }
     requires text { is_body_text tag ≡ true }
     requires symbol { symbol_of token.now ≡ Symbol.Start tag }
     requires calls { Calls page.old }

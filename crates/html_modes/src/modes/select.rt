@@ -8,7 +8,8 @@ ghost use Rattle.html_construction.specs.Grown.{Grown};
 ghost use Rattle.html_construction.specs.Modes.{is_of_selects, is_reset};
 ghost use Rattle.html_construction.specs.Works.{Works};
 ghost use Rattle.html_construction.specs.Weights.{weight};
-ghost use Rattle.html_modes.specs.Begun.{Ignores, is_foreign, TextStays};
+ghost use Rattle.html_modes.specs.Begun.{Ignores, TextStays};
+ghost use Rattle.html_tree.specs.Proper.{is_foreign_root};
 ghost use Rattle.html_modes.specs.Fitting.{Fits, Calls, is_loose};
 ghost use Rattle.html_modes.specs.Steps.{Falls, Grows, Steps, Worked};
 ghost use Rattle.html_modes.specs.Ranks.{rank};
@@ -243,7 +244,7 @@ fn close_grouped_option(page: &mut Construction)
 fn leave_select(page: &mut Construction, token: &TokenKind, tag: Tag) -> Result<Outcome, Refusal>
     requires seen { may_select page.old.ledger.history ≡ true }
     requires began { is_of_selects page.old.began ≡ true }
-    requires native { is_foreign tag ≡ false }
+    requires native { is_foreign_root tag ≡ false }
     requires high { 7 ≤ rank page.old.mode (Symbol.Start tag) }
     requires outside { is_in_select tag ≡ false }
     requires symbol { symbol_of token.now ≡ Symbol.Start tag }

@@ -1,5 +1,5 @@
 // The mode text (13.2.6.4.8).
-ghost use Rattle.std.specs.Prelude.{◌≡◌, ◌<◌, ◌≤◌, ◌∷◌, [], IfOk, OnOk, IsTrue, false, length, IfErr};
+ghost use Rattle.std.specs.Prelude.{◌≡◌, ◌<◌, ◌≤◌, ◌∷◌, [], IfOk, OnOk, IsTrue, false, length, IfErr, true};
 ghost use Rattle.html_ledger.specs.Symbols.{symbol_of};
 ghost use Rattle.html_ledger.specs.Flags.{is_free};
 ghost use Rattle.html_construction.specs.Budgets.{Refuses};
@@ -12,7 +12,7 @@ ghost use Rattle.html_modes.specs.Fitting.{Fits, Calls};
 ghost use Rattle.html_modes.specs.Steps.{Falls, Grows, Steps, Worked};
 ghost use Rattle.html_modes.specs.declared.outcome.Outcome.TheVariants.{Done};
 ghost use Rattle.html_modes.specs.RawText.{Adds, AddsText, Ends, HasOpened, IsLeft, Opens};
-ghost use Rattle.html_names.specs.Tags.{is_same};
+ghost use Rattle.html_construction.specs.Tokens.{opens_own};
 ghost use Rattle.html_tree.specs.Seats.{is_part};
 
 use crate::outcome::Outcome;
@@ -30,7 +30,7 @@ pub(crate) fn text_start(
     tag: Tag,
 ) -> Result<(), Refusal>
     requires small { weight_of tag ≤ 4 }
-    requires named { is_same tag Tag.Image ≡ false }
+    requires named { opens_own tag ≡ true }
     requires part { is_part tag ≡ false }
     requires symbol { symbol_of token.now ≡ Symbol.Start tag }
     requires calls { Calls page.old }
@@ -55,7 +55,7 @@ pub(crate) fn text_start_at(
     target: Target,
 ) -> Result<(), Refusal>
     requires small { weight_of tag ≤ 4 }
-    requires named { is_same tag Tag.Image ≡ false }
+    requires named { opens_own tag ≡ true }
     requires part { is_part tag ≡ false }
     requires symbol { symbol_of token.now ≡ Symbol.Start tag }
     requires calls { Calls page.old }

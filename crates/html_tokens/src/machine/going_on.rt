@@ -66,6 +66,7 @@ impl<'a> Machine<'a> {
             | State::Number(_)
             | State::Second(..)
             | State::Doctype(_)
+            | State::Section
             | State::Ended => Ok(()),
         }
     }

@@ -28,6 +28,7 @@ impl<'a> Machine<'a> {
             | State::Comment(_)
             | State::Doctype(_)
             | State::Tag(_)
+            | State::Section
             | State::Ended => false,
         }
     }

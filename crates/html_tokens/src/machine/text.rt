@@ -8,7 +8,7 @@ ghost use Rattle.html_tokens.specs.Marks.{begin_at, is_end_mark, region_in};
 use super::{Machine, Progress, State, token};
 use crate::faults::Faults;
 use crate::input::Peek;
-use crate::marks::is_end_mark;
+use crate::marks::{is_end_mark, opens_section};
 use crate::token::{Begin, Region, TextMode, TokenKind};
 
 impl<'a> Machine<'a> {
@@ -35,6 +35,10 @@ impl<'a> Machine<'a> {
                     Progress::More
                 }
                 Some(Begin::Reference) => self.ref_step(region, faults),
+                Some(Begin::Section) => {
+                    self.begin_section();
+                    Progress::More
+                }
             },
         }
     }
@@ -42,7 +46,7 @@ impl<'a> Machine<'a> {
     /// What begins at the front of the rest; nothing where more input is wanted.
     fn begin(&self, region: Region, first: char) -> Option<Begin>
         requires first { Decided self.now.input (λ rest. slice_get rest 0) (Some first) }
-        ensures { MatchOption result (IsShort self.now.input (slack self.now.table.now self.now.last_name)) (λ found. Decided self.now.input (begin_at self.now.mode region self.now.last_name) found × (found ≡ Begin.EndMark → 2 ≤ length self.now.input.queue.items)) }
+        ensures { MatchOption result (IsShort self.now.input (slack self.now.table.now self.now.last_name)) (λ found. Decided self.now.input (begin_at self.now.mode region self.now.last_name) found × (found ≡ Begin.EndMark → 2 ≤ length self.now.input.queue.items) × (found ≡ Begin.Section → 9 ≤ length self.now.input.queue.items)) }
     {
         match self.mode {
             TextMode::Data => Some(match first {
@@ -57,12 +61,30 @@ impl<'a> Machine<'a> {
                 Region::Double => Some(Begin::Char),
             },
             TextMode::Plaintext => Some(Begin::Char),
+            TextMode::Foreign => self.foreign_begin(first),
         }
+    }
+
+    /// What begins at the front of the rest in foreign content.
+    fn foreign_begin(&self, first: char) -> Option<Begin>
+        requires first { Decided self.now.input (λ rest. slice_get rest 0) (Some first) }
+        ensures { MatchOption result (IsShort self.now.input (slack self.now.table.now self.now.last_name)) (λ found. Decided self.now.input (begin_at TextMode.Foreign Region.Plain self.now.last_name) found × (found ≡ Begin.EndMark → 2 ≤ length self.now.input.queue.items) × (found ≡ Begin.Section → 9 ≤ length self.now.input.queue.items)) }
+    {
+        if first == '&' {
+            return Some(Begin::Reference);
+        }
+        if first != '<' {
+            return Some(Begin::Char);
+        }
+        Some(match opens_section(&self.input)? {
+            true => Begin::Section,
+            false => Begin::Markup,
+        })
     }
 
     /// Whether the end mark of the last start tag begins.
     fn end_mark(&self) -> Option<Begin>
-        ensures { MatchOption result (IsShort self.now.input (slack self.now.table.now self.now.last_name)) (λ found. Decided self.now.input (λ rest. cond (is_end_mark self.now.last_name rest) Begin.EndMark Begin.Char) found × (found ≡ Begin.EndMark → 2 ≤ length self.now.input.queue.items)) }
+        ensures { MatchOption result (IsShort self.now.input (slack self.now.table.now self.now.last_name)) (λ found. Decided self.now.input (λ rest. cond (is_end_mark self.now.last_name rest) Begin.EndMark Begin.Char) found × (found ≡ Begin.EndMark → 2 ≤ length self.now.input.queue.items) × (found ≡ Begin.Section → 9 ≤ length self.now.input.queue.items)) }
     {
         match &self.last_name {
             None => Some(Begin::Char),
@@ -79,9 +101,11 @@ impl<'a> Machine<'a> {
     {
         match self.mode {
             TextMode::Script => region.after(&self.input),
-            TextMode::Data | TextMode::Rcdata | TextMode::Rawtext | TextMode::Plaintext => {
-                Some(Region::Plain)
-            }
+            TextMode::Data
+            | TextMode::Rcdata
+            | TextMode::Rawtext
+            | TextMode::Plaintext
+            | TextMode::Foreign => Some(Region::Plain),
         }
     }
 

@@ -1,18 +1,20 @@
 // Elements that are closed. The first element never is.
-ghost use Rattle.std.specs.Prelude.{◌≡◌, ℕ, ◌+◌, ◌*◌, ◌<◌, ◌≤◌, drop, false, is_some, length, true};
+ghost use Rattle.std.specs.Prelude.{◌≡◌, ℕ, ◌+◌, ◌*◌, ◌<◌, ◌≤◌, drop, eqb, false, is_some, length, true};
 ghost use Rattle.std.specs.List.{after_first};
 ghost use Rattle.html_names.specs.declared.tag.Tag.TheVariants as tag;
-ghost use Rattle.html_open.specs.Lists.{up_to};
+ghost use Rattle.html_open.specs.Entries.{removal_steps};
+ghost use Rattle.html_open.specs.Lists.{looked, up_to};
 ghost use Rattle.html_open.specs.Scopes.{stays, tag_stays};
 ghost use Rattle.html_arena.specs.Siblings.{first_of, is_in};
-ghost use Rattle.html_arena.specs.Tree.{tag_at};
+ghost use Rattle.html_arena.specs.Tree.{more, tag_at};
 ghost use Rattle.html_tree.specs.Closing.{cleared_to, context_end, closed_through, first_few, kept_to, popped, remaining};
 ghost use Rattle.html_tree.specs.Groups.{in_group, is_context};
 ghost use Rattle.html_tree.specs.OpenTags.{HasClosed, HasContext, HasFewer, IsLighter, back_to, is_tag_in_scope, open_tags};
 ghost use Rattle.html_tree.specs.Paragraphs.{seeks_p};
-ghost use Rattle.html_tree.specs.Searching.{found};
+ghost use Rattle.html_tree.specs.Searching.{context_at, found};
 ghost use Rattle.html_tree.specs.Seats.{carries_part};
 ghost use Rattle.html_tree.specs.Since.{Grown, Keeps};
+ghost use Rattle.html_tree.specs.Steps.{closed_count, found_steps};
 
 use super::OpenTree;
 use crate::groups::{Group, Stop, TableContext};
@@ -27,6 +29,7 @@ impl OpenTree {
         ensures exact { self.new ≡ record self.old { stack = first_few len self.old.stack; steps = self.new.steps } }
         ensures steps { self.new.steps ≤ self.old.steps + length self.old.stack }
         ensures each { self.new.steps + length self.new.stack ≤ self.old.steps + length self.old.stack }
+        ensures counted { self.new.steps ≡ more self.old.steps (closed_count self.old self.new) }
         ensures keeps { Keeps self.old self.new }
         ensures grown { Grown 0 0 0 0 self.old self.new }
         ensures few { HasFewer self.old self.new }
@@ -43,6 +46,7 @@ impl OpenTree {
     pub fn pop(&mut self)
         ensures exact { self.new ≡ record self.old { stack = popped self.old.stack; steps = self.new.steps } }
         ensures steps { self.new.steps ≤ self.old.steps + length self.old.stack }
+        ensures counted { self.new.steps ≡ more self.old.steps (closed_count self.old self.new) }
         ensures keeps { Keeps self.old self.new }
         ensures grown { Grown 0 0 0 0 self.old self.new }
         ensures tags { 1 < length self.old.stack → open_tags self.new ≡ drop 1 (open_tags self.old) }
@@ -61,6 +65,7 @@ impl OpenTree {
         ensures exact { self.new ≡ record self.old { stack = closed_through self.old group stop; steps = self.new.steps } }
         ensures steps { self.new.steps ≤ self.old.steps + 2 * length self.old.stack }
         ensures paid { seeks_p group stop ≡ true → self.new.steps + 2 * length self.new.stack ≤ self.old.steps + 2 * length self.old.stack + 1 }
+        ensures counted { self.new.steps ≡ more self.old.steps (found_steps self.old group stop + closed_count self.old self.new) }
         ensures keeps { Keeps self.old self.new }
         ensures grown { Grown 0 0 0 0 self.old self.new }
         ensures few { HasFewer self.old self.new }
@@ -83,6 +88,7 @@ impl OpenTree {
     pub fn clear_to(&mut self, context: TableContext)
         ensures exact { self.new ≡ record self.old { stack = cleared_to self.old context; steps = self.new.steps } }
         ensures steps { self.new.steps ≤ self.old.steps + 2 * length self.old.stack }
+        ensures counted { self.new.steps ≡ more self.old.steps (looked (context_at self.old.tree context) self.old.stack + closed_count self.old self.new) }
         ensures keeps { Keeps self.old self.new }
         ensures grown { Grown 0 0 0 0 self.old self.new }
         ensures few { HasFewer self.old self.new }
@@ -100,6 +106,7 @@ impl OpenTree {
         ensures index { result ≡ context_end self.old context }
         ensures rest { self.new ≡ record self.old { steps = self.new.steps } }
         ensures steps { self.new.steps ≤ self.old.steps + length self.old.stack }
+        ensures counted { self.new.steps ≡ more self.old.steps (looked (context_at self.old.tree context) self.old.stack) }
         ensures keeps { Keeps self.old self.new }
         ensures grown { Grown 0 0 0 0 self.old self.new }
         ensures tags { open_tags self.new ≡ open_tags self.old }
@@ -117,6 +124,7 @@ impl OpenTree {
     pub fn implied(&mut self, except: Option<Tag>)
         ensures exact { self.new ≡ record self.old { stack = up_to (stays self.old.tree except) self.old.stack; steps = self.new.steps } }
         ensures steps { self.new.steps ≤ self.old.steps + 2 * length self.old.stack + 1 }
+        ensures counted { self.new.steps ≡ more self.old.steps (looked (stays self.old.tree except) self.old.stack + closed_count self.old self.new) }
         ensures keeps { Keeps self.old self.new }
         ensures grown { Grown 0 0 0 0 self.old self.new }
         ensures few { HasFewer self.old self.new }
@@ -137,6 +145,8 @@ impl OpenTree {
         requires plain { carries_part (tag_at self.old.tree node) ≡ false }
         ensures exact { self.new ≡ record self.old { stack = remaining node self.old.stack; steps = self.new.steps } }
         ensures steps { self.new.steps ≤ self.old.steps + 2 * length self.old.stack + 1 }
+        ensures counted { is_in node (first_of self.old.stack) ≡ false → self.new.steps ≡ more self.old.steps (removal_steps (eqb node) self.old.stack) }
+        ensures first { is_in node (first_of self.old.stack) ≡ true → self.new ≡ self.old }
         ensures keeps { Keeps self.old self.new }
         ensures grown { Grown 0 0 0 0 self.old self.new }
         ensures lighter { IsLighter self.old self.new }

@@ -7,15 +7,16 @@ ghost use Rattle.html_arena.specs.declared.data.NewNode.TheVariants.{Comment, Do
 ghost use Rattle.html_arena.specs.declared.data.Origin.TheVariants.{Implied, Token};
 ghost use Rattle.html_arena.specs.Budget.{budget};
 ghost use Rattle.html_arena.specs.Make.{label_for, made_weight, nodes_made};
-ghost use Rattle.html_arena.specs.Tree.{tag_at};
+ghost use Rattle.html_arena.specs.Tree.{more, tag_at};
 ghost use Rattle.html_arena.specs.Weight.{weight};
 ghost use Rattle.html_open.specs.Entries.{push_steps, pushed};
 ghost use Rattle.html_open.specs.Opened.{CanList, open_at};
 ghost use Rattle.html_tree.specs.Inserting.{CanBeFirst, IsBlank, IsFor, IsNodePassed, IsRefused, IsTold, with_new, with_open};
 ghost use Rattle.html_tree.specs.OpenTags.{HasReopened, open_tags};
+ghost use Rattle.html_tree.specs.Proper.{is_foreign_root, opens};
 ghost use Rattle.html_tree.specs.Seats.{CanSeat, is_part};
 ghost use Rattle.html_tree.specs.Since.{Grown, Keeps};
-ghost use Rattle.html_tree.specs.Targets.{CanTarget, place_for};
+ghost use Rattle.html_tree.specs.Targets.{CanTarget, place_for, target_steps};
 
 use super::OpenTree;
 use crate::groups::Target;
@@ -42,6 +43,7 @@ impl OpenTree {
     ) -> Result<NodeId, OpenError>
         requires target { CanTarget self.old.stack target }
         requires seat { CanSeat self.old (tag_of name) target }
+        requires name { opens (tag_of name) ≡ true }
         requires opened { 0 < length self.old.stack }
         requires token { self.old.tokens ≤ token }
         ensures id { IfOk result (λ id. id ≡ length self.old.tree.labels) }
@@ -54,6 +56,7 @@ impl OpenTree {
         ensures tag { IfOk result (λ id. (id < length self.new.tree.labels) × (tag_at self.new.tree id ≡ tag_of name)) }
         ensures blank { OnOk result (IsBlank (label_for self.old.tree (Element name attrs (Token token))) (length self.old.tree.labels) self.new.tree) }
         ensures steps { OnOk result (self.new.steps ≤ self.old.steps + length self.old.stack + 4) }
+        ensures counted { OnOk result (self.new.steps ≡ more self.old.steps (target_steps self.old.tree self.old.stack target + 3)) }
         ensures keeps { OnOk result (Keeps self.old self.new) }
         ensures grown { OnOk result (Grown 2 1 0 (weight (label_for self.old.tree (Element name attrs (Token token)))) self.old self.new) }
         ensures tags { OnOk result (open_tags self.new ≡ tag_of name ∷ open_tags self.old) }
@@ -80,6 +83,7 @@ impl OpenTree {
     ) -> Result<NodeId, OpenError>
         requires target { CanTarget self.old.stack target }
         requires part { is_part (tag_of name) ≡ false }
+        requires name { is_foreign_root (tag_of name) ≡ false }
         requires token { self.old.tokens ≤ token }
         ensures id { IfOk result (λ id. id ≡ length self.old.tree.labels) }
         ensures exact { OnOk result (self.new ≡ record self.old {
@@ -89,6 +93,7 @@ impl OpenTree {
         }) }
         ensures tag { IfOk result (λ id. (id < length self.new.tree.labels) × (tag_at self.new.tree id ≡ tag_of name)) }
         ensures steps { OnOk result (self.new.steps ≤ self.old.steps + length self.old.stack + 3) }
+        ensures counted { OnOk result (self.new.steps ≡ more self.old.steps (target_steps self.old.tree self.old.stack target + 2)) }
         ensures keeps { OnOk result (Keeps self.old self.new) }
         ensures grown { OnOk result (Grown 2 0 0 (weight (label_for self.old.tree (Element name attrs (Token token)))) self.old self.new) }
         ensures tags { open_tags self.new ≡ open_tags self.old }
@@ -108,6 +113,7 @@ impl OpenTree {
     pub fn insert_implied(&mut self, tag: Tag, foster: bool) -> Result<NodeId, OpenError>
         requires opened { 0 < length self.old.stack }
         requires seat { CanSeat self.old tag (Target.Current foster) }
+        requires name { opens tag ≡ true }
         ensures id { IfOk result (λ id. id ≡ length self.old.tree.labels) }
         ensures exact { OnOk result (self.new ≡ record self.old {
           stack = with_open self.old;
@@ -116,6 +122,7 @@ impl OpenTree {
         }) }
         ensures tag { IfOk result (λ id. (id < length self.new.tree.labels) × (tag_at self.new.tree id ≡ tag)) }
         ensures steps { OnOk result (self.new.steps ≤ self.old.steps + length self.old.stack + 4) }
+        ensures counted { OnOk result (self.new.steps ≡ more self.old.steps (target_steps self.old.tree self.old.stack (Target.Current foster) + 3)) }
         ensures keeps { OnOk result (Keeps self.old self.new) }
         ensures grown { OnOk result (Grown 2 1 0 (weight (label_for self.old.tree (Element (name_of tag) [] Implied))) self.old self.new) }
         ensures tags { OnOk result (open_tags self.new ≡ tag ∷ open_tags self.old) }
@@ -138,6 +145,7 @@ impl OpenTree {
     pub fn insert_implied_void(&mut self, tag: Tag, foster: bool) -> Result<NodeId, OpenError>
         requires opened { 0 < length self.old.stack }
         requires part { is_part tag ≡ false }
+        requires name { is_foreign_root tag ≡ false }
         ensures id { IfOk result (λ id. id ≡ length self.old.tree.labels) }
         ensures exact { OnOk result (self.new ≡ record self.old {
           tree = with_new self.old.tree (place_for self.old (Target.Current foster)) (Element (name_of tag) [] Implied);
@@ -145,6 +153,7 @@ impl OpenTree {
         }) }
         ensures tag { IfOk result (λ id. (id < length self.new.tree.labels) × (tag_at self.new.tree id ≡ tag)) }
         ensures steps { OnOk result (self.new.steps ≤ self.old.steps + length self.old.stack + 3) }
+        ensures counted { OnOk result (self.new.steps ≡ more self.old.steps (target_steps self.old.tree self.old.stack (Target.Current foster) + 2)) }
         ensures keeps { OnOk result (Keeps self.old self.new) }
         ensures grown { OnOk result (Grown 2 0 0 (weight (label_for self.old.tree (Element (name_of tag) [] Implied))) self.old self.new) }
         ensures tags { open_tags self.new ≡ open_tags self.old }
@@ -178,6 +187,7 @@ impl OpenTree {
           tokens = token + 1;
         }) }
         ensures steps { OnOk result (self.new.steps ≤ self.old.steps + length self.old.stack + 3) }
+        ensures counted { OnOk result (self.new.steps ≡ more self.old.steps (target_steps self.old.tree self.old.stack target + 2)) }
         ensures keeps { OnOk result (Keeps self.old self.new) }
         ensures grown { OnOk result (Grown 2 0 0 (weight (label_for self.old.tree (Comment text token))) self.old self.new) }
         ensures tags { open_tags self.new ≡ open_tags self.old }
@@ -212,6 +222,7 @@ impl OpenTree {
           tokens = token + 1;
         }) }
         ensures steps { OnOk result (self.new.steps ≤ self.old.steps + length self.old.stack + 3) }
+        ensures counted { OnOk result (self.new.steps ≡ more self.old.steps (target_steps self.old.tree self.old.stack Target.Document + 2)) }
         ensures keeps { OnOk result (Keeps self.old self.new) }
         ensures grown { OnOk result (Grown 2 0 0 (weight (label_for self.old.tree (Doctype name public system token))) self.old self.new) }
         ensures tags { open_tags self.new ≡ open_tags self.old }
@@ -250,6 +261,7 @@ impl OpenTree {
         }) }
         ensures tag { IfOk result (λ id. (id < length self.new.tree.labels) × (tag_at self.new.tree id ≡ tag.Html)) }
         ensures steps { OnOk result (self.new.steps ≤ self.old.steps + length self.old.stack + 4) }
+        ensures counted { OnOk result (self.new.steps ≡ more self.old.steps (target_steps self.old.tree self.old.stack Target.Document + 3)) }
         ensures keeps { OnOk result (Keeps self.old self.new) }
         ensures grown { OnOk result (Grown 2 1 0 (weight (label_for self.old.tree (Element (name_of tag.Html) attrs (Token token)))) self.old self.new) }
         ensures tags { OnOk result (open_tags self.new ≡ tag.Html ∷ open_tags self.old) }
@@ -278,6 +290,7 @@ impl OpenTree {
         }) }
         ensures tag { IfOk result (λ id. (id < length self.new.tree.labels) × (tag_at self.new.tree id ≡ tag.Html)) }
         ensures steps { OnOk result (self.new.steps ≤ self.old.steps + length self.old.stack + 4) }
+        ensures counted { OnOk result (self.new.steps ≡ more self.old.steps (target_steps self.old.tree self.old.stack Target.Document + 3)) }
         ensures keeps { OnOk result (Keeps self.old self.new) }
         ensures grown { OnOk result (Grown 2 1 0 (weight (label_for self.old.tree (Element (name_of tag.Html) [] Implied))) self.old self.new) }
         ensures tags { OnOk result (open_tags self.new ≡ tag.Html ∷ open_tags self.old) }
@@ -316,6 +329,7 @@ impl OpenTree {
           tokens = token + 1;
         }) }
         ensures steps { OnOk result (self.new.steps ≤ self.old.steps + length self.old.stack + 4 + push_steps (with_new self.old.tree (place_for self.old (Target.Current foster)) (Element name attrs (Token token))) (length self.old.tree.labels) self.old.list) }
+        ensures counted { OnOk result (self.new.steps ≡ more self.old.steps (target_steps self.old.tree self.old.stack (Target.Current foster) + 3 + push_steps (with_new self.old.tree (place_for self.old (Target.Current foster)) (Element name attrs (Token token))) (length self.old.tree.labels) self.old.list)) }
         ensures keeps { OnOk result (Keeps self.old self.new) }
         ensures grown { OnOk result (Grown 2 1 1 (weight (label_for self.old.tree (Element name attrs (Token token)))) self.old self.new) }
         ensures tags { OnOk result (open_tags self.new ≡ tag_of name ∷ open_tags self.old) }
@@ -346,6 +360,7 @@ impl OpenTree {
         requires target { CanTarget self.old.stack target }
         requires first { CanBeFirst self.old.stack tag }
         requires seat { CanSeat self.old tag target }
+        requires name { opens tag ≡ true }
         requires own { IsFor origin self.old.tokens next }
         requires next { self.old.tokens ≤ next }
         ensures id { IfOk result (λ id. id ≡ length self.old.tree.labels) }
@@ -357,6 +372,7 @@ impl OpenTree {
         }) }
         ensures tag { IfOk result (λ id. (id < length self.new.tree.labels) × (tag_at self.new.tree id ≡ tag)) }
         ensures steps { OnOk result (self.new.steps ≤ self.old.steps + length self.old.stack + 4) }
+        ensures counted { OnOk result (self.new.steps ≡ more self.old.steps (target_steps self.old.tree self.old.stack target + 3)) }
         ensures keeps { OnOk result (Keeps self.old self.new) }
         ensures grown { OnOk result (Grown 2 1 0 (weight (label_for self.old.tree (Element (name_of tag) attrs origin))) self.old self.new) }
         ensures tags { OnOk result (open_tags self.new ≡ tag ∷ open_tags self.old) }
@@ -382,6 +398,7 @@ impl OpenTree {
     ) -> Result<NodeId, OpenError>
         requires target { CanTarget self.old.stack target }
         requires part { is_part tag ≡ false }
+        requires name { is_foreign_root tag ≡ false }
         requires own { IsFor origin self.old.tokens next }
         requires next { self.old.tokens ≤ next }
         ensures id { IfOk result (λ id. id ≡ length self.old.tree.labels) }
@@ -392,6 +409,7 @@ impl OpenTree {
         }) }
         ensures tag { IfOk result (λ id. (id < length self.new.tree.labels) × (tag_at self.new.tree id ≡ tag)) }
         ensures steps { OnOk result (self.new.steps ≤ self.old.steps + length self.old.stack + 3) }
+        ensures counted { OnOk result (self.new.steps ≡ more self.old.steps (target_steps self.old.tree self.old.stack target + 2)) }
         ensures keeps { OnOk result (Keeps self.old self.new) }
         ensures grown { OnOk result (Grown 2 0 0 (weight (label_for self.old.tree (Element (name_of tag) attrs origin))) self.old self.new) }
         ensures tags { open_tags self.new ≡ open_tags self.old }
@@ -420,6 +438,7 @@ impl OpenTree {
         requires target { CanTarget self.old.stack target }
         requires first { CanBeFirst self.old.stack (tag_of name) }
         requires seat { CanSeat self.old (tag_of name) target }
+        requires name { opens (tag_of name) ≡ true }
         requires own { IsFor origin self.old.tokens next }
         requires next { self.old.tokens ≤ next }
         ensures id { IfOk result (λ id. id ≡ length self.old.tree.labels) }
@@ -434,6 +453,7 @@ impl OpenTree {
         ensures can_list { OnOk result (is_formatting (tag_of name) ≡ true → CanList (open_at self.new.stack self.new.list self.new.tree) (length self.old.tree.labels)) }
         ensures within { OnOk result (budget self.old.tree (nodes_made (Element name attrs origin)) (made_weight self.old.tree (Element name attrs origin)) ≡ Ok tt) }
         ensures steps { OnOk result (self.new.steps ≤ self.old.steps + length self.old.stack + 4) }
+        ensures counted { OnOk result (self.new.steps ≡ more self.old.steps (target_steps self.old.tree self.old.stack target + 3)) }
         ensures keeps { OnOk result (Keeps self.old self.new) }
         ensures grown { OnOk result (Grown 2 1 0 (weight (label_for self.old.tree (Element name attrs origin))) self.old self.new) }
         ensures tags { OnOk result (open_tags self.new ≡ tag_of name ∷ open_tags self.old) }
@@ -466,6 +486,7 @@ impl OpenTree {
     ) -> Result<NodeId, OpenError>
         requires target { CanTarget self.old.stack target }
         requires part { is_part (tag_of name) ≡ false }
+        requires name { is_foreign_root (tag_of name) ≡ false }
         requires own { IsFor origin self.old.tokens next }
         requires next { self.old.tokens ≤ next }
         ensures id { IfOk result (λ id. id ≡ length self.old.tree.labels) }
@@ -476,6 +497,7 @@ impl OpenTree {
         }) }
         ensures tag { IfOk result (λ id. (id < length self.new.tree.labels) × (tag_at self.new.tree id ≡ tag_of name)) }
         ensures steps { OnOk result (self.new.steps ≤ self.old.steps + length self.old.stack + 3) }
+        ensures counted { OnOk result (self.new.steps ≡ more self.old.steps (target_steps self.old.tree self.old.stack target + 2)) }
         ensures keeps { OnOk result (Keeps self.old self.new) }
         ensures grown { OnOk result (Grown 2 0 0 (weight (label_for self.old.tree (Element name attrs origin))) self.old self.new) }
         ensures tags { open_tags self.new ≡ open_tags self.old }

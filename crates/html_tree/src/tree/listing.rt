@@ -1,13 +1,15 @@
 // The list of active formatting elements, reopening and adoption.
 ghost use Rattle.std.specs.Prelude.{◌≡◌, ℕ, ◌+◌, ◌-◌, ◌*◌, ◌<◌, ◌≤◌, [], ◌∷◌, ◌++◌, IfErr, IfOk, IfSome, OnOk, length, true};
 ghost use Rattle.html_names.specs.Sets.{is_formatting};
-ghost use Rattle.html_open.specs.Entries.{is_marker, last_named, push_steps, pushed, without_node};
+ghost use Rattle.html_arena.specs.Tree.{more};
+ghost use Rattle.html_open.specs.Entries.{is_marker, is_node, last_named, named_or_marker, push_steps, pushed, removal_steps, without_node};
 ghost use Rattle.html_open.specs.Opened.{CanList, open_at};
-ghost use Rattle.html_open.specs.Lists.{below};
-ghost use Rattle.html_open.specs.Reopening.{IsTold};
+ghost use Rattle.html_open.specs.Lists.{below, looked};
+ghost use Rattle.html_open.specs.Reopening.{IsTold, look_steps};
 ghost use Rattle.html_tree.specs.Listing.{HasCloned, IsAdoptRefused, IsAdopted, IsReopenRefused, IsReopened, listed_weight};
 ghost use Rattle.html_tree.specs.OpenTags.{HasReopened, IsLighterBesides, open_tags};
 ghost use Rattle.html_tree.specs.Since.{Grown, Keeps};
+ghost use Rattle.html_tree.specs.Steps.{CountsReopening};
 
 use super::OpenTree;
 use html_arena::NodeId;
@@ -25,6 +27,7 @@ impl OpenTree {
     pub fn add_marker(&mut self) -> Result<(), OpenError>
         ensures exact { OnOk result (self.new ≡ record self.old { list = self.old.list ++ Marker ∷ []; steps = self.new.steps }) }
         ensures steps { OnOk result (self.new.steps ≤ self.old.steps + 1) }
+        ensures counted { OnOk result (self.new.steps ≡ more self.old.steps 1) }
         ensures keeps { OnOk result (Keeps self.old self.new) }
         ensures grown { OnOk result (Grown 0 0 1 0 self.old self.new) }
         ensures tags { open_tags self.new ≡ open_tags self.old }
@@ -42,6 +45,7 @@ impl OpenTree {
         requires { CanList (open_at self.old.stack self.old.list self.old.tree) node }
         ensures exact { OnOk result (self.new ≡ record self.old { list = pushed self.old.tree node self.old.list; steps = self.new.steps }) }
         ensures steps { OnOk result (self.new.steps ≤ self.old.steps + push_steps self.old.tree node self.old.list) }
+        ensures counted { OnOk result (self.new.steps ≡ more self.old.steps (push_steps self.old.tree node self.old.list)) }
         ensures keeps { OnOk result (Keeps self.old self.new) }
         ensures grown { OnOk result (Grown 0 0 1 0 self.old self.new) }
         ensures tags { open_tags self.new ≡ open_tags self.old }
@@ -56,6 +60,7 @@ impl OpenTree {
     pub fn clear_to_marker(&mut self)
         ensures exact { self.new ≡ record self.old { list = below is_marker self.old.list; steps = self.new.steps } }
         ensures steps { self.new.steps ≤ self.old.steps + 2 * length self.old.list }
+        ensures counted { self.new.steps ≡ more self.old.steps (2 * looked is_marker self.old.list) }
         ensures keeps { Keeps self.old self.new }
         ensures grown { Grown 0 0 0 0 self.old self.new }
         ensures tags { open_tags self.new ≡ open_tags self.old }
@@ -69,6 +74,7 @@ impl OpenTree {
         ensures node_in { IfSome result (λ x. x < length self.old.tree.labels) }
         ensures rest { self.new ≡ record self.old { steps = self.new.steps } }
         ensures steps { self.new.steps ≤ self.old.steps + length self.old.list }
+        ensures counted { self.new.steps ≡ more self.old.steps (looked (named_or_marker self.old.tree name) self.old.list) }
         ensures keeps { Keeps self.old self.new }
         ensures grown { Grown 0 0 0 0 self.old self.new }
         ensures tags { open_tags self.new ≡ open_tags self.old }
@@ -81,6 +87,7 @@ impl OpenTree {
         requires { node < length self.old.tree.labels }
         ensures exact { self.new ≡ record self.old { list = without_node node self.old.list; steps = self.new.steps } }
         ensures steps { self.new.steps ≤ self.old.steps + 2 * length self.old.list + 1 }
+        ensures counted { self.new.steps ≡ more self.old.steps (removal_steps (is_node node) self.old.list) }
         ensures keeps { Keeps self.old self.new }
         ensures grown { Grown 0 0 0 0 self.old self.new }
         ensures tags { open_tags self.new ≡ open_tags self.old }
@@ -99,6 +106,7 @@ impl OpenTree {
         ensures exact { OnOk result (IsReopened foster self.old self.new) }
         ensures clones { OnOk result (HasCloned self.old self.new) }
         ensures steps { self.new.steps ≤ self.old.steps + length self.old.list * (length self.old.stack + length self.old.list + 7) }
+        ensures counted { OnOk result (CountsReopening foster self.old self.new) }
         ensures keeps { OnOk result (Keeps self.old self.new) }
         ensures grown { OnOk result (Grown (length self.old.list) (length self.old.list) 0 (listed_weight self.old) self.old self.new) }
         ensures opened { HasReopened self.old self.new }
@@ -109,6 +117,19 @@ impl OpenTree {
         let reopened = self.list.reopen(&mut self.stack, &mut self.arena, foster);
         self.arena.forest();
         reopened
+    }
+
+    /// Counts, so many times, the look at the list by which a reopening finds that there is nothing to open anew.
+    pub fn look_again(&mut self, times: usize)
+        ensures rest { self.new ≡ record self.old { steps = self.new.steps } }
+        ensures counted { self.new.steps ≡ more self.old.steps (times * look_steps self.old.list) }
+        ensures steps { self.new.steps ≤ self.old.steps + 2 * times }
+        ensures keeps { Keeps self.old self.new }
+        ensures grown { Grown 0 0 0 0 self.old self.new }
+        ensures tags { open_tags self.new ≡ open_tags self.old }
+    {
+        let steps = self.list.look_steps();
+        self.charge(steps * times as u128);
     }
 
     /// Follows an end tag of a formatting name (13.2.6.4.7, the adoption agency).

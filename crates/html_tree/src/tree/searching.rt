@@ -3,13 +3,17 @@ ghost use Rattle.std.specs.Prelude.{◌≡◌, ℕ, ◌+◌, ◌<◌, ◌≤◌,
 ghost use Rattle.std.specs.Str.{chars};
 ghost use Rattle.html_names.specs.declared.sets.Scope.TheVariants as scope;
 ghost use Rattle.html_names.specs.declared.tag.Tag.TheVariants as tag;
-ghost use Rattle.html_arena.specs.Tree.{tag_at};
+ghost use Rattle.html_arena.specs.Tree.{more, tag_at};
+ghost use Rattle.html_names.specs.declared.sets.Scope.TheVariants.{Default};
 ghost use Rattle.html_open.specs.AdoptFinding.{element_in_scope};
+ghost use Rattle.html_open.specs.Lists.{looked};
+ghost use Rattle.html_open.specs.Scopes.{element_or_end};
 ghost use Rattle.html_tree.specs.Paragraphs.{seeks_p};
-ghost use Rattle.html_tree.specs.Searching.{current_tag, found, found_name};
+ghost use Rattle.html_tree.specs.Searching.{current_tag, found, found_name, member_or_stop, name_or_special};
 ghost use Rattle.html_tree.specs.OpenTags.{is_tag_in_scope, open_tags};
 ghost use Rattle.html_tree.specs.Seats.{CanSeat, has_seat, is_part};
 ghost use Rattle.html_tree.specs.Since.{Grown, Keeps};
+ghost use Rattle.html_tree.specs.Steps.{found_steps, looks_at_seat};
 
 use super::OpenTree;
 use crate::groups::{Group, Stop, Target};
@@ -25,10 +29,11 @@ impl OpenTree {
         ensures tag { result ≡ current_tag self.old }
         ensures rest { self.new ≡ record self.old { steps = self.new.steps } }
         ensures steps { self.new.steps ≤ self.old.steps + 1 }
+        ensures counted { self.new.steps ≡ more self.old.steps 1 }
         ensures keeps { Keeps self.old self.new }
         ensures grown { Grown 0 0 0 0 self.old self.new }
-        ensures first { result ≡ slice_get (open_tags self.old) 0 }
         ensures tags { open_tags self.new ≡ open_tags self.old }
+        ensures first { result ≡ slice_get (open_tags self.old) 0 }
     {
         self.charge(1);
         match last_node(self.stack.as_slice()) {
@@ -42,6 +47,7 @@ impl OpenTree {
         ensures answer { result ≡ has_seat self.old part }
         ensures rest { self.new ≡ record self.old { steps = self.new.steps } }
         ensures steps { self.new.steps ≤ self.old.steps + 1 }
+        ensures counted { self.new.steps ≡ more self.old.steps 1 }
         ensures keeps { Keeps self.old self.new }
         ensures grown { Grown 0 0 0 0 self.old self.new }
         ensures tags { open_tags self.new ≡ open_tags self.old }
@@ -60,6 +66,8 @@ impl OpenTree {
         ensures can_now { result ≡ true → CanSeat self.new tag target }
         ensures rest { self.new ≡ record self.old { steps = self.new.steps } }
         ensures steps { self.new.steps ≤ self.old.steps + 1 }
+        ensures counted { looks_at_seat tag target ≡ true → self.new.steps ≡ more self.old.steps 1 }
+        ensures free { looks_at_seat tag target ≡ false → self.new ≡ self.old }
         ensures keeps { Keeps self.old self.new }
         ensures grown { Grown 0 0 0 0 self.old self.new }
         ensures tags { open_tags self.new ≡ open_tags self.old }
@@ -81,6 +89,7 @@ impl OpenTree {
         ensures tag { result ≡ tag_at self.old.tree (slice_index self.old.stack index) }
         ensures rest { self.new ≡ record self.old { steps = self.new.steps } }
         ensures steps { self.new.steps ≤ self.old.steps + 1 }
+        ensures counted { self.new.steps ≡ more self.old.steps 1 }
         ensures keeps { Keeps self.old self.new }
         ensures grown { Grown 0 0 0 0 self.old self.new }
         ensures at { slice_get (reverse (open_tags self.old)) index ≡ Some result }
@@ -99,6 +108,7 @@ impl OpenTree {
         ensures below { IfSome result (λ i. i < length self.old.stack) }
         ensures rest { self.new ≡ record self.old { steps = self.new.steps } }
         ensures steps { self.new.steps ≤ self.old.steps + length self.old.stack }
+        ensures counted { self.new.steps ≡ more self.old.steps (found_steps self.old group stop) }
         ensures near { IfSome result (λ i. self.new.steps + i ≤ self.old.steps + length self.old.stack) }
         ensures quick { seeks_p group stop ≡ true → result ≡ None → self.new.steps ≤ self.old.steps + 1 }
         ensures keeps { Keeps self.old self.new }
@@ -128,6 +138,7 @@ impl OpenTree {
         ensures below { IfSome result (λ i. i < length self.old.stack) }
         ensures rest { self.new ≡ record self.old { steps = self.new.steps } }
         ensures steps { self.new.steps ≤ self.old.steps + length self.old.stack }
+        ensures counted { self.new.steps ≡ more self.old.steps (looked (member_or_stop self.old.tree group stop) self.old.stack) }
         ensures near { IfSome result (λ i. self.new.steps + i ≤ self.old.steps + length self.old.stack) }
         ensures keeps { Keeps self.old self.new }
         ensures grown { Grown 0 0 0 0 self.old self.new }
@@ -148,6 +159,7 @@ impl OpenTree {
         ensures quick { seeks_p group stop ≡ true → result ≡ false → self.new.steps ≤ self.old.steps + 1 }
         ensures rest { self.new ≡ record self.old { steps = self.new.steps } }
         ensures steps { self.new.steps ≤ self.old.steps + length self.old.stack }
+        ensures counted { self.new.steps ≡ more self.old.steps (found_steps self.old group stop) }
         ensures keeps { Keeps self.old self.new }
         ensures grown { Grown 0 0 0 0 self.old self.new }
         ensures tags { open_tags self.new ≡ open_tags self.old }
@@ -161,6 +173,7 @@ impl OpenTree {
         ensures below { IfSome result (λ i. i < length self.old.stack) }
         ensures rest { self.new ≡ record self.old { steps = self.new.steps } }
         ensures steps { self.new.steps ≤ self.old.steps + length self.old.stack }
+        ensures counted { self.new.steps ≡ more self.old.steps (looked (name_or_special self.old.tree (chars name.now)) self.old.stack) }
         ensures keeps { Keeps self.old self.new }
         ensures grown { Grown 0 0 0 0 self.old self.new }
         ensures tags { open_tags self.new ≡ open_tags self.old }
@@ -178,6 +191,7 @@ impl OpenTree {
         ensures answer { result ≡ element_in_scope self.old.tree node self.old.stack }
         ensures rest { self.new ≡ record self.old { steps = self.new.steps } }
         ensures steps { self.new.steps ≤ self.old.steps + length self.old.stack }
+        ensures counted { self.new.steps ≡ more self.old.steps (looked (element_or_end self.old.tree node Default) self.old.stack) }
         ensures keeps { Keeps self.old self.new }
         ensures grown { Grown 0 0 0 0 self.old self.new }
         ensures tags { open_tags self.new ≡ open_tags self.old }

@@ -1,26 +1,31 @@
 // Text.
-ghost use Rattle.std.specs.Prelude.{◌≡◌, ℕ, ◌+◌, ◌*◌, ◌<◌, ◌≤◌, Err, IfErr, IfOk, IfSome, OnErr, OnOk, length, take};
+ghost use Rattle.std.specs.Prelude.{◌≡◌, ℕ, ◌+◌, ◌*◌, ◌<◌, ◌≤◌, Err, IfErr, IfOk, IfSome, None, OnErr, OnOk, length, take};
+ghost use Rattle.html_names.specs.Sets.{is_fostering};
 ghost use Rattle.html_arena.specs.declared.arena.ArenaError.TheVariants as arena;
 ghost use Rattle.html_arena.specs.Budget.{budget};
 ghost use Rattle.html_arena.specs.Data.{IsText};
-ghost use Rattle.html_arena.specs.Tree.{label_of, texted_run};
+ghost use Rattle.html_arena.specs.Tree.{label_of, more, tag_at, texted_run};
+ghost use Rattle.html_open.specs.Placing.{target_of};
 ghost use Rattle.html_open.specs.Marking.{bare};
 ghost use Rattle.html_arena.specs.declared.data.NewNode.TheVariants.{Text};
 ghost use Rattle.html_tree.specs.Inserting.{IsLack, IsNodePassed, IsPassed, IsRefused, with_new};
 ghost use Rattle.html_tree.specs.OpenTags.{open_tags};
 ghost use Rattle.html_tree.specs.Since.{Grown, Keeps};
+ghost use Rattle.html_tree.specs.Steps.{here_steps, new_text_steps, text_steps};
 ghost use Rattle.html_tree.specs.Texts.{IsFree, IsNewTextRefused, IsTextPassed, IsTextRefused, place_here, text_before, text_node, with_text, with_text_node};
 
 use super::OpenTree;
 use crate::groups::Target;
+use crate::search::{Sought, last_index, last_node, steps_down};
 use crate::target::{put_new, text_before};
 use html_arena::{NewNode, NodeId};
+use html_names::Tag;
 use html_open::{OpenError, kept_by_edits, place};
 
 impl OpenTree {
     /// Adds the longest front of a run of code points that the limit on held code points takes to the text that stands just before the
     /// place for the current node, or to a new one there (13.2.6.1, insert a character), and answers the text and how many were added.
-    /// One step a code point besides those of the place, and two for a new text.
+    /// Each code point counts the steps of the place, and one; a new text those of the place once more, and two.
     ///
     /// # Errors
     ///
@@ -33,7 +38,8 @@ impl OpenTree {
         ensures node { IfOk result (λ r. r.0 ≡ text_node self.old foster) }
         ensures exact { IfOk result (λ r. self.new ≡ record self.old { tree = with_text self.old foster (take r.1 run.now); steps = self.new.steps }) }
         ensures longest { IfOk result (λ r. r.1 < length run.now → budget self.new.tree 0 1 ≡ Err arena.HeldBudget) }
-        ensures steps { IfOk result (λ r. self.new.steps ≤ self.old.steps + 2 * length self.old.stack + 4 + r.1) }
+        ensures counted { IfOk result (λ r. self.new.steps ≡ more self.old.steps (text_steps self.old foster r.1)) }
+        ensures steps { IfOk result (λ r. self.new.steps ≤ self.old.steps + r.1 * (2 * length self.old.stack + 4) + r.1) }
         ensures keeps { OnOk result (Keeps self.old self.new) }
         ensures grown { IfOk result (λ r. Grown 1 0 0 r.1 self.old self.new) }
         ensures tags { open_tags self.new ≡ open_tags self.old }
@@ -42,9 +48,35 @@ impl OpenTree {
         ensures cause { IfErr result (λ e. IsTextRefused self.old foster e) }
         ensures told { IfErr result (λ e. IsTextPassed self.old self.new e) }
     {
+        let steps = self.here_steps(foster);
         let node = self.text_at(foster)?;
         let count = self.append_to(node, run)?;
+        self.charge(steps.saturating_mul((count - 1) as u128));
         Ok((node, count))
+    }
+
+    /// How many steps the place for the current node counts.
+    fn here_steps(&self, foster: bool) -> u128
+        requires opened { 0 < length self.now.stack }
+        ensures value { result ≡ here_steps self.now foster }
+    {
+        if !foster || !self.is_fostering() {
+            return 1;
+        }
+        let nodes = self.stack.as_slice();
+        let at = last_index(nodes, &self.arena, Sought::Tag(Tag::Table));
+        1 + steps_down(nodes.len(), at)
+    }
+
+    /// Whether what is put at the place for the current node may be fostered.
+    fn is_fostering(&self) -> bool
+        requires opened { 0 < length self.now.stack }
+        ensures value { result ≡ is_fostering (tag_at self.now.tree (target_of self.now.stack None)) }
+    {
+        match last_node(self.stack.as_slice()) {
+            Some(node) => self.arena.tag(node).is_fostering(),
+            None => false,
+        }
     }
 
     /// The text that stands just before the place for the current node, or a new one there.
@@ -55,6 +87,7 @@ impl OpenTree {
         ensures free { IfOk result (λ x. IsFree self.new x) }
         ensures exact { OnOk result (self.new ≡ record self.old { tree = with_text_node self.old foster; steps = self.new.steps }) }
         ensures steps { OnOk result (self.new.steps ≤ self.old.steps + 2 * length self.old.stack + 4) }
+        ensures counted { OnOk result (self.new.steps ≡ more self.old.steps (here_steps self.old foster + new_text_steps (text_before self.old.tree (place_here self.old foster)) (here_steps self.old foster))) }
         ensures keeps { OnOk result (Keeps self.old self.new) }
         ensures grown { OnOk result (Grown 1 0 0 0 self.old self.new) }
         ensures tags { open_tags self.new ≡ open_tags self.old }
@@ -76,6 +109,7 @@ impl OpenTree {
         ensures free { IfSome result (λ x. IsFree self.old x) }
         ensures rest { self.new ≡ record self.old { steps = self.new.steps } }
         ensures steps { self.new.steps ≤ self.old.steps + length self.old.stack + 1 }
+        ensures counted { self.new.steps ≡ more self.old.steps (here_steps self.old foster) }
         ensures keeps { Keeps self.old self.new }
         ensures grown { Grown 0 0 0 0 self.old self.new }
         ensures tags { open_tags self.new ≡ open_tags self.old }
@@ -93,6 +127,7 @@ impl OpenTree {
         ensures free { IfOk result (λ x. IsFree self.new x) }
         ensures exact { OnOk result (self.new ≡ record self.old { tree = with_new self.old.tree (place_here self.old foster) Text; steps = self.new.steps }) }
         ensures steps { OnOk result (self.new.steps ≤ self.old.steps + length self.old.stack + 3) }
+        ensures counted { OnOk result (self.new.steps ≡ more self.old.steps (here_steps self.old foster + 2)) }
         ensures keeps { OnOk result (Keeps self.old self.new) }
         ensures grown { OnOk result (Grown 1 0 0 0 self.old self.new) }
         ensures tags { open_tags self.new ≡ open_tags self.old }
@@ -117,6 +152,7 @@ impl OpenTree {
         ensures exact { IfOk result (λ n. self.new ≡ record self.old { tree = bare (texted_run self.old.tree node (take n run.now)); steps = self.new.steps }) }
         ensures longest { IfOk result (λ n. n < length run.now → budget self.new.tree 0 1 ≡ Err arena.HeldBudget) }
         ensures steps { IfOk result (λ n. self.new.steps ≤ self.old.steps + n) }
+        ensures counted { IfOk result (λ n. self.new.steps ≡ more self.old.steps n) }
         ensures keeps { OnOk result (Keeps self.old self.new) }
         ensures grown { IfOk result (λ n. Grown 0 0 0 n self.old self.new) }
         ensures tags { open_tags self.new ≡ open_tags self.old }

@@ -5,10 +5,10 @@ ghost use Rattle.html_arena.specs.Tree.{label_of};
 
 use super::refusal::Refusal;
 use super::word::Word;
-use crate::words::attributes_of;
+use crate::words::{attributes_between, attributes_of};
 use html_arena::{Arena, NewNode, NodeData, NodeId, Origin};
 use html_charref::Str;
-use html_tokens::OptionalStr;
+use html_tokens::{Attrs, OptionalStr};
 use std::alloc::Global;
 
 /// Makes the call that a word names, and writes its answer, where it has one.
@@ -22,6 +22,7 @@ pub(crate) fn make_call(
         "document" | "text" | "comment" | "doctype" | "element" | "named" => {
             make(arena, alloc, word)
         }
+        "foreign" => make_foreign(arena, alloc, word),
         "append" | "before" | "move" => call_on_two(arena, word),
         "run" => push_run(arena, alloc, word, out),
         "mark" => mark(arena, word),
@@ -93,8 +94,20 @@ fn make_element(
     name: &str,
     attributes: &str,
 ) -> Result<(), Refusal> {
-    let name = Str::of(alloc, name)?;
     let attrs = attributes_of(alloc, attributes)?;
+    make_with(arena, alloc, name, attrs)
+}
+
+/// Makes an element of foreign content: in its name and its attributes, with `&` between them, `_` is a space.
+fn make_foreign(arena: &mut Arena, alloc: Global, word: Word<'_>) -> Result<(), Refusal> {
+    let name = word.first.replace(alloc, "_", " ")?;
+    let attributes = word.second.replace(alloc, "_", " ")?;
+    let attrs = attributes_between(alloc, attributes.as_str())?;
+    make_with(arena, alloc, name.as_str(), attrs)
+}
+
+fn make_with(arena: &mut Arena, alloc: Global, name: &str, attrs: Attrs) -> Result<(), Refusal> {
+    let name = Str::of(alloc, name)?;
     let origin = Origin::Token(7);
     arena.make(NewNode::Element {
         name,

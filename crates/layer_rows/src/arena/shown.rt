@@ -1,12 +1,16 @@
 //! What there is, as text.
 ghost use Rattle.std.specs.Prelude.{◌<◌, length};
+ghost use Rattle.html_arena.specs.Walking.{IsRoot};
 
 use super::calls::is_node;
 use super::counts;
 use super::refusal::Refusal;
 use super::word::Word;
 use html_arena::{Arena, Event, NodeId, Show, Walk};
+use html_page::{Profile, serialise_tree};
+use html_print::{OverWrite, print_tree};
 use std::alloc::{AllocError, Global};
+use std::str;
 
 /// Writes what a word asks to see, and answers whether it does.
 pub(crate) fn show(
@@ -22,6 +26,7 @@ pub(crate) fn show(
             write!(out, "{nodes}/{held}/{steps}")?;
         }
         "events" => show_events(arena, word, out)?,
+        "written" | "printed" => show_tree(arena, alloc, word, out)?,
         "told" | "template" | "marked" | "is-ancestor" => show_node(arena, word, out)?,
         _ => return Ok(false),
     }
@@ -131,6 +136,53 @@ fn show_events(arena: &Arena, word: Word<'_>, out: &mut String) -> Result<(), Re
         push_event(event, out)?;
     }
     Ok(())
+}
+
+/// The trees below the first node, as they are written or printed, with `␊` at the end of each line.
+fn show_tree(
+    arena: &Arena,
+    alloc: Global,
+    word: Word<'_>,
+    out: &mut String,
+) -> Result<(), Refusal> {
+    let root = NodeId::at(0);
+    if !is_node(arena, root) || arena.parent(root).is_some() || arena.host(root).is_some() {
+        return Err(Refusal::Condition);
+    }
+    let mut writer = OverWrite::new(Vec::new(alloc));
+    write_tree(arena, alloc, word, root, &mut writer)?;
+    push_lines(alloc, writer.into_inner().as_slice(), out)
+}
+
+fn write_tree(
+    arena: &Arena,
+    alloc: Global,
+    word: Word<'_>,
+    root: NodeId,
+    writer: &mut OverWrite<Vec<u8>>,
+) -> Result<(), Refusal>
+    requires { IsRoot arena.now root }
+{
+    let written = if word.name == "written" {
+        serialise_tree(arena, root, Profile::One, writer).is_ok()
+    } else {
+        print_tree(alloc, arena, root, writer).is_ok()
+    };
+    if written {
+        Ok(())
+    } else {
+        Err(Refusal::Condition)
+    }
+}
+
+fn push_lines(alloc: Global, bytes: &[u8], out: &mut String) -> Result<(), Refusal> {
+    match str::from_utf8(bytes) {
+        Ok(text) => {
+            out.push_str(text.replace(alloc, "\n", "␊")?.as_str())?;
+            Ok(())
+        }
+        Err(_) => Err(Refusal::Condition),
+    }
 }
 
 fn push_event(event: Event, out: &mut String) -> Result<(), AllocError> {

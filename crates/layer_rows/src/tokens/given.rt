@@ -49,7 +49,7 @@ pub(crate) fn give_one(t: &mut Tokenizer<'_>, out: &mut String) -> Result<bool> 
     show_next(out, token.as_ref())
 }
 
-fn show_next(out: &mut String, token: Option<&Token>) -> Result<bool> {
+pub(crate) fn show_next(out: &mut String, token: Option<&Token>) -> Result<bool> {
     match token {
         Some(token) => show(out, token)?,
         None => return Ok(false),

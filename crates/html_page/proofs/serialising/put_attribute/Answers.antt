@@ -1,4 +1,4 @@
-use Rattle.std.proofs.Common.{ℕ, List, ◌++◌, sym, ap, ◌∙◌, refl, append_assoc}
+use Rattle.std.proofs.Common.{ℕ, false, List, ◌++◌, sym, ap, ◌∙◌, refl, append_assoc}
 use Rattle.std.specs.Prelude.{codes}
 use Rattle.std.specs.Str.{encode_utf8_all, chars}
 use Rattle.std.specs.List.{flat_map}
@@ -11,16 +11,16 @@ pub returns-in_err-put_between-clause-bytes : goal.returns-in_err-put_between-cl
 returns-in_err-put_between-clause-bytes g c =
     put_err _ _ _ _ _ _ c.from_residual.ensures.0
     (front_first _ _ _ _ _ c.in_err-put_between.ensures.bytes (encode_utf8_all (flat_map (escaped_in_value c.args.profile) c.args.attr.now.value) ++ codes "\"")
-    (attribute_cut c.args.profile c.args.attr.now c.as_str.result.now _ c.as_str.ensures.bytes refl))
+    (attribute_cut c.args.profile false c.args.attr.now c.as_str.result.now _ c.as_str.ensures.bytes refl))
 
 pub returns-in_err-put_escaped-clause-bytes : goal.returns-in_err-put_escaped-clause-bytes
 returns-in_err-put_escaped-clause-bytes g c =
     put_err _ _ _ _ _ _ c.from_residual-in_err-put_escaped.ensures.0
     (front_after _ _ _ _ _ _ _ _ c.in_ok-put_between.ensures.bytes c.in_err-put_escaped.ensures.bytes (codes "\"")
-    (attribute_cut c.args.profile c.args.attr.now c.as_str.result.now _ c.as_str.ensures.bytes (ap (λ (l : List ℕ). encode_utf8_all (flat_map (escaped_in_value c.args.profile) l)) c.as_str-2.ensures.code_points)))
+    (attribute_cut c.args.profile false c.args.attr.now c.as_str.result.now _ c.as_str.ensures.bytes (ap (λ (l : List ℕ). encode_utf8_all (flat_map (escaped_in_value c.args.profile) l)) c.as_str-2.ensures.code_points)))
 
 pub returns-clause-bytes : goal.returns-clause-bytes
 returns-clause-bytes g c =
     put_after _ _ _ _ _ _ _ _ _ _ (Moves-trans _ _ _ _ _ _ _ _ c.in_ok-put_between.ensures.bytes c.in_ok-put_escaped.ensures.bytes) c.put.ensures.bytes
-    (attribute_cut c.args.profile c.args.attr.now c.as_str.result.now (encode_utf8_all (flat_map (escaped_in_value c.args.profile) (chars c.as_str-2.result.now))) c.as_str.ensures.bytes (ap (λ (l : List ℕ). encode_utf8_all (flat_map (escaped_in_value c.args.profile) l)) c.as_str-2.ensures.code_points)
+    (attribute_cut c.args.profile false c.args.attr.now c.as_str.result.now (encode_utf8_all (flat_map (escaped_in_value c.args.profile) (chars c.as_str-2.result.now))) c.as_str.ensures.bytes (ap (λ (l : List ℕ). encode_utf8_all (flat_map (escaped_in_value c.args.profile) l)) c.as_str-2.ensures.code_points)
     ∙ sym (append_assoc (codes " " ++ (c.as_str.result.now ++ codes "=\"")) (encode_utf8_all (flat_map (escaped_in_value c.args.profile) (chars c.as_str-2.result.now))) (codes "\"")))

@@ -1,29 +1,9 @@
-use Rattle.std.proofs.Common.{◌++◌, drop, suc, sym, refl}
-use Rattle.std.specs.Prelude.{codes}
-use Rattle.std.specs.Str.{encode_utf8_all}
-use Rattle.std.specs.List.{flat_map}
-use Rattle.html_page.specs.Html.{attribute}
-use Rattle.html_page.proofs.Tagged.{start_tag_cut, opened_at, opened_more, opened_all}
-use Rattle.html_output.proofs.Puts.{Moves-trans, Moves-is, front_first, front_after, put_err, put_after}
+use Rattle.std.proofs.Common.{sym, ◌∙◌}
+use Rattle.html_page.proofs.Kin.{foreign_name}
 use Rattle.html_page.proofs.serialising.put_start_tag.Goals as goal
 
-pub returns-in_err-put_between-clause-bytes : goal.returns-in_err-put_between-clause-bytes
-returns-in_err-put_between-clause-bytes g c =
-    put_err _ _ _ _ _ _ c.from_residual.ensures.0
-    (front_first _ _ _ _ _ c.in_err-put_between.ensures.bytes (encode_utf8_all (flat_map (attribute c.args.profile) c.args.attrs.now) ++ codes ">")
-    (start_tag_cut c.args.profile c.args.name.now c.args.attrs.now c.as_str.result.now _ c.as_str.ensures.bytes refl))
+pub put_foreign_tag-requires : goal.put_foreign_tag-requires
+put_foreign_tag-requires g c = record { foreign = sym (foreign_name c.args.element.now.tag c.args.element.now.name c.requires.tagged) ∙ sym c.is_foreign.ensures ∙ c.if-is_foreign.true }
 
-pub returns-in_err-put_attribute-clause-bytes : goal.returns-in_err-put_attribute-clause-bytes
-returns-in_err-put_attribute-clause-bytes g c =
-    put_err _ _ _ _ _ _ c.from_residual-in_err-put_attribute.ensures.0
-    (front_after _ _ _ _ _ _ _ _ c.loop-attr.invariant c.in_err-put_attribute.ensures.bytes (encode_utf8_all (flat_map (attribute c.args.profile) (drop (suc c.loop-attr.attr-index) c.args.attrs.now)) ++ codes ">")
-    (opened_at c.args.profile c.args.name.now c.args.attrs.now c.loop-attr.attr-index c.attr-item.result c.loop-attr-test.true c.attr-item.is))
-
-pub loop-attr-preserved : goal.loop-attr-preserved
-loop-attr-preserved g c =
-    Moves-is _ _ _ _ _ _ (sym (opened_more c.args.profile c.args.name.now c.args.attrs.now c.loop-attr.attr-index c.attr-item.result c.loop-attr-test.true c.attr-item.is))
-    (Moves-trans _ _ _ _ _ _ _ _ c.loop-attr.invariant c.in_ok-put_attribute.ensures.bytes)
-
-pub returns-clause-bytes : goal.returns-clause-bytes
-returns-clause-bytes g c =
-    put_after _ _ _ _ _ _ _ _ _ _ c.loop-attr.invariant c.put.ensures.bytes (opened_all c.args.profile c.args.name.now c.args.attrs.now c.loop-attr.attr-index c.loop-attr-test.false)
+pub put_html_tag-requires : goal.put_html_tag-requires
+put_html_tag-requires g c = record { html = sym (foreign_name c.args.element.now.tag c.args.element.now.name c.requires.tagged) ∙ sym c.is_foreign.ensures ∙ c.if-is_foreign.false }

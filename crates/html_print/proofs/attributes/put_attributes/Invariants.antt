@@ -7,4 +7,4 @@ use Rattle.html_print.proofs.attributes.put_attributes.Given as goal
 -- the attributes so far are put
 abbrev pub invariant-attrs : goal.invariant-attrs
 invariant-attrs g l =
-    Moves (g.W.Sink.taken l.fn.writer) (held l.fn.output) (g.W.Sink.taken l.writer) (held l.output) (flat_map (attribute_line l.depth) (take l.attr-index l.attrs))
+    Moves (g.W.Sink.taken l.fn.writer) (held l.fn.output) (g.W.Sink.taken l.writer) (held l.output) (flat_map (attribute_line l.depth l.foreign) (take l.attr-index l.attrs))

@@ -1,4 +1,5 @@
-use Rattle.std.proofs.Common.{subst, length, ◌+◌}
+use Rattle.std.proofs.Common.{◌≡◌, ap, arith, subst, length, ◌+◌}
+use Rattle.html_arena.specs.Tree.{Tree, more}
 use Rattle.html_tree.specs.Inserting.{IsNew}
 use Rattle.html_tree.specs.Targets.{target_steps}
 use Rattle.html_tree.proofs.Inserted.{is-new, list-charged, on-ok, on-ok-both, push-charged, target-most}
@@ -20,3 +21,8 @@ pub returns-clause-can_list : goal.returns-clause-can_list
 returns-clause-can_list c =
     on-ok c.insert-node.result c.insert-node.ensures.can_list (λ p. list-charged c.args.stack.now c.args.arena.now c.place_at-place.new.arena c.insert-node.new.arena _ c.args.new c.place_at-place.ensures.steps c.place_at-place.ensures.keeps
     (λ l. p c.args.stack.now l))
+
+pub returns-clause-steps : goal.returns-clause-steps
+returns-clause-steps c =
+    on-ok c.insert-node.result c.insert-node.ensures.steps
+    (λ k. let p : c.place_at-place.new.arena.steps ≡ more c.args.arena.now.steps (target_steps c.args.arena.now c.args.stack.now c.args.target) = ap (λ (v : Tree). v.steps) c.place_at-place.ensures.steps in omega (arith, k, p))

@@ -1,14 +1,13 @@
 use Rattle.html_ledger.specs.declared.symbol.Symbol.TheVariants.{Char}
 use Rattle.std.proofs.Common.{ap, ◌∙◌, arith, refl}
 use Rattle.html_ledger.specs.Entries.{Entries, given}
-use Rattle.html_construction.proofs.Kept.{adds, still, taken, told-char, gives-text}
+use Rattle.html_construction.proofs.Kept.{adds, still, taken, told-char, gives-text, visible-run}
 use Rattle.html_tree.proofs.Texted.{text-limits}
 use Rattle.html_tree.specs.States.{State as Tree}
 use Rattle.html_construction.specs.States.{State}
 use Rattle.html_ledger.specs.declared.fate.Fate.TheVariants.{Text}
 use Rattle.html_construction.proofs.Copying.{copied-text, grown-given}
-use Rattle.html_construction.proofs.Working.{works-text}
-use Rattle.std.proofs.lemmas.Grind.{common_steps}
+use Rattle.html_construction.proofs.Working.{counted-text, works-char}
 use Rattle.html_construction.proofs.Telling.{handed-on-any, refused-text}
 use Rattle.html_construction.proofs.construction.Construction.insert_char.Goals as goal
 
@@ -16,7 +15,7 @@ pub invariant_of-self : goal.invariant_of-self
 invariant_of-self c = still _ _ c.self.inside.ledger c.self.inside.registers.templates.items c.append_run.ensures.tokens c.self.invariant
 
 pub returns-clause-takes : goal.returns-clause-takes
-returns-clause-takes c = taken _ c.args.self.now _ c.args.token.now (Char c.args.c) c.self.view_is c.requires.symbol c.in_ok-give.ensures.takes (gives-text _ _ _ _ (ap (λ (x : Entries). x.fates) c.in_ok-give.ensures.given)) c.in_ok-node.ensures.keeps (ap (λ (x : Tree). x.tree.limits) c.in_ok-node.ensures.exact ∙ text-limits c.self.inside.tree c.self.inside.registers.fostering) (told-char _ _ c.self.inside.registers.fostering c.args.token.now c.in_ok-node.field-0-1 c.args.c c.as_slice.result.now c.requires.symbol c.as_slice.ensures c.in_ok-node.ensures.count.0 (ap (λ (x : State). x.ledger.kept) c.self.view_is ∙ c.requires.quiet) (ap (λ (x : Tree). x.tree) c.in_ok-node.ensures.exact) (c.in_ok-give.ensures.given ∙ ap (λ d. given c.self.inside.ledger (Char c.args.c) (Text d)) c.in_ok-node.ensures.node)) refl
+returns-clause-takes c = taken _ c.args.self.now _ c.args.token.now (Char c.args.c) c.self.view_is c.requires.symbol c.in_ok-give.ensures.takes (gives-text _ _ _ _ (ap (λ (x : Entries). x.fates) c.in_ok-give.ensures.given)) c.in_ok-node.ensures.keeps (ap (λ (x : Tree). x.tree.limits) c.in_ok-node.ensures.exact ∙ text-limits c.self.inside.tree c.self.inside.registers.fostering) (told-char _ _ c.self.inside.registers.fostering c.args.token.now c.in_ok-node.field-0-1 c.args.c c.as_slice.result.now c.requires.symbol (visible-run c.args.c _ c.requires.visible c.as_slice.ensures) c.in_ok-node.ensures.count.0 (ap (λ (x : State). x.ledger.kept) c.self.view_is ∙ c.requires.quiet) (ap (λ (x : Tree). x.tree) c.in_ok-node.ensures.exact) (c.in_ok-give.ensures.given ∙ ap (λ d. given c.self.inside.ledger (Char c.args.c) (Text d)) c.in_ok-node.ensures.node)) refl
 
 pub returns-clause-grown : goal.returns-clause-grown
 returns-clause-grown c =
@@ -25,8 +24,12 @@ returns-clause-grown c =
 
 pub returns-clause-works : goal.returns-clause-works
 returns-clause-works c =
-    works-text 1 c.args.self.now _ _ c.give.new.self c.self.view_is c.laws.ensures.sound c.self.invariant.tokens c.in_ok-node.ensures.keeps (adds _ _ _ (ap (λ (x : Entries). x.fates) c.in_ok-give.ensures.given))
-    (let h = c.in_ok-node.ensures.steps in let k = c.in_ok-node.ensures.count.1 in grind (arith, common_steps, h, k))
+    works-char c.in_ok-node.field-0-1 c.args.self.now _ _ c.give.new.self c.self.view_is c.laws.ensures.sound c.self.invariant.tokens c.in_ok-node.ensures.keeps (adds _ _ _ (ap (λ (x : Entries). x.fates) c.in_ok-give.ensures.given))
+    c.in_ok-node.ensures.count.0 (let h = c.in_ok-node.ensures.count.1 in grind (arith, h)) c.in_ok-node.ensures.steps
+
+pub returns-clause-counted : goal.returns-clause-counted
+returns-clause-counted c =
+    counted-text _ c.args.self.now _ c.in_ok-node.field-0-1 1 c.self.view_is (let a = c.in_ok-node.ensures.count.0 in let b = c.in_ok-node.ensures.count.1 in grind (arith, a, b)) c.in_ok-node.ensures.counted
 
 pub returns-in_err-node-clause-refuses : goal.returns-in_err-node-clause-refuses
 returns-in_err-node-clause-refuses c =

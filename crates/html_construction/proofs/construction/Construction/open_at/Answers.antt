@@ -1,5 +1,7 @@
 use Rattle.html_ledger.specs.declared.symbol.Symbol.TheVariants.{Start}
-use Rattle.std.proofs.Common.{refl, ap, arith}
+use Rattle.std.proofs.Common.{refl, ap, arith, ◌∙◌}
+use Rattle.html_tree.specs.Proper.{opens}
+use Rattle.html_construction.proofs.Seats.{own-named, own-opens}
 use Rattle.html_construction.proofs.Kept.{behind, made-next, taken-made, told-made, made-element, adds-none, gives-made}
 use Rattle.html_tree.specs.States.{State as Tree}
 use Rattle.html_tree.specs.Targets.{place_for}
@@ -14,11 +16,14 @@ use Rattle.html_construction.proofs.construction.Construction.open_at.Goals as g
 pub insert-requires-clause-token : goal.insert-requires-clause-token
 insert-requires-clause-token c = behind _ _ c.args.self.now c.in_ok-number.number c.self.view_is c.in_ok-number.ensures.number c.in_ok-number.ensures.behind
 
+pub insert-requires-clause-name : goal.insert-requires-clause-name
+insert-requires-clause-name c = ap opens (c.in_ok-name.ensures.tag c.args.tag c.requires.symbol) ∙ own-opens c.args.tag c.requires.named
+
 pub invariant_of-self : goal.invariant_of-self
 invariant_of-self c = made-next _ _ c.args.self.now c.in_ok-number.number _ c.self.inside.registers.templates.items c.self.view_is c.in_ok-number.ensures.number c.in_ok-number.ensures.counted c.insert.ensures.tokens_most c.self.invariant.templates_fit
 
 pub returns-clause-takes : goal.returns-clause-takes
-returns-clause-takes c = taken-made _ _ c.args.self.now _ c.args.token.now (Start c.args.tag) c.self.view_is c.in_ok-number.ensures.rest refl refl c.requires.symbol c.in_ok-number.ensures.takes (gives-made _ _ _ _ _ c.in_ok-number.ensures.fate) c.in_ok-node.ensures.keeps (place_for c.self.inside.tree c.args.target) (new.Element c.in_ok-name.name c.in_ok-attrs.attrs (Token c.in_ok-number.number)) (ap (λ (x : Tree). x.tree) c.in_ok-node.ensures.exact) (told-made _ _ _ _ c.args.token.now (Start c.args.tag) (place_for c.self.inside.tree c.args.target) (new.Element c.in_ok-name.name c.in_ok-attrs.attrs (Token c.in_ok-number.number)) c.self.view_is c.in_ok-number.ensures.rest refl c.in_ok-number.ensures.fate c.requires.quiet (made-element c.self.inside.tree.tree c.args.token.now c.args.tag c.in_ok-name.name c.in_ok-attrs.attrs c.in_ok-number.number _ c.requires.symbol (named-plain c.args.tag c.args.token.now c.in_ok-name.name c.requires.named c.in_ok-name.ensures.name) c.in_ok-attrs.ensures.attrs c.in_ok-number.ensures.number) (ap (λ (x : Tree). x.tree) c.in_ok-node.ensures.exact))
+returns-clause-takes c = taken-made _ _ c.args.self.now _ c.args.token.now (Start c.args.tag) c.self.view_is c.in_ok-number.ensures.rest refl refl c.requires.symbol c.in_ok-number.ensures.takes (gives-made _ _ _ _ _ c.in_ok-number.ensures.fate) c.in_ok-node.ensures.keeps (place_for c.self.inside.tree c.args.target) (new.Element c.in_ok-name.name c.in_ok-attrs.attrs (Token c.in_ok-number.number)) (ap (λ (x : Tree). x.tree) c.in_ok-node.ensures.exact) (told-made _ _ _ _ c.args.token.now (Start c.args.tag) (place_for c.self.inside.tree c.args.target) (new.Element c.in_ok-name.name c.in_ok-attrs.attrs (Token c.in_ok-number.number)) c.self.view_is c.in_ok-number.ensures.rest refl c.in_ok-number.ensures.fate c.requires.quiet (made-element c.self.inside.tree.tree c.args.token.now c.args.tag c.in_ok-name.name c.in_ok-attrs.attrs c.in_ok-number.number _ c.requires.symbol (named-plain c.args.tag c.args.token.now c.in_ok-name.name (own-named c.args.tag c.requires.named) c.in_ok-name.ensures.name) c.in_ok-attrs.ensures.attrs c.in_ok-number.ensures.number) (ap (λ (x : Tree). x.tree) c.in_ok-node.ensures.exact))
 
 pub returns-clause-grown : goal.returns-clause-grown
 returns-clause-grown c =
@@ -34,4 +39,4 @@ pub returns-in_err-node-clause-refuses : goal.returns-in_err-node-clause-refuses
 returns-in_err-node-clause-refuses c =
     handed-on c.from_residual-in_err-node.result c.args.token.now c.args.self.now _ c.in_err-node.field-0.0 c.from_residual-in_err-node.ensures.1
     (refused-node c.args.token.now c.args.self.now _ c.self.inside.tree (new.Element c.in_ok-name.name c.in_ok-attrs.attrs (Token c.in_ok-number.number)) c.in_err-node.field-0.0 (limits-made _ _ c.args.self.now c.self.view_is c.in_ok-number.ensures.rest)
-    (record { name_tag = c.args.tag; start = c.requires.symbol; name_is = named-plain c.args.tag c.args.token.now c.in_ok-name.name c.requires.named c.in_ok-name.ensures.name; attrs_are = c.in_ok-attrs.ensures.attrs }) c.in_err-node.ensures.told)
+    (record { name_tag = c.args.tag; start = c.requires.symbol; name_is = named-plain c.args.tag c.args.token.now c.in_ok-name.name (own-named c.args.tag c.requires.named) c.in_ok-name.ensures.name; attrs_are = c.in_ok-attrs.ensures.attrs }) c.in_err-node.ensures.told)

@@ -1,5 +1,7 @@
 use Rattle.html_ledger.specs.declared.symbol.Symbol.TheVariants.{Start}
-use Rattle.std.proofs.Common.{refl, ap, arith}
+use Rattle.std.proofs.Common.{refl, ap, arith, ◌∙◌}
+use Rattle.html_tree.specs.Proper.{is_foreign_root}
+use Rattle.html_construction.proofs.Seats.{root-element}
 use Rattle.html_construction.proofs.Kept.{behind, made-next, taken-made, told-made, made-element, adds-none, gives-made}
 use Rattle.html_tree.specs.States.{State as Tree}
 use Rattle.html_tree.specs.Targets.{place_for}
@@ -12,6 +14,9 @@ use Rattle.html_construction.proofs.construction.Construction.void_at.Goals as g
 
 pub insert_void-requires-clause-token : goal.insert_void-requires-clause-token
 insert_void-requires-clause-token c = behind _ _ c.args.self.now c.in_ok-number.number c.self.view_is c.in_ok-number.ensures.number c.in_ok-number.ensures.behind
+
+pub insert_void-requires-clause-name : goal.insert_void-requires-clause-name
+insert_void-requires-clause-name c = ap is_foreign_root (c.in_ok-name.ensures.tag c.requires.symbol) ∙ root-element c.args.tag c.requires.named
 
 pub invariant_of-self : goal.invariant_of-self
 invariant_of-self c = made-next _ _ c.args.self.now c.in_ok-number.number _ c.self.inside.registers.templates.items c.self.view_is c.in_ok-number.ensures.number c.in_ok-number.ensures.counted c.insert_void.ensures.tokens_most c.self.invariant.templates_fit

@@ -15,3 +15,7 @@ returns-else-not-is_space-clause-plain c = λ n.
     turn-char c.args.c c.args.token.now c.args.page.now c.reconstruct.new.self c.insert_char.new.self n
     (reconstructed c.args.page.now c.reconstruct.new.self n.plain c.in_ok-reconstruct.ensures.rest c.in_ok-reconstruct.ensures.tags c.in_ok-reconstruct.ensures.exact)
     c.in_ok-insert_char.ensures.rest c.in_ok-insert_char.ensures.exact c.in_ok-insert_char.ensures.fate
+
+pub returns-then-not-is_space-clause-takes : goal.returns-then-not-is_space-clause-takes
+returns-then-not-is_space-clause-takes c = λ h b.
+    c.frameset_off.ensures.keeps _ (c.in_ok-insert_char.ensures.takes h (c.in_ok-reconstruct.ensures.keeps h b))

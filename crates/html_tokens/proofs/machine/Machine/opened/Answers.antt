@@ -45,7 +45,7 @@ returns-in-ShortComment-clause-steps c =
     let given : c.token.result ≡ token (kinds.Comment []) t.place (t.place + k) = c.token.ensures ∙ rw (c.new-data.ensures, c.enter-in-ShortComment.ensures, c.pass-in-ShortComment.ensures.place) refl in
     rw (given, c.enter-in-ShortComment.ensures)
     (open_gives _ _ c.args.region begins.Markup (token (kinds.Comment []) t.place (t.place + k)) k c.requires.state (passes_to _ _ k _ _ c.pass-in-ShortComment.ensures) some fit
-    (λ switch mode. refl) (λ switch mode. refl) (λ name. refl) refl c.requires.markup (λ more h. rw (is more h) refl))
+    (λ switch mode. refl) (λ name. refl) refl c.requires.markup (λ more h. rw (is more h) refl))
 
 pub returns-in-Literal-clause-steps : goal.returns-in-Literal-clause-steps
 returns-in-Literal-clause-steps c =
@@ -56,7 +56,7 @@ returns-in-Literal-clause-steps c =
     let gave = c.less_given.ensures in
     rw gave.0
     (open_gives _ _ c.args.region begins.Markup (token (kinds.Char 60) t.place (t.place + 1)) 1 c.requires.state gave.1 some fit
-    (λ switch mode. refl) (λ switch mode. refl) (λ name. refl) refl c.requires.markup (λ more h. rw (is more h) refl))
+    (λ switch mode. refl) (λ name. refl) refl c.requires.markup (λ more h. rw (is more h) refl))
 
 pub returns-in-StartTag-clause-steps : goal.returns-in-StartTag-clause-steps
 returns-in-StartTag-clause-steps c =

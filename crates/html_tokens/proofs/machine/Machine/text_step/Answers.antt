@@ -1,5 +1,6 @@
 use Rattle.html_tokens.proofs.StepLemmas.{state_ends}
 use Rattle.html_tokens.proofs.TagLemmas.{tag_opens}
+use Rattle.html_tokens.proofs.SectionLemmas.{section_opens}
 use Rattle.html_tokens.proofs.Cuts.{empty_rest}
 use Rattle.html_tokens.specs.declared.token.Begin.TheVariants as begins
 use Rattle.std.proofs.Common.{refl, true, arith}
@@ -14,3 +15,8 @@ pub returns-in-Some-EndMark-clause-steps : goal.returns-in-Some-EndMark-clause-s
 returns-in-Some-EndMark-clause-steps c =
     let found = rw c.in-Some-EndMark.field-0-is at c.in-Some-EndMark.ensures in
     tag_opens _ _ begins.EndMark c.args.region true 2 c.requires.state c.begin_tag.ensures (omega arith) (found.1 refl) found.0 refl (λ more h. refl)
+
+pub returns-in-Some-Section-clause-steps : goal.returns-in-Some-Section-clause-steps
+returns-in-Some-Section-clause-steps c =
+    let found = rw c.in-Some-Section.field-0-is at c.in-Some-Section.ensures in
+    section_opens _ _ c.args.region c.requires.state c.begin_section.ensures (found.2 refl) found.0

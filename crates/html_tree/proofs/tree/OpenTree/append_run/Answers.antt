@@ -1,9 +1,12 @@
-use Rattle.std.proofs.Common.{ap, subst, sym}
+use Rattle.std.proofs.Common.{ap, subst, sym, ◌∙◌, ◌*◌, ◌-◌, ◌^◌, length, min}
 use Rattle.std.proofs.lemmas.Result.{err_from_is_err_and}
 use Rattle.html_arena.specs.Budget.{budget}
 use Rattle.html_tree.specs.Inserting.{IsLack}
 use Rattle.html_tree.specs.States.{State}
 use Rattle.html_tree.specs.Texts.{IsTextPassed, IsTextRefused, place_here, text_before}
+use Rattle.html_tree.specs.Steps.{here_steps, new_text_steps}
+use Rattle.html_tree.proofs.Counted.{new-text-most, run-most, run-steps}
+use Rattle.html_tree.proofs.Inserted.{place-most}
 use Rattle.html_tree.proofs.Texted.{text-lack, text-passed}
 use Rattle.html_tree.proofs.tree.OpenTree.append_run.Goals as goal
 
@@ -18,3 +21,14 @@ returns-in_err-count-clause-told c =
     let p = err_from_is_err_and c.from_residual-in_err-count.result c.from_residual-in_err-count.ensures.1 in
     rw p.1 (subst (λ e. IsTextPassed c.args.self.now c.append_to.new.self e) (sym p.2)
     (text-passed c.args.self.now c.text_at.new.self c.append_to.new.self c.args.foster c.in_err-count.field-0.0 (ap (λ (a : State). a.tree) c.in_ok-node.ensures.exact) c.in_err-count.ensures.told))
+
+pub returns-clause-counted : goal.returns-clause-counted
+returns-clause-counted c =
+    run-steps c.args.self.now.steps (here_steps c.args.self.now c.args.foster) (new_text_steps (text_before c.args.self.now.tree (place_here c.args.self.now c.args.foster)) (here_steps c.args.self.now c.args.foster)) c.in_ok-count.count
+    c.text_at.new.self.steps c.append_to.new.self.steps c.saturating_mul.result c.charge.new.self.steps c.in_ok-count.ensures.count.0 c.in_ok-node.ensures.counted c.in_ok-count.ensures.counted
+    (c.saturating_mul.ensures ∙ ap (λ h. min (h * (c.in_ok-count.count - 1)) (2 ^ 128 - 1)) c.here_steps-steps.ensures.value) c.charge.ensures.counted
+
+pub returns-clause-steps : goal.returns-clause-steps
+returns-clause-steps c =
+    run-most c.args.self.now.steps (here_steps c.args.self.now c.args.foster) (new_text_steps (text_before c.args.self.now.tree (place_here c.args.self.now c.args.foster)) (here_steps c.args.self.now c.args.foster)) c.in_ok-count.count
+    (length c.args.self.now.stack) c.charge.new.self.steps c.in_ok-count.ensures.count.0 (place-most c.args.self.now.tree c.args.self.now.stack c.args.foster) (new-text-most (text_before c.args.self.now.tree (place_here c.args.self.now c.args.foster)) (here_steps c.args.self.now c.args.foster)) (returns-clause-counted c)

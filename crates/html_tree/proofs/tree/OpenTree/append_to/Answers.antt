@@ -1,4 +1,5 @@
-use Rattle.std.proofs.Common.{take, subst, sym, refl, ◌≡◌, ap, arith, length}
+use Rattle.std.proofs.Common.{take, subst, sym, refl, ◌≡◌, ◌∙◌, ap, arith, length}
+use Rattle.std.proofs.lemmas.List.{length-take-le}
 use Rattle.html_arena.specs.Data.{with_run}
 use Rattle.html_arena.specs.Tree.{label_of, Tree, more}
 use Rattle.html_tree.specs.Since.{Keeps}
@@ -31,3 +32,8 @@ returns-clause-keeps c =
 
 pub returns-clause-tags : goal.returns-clause-tags
 returns-clause-tags c = kept-tags c.args.self.now _ c.self.inside.stack c.self.inside.list c.self.inside.arena c.self.inside.tokens c.self.inside.head c.self.inside.form c.self.inside.detached c.self.view_is c.self.invariant.0 (returns-clause-keeps c) refl
+
+pub returns-clause-counted : goal.returns-clause-counted
+returns-clause-counted c =
+    subst (λ (a : State). c.append_run.new.self.steps ≡ more a.steps c.in_ok-count.count) c.self.view_is
+    (ap (λ (v : Tree). v.steps) c.in_ok-count.ensures.added ∙ ap (more c.self.inside.arena.steps) (length-take-le c.in_ok-count.count c.args.run.now c.in_ok-count.ensures.front))

@@ -38,3 +38,6 @@ returns-clause-steps c =
 
 pub returns-clause-tags : goal.returns-clause-tags
 returns-clause-tags c = kept-tags c.args.self.now _ c.self.inside.stack c.self.inside.list c.self.inside.arena c.self.inside.tokens c.self.inside.head c.self.inside.form c.self.inside.detached c.self.view_is c.self.invariant.0 (returns-clause-keeps c) refl
+
+pub returns-clause-counted : goal.returns-clause-counted
+returns-clause-counted c = subst (λ (a : State). c.clear_to_marker.new.arena.steps ≡ more a.steps (2 * looked is_marker a.list)) c.self.view_is c.clear_to_marker.ensures.steps

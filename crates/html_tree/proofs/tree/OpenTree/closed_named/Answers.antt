@@ -1,4 +1,5 @@
 use Rattle.std.proofs.Common.{◌≡◌, ◌<◌, ℕ, List, length, OnOk, IfOk, IfErr, sym, ◌∙◌, ap, subst}
+use Rattle.html_tree.specs.Proper.{is_foreign_root}
 use Rattle.html_names.specs.Names.{name_of, tag_of}
 use Rattle.html_arena.specs.declared.data.NewNode.TheVariants.{Element}
 use Rattle.html_arena.specs.Budget.{budget}
@@ -15,6 +16,10 @@ use Rattle.html_tree.proofs.tree.OpenTree.closed_named.Goals as goal
 pub closed_new-requires-clause-part : goal.closed_new-requires-clause-part
 closed_new-requires-clause-part c =
     ap (λ g. is_part g) (ap tag_of (chars-name c.args.tag c.name.result.now c.in_ok-name.name c.name.utf8 c.name.ensures.value c.name.ensures.back c.in_ok-name.ensures ∙ sym c.name.ensures.value) ∙ c.name.ensures.back) ∙ c.requires.part
+
+pub closed_new-requires-clause-name : goal.closed_new-requires-clause-name
+closed_new-requires-clause-name c =
+    ap (λ g. is_foreign_root g) (ap tag_of (chars-name c.args.tag c.name.result.now c.in_ok-name.name c.name.utf8 c.name.ensures.value c.name.ensures.back c.in_ok-name.ensures ∙ sym c.name.ensures.value) ∙ c.name.ensures.back) ∙ c.requires.name
 
 name-is : (c : goal.After-closed_new) → c.in_ok-name.name ≡ name_of c.args.tag
 name-is c = chars-name c.args.tag c.name.result.now c.in_ok-name.name c.name.utf8 c.name.ensures.value c.name.ensures.back c.in_ok-name.ensures

@@ -6,3 +6,6 @@ returns-clause-steps c = c.over.ensures.steps (Some c.args.limits) c.within.ensu
 
 pub returns-clause-cause : goal.returns-clause-cause
 returns-clause-cause c = c.over.ensures.cause (Some c.args.limits) c.within.ensures
+
+pub returns-clause-counted : goal.returns-clause-counted
+returns-clause-counted c = c.over.ensures.counted (Some c.args.limits) c.within.ensures

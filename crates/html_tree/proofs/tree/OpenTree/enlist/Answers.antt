@@ -43,3 +43,10 @@ returns-clause-steps c =
 
 pub returns-clause-tags : goal.returns-clause-tags
 returns-clause-tags c = kept-tags c.args.self.now _ c.self.inside.stack c.self.inside.list c.self.inside.arena c.self.inside.tokens c.self.inside.head c.self.inside.form c.self.inside.detached c.self.view_is c.self.invariant.0 (returns-clause-keeps c) refl
+
+pub returns-clause-counted : goal.returns-clause-counted
+returns-clause-counted c =
+    subst (λ (a : State). c.push.new.arena.steps ≡ more a.steps (push_steps a.tree c.args.node a.list)) c.self.view_is
+    (let x : c.push.new.arena.steps ≡ more (unmarked c.self.inside.arena InList (displaced c.self.inside.arena c.args.node c.self.inside.list)).steps (push_steps c.self.inside.arena c.args.node c.self.inside.list) = ap (λ (v : Tree). v.steps) c.in_ok-push.ensures.tree in
+    let u = unmarked-steps c.self.inside.arena InList (displaced c.self.inside.arena c.args.node c.self.inside.list) in
+    let z = push_steps-same c.self.inside.arena (bare c.self.inside.arena) c.args.node c.self.inside.list refl in omega (arith, x, u, z))

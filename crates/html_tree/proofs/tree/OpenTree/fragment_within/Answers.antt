@@ -9,3 +9,6 @@ returns-clause-cause c = c.over_root.ensures.cause (Some c.args.limits) c.within
 
 pub returns-clause-state : goal.returns-clause-state
 returns-clause-state c = c.over_root.ensures.state (Some c.args.limits) c.within.ensures
+
+pub returns-clause-counted : goal.returns-clause-counted
+returns-clause-counted c = c.over_root.ensures.counted (Some c.args.limits) c.within.ensures

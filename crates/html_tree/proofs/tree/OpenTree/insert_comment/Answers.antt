@@ -1,4 +1,5 @@
 use Rattle.std.proofs.Common.{◌+◌, ◌≤◌, length, ap, subst, refl, sym, arith}
+use Rattle.html_tree.proofs.Blanks.{blank-new}
 use Rattle.html_arena.specs.Make.{label_for}
 use Rattle.html_arena.specs.Tree.{Tree}
 use Rattle.html_arena.specs.Weight.{weight}
@@ -6,7 +7,7 @@ use Rattle.html_arena.specs.declared.data.NewNode.TheVariants.{Comment}
 use Rattle.html_tree.specs.Since.{Grown}
 use Rattle.html_tree.specs.States.{State, state_of}
 use Rattle.html_tree.specs.Targets.{CanTarget, place_at}
-use Rattle.html_tree.proofs.Inserted.{comment-own, new-under_way, placed-exact, placed-grown, placed-keeps, placed-steps}
+use Rattle.html_tree.proofs.Inserted.{comment-own, new-under_way, placed-exact, placed-grown, placed-keeps, placed-counted, placed-steps}
 use Rattle.html_tree.proofs.Kept.{same-under_way}
 use Rattle.html_tree.proofs.OpenTags.{kept-tags}
 use Rattle.html_tree.proofs.SearchEnds.{ends-labels, ends-made}
@@ -39,8 +40,11 @@ returns-clause-exact c = placed-exact c.args.self.now c.self.inside.stack c.self
 pub returns-clause-steps : goal.returns-clause-steps
 returns-clause-steps c = placed-steps c.args.self.now c.self.inside.stack c.self.inside.list c.self.inside.arena c.put_new.new.arena c.args.target (Comment c.args.text c.args.token) (length c.self.inside.stack + 3) c.self.inside.tokens (c.args.token + 1) c.self.inside.head c.self.inside.form c.self.inside.detached c.self.view_is c.in_ok-node.ensures.new (omega arith)
 
+pub returns-clause-counted : goal.returns-clause-counted
+returns-clause-counted c = placed-counted c.args.self.now c.self.inside.stack c.self.inside.list c.self.inside.arena c.put_new.new.arena c.args.target (Comment c.args.text c.args.token) (length c.self.inside.stack + 3) c.self.inside.tokens (c.args.token + 1) c.self.inside.head c.self.inside.form c.self.inside.detached c.self.view_is c.in_ok-node.ensures.new c.in_ok-node.ensures.steps
+
 pub returns-clause-keeps : goal.returns-clause-keeps
-returns-clause-keeps c = placed-keeps c.args.self.now c.self.inside.stack c.self.inside.list c.self.inside.arena c.put_new.new.arena c.args.target (Comment c.args.text c.args.token) (length c.self.inside.stack + 3) c.self.inside.tokens (c.args.token + 1) c.self.inside.head c.self.inside.form c.self.inside.detached c.self.view_is c.in_ok-node.ensures.new (subst (λ (a : State). CanTarget a.stack c.args.target) (sym c.self.view_is) c.requires.target) (let q : c.self.inside.tokens ≤ c.args.token = subst (λ (a : State). a.tokens ≤ c.args.token) (sym c.self.view_is) c.requires.token in omega (arith, q)) c.self.invariant.0
+returns-clause-keeps c = placed-keeps c.args.self.now c.self.inside.stack c.self.inside.list c.self.inside.arena c.put_new.new.arena c.args.target (Comment c.args.text c.args.token) (length c.self.inside.stack + 3) c.self.inside.tokens (c.args.token + 1) c.self.inside.head c.self.inside.form c.self.inside.detached c.self.view_is c.in_ok-node.ensures.new refl (blank-new c.self.inside.arena c.put_new.new.arena (place_at c.self.inside.arena c.self.inside.stack c.self.inside.head c.args.target) (Comment c.args.text c.args.token) (length c.self.inside.stack + 3) c.in_ok-node.ensures.new).childless (subst (λ (a : State). CanTarget a.stack c.args.target) (sym c.self.view_is) c.requires.target) (let q : c.self.inside.tokens ≤ c.args.token = subst (λ (a : State). a.tokens ≤ c.args.token) (sym c.self.view_is) c.requires.token in omega (arith, q)) c.self.invariant.0
 
 pub returns-clause-grown : goal.returns-clause-grown
 returns-clause-grown c =

@@ -1,10 +1,11 @@
 use Rattle.std.proofs.Common.{◌+◌, ◌<◌, length, ap, subst, refl, sym, arith}
+use Rattle.html_tree.proofs.Blanks.{blank-new}
 use Rattle.html_arena.specs.Tree.{Tree}
 use Rattle.html_arena.specs.declared.data.NewNode.TheVariants.{Text}
 use Rattle.html_tree.specs.declared.groups.Target.TheVariants as target
 use Rattle.html_tree.specs.States.{State, state_of}
 use Rattle.html_tree.specs.Targets.{place_at}
-use Rattle.html_tree.proofs.Inserted.{new-under_way, placed-same, placed-keeps, placed-steps}
+use Rattle.html_tree.proofs.Inserted.{new-under_way, placed-same, placed-keeps, placed-counted, placed-steps}
 use Rattle.html_tree.specs.Texts.{IsFree}
 use Rattle.html_tree.proofs.Texted.{new-free, text-own}
 use Rattle.html_tree.proofs.Kept.{same-under_way}
@@ -39,8 +40,11 @@ returns-clause-exact c = placed-same c.args.self.now c.self.inside.stack c.self.
 pub returns-clause-steps : goal.returns-clause-steps
 returns-clause-steps c = placed-steps c.args.self.now c.self.inside.stack c.self.inside.list c.self.inside.arena c.put_new.new.arena (target.Current c.args.foster) Text (length c.self.inside.stack + 3) c.self.inside.tokens c.self.inside.tokens c.self.inside.head c.self.inside.form c.self.inside.detached c.self.view_is c.in_ok-node.ensures.new (omega arith)
 
+pub returns-clause-counted : goal.returns-clause-counted
+returns-clause-counted c = placed-counted c.args.self.now c.self.inside.stack c.self.inside.list c.self.inside.arena c.put_new.new.arena (target.Current c.args.foster) Text (length c.self.inside.stack + 3) c.self.inside.tokens c.self.inside.tokens c.self.inside.head c.self.inside.form c.self.inside.detached c.self.view_is c.in_ok-node.ensures.new c.in_ok-node.ensures.steps
+
 pub returns-clause-keeps : goal.returns-clause-keeps
-returns-clause-keeps c = placed-keeps c.args.self.now c.self.inside.stack c.self.inside.list c.self.inside.arena c.put_new.new.arena (target.Current c.args.foster) Text (length c.self.inside.stack + 3) c.self.inside.tokens c.self.inside.tokens c.self.inside.head c.self.inside.form c.self.inside.detached c.self.view_is c.in_ok-node.ensures.new (subst (λ (a : State). 0 < length a.stack) (sym c.self.view_is) c.requires.opened) (omega arith) c.self.invariant.0
+returns-clause-keeps c = placed-keeps c.args.self.now c.self.inside.stack c.self.inside.list c.self.inside.arena c.put_new.new.arena (target.Current c.args.foster) Text (length c.self.inside.stack + 3) c.self.inside.tokens c.self.inside.tokens c.self.inside.head c.self.inside.form c.self.inside.detached c.self.view_is c.in_ok-node.ensures.new refl (blank-new c.self.inside.arena c.put_new.new.arena (place_at c.self.inside.arena c.self.inside.stack c.self.inside.head (target.Current c.args.foster)) Text (length c.self.inside.stack + 3) c.in_ok-node.ensures.new).childless (subst (λ (a : State). 0 < length a.stack) (sym c.self.view_is) c.requires.opened) (omega arith) c.self.invariant.0
 
 pub returns-clause-free : goal.returns-clause-free
 returns-clause-free c =

@@ -1,10 +1,13 @@
-use Rattle.std.proofs.Common.{◌≤◌, ◌+◌, length, subst, refl, ap}
+use Rattle.std.proofs.Common.{◌≡◌, ◌≤◌, ◌+◌, length, subst, refl, ap}
 use Rattle.html_tree.specs.States.{State}
 use Rattle.html_tree.proofs.Kept.{charged-steps, charged-under_way, looked-most, read-grown, read-keeps, read-rest}
 use Rattle.html_tree.proofs.OpenTags.{kept-tags}
 use Rattle.html_tree.proofs.SearchEnds.{ends-labels}
-use Rattle.html_arena.specs.Tree.{Tree}
+use Rattle.html_arena.specs.Tree.{Tree, more}
 use Rattle.html_tree.proofs.Standing.{seats-as}
+use Rattle.html_names.specs.declared.sets.Scope.TheVariants.{Default}
+use Rattle.html_open.specs.Lists.{looked}
+use Rattle.html_open.specs.Scopes.{element_or_end}
 use Rattle.html_tree.proofs.tree.OpenTree.is_in_scope.Goals as goal
 
 pub invariant_of-self : goal.invariant_of-self
@@ -30,3 +33,7 @@ returns-clause-grown c = read-grown c.args.self.now c.self.inside.stack c.self.i
 
 pub returns-clause-tags : goal.returns-clause-tags
 returns-clause-tags c = kept-tags c.args.self.now _ c.self.inside.stack c.self.inside.list c.self.inside.arena c.self.inside.tokens c.self.inside.head c.self.inside.form c.self.inside.detached c.self.view_is c.self.invariant.0 (returns-clause-keeps c) refl
+
+pub returns-clause-counted : goal.returns-clause-counted
+returns-clause-counted c =
+    subst (λ (a : State). c.is_in_scope.new.arena.steps ≡ more a.steps (looked (element_or_end a.tree c.args.node Default) a.stack)) c.self.view_is (ap (λ (v : Tree). v.steps) c.is_in_scope.ensures.steps)

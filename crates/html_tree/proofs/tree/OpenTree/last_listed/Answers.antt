@@ -1,11 +1,13 @@
-use Rattle.std.proofs.Common.{◌≤◌, ◌+◌, length, subst, ap, ◌∙◌, refl}
+use Rattle.std.proofs.Common.{◌≡◌, ◌≤◌, ◌+◌, length, subst, ap, ◌∙◌, refl}
 use Rattle.html_open.specs.Entries.{last_named}
 use Rattle.html_tree.specs.States.{State}
 use Rattle.html_tree.proofs.Kept.{charged-steps, charged-under_way, looked-most, read-grown, read-keeps, read-rest}
 use Rattle.html_tree.proofs.OpenTags.{kept-tags}
 use Rattle.html_tree.proofs.SearchEnds.{ends-labels}
-use Rattle.html_arena.specs.Tree.{Tree}
+use Rattle.html_arena.specs.Tree.{Tree, more}
 use Rattle.html_tree.proofs.Standing.{seats-as}
+use Rattle.html_open.specs.Lists.{looked}
+use Rattle.html_open.specs.Entries.{named_or_marker}
 use Rattle.html_tree.proofs.tree.OpenTree.last_listed.Goals as goal
 
 pub invariant_of-self : goal.invariant_of-self
@@ -34,3 +36,7 @@ returns-clause-node c = c.last_named.ensures.node ∙ ap (λ (a : State). last_n
 
 pub returns-clause-tags : goal.returns-clause-tags
 returns-clause-tags c = kept-tags c.args.self.now _ c.self.inside.stack c.self.inside.list c.self.inside.arena c.self.inside.tokens c.self.inside.head c.self.inside.form c.self.inside.detached c.self.view_is c.self.invariant.0 (returns-clause-keeps c) refl
+
+pub returns-clause-counted : goal.returns-clause-counted
+returns-clause-counted c =
+    subst (λ (a : State). c.last_named.new.arena.steps ≡ more a.steps (looked (named_or_marker a.tree c.args.name) a.list)) c.self.view_is (ap (λ (v : Tree). v.steps) c.last_named.ensures.steps)

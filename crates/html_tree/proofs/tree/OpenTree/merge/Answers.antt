@@ -1,4 +1,4 @@
-use Rattle.std.proofs.Common.{◌≡◌, ◌∙◌, ap, sym, subst, refl, arith, length, ℕ, ◌*◌}
+use Rattle.std.proofs.Common.{◌≡◌, ◌∙◌, ap, sym, subst, refl, arith, length, ℕ, ◌+◌, ◌*◌}
 use Rattle.std.specs.Prelude.{slice_index}
 use Rattle.html_arena.specs.Data.{attrs_in, with_attrs}
 use Rattle.html_arena.specs.Merge.{lacking, merged}
@@ -9,6 +9,7 @@ use Rattle.html_tree.specs.Since.{Grown}
 use Rattle.html_tree.specs.States.{State, state_of}
 use Rattle.html_tree.proofs.Kept.{charged-under_way, same-under_way, more-most, same-element, same-origin_in, same-tag_in}
 use Rattle.html_tree.proofs.Merged.{element-free, keeps-charged, merged-essence, relabelled-since, relabelled-under_way}
+use Rattle.html_tree.proofs.Counted.{two-more}
 use Rattle.html_tree.proofs.OpenTags.{kept-tags}
 use Rattle.html_tree.proofs.SearchEnds.{ends-labels, ends-relabelled}
 use Rattle.html_tree.proofs.Standing.{seats-as, seats-relabelled}
@@ -55,3 +56,12 @@ returns-clause-grown c =
 
 pub returns-clause-tags : goal.returns-clause-tags
 returns-clause-tags c = kept-tags c.args.self.now _ c.self.inside.stack c.self.inside.list c.self.inside.arena c.self.inside.tokens c.self.inside.head c.self.inside.form c.self.inside.detached c.self.view_is c.self.invariant.0 (returns-clause-keeps c) refl
+
+pub returns-clause-counted : goal.returns-clause-counted
+returns-clause-counted c =
+    let x : c.merge_attrs.new.self.steps ≡ more c.at-node.new.arena.steps (length (attrs_in (label_of c.at-node.new.arena c.at-node.result)) * length c.args.attrs) = ap (λ (v : Tree). v.steps) c.in_ok-merge_attrs.ensures.merged in
+    let z : c.at-node.new.arena.steps ≡ more c.self.inside.arena.steps 1 = ap (λ (v : Tree). v.steps) c.at-node.ensures.steps in
+    let y : attrs_in (label_of c.at-node.new.arena c.at-node.result) ≡ attrs_in (label_of c.self.inside.arena (slice_index c.self.inside.stack c.args.index)) = ap (λ (v : Tree). attrs_in (label_of v c.at-node.result)) c.at-node.ensures.steps ∙ ap (λ (x : ℕ). attrs_in (label_of c.self.inside.arena x)) c.at-node.ensures.node in
+    subst (λ (a : State). c.merge_attrs.new.self.steps ≡ more a.steps (1 + length (attrs_in (label_of a.tree (slice_index a.stack c.args.index))) * length c.args.attrs)) c.self.view_is
+    (two-more c.self.inside.arena.steps c.at-node.new.arena.steps c.merge_attrs.new.self.steps 1 (length (attrs_in (label_of c.self.inside.arena (slice_index c.self.inside.stack c.args.index))) * length c.args.attrs) z
+    (x ∙ ap (λ ds. more c.at-node.new.arena.steps (length ds * length c.args.attrs)) y))

@@ -1,4 +1,5 @@
 use Rattle.std.proofs.Common.{◌≡◌, ◌<◌, ℕ, List, length, OnOk, IfOk, IfErr, sym, ◌∙◌, ap, subst, ◌∷◌}
+use Rattle.html_tree.specs.Proper.{opens}
 use Rattle.html_names.specs.Names.{name_of, tag_of}
 use Rattle.html_arena.specs.declared.data.NewNode.TheVariants.{Element}
 use Rattle.html_arena.specs.Budget.{budget}
@@ -22,6 +23,10 @@ pub open_new-requires-clause-seat : goal.open_new-requires-clause-seat
 open_new-requires-clause-seat c =
     subst (λ g. CanSeat c.args.self.now g c.args.target)
     (sym (ap tag_of (chars-name c.args.tag c.name.result.now c.in_ok-name.name c.name.utf8 c.name.ensures.value c.name.ensures.back c.in_ok-name.ensures ∙ sym c.name.ensures.value) ∙ c.name.ensures.back)) c.requires.seat
+
+pub open_new-requires-clause-name : goal.open_new-requires-clause-name
+open_new-requires-clause-name c =
+    ap (λ g. opens g) (ap tag_of (chars-name c.args.tag c.name.result.now c.in_ok-name.name c.name.utf8 c.name.ensures.value c.name.ensures.back c.in_ok-name.ensures ∙ sym c.name.ensures.value) ∙ c.name.ensures.back) ∙ c.requires.name
 
 name-is : (c : goal.After-open_new) → c.in_ok-name.name ≡ name_of c.args.tag
 name-is c = chars-name c.args.tag c.name.result.now c.in_ok-name.name c.name.utf8 c.name.ensures.value c.name.ensures.back c.in_ok-name.ensures

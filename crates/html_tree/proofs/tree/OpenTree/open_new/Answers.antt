@@ -10,11 +10,12 @@ use Rattle.html_open.specs.Opened.{CanList, CanPush, IsOpen, open_at}
 use Rattle.html_open.specs.Marking.{bare}
 use Rattle.html_tree.specs.Inserting.{CanBeFirst, IsBlank, IsFor}
 use Rattle.html_arena.specs.Weight.{weight}
+use Rattle.html_tree.specs.Proper.{opens}
 use Rattle.html_tree.specs.Since.{Grown}
 use Rattle.html_tree.specs.States.{State, state_of}
 use Rattle.html_tree.specs.Targets.{CanTarget, place_at}
 use Rattle.html_tree.proofs.Blanks.{blank-opened}
-use Rattle.html_tree.proofs.Inserted.{element-element, element-tag, made-under_way, new-unseen, opened-exact, opened-grown, opened-keeps, opened-steps, opened-under_way, own-least}
+use Rattle.html_tree.proofs.Inserted.{element-element, element-tag, made-under_way, new-unseen, opened-counted, opened-exact, opened-grown, opened-keeps, opened-steps, opened-under_way, own-least}
 use Rattle.html_tree.proofs.Listed.{bare-listed}
 use Rattle.html_names.specs.Sets.{is_formatting}
 use Rattle.html_tree.proofs.Kept.{same-under_way}
@@ -93,9 +94,12 @@ returns-clause-blank c =
 pub returns-clause-steps : goal.returns-clause-steps
 returns-clause-steps c = opened-steps c.args.self.now c.self.inside.stack c.open_node.new.stack c.self.inside.list c.self.inside.arena c.put_new.new.arena c.open_node.new.arena c.args.target (Element c.args.name c.args.attrs c.args.origin) (length c.self.inside.stack + 3) c.self.inside.tokens c.args.next c.in_ok-node.node c.self.inside.head c.self.inside.form c.self.inside.detached c.self.view_is c.in_ok-node.ensures.new c.in_ok-open_node.ensures.stack c.in_ok-node.ensures.id c.in_ok-open_node.ensures.tree (omega arith)
 
+pub returns-clause-counted : goal.returns-clause-counted
+returns-clause-counted c = opened-counted c.args.self.now c.self.inside.stack c.open_node.new.stack c.self.inside.list c.self.inside.arena c.put_new.new.arena c.open_node.new.arena c.args.target (Element c.args.name c.args.attrs c.args.origin) (length c.self.inside.stack + 3) c.self.inside.tokens c.args.next c.in_ok-node.node c.self.inside.head c.self.inside.form c.self.inside.detached c.self.view_is c.in_ok-node.ensures.new c.in_ok-open_node.ensures.stack c.in_ok-node.ensures.id c.in_ok-open_node.ensures.tree c.in_ok-node.ensures.steps
+
 pub returns-clause-keeps : goal.returns-clause-keeps
 returns-clause-keeps c = opened-keeps c.args.self.now c.self.inside.stack c.open_node.new.stack c.self.inside.list c.self.inside.arena c.put_new.new.arena c.open_node.new.arena c.args.target (Element c.args.name c.args.attrs c.args.origin) (length c.self.inside.stack + 3) c.self.inside.tokens c.args.next c.in_ok-node.node c.self.inside.head c.self.inside.form c.self.inside.detached c.self.view_is c.in_ok-node.ensures.new c.in_ok-open_node.ensures.stack c.in_ok-node.ensures.id c.in_ok-open_node.ensures.tree
-    (subst (λ (a : State). CanTarget a.stack c.args.target) (sym c.self.view_is) c.requires.target) (subst (λ (a : State). a.tokens ≤ c.args.next) (sym c.self.view_is) c.requires.next) c.self.invariant.0
+    (ap opens (element-tag c.self.inside.arena c.args.name c.args.attrs c.args.origin) ∙ c.requires.name) (subst (λ (a : State). CanTarget a.stack c.args.target) (sym c.self.view_is) c.requires.target) (subst (λ (a : State). a.tokens ≤ c.args.next) (sym c.self.view_is) c.requires.next) c.self.invariant.0
 
 pub returns-clause-grown : goal.returns-clause-grown
 returns-clause-grown c =

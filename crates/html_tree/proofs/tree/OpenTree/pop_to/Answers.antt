@@ -7,7 +7,7 @@ use Rattle.html_open.proofs.Closing.{all_unmarked-labels, bare-all}
 use Rattle.html_open.proofs.Keeps.{charged_keeps}
 use Rattle.html_tree.specs.Closing.{first_few, kept_to}
 use Rattle.html_tree.specs.States.{State, state_of}
-use Rattle.html_tree.proofs.Kept.{all_unmarked-steps, first-few, more-most, popped-grown, popped-keeps, same-state, same-under_way}
+use Rattle.html_tree.proofs.Kept.{all_unmarked-steps, few-length, first-few, more-most, popped-grown, popped-keeps, same-state, same-under_way}
 use Rattle.html_tree.proofs.OpenTags.{few-tags, few-weigh-less}
 use Rattle.html_tree.specs.Paragraphs.{p_ends_of}
 use Rattle.html_tree.proofs.SearchEnds.{ends-labels}
@@ -68,3 +68,14 @@ returns-clause-few c = few-tags c.args.self.now _ c.args.len (returns-clause-exa
 
 pub returns-clause-lighter : goal.returns-clause-lighter
 returns-clause-lighter c = few-weigh-less c.args.self.now _ c.args.len (returns-clause-exact c)
+
+pub returns-clause-counted : goal.returns-clause-counted
+returns-clause-counted c =
+    subst (λ (a : State). c.pop_to.new.arena.steps ≡ more a.steps (length a.stack - length c.pop_to.new.self)) c.self.view_is
+    (let k : c.pop_to.new.arena.steps ≡ more c.self.inside.arena.steps (c.len-count.result - c.kept_to-kept.result) =
+    ap (λ (v : Tree). v.steps) c.pop_to.ensures.tree ∙ all_unmarked-steps c.charge.new.self OnStack (drop c.kept_to-kept.result c.self.inside.stack) ∙ ap (λ (v : Tree). v.steps) c.charge.ensures in
+    let l : c.len-count.result ≡ length c.self.inside.stack = c.len-count.ensures in
+    let v : c.kept_to-kept.result ≡ kept_to (length c.self.inside.stack) c.args.len = c.kept_to-kept.ensures.value ∙ ap (λ n. kept_to n c.args.len) l in
+    let w : length c.pop_to.new.self ≡ kept_to (length c.self.inside.stack) c.args.len =
+    ap length (c.pop_to.ensures.stack ∙ ap (λ k. take k c.self.inside.stack) v) ∙ few-length c.args.len c.self.inside.stack in
+    k ∙ ap (more c.self.inside.arena.steps) (ap (λ n. n - c.kept_to-kept.result) l ∙ ap (λ n. length c.self.inside.stack - n) (v ∙ sym w)))

@@ -1,4 +1,5 @@
 use Rattle.std.proofs.Common.{◌<◌, ◌≤◌, ◌+◌, ◌*◌, length, refl, subst, sym, ◌∙◌, arith}
+use Rattle.html_tree.specs.Steps.{CountsReopening}
 use Rattle.html_open.specs.Leaving.{listed_weight as open_weight}
 use Rattle.html_tree.specs.Listing.{IsReopenRefused, IsReopened, listed_weight}
 use Rattle.html_tree.specs.Since.{Grown, Keeps}
@@ -52,7 +53,7 @@ returns-clause-keeps c =
     (keeps-since (state_of c.self.inside.stack c.self.inside.list c.self.inside.arena c.self.inside.tokens c.self.inside.head c.self.inside.form c.self.inside.detached) (state_of c.reopen-reopened.new.stack c.reopen-reopened.new.self c.reopen-reopened.new.arena c.self.inside.tokens c.self.inside.head c.self.inside.form c.self.inside.detached)
     (clones-since c.self.inside.stack c.reopen-reopened.new.stack c.self.inside.list c.reopen-reopened.new.self c.self.inside.arena c.reopen-reopened.new.arena c.self.inside.tokens c.self.inside.head c.self.inside.form c.self.inside.detached c.reopen-reopened.ensures.made c.forest.ensures.well_formed c.reopen-reopened.ensures.closed
     (λ x e. c.reopen-reopened.ensures.first ∙ e) (λ x b o. off c.self.inside.stack c.reopen-reopened.new.stack c.self.inside.list c.reopen-reopened.new.self c.self.inside.arena c.reopen-reopened.new.arena c.reopen-reopened.ensures.survives x b o)
-    (parents-linked c.self.inside.arena c.reopen-reopened.new.arena c.reopen-reopened.ensures.parents) (λ e. c.reopen-reopened.ensures.parents.same 0 c.self.invariant.0.some_node ∙ e) (omega (arith, steps)))))
+    (parents-linked c.self.inside.arena c.reopen-reopened.new.arena c.reopen-reopened.ensures.parents) (λ e. c.reopen-reopened.ensures.parents.same 0 c.self.invariant.0.some_node ∙ e) (omega (arith, steps)) c.self.invariant.0.is_open)))
 
 pub returns-clause-grown : goal.returns-clause-grown
 returns-clause-grown c =
@@ -76,3 +77,9 @@ returns-clause-clones c =
     on-ok c.reopen-reopened.result c.reopen-reopened.ensures.reopened
     (λ r. has-cloned c.self.inside.stack c.reopen-reopened.new.stack c.self.inside.list c.reopen-reopened.new.self c.self.inside.arena c.reopen-reopened.new.arena c.self.inside.tokens c.self.inside.head c.self.inside.form c.self.inside.detached c.reopen-reopened.ensures.made c.args.self.now c.self.view_is c.self.invariant.0.is_open
     (reopened-limits c.args.foster (open_at c.self.inside.stack c.self.inside.list c.self.inside.arena) (open_at c.reopen-reopened.new.stack c.reopen-reopened.new.self c.reopen-reopened.new.arena) r))
+
+pub returns-clause-counted : goal.returns-clause-counted
+returns-clause-counted c =
+    on-ok c.reopen-reopened.result c.reopen-reopened.ensures.steps
+    (λ r. subst (λ (a : State). CountsReopening c.args.foster a (state_of c.reopen-reopened.new.stack c.reopen-reopened.new.self c.reopen-reopened.new.arena c.self.inside.tokens c.self.inside.head c.self.inside.form c.self.inside.detached)) c.self.view_is
+    (record { old = c.self.inside.arena; old_is = refl; steps_are = r }))

@@ -1,8 +1,9 @@
-use Rattle.std.proofs.Common.{◌≤◌, ◌+◌, ◌<◌, length, subst, ap, sym, ◌∙◌, None, arith, refl}
-use Rattle.html_arena.specs.Tree.{Tree, parent_of}
+use Rattle.std.proofs.Common.{◌≡◌, ◌≤◌, ◌+◌, ◌<◌, length, subst, ap, sym, ◌∙◌, None, arith, refl}
+use Rattle.html_arena.specs.Tree.{Tree, parent_of, more}
 use Rattle.html_open.specs.Marking.{bare}
 use Rattle.html_open.specs.Placing.{parent_at, place_steps}
 use Rattle.html_tree.specs.States.{State}
+use Rattle.html_tree.specs.Steps.{here_steps}
 use Rattle.html_tree.specs.Texts.{IsFree, place_here, text_before}
 use Rattle.html_tree.proofs.Inserted.{parent-charged, place-most}
 use Rattle.html_tree.proofs.Kept.{charged-steps, charged-under_way, read-grown, read-keeps, read-rest}
@@ -47,3 +48,7 @@ returns-clause-grown c = read-grown c.args.self.now c.self.inside.stack c.self.i
 
 pub returns-clause-tags : goal.returns-clause-tags
 returns-clause-tags c = kept-tags c.args.self.now _ c.self.inside.stack c.self.inside.list c.self.inside.arena c.self.inside.tokens c.self.inside.head c.self.inside.form c.self.inside.detached c.self.view_is c.self.invariant.0 (returns-clause-keeps c) refl
+
+pub returns-clause-counted : goal.returns-clause-counted
+returns-clause-counted c =
+    subst (λ (a : State). c.place-place.new.arena.steps ≡ more a.steps (here_steps a c.args.foster)) c.self.view_is (ap (λ (v : Tree). v.steps) c.place-place.ensures.steps)

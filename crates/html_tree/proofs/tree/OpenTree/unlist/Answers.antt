@@ -35,3 +35,6 @@ returns-clause-steps c =
 
 pub returns-clause-tags : goal.returns-clause-tags
 returns-clause-tags c = kept-tags c.args.self.now _ c.self.inside.stack c.self.inside.list c.self.inside.arena c.self.inside.tokens c.self.inside.head c.self.inside.form c.self.inside.detached c.self.view_is c.self.invariant.0 (returns-clause-keeps c) refl
+
+pub returns-clause-counted : goal.returns-clause-counted
+returns-clause-counted c = subst (λ (a : State). c.remove.new.arena.steps ≡ more a.steps (removal_steps (is_node c.args.node) a.list)) c.self.view_is c.remove.ensures.steps

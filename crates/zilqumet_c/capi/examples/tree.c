@@ -1,0 +1,40 @@
+/* Prints the elements and texts of a page on standard input, each below its parent. It goes by the links, so that no depth is too much for it. */
+#include <stdio.h>
+#include <zilqumet.h>
+
+static void print(zq_page *page, uint64_t node, int depth)
+{
+    zq_span name = zq_name(page, node), text = zq_data(page, node);
+    if (zq_kind_of(page, node) == ZQ_ELEMENT)
+        printf("%*s<%.*s>\n", 2 * depth, "", (int)name.len, (const char *)name.at);
+    else if (zq_kind_of(page, node) == ZQ_TEXT)
+        printf("%*s\"%.*s\"\n", 2 * depth, "", (int)text.len, (const char *)text.at);
+}
+
+int main(void)
+{
+    static char bytes[1 << 20];
+    size_t len = fread(bytes, 1, sizeof bytes, stdin);
+    zq_options options = ZQ_DEFAULTS;
+    zq_page page = ZQ_EMPTY;
+    uint64_t node, place, status;
+    int depth = 0;
+    options.max_nodes = 100000;
+    status = zq_parse(NULL, &options, bytes, len, &page, &place);
+    if (status != ZQ_OK) {
+        fprintf(stderr, "tree: %s at %llu\n", zq_strerror(status), (unsigned long long)place);
+        return 1;
+    }
+    for (node = zq_first_child(&page, zq_root(&page)); node != ZQ_NO_NODE;) {
+        print(&page, node, depth);
+        if (zq_first_child(&page, node) != ZQ_NO_NODE) {
+            node = zq_first_child(&page, node), depth++;
+            continue;
+        }
+        while (node != ZQ_NO_NODE && zq_next(&page, node) == ZQ_NO_NODE)
+            node = zq_parent(&page, node), depth--;
+        node = zq_next(&page, node);
+    }
+    zq_free(&page);
+    return 0;
+}

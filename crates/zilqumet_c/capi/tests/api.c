@@ -1,0 +1,343 @@
+/* A test of each call: what it answers, and each sentence of the header on handles, pointers and answers. */
+#include "zilqumet.h"
+
+#include <stdio.h>
+#include <string.h>
+
+static int failed, passed;
+
+static void check(int holds, const char *what, int line)
+{
+    passed += holds != 0;
+    if (!holds) {
+        failed++;
+        fprintf(stderr, "api.c:%d: %s\n", line, what);
+    }
+}
+
+#define CHECK(holds) check((holds), #holds, __LINE__)
+
+static int is(zq_span span, const char *text) { return span.len == strlen(text) && memcmp(span.at, text, span.len) == 0; }
+
+/* The text of a page. */
+static int writes(zq_page *page, const char *text)
+{
+    zq_buffer buffer = ZQ_EMPTY;
+    zq_span span;
+    int holds = zq_serialise(page, 0, &buffer) == ZQ_OK && zq_bytes(&buffer, &span) == ZQ_OK && is(span, text);
+    zq_free(&buffer);
+    return holds;
+}
+
+static uint32_t parse(const char *text, zq_page *page, uint64_t *place) { return zq_parse(NULL, NULL, text, strlen(text), page, place); }
+
+static void test_library(void)
+{
+    uint32_t status;
+    CHECK(strcmp(zq_version(), ZQ_VERSION) == 0);
+    for (status = 0; status <= ZQ_BAD_FLAGS; status++)
+        CHECK(strlen(zq_strerror(status)) > 0 && strcmp(zq_strerror(status), "unknown status") != 0);
+    CHECK(strcmp(zq_strerror(17), "unknown status") == 0);
+    CHECK(strcmp(zq_strerror(UINT32_MAX), "unknown status") == 0);
+}
+
+static void test_handles(void)
+{
+    zq_page page = ZQ_EMPTY;
+    zq_buffer buffer = ZQ_EMPTY;
+    zq_free(NULL);
+    zq_free(&page);
+    CHECK(page.held == NULL);
+    CHECK(parse("<p>x", &page, NULL) == ZQ_OK && page.held != NULL);
+    /* a call that fills a handle frees what was in it */
+    CHECK(parse("<p>y", &page, NULL) == ZQ_OK && writes(&page, "<html><head></head><body><p>y</p></body></html>"));
+    CHECK(zq_serialise(&page, 0, &buffer) == ZQ_OK && zq_serialise(&page, 0, &buffer) == ZQ_OK);
+    /* a page may be moved, if it is not copied */
+    {
+        zq_page moved = page;
+        page.held = NULL;
+        CHECK(zq_root(&moved) == 0 && zq_root(&page) == ZQ_NO_NODE);
+        zq_free(&moved);
+        zq_free(&moved);
+        CHECK(moved.held == NULL);
+    }
+    /* what is refused leaves the page empty */
+    CHECK(parse("<p>z", &page, NULL) == ZQ_OK && parse("<svg>", &page, NULL) == ZQ_FOREIGN_SVG && page.held == NULL);
+    zq_free(&buffer);
+}
+
+static void test_entities(void)
+{
+    zq_entities entities = ZQ_EMPTY;
+    zq_page page = ZQ_EMPTY;
+    const char *json = "{\"&eacute;\": {\"codepoints\": [233], \"characters\": \"\\u00e9\"}}";
+    CHECK(zq_entities_read(json, strlen(json), &entities) == ZQ_OK);
+    CHECK(zq_parse(&entities, NULL, "&eacute;", 8, &page, NULL) == ZQ_OK && writes(&page, "<html><head></head><body>\xc3\xa9</body></html>"));
+    CHECK(parse("&eacute;&lt;", &page, NULL) == ZQ_OK && writes(&page, "<html><head></head><body>&amp;eacute;&lt;</body></html>"));
+    CHECK(zq_entities_read("{", 1, &entities) == ZQ_BAD_ENTITIES && entities.held == NULL);
+    CHECK(zq_entities_read("", 0, &entities) == ZQ_BAD_ENTITIES);
+    CHECK(zq_entities_read(NULL, 1, &entities) == ZQ_BAD_POINTER && zq_entities_read("{}", 2, NULL) == ZQ_BAD_POINTER);
+    /* an empty handle is the same as none */
+    CHECK(zq_parse(&entities, NULL, "&lt;", 4, &page, NULL) == ZQ_OK && writes(&page, "<html><head></head><body>&lt;</body></html>"));
+    zq_free(&page);
+    zq_free(&entities);
+}
+
+static void test_parse(void)
+{
+    zq_page page = ZQ_EMPTY;
+    zq_entities entities = ZQ_EMPTY;
+    zq_options options = ZQ_DEFAULTS;
+    uint64_t place = 7;
+    CHECK(zq_parse(NULL, NULL, NULL, 0, &page, &place) == ZQ_OK && place == 0 && writes(&page, "<html><head></head><body></body></html>"));
+    CHECK(zq_parse(NULL, NULL, "", 0, &page, NULL) == ZQ_OK);
+    CHECK(parse("<p>x<svg>", &page, &place) == ZQ_FOREIGN_SVG && place == 4);
+    CHECK(parse("\xef\xbb\xbf\r\n<math>", &page, &place) == ZQ_FOREIGN_MATH && place == 1);
+    CHECK(parse("<p>\xff", &page, &place) == ZQ_OK && place == 0 && writes(&page, "<html><head></head><body><p>\xef\xbf\xbd</p></body></html>"));
+    options.max_nodes = 3;
+    CHECK(zq_parse(NULL, &options, "<p>", 3, &page, &place) == ZQ_NODE_BUDGET && place == 0);
+    options.max_nodes = 5;
+    CHECK(zq_parse(NULL, &options, "<p>", 3, &page, &place) == ZQ_OK);
+    options.max_held = 3;
+    CHECK(zq_parse(NULL, &options, "<p>", 3, &page, &place) == ZQ_HELD_BUDGET && place == 0);
+    options.max_held = UINT64_MAX, options.max_input = 2;
+    CHECK(zq_parse(NULL, &options, "<p>", 3, &page, &place) == ZQ_INPUT_TOO_LONG && place == 0);
+    options.max_input = UINT64_MAX, options.max_steps = 1;
+    CHECK(zq_parse(NULL, &options, "<p>", 3, &page, &place) == ZQ_STEP_BUDGET);
+    options.max_steps = UINT64_MAX, options.flags = 4;
+    CHECK(zq_parse(NULL, &options, "<p>", 3, &page, &place) == ZQ_BAD_FLAGS);
+    CHECK(zq_parse(NULL, NULL, NULL, 1, &page, &place) == ZQ_BAD_POINTER && zq_parse(NULL, NULL, "", 0, NULL, &place) == ZQ_BAD_POINTER);
+    CHECK(zq_parse(NULL, NULL, "", SIZE_MAX, &page, &place) == ZQ_BAD_POINTER);
+    CHECK(zq_parse((zq_entities *)&page, NULL, "", 0, &page, &place) == ZQ_BAD_HANDLE);
+    zq_free(&page);
+    zq_free(&entities);
+}
+
+static void test_fragment(void)
+{
+    zq_page page = ZQ_EMPTY;
+    zq_options options = ZQ_DEFAULTS;
+    uint64_t place;
+    CHECK(zq_parse_fragment(NULL, NULL, "tr", 2, "<td>x", 5, &page, &place) == ZQ_OK && writes(&page, "<td>x</td>"));
+    CHECK(zq_parse_fragment(NULL, NULL, "div", 3, "<td>x", 5, &page, &place) == ZQ_OK && writes(&page, "x"));
+    CHECK(zq_parse_fragment(NULL, NULL, "div", 3, "<form>x", 7, &page, &place) == ZQ_OK && writes(&page, "<form>x</form>"));
+    options.flags = ZQ_IN_FORM;
+    CHECK(zq_parse_fragment(NULL, &options, "div", 3, "<form>x", 7, &page, &place) == ZQ_OK && writes(&page, "x"));
+    CHECK(zq_parse_fragment(NULL, NULL, "div", 3, "<p><table>", 10, &page, &place) == ZQ_OK && writes(&page, "<p></p><table></table>"));
+    options.flags = ZQ_QUIRKS;
+    CHECK(zq_parse_fragment(NULL, &options, "div", 3, "<p><table>", 10, &page, &place) == ZQ_OK && writes(&page, "<p><table></table></p>"));
+    CHECK(zq_parse_fragment(NULL, NULL, "svg", 3, "x", 1, &page, &place) == ZQ_BAD_CONTEXT && page.held == NULL);
+    CHECK(zq_parse_fragment(NULL, NULL, "Q", 1, "x", 1, &page, &place) == ZQ_BAD_CONTEXT);
+    CHECK(zq_parse_fragment(NULL, NULL, "", 0, "x", 1, &page, &place) == ZQ_BAD_CONTEXT);
+    CHECK(zq_parse_fragment(NULL, NULL, "a\xff", 2, "x", 1, &page, &place) == ZQ_BAD_CONTEXT);
+    CHECK(zq_parse_fragment(NULL, NULL, NULL, 1, "x", 1, &page, &place) == ZQ_BAD_POINTER);
+    CHECK(zq_parse_fragment(NULL, NULL, "p", 1, NULL, 1, &page, &place) == ZQ_BAD_POINTER);
+    zq_free(&page);
+}
+
+static void test_parser(void)
+{
+    zq_parser parser = ZQ_EMPTY;
+    zq_page page = ZQ_EMPTY;
+    zq_options options = ZQ_DEFAULTS;
+    const char *text = "<p>\xc3\xa9<p>";
+    uint64_t place;
+    size_t i;
+    CHECK(zq_parser_new(NULL, &parser) == ZQ_OK);
+    for (i = 0; i < strlen(text); i++)
+        CHECK(zq_parser_feed(&parser, text + i, 1) == ZQ_OK);
+    CHECK(zq_parser_feed(&parser, NULL, 0) == ZQ_OK);
+    CHECK(zq_parser_finish(&parser, NULL, &page, &place) == ZQ_OK && writes(&page, "<html><head></head><body><p>\xc3\xa9</p><p></p></body></html>"));
+    CHECK(parser.held == NULL);
+    CHECK(zq_parser_feed(&parser, "x", 1) == ZQ_BAD_HANDLE);
+    CHECK(zq_parser_finish(&parser, NULL, &page, &place) == ZQ_BAD_HANDLE);
+    options.max_nodes = 3;
+    CHECK(zq_parser_new(&options, &parser) == ZQ_OK && zq_parser_feed(&parser, "<p>", 3) == ZQ_OK);
+    CHECK(zq_parser_finish(&parser, NULL, &page, &place) == ZQ_NODE_BUDGET && page.held == NULL && parser.held == NULL);
+    CHECK(zq_parser_new(NULL, &parser) == ZQ_OK);
+    CHECK(zq_parser_finish(&parser, NULL, (zq_page *)&parser, &place) == ZQ_BAD_HANDLE);
+    CHECK(zq_parser_finish(NULL, NULL, &page, &place) == ZQ_BAD_POINTER && zq_parser_finish(&parser, NULL, NULL, &place) == ZQ_BAD_POINTER);
+    CHECK(zq_parser_new(NULL, NULL) == ZQ_BAD_POINTER && zq_parser_feed(NULL, "", 0) == ZQ_BAD_POINTER);
+    CHECK(zq_parser_feed(&parser, NULL, 1) == ZQ_BAD_POINTER);
+    /* a page is no parser */
+    CHECK(parse("x", &page, NULL) == ZQ_OK && zq_parser_feed((zq_parser *)&page, "x", 1) == ZQ_BAD_HANDLE && zq_root(&page) == 0);
+    zq_free(&parser);
+    zq_free(&page);
+}
+
+static void test_nodes(void)
+{
+    zq_page page = ZQ_EMPTY;
+    uint64_t html, head, body, p, text, comment, template, contents;
+    CHECK(parse("<!DOCTYPE html PUBLIC 'a' 'b'><p id=x class='y z'>One<!--c--><template><i>T</i></template>", &page, NULL) == ZQ_OK);
+    CHECK(zq_kind_of(&page, zq_root(&page)) == ZQ_DOCUMENT && zq_parent(&page, zq_root(&page)) == ZQ_NO_NODE);
+    {
+        uint64_t doctype = zq_first_child(&page, zq_root(&page));
+        zq_span span;
+        CHECK(zq_kind_of(&page, doctype) == ZQ_DOCTYPE);
+        CHECK(zq_text(&page, ZQ_DOCTYPE_NAME, doctype, 0, &span) == ZQ_OK && is(span, "html"));
+        CHECK(zq_text(&page, ZQ_PUBLIC_ID, doctype, 0, &span) == ZQ_OK && is(span, "a"));
+        CHECK(zq_text(&page, ZQ_SYSTEM_ID, doctype, 0, &span) == ZQ_OK && is(span, "b"));
+        html = zq_next(&page, doctype);
+        CHECK(zq_text(&page, ZQ_PUBLIC_ID, html, 0, &span) == ZQ_BAD_INDEX && zq_text(&page, 9, html, 0, &span) == ZQ_BAD_INDEX);
+        CHECK(zq_text(&page, ZQ_NAME, 999, 0, &span) == ZQ_BAD_INDEX && zq_text(&page, ZQ_NAME, html, 0, NULL) == ZQ_BAD_POINTER);
+    }
+    head = zq_first_child(&page, html), body = zq_last_child(&page, html);
+    CHECK(is(zq_name(&page, html), "html") && is(zq_name(&page, head), "head") && is(zq_name(&page, body), "body"));
+    CHECK(zq_next(&page, head) == body && zq_previous(&page, body) == head && zq_previous(&page, head) == ZQ_NO_NODE && zq_next(&page, body) == ZQ_NO_NODE);
+    p = zq_first_child(&page, body), text = zq_first_child(&page, p), comment = zq_next(&page, text), template = zq_next(&page, comment);
+    CHECK(zq_kind_of(&page, p) == ZQ_ELEMENT && zq_attr_count(&page, p) == 2 && zq_attr_count(&page, text) == 0);
+    CHECK(is(zq_attr_name(&page, p, 0), "id") && is(zq_attr_value(&page, p, 0), "x") && is(zq_attr_name(&page, p, 1), "class"));
+    CHECK(is(zq_attr_value(&page, p, 1), "y z") && is(zq_attr_name(&page, p, 2), "") && is(zq_attr_value(&page, text, 0), ""));
+    CHECK(zq_kind_of(&page, text) == ZQ_TEXT && is(zq_data(&page, text), "One") && is(zq_name(&page, text), ""));
+    CHECK(zq_kind_of(&page, comment) == ZQ_COMMENT && is(zq_data(&page, comment), "c"));
+    contents = zq_template_contents(&page, template);
+    CHECK(zq_kind_of(&page, contents) == ZQ_CONTENTS && zq_link(&page, ZQ_HOST, contents) == template && zq_parent(&page, contents) == ZQ_NO_NODE);
+    CHECK(zq_first_child(&page, template) == ZQ_NO_NODE && is(zq_name(&page, zq_first_child(&page, contents)), "i"));
+    CHECK(zq_template_contents(&page, p) == ZQ_NO_NODE && zq_link(&page, 7, p) == ZQ_NO_NODE && zq_link(&page, ZQ_PARENT, 999) == ZQ_NO_NODE);
+    CHECK(zq_kind_of(&page, 999) == ZQ_NO_KIND && zq_kind_of(&page, UINT64_MAX) == ZQ_NO_KIND && zq_attr_count(&page, 999) == 0);
+    /* what was told stays while other calls read the page */
+    {
+        zq_span name = zq_name(&page, p), data = zq_data(&page, text);
+        zq_buffer buffer = ZQ_EMPTY;
+        CHECK(zq_serialise(&page, 0, &buffer) == ZQ_OK);
+        zq_free(&buffer);
+        CHECK(is(name, "p") && is(data, "One"));
+    }
+    zq_free(&page);
+}
+
+static void test_copy(void)
+{
+    zq_page page = ZQ_EMPTY;
+    char out[4] = "....";
+    size_t len = 9;
+    uint64_t text;
+    CHECK(zq_parse_fragment(NULL, NULL, "div", 3, "abc", 3, &page, NULL) == ZQ_OK);
+    text = zq_first_child(&page, zq_root(&page));
+    CHECK(zq_copy(&page, ZQ_DATA, text, 0, NULL, 0, &len) == ZQ_OK && len == 3);
+    CHECK(zq_copy(&page, ZQ_DATA, text, 0, out, 2, &len) == ZQ_OK && len == 3 && memcmp(out, "....", 4) == 0);
+    CHECK(zq_copy(&page, ZQ_DATA, text, 0, out, 4, &len) == ZQ_OK && len == 3 && memcmp(out, "abc.", 4) == 0);
+    CHECK(zq_copy(&page, ZQ_DATA, text, 0, NULL, 4, &len) == ZQ_BAD_POINTER && zq_copy(&page, ZQ_DATA, text, 0, out, 4, NULL) == ZQ_BAD_POINTER);
+    CHECK(zq_copy(&page, ZQ_ATTR_NAME, text, 0, out, 4, &len) == ZQ_BAD_INDEX && zq_copy(&page, ZQ_DATA, 999, 0, out, 4, &len) == ZQ_BAD_INDEX);
+    CHECK(zq_copy(NULL, ZQ_DATA, text, 0, out, 4, &len) == ZQ_BAD_POINTER);
+    zq_free(&page);
+}
+
+static void test_rows(void)
+{
+    zq_page page = ZQ_EMPTY;
+    zq_row rows[8];
+    zq_counts counts;
+    size_t i;
+    CHECK(parse("<p a=b>x", &page, NULL) == ZQ_OK && zq_counts_of(&page, &counts) == ZQ_OK);
+    CHECK(counts.code_points == 8 && counts.nodes == 6 && counts.held == 16 && counts.steps > 0 && counts.tokens == 3 && counts.errors == 1);
+    CHECK(zq_rows(&page, 0, rows, 8) == 6 && zq_rows(&page, 4, rows + 4, 8 - 4) == 2 && zq_rows(&page, 0, rows, 2) == 2 && zq_rows(&page, 6, rows, 8) == 0);
+    for (i = 0; i < 6; i++) {
+        CHECK(rows[i].kind == zq_kind_of(&page, i) && rows[i].parent == zq_parent(&page, i) && rows[i].first_child == zq_first_child(&page, i));
+        CHECK(rows[i].next == zq_next(&page, i) && rows[i].contents == zq_template_contents(&page, i) && rows[i].attrs == zq_attr_count(&page, i));
+        CHECK(rows[i].name.len == zq_name(&page, i).len && memcmp(rows[i].name.at, zq_name(&page, i).at, rows[i].name.len) == 0);
+        CHECK(rows[i].text.len == zq_data(&page, i).len && memcmp(rows[i].text.at, zq_data(&page, i).at, rows[i].text.len) == 0);
+    }
+    CHECK(zq_rows(&page, 0, NULL, 8) == 0 && zq_rows(NULL, 0, rows, 8) == 0 && zq_rows(&page, UINT64_MAX, rows, 8) == 0);
+    CHECK(zq_counts_of(&page, NULL) == ZQ_BAD_POINTER && zq_counts_of(NULL, &counts) == ZQ_BAD_POINTER);
+    zq_free(&page);
+    CHECK(zq_counts_of(&page, &counts) == ZQ_BAD_HANDLE && zq_rows(&page, 0, rows, 8) == 0);
+}
+
+static void test_texts(void)
+{
+    zq_page page = ZQ_EMPTY;
+    zq_buffer buffer = ZQ_EMPTY;
+    zq_texts texts;
+    static const char *const want[] = { "", "", "html", "", "head", "", "body", "", "p", "", "a", "\xc3\xa9", "c", "", "", "x" };
+    size_t i;
+    uint64_t start = 0;
+    CHECK(parse("<p a=\xc3\xa9 c>x", &page, NULL) == ZQ_OK && zq_all_texts(&page, &buffer, &texts) == ZQ_OK);
+    CHECK(texts.count == sizeof want / sizeof want[0]);
+    for (i = 0; i < texts.count && i < sizeof want / sizeof want[0]; i++) {
+        zq_span span;
+        span.at = texts.at + start, span.len = (size_t)(texts.ends[i] - start);
+        CHECK(is(span, want[i]));
+        start = texts.ends[i];
+    }
+    CHECK(zq_all_texts(NULL, &buffer, &texts) == ZQ_BAD_POINTER && zq_all_texts(&page, NULL, &texts) == ZQ_BAD_POINTER);
+    CHECK(zq_all_texts(&page, &buffer, NULL) == ZQ_BAD_POINTER && zq_all_texts(&page, (zq_buffer *)&page, &texts) == ZQ_BAD_HANDLE);
+    zq_free(&page);
+    CHECK(zq_all_texts(&page, &buffer, &texts) == ZQ_BAD_HANDLE && buffer.held == NULL);
+    zq_free(&buffer);
+}
+
+static void test_errors(void)
+{
+    zq_page page = ZQ_EMPTY;
+    zq_buffer name = ZQ_EMPTY;
+    zq_span span;
+    uint64_t place;
+    CHECK(parse("<!DOCTYPE html><p a a>", &page, NULL) == ZQ_OK);
+    CHECK(zq_error(&page, 0, &name, &place) == ZQ_OK && place == 21 && zq_bytes(&name, &span) == ZQ_OK && is(span, "duplicate-attribute"));
+    CHECK(zq_error(&page, 1, &name, &place) == ZQ_BAD_INDEX);
+    CHECK(parse("x", &page, NULL) == ZQ_OK && zq_error(&page, 0, &name, &place) == ZQ_OK && place == 0);
+    CHECK(zq_bytes(&name, &span) == ZQ_OK && is(span, "tree-construction"));
+    CHECK(zq_error(NULL, 0, &name, &place) == ZQ_BAD_POINTER && zq_error(&page, 0, NULL, &place) == ZQ_BAD_POINTER);
+    CHECK(zq_error(&page, 0, &name, NULL) == ZQ_BAD_POINTER && zq_error(&page, 0, (zq_buffer *)&page, &place) == ZQ_BAD_HANDLE);
+    zq_free(&page);
+    CHECK(zq_error(&page, 0, &name, &place) == ZQ_BAD_HANDLE);
+    zq_free(&name);
+}
+
+static int takes(void *context, const uint8_t *bytes, size_t len)
+{
+    *(int *)context += len == 39 && memcmp(bytes, "<html>", 6) == 0;
+    return 0;
+}
+
+static int refuses(void *context, const uint8_t *bytes, size_t len)
+{
+    (void)context, (void)bytes, (void)len;
+    return -1;
+}
+
+static void test_writing(void)
+{
+    zq_page page = ZQ_EMPTY;
+    zq_buffer buffer = ZQ_EMPTY;
+    zq_span span;
+    uint64_t place;
+    int calls = 0;
+    CHECK(zq_parse_fragment(NULL, NULL, "div", 3, "<a b='<'>", 9, &page, &place) == ZQ_OK);
+    CHECK(zq_serialise(&page, 0, &buffer) == ZQ_OK && zq_bytes(&buffer, &span) == ZQ_OK && is(span, "<a b=\"<\"></a>"));
+    CHECK(zq_serialise(&page, -1, &buffer) == ZQ_OK && zq_bytes(&buffer, &span) == ZQ_OK && is(span, "<a b=\"&lt;\"></a>"));
+    CHECK(zq_normalise(NULL, NULL, "", 0, 0, &buffer, &place) == ZQ_OK && zq_bytes(&buffer, &span) == ZQ_OK);
+    CHECK(is(span, "<html><head></head><body></body></html>"));
+    CHECK(zq_normalise(NULL, NULL, "<math>", 6, 0, &buffer, &place) == ZQ_FOREIGN_MATH && place == 0 && buffer.held == NULL);
+    CHECK(zq_bytes(&buffer, &span) == ZQ_BAD_HANDLE && zq_bytes(NULL, &span) == ZQ_BAD_POINTER && zq_bytes(&buffer, NULL) == ZQ_BAD_POINTER);
+    CHECK(zq_normalise(NULL, NULL, NULL, 1, 0, &buffer, &place) == ZQ_BAD_POINTER && zq_normalise(NULL, NULL, "", 0, 0, NULL, &place) == ZQ_BAD_POINTER);
+    CHECK(zq_serialise(&page, 0, NULL) == ZQ_BAD_POINTER && zq_serialise(NULL, 0, &buffer) == ZQ_BAD_POINTER);
+    CHECK(zq_serialise(&page, 0, (zq_buffer *)&page) == ZQ_BAD_HANDLE);
+    CHECK(parse("", &page, NULL) == ZQ_OK && zq_serialise_to(&page, 0, takes, &calls) == ZQ_OK && calls == 1);
+    CHECK(zq_serialise_to(&page, 0, refuses, NULL) == ZQ_WRITE && zq_serialise_to(&page, 0, NULL, NULL) == ZQ_BAD_POINTER);
+    CHECK(zq_serialise_to(NULL, 0, takes, &calls) == ZQ_BAD_POINTER && calls == 1);
+    zq_free(&page);
+    CHECK(zq_serialise(&page, 0, &buffer) == ZQ_BAD_HANDLE && zq_root(&page) == ZQ_NO_NODE && zq_root(NULL) == ZQ_NO_NODE);
+    CHECK(zq_kind_of(NULL, 0) == ZQ_NO_KIND && zq_link(NULL, 0, 0) == ZQ_NO_NODE && zq_attr_count(NULL, 0) == 0 && is(zq_name(NULL, 0), ""));
+    zq_free(&buffer);
+}
+
+int main(void)
+{
+    test_library();
+    test_handles();
+    test_entities();
+    test_parse();
+    test_fragment();
+    test_parser();
+    test_nodes();
+    test_copy();
+    test_rows();
+    test_texts();
+    test_errors();
+    test_writing();
+    printf("api: %d passed, %d failed\n", passed, failed);
+    return failed != 0;
+}

@@ -1,0 +1,232 @@
+/* zilqumet.h: an HTML parser that no page can make hang, or grow past a known limit.
+ *
+ * A document or a fragment in UTF-8 becomes the tree that the HTML standard says (WHATWG HTML, sections 13.2 to 13.4, scripting disabled, as of
+ * 1 January 2024), or the call says why not. What is proved of each call stands in the library's README; in short: it returns, it touches no
+ * memory but its own and what it was handed, and ZQ_OK comes with the page of these very bytes.
+ *
+ *     zq_page page = ZQ_EMPTY;
+ *     uint64_t node, place;
+ *     uint32_t status = zq_parse(NULL, NULL, bytes, len, &page, &place);
+ *     if (status != ZQ_OK)
+ *         fprintf(stderr, "%s at %lu\n", zq_strerror(status), (unsigned long)place);
+ *     else
+ *         for (node = zq_first_child(&page, zq_root(&page)); node != ZQ_NO_NODE; node = zq_next(&page, node))
+ *             ...
+ *     zq_free(&page);
+ *
+ * HANDLES. A page, a parser, a table of references and a buffer are handles: structs of one pointer, which the caller keeps wherever it likes.
+ *   - A handle begins as ZQ_EMPTY. A call that fills a handle frees what was in it first.
+ *   - zq_free frees what a handle holds, whatever that is, and leaves it empty. To free an empty handle does nothing.
+ *   - A handle is passed by its address, and is not copied: of two copies one would be freed behind the other's back.
+ *   - `held` is the library's: it is neither read nor written by the caller.
+ *
+ * POINTERS. What zq_text, zq_rows, zq_all_texts and zq_bytes hand out points into the handle. It stays there, unchanged, until that handle is freed or filled
+ * again, and is only read. Texts are UTF-8, with their length beside them; no zero byte ends them.
+ *
+ * THREADS. The library has no state of its own. Threads that use handles of their own need nothing. A handle is in one call at a time, reading
+ * included, and a page stays with the thread that made it.
+ *
+ * ANSWERS. A call that can fail answers an enum zq_status as a uint32_t: ZQ_OK, which is 0, or why not. A null pointer, an empty handle, one that
+ * holds something else, and a node or an index out of range are such answers, and change nothing. Only these are not answered: a pointer to what is
+ * not there, a handle that was copied, and two calls at once on one handle.
+ *
+ * MEMORY comes from malloc, realloc and free. Where it is refused the call answers ZQ_OUT_OF_MEMORY, and nothing leaks.
+ */
+#ifndef ZILQUMET_H
+#define ZILQUMET_H
+
+#include <stddef.h>
+#include <stdint.h>
+
+#ifdef __cplusplus
+extern "C" {
+#endif
+
+/* The version that a program was compiled with. zq_version tells that of the library. */
+#define ZQ_VERSION "0.1.0"
+
+/* What a call answers. */
+enum zq_status {
+    ZQ_OK = 0,
+    ZQ_OUT_OF_MEMORY = 1,  /* memory was refused */
+    ZQ_INPUT_TOO_LONG = 2, /* more code points than max_input, or than 268,435,456 */
+    ZQ_FOREIGN_SVG = 3,    /* a start tag svg, at a place: SVG is not parsed */
+    ZQ_FOREIGN_MATH = 4,   /* a start tag math, at a place: MathML is not parsed */
+    ZQ_BAD_CONTEXT = 5,    /* no HTML element can have the name of the fragment's context, or it is svg or math */
+    ZQ_NODE_BUDGET = 6,    /* the token at a place would make more nodes than max_nodes */
+    ZQ_HELD_BUDGET = 7,    /* the token at a place would have the nodes hold more code points than max_held */
+    ZQ_STEP_BUDGET = 8,    /* more steps than max_steps were counted before the token at a place */
+    ZQ_STOPPED = 9,        /* (no call of this version answers it) */
+    ZQ_READ = 10,          /* (no call of this version answers it) */
+    ZQ_WRITE = 11,         /* the function that zq_serialise_to was handed answered other than 0 */
+    ZQ_BAD_HANDLE = 12,    /* the handle is empty, or holds something else, or one handle was passed twice */
+    ZQ_BAD_INDEX = 13,     /* there is no such node, text, attribute or error */
+    ZQ_BAD_ENTITIES = 14,  /* not a file of named character references */
+    ZQ_BAD_POINTER = 15,   /* a pointer is null that must not be */
+    ZQ_BAD_FLAGS = 16      /* a flag that this version does not know */
+};
+
+/* A parsed page; an input that is not at its end; named character references; bytes. */
+typedef struct zq_page { void *held; } zq_page;
+typedef struct zq_parser { void *held; } zq_parser;
+typedef struct zq_entities { void *held; } zq_entities;
+typedef struct zq_buffer { void *held; } zq_buffer;
+#define ZQ_EMPTY { NULL }
+
+/* Some bytes. */
+typedef struct zq_span {
+    const uint8_t *at;
+    size_t len;
+} zq_span;
+
+/* How a page is parsed: the most nodes that it may have, code points that its nodes may hold (names, texts, attributes), code points that the input
+ * may have, and steps that may be counted; and flags, any of those below or none. Without limits a page of n code points has at most 2(n+32)^2
+ * nodes, 34(n+2)^2 held code points and 1024(n+32)^3 steps: these are proved; most pages have about as many of each as they have code points.
+ * Wherever a call takes options, a null pointer stands for ZQ_DEFAULTS. */
+typedef struct zq_options {
+    uint64_t max_nodes, max_held, max_input, max_steps;
+    uint32_t flags;
+} zq_options;
+#define ZQ_DEFAULTS { UINT64_MAX, UINT64_MAX, UINT64_MAX, UINT64_MAX, 0 }
+
+/* Of a fragment: its context stands in a form; its document is in quirks mode. */
+#define ZQ_IN_FORM 1u
+#define ZQ_QUIRKS 2u
+
+/* What a page counts: code points of the input, nodes, code points that the nodes hold, steps, tokens, parse errors. held and steps stop at
+ * UINT64_MAX. */
+typedef struct zq_counts {
+    uint64_t code_points, nodes, held, steps, tokens, errors;
+} zq_counts;
+
+/* What a node is. The contents of a template are a node of their own, which no node is above: ZQ_TEMPLATE_CONTENTS leads there, ZQ_HOST back. */
+enum zq_kind { ZQ_NO_KIND, ZQ_DOCUMENT, ZQ_CONTENTS, ZQ_ELEMENT, ZQ_TEXT, ZQ_COMMENT, ZQ_DOCTYPE };
+
+/* Where zq_link leads. */
+enum zq_link_name { ZQ_PARENT, ZQ_FIRST_CHILD, ZQ_LAST_CHILD, ZQ_NEXT, ZQ_PREVIOUS, ZQ_TEMPLATE_CONTENTS, ZQ_HOST };
+
+/* Which text of a node zq_text tells: an element's name; the text of a text or of a comment; the name and the value of an attribute; the name and
+ * the identifiers of a doctype. */
+enum zq_part { ZQ_NAME, ZQ_DATA, ZQ_ATTR_NAME, ZQ_ATTR_VALUE, ZQ_DOCTYPE_NAME, ZQ_PUBLIC_ID, ZQ_SYSTEM_ID };
+
+/* Nodes are numbers, from 0 up to the count of nodes; this one stands for none. */
+#define ZQ_NO_NODE UINT64_MAX
+
+/* A node, its links (ZQ_NO_NODE where there is none), the number of its attributes, its kind, its name and its text (empty where it has none). */
+typedef struct zq_row {
+    uint64_t parent, first_child, next, contents, attrs;
+    zq_span name, text;
+    uint32_t kind;
+} zq_row;
+
+/* All texts of a page: count of them, one behind the other at `at`; ends[i] is how many bytes there are up to the end of text i. */
+typedef struct zq_texts {
+    const uint8_t *at;
+    const uint64_t *ends;
+    size_t count;
+} zq_texts;
+
+/* ---- the library ---- */
+
+/* The version of the library, as "0.1.0". It stays for good. */
+const char *zq_version(void);
+
+/* What a status says, in English, without a dot: "out of memory". Any number has an answer. It stays for good. */
+const char *zq_strerror(uint32_t status);
+
+/* Frees what a handle holds, and leaves it empty: zq_free(&page). Null is allowed. */
+void zq_free(void *handle);
+
+/* ---- named character references ---- */
+
+/* Reads the standard's table of named character references (https://html.spec.whatwg.org/entities.json), len bytes of JSON at json, into entities.
+ * Without one pages know &amp; &lt; &gt; &quot; and &nbsp; alone: pass a null pointer, or an empty handle, to the calls below.
+ * Answers ZQ_BAD_ENTITIES, and leaves the handle empty, where the bytes are no such table. */
+uint32_t zq_entities_read(const void *json, size_t len, zq_entities *entities);
+
+/* ---- parsing ---- */
+
+/* Parses a document of len bytes at bytes, in UTF-8 (ill-formed parts are read as U+FFFD), and fills page with it.
+ * entities, options and place may be null. Where the answer has a place (ZQ_FOREIGN_.., ZQ_.._BUDGET), *place is told it, else 0: the code points
+ * of the text before it, a byte order mark at its start left out and CR LF counted as one. The page is empty then. */
+uint32_t zq_parse(zq_entities *entities, const zq_options *options, const void *bytes, size_t len, zq_page *page, uint64_t *place);
+
+/* The same of a fragment, as innerHTML does it, in a context: the name of an element, context_len bytes at context, in lower case. */
+uint32_t zq_parse_fragment(zq_entities *entities, const zq_options *options, const void *context, size_t context_len, const void *bytes, size_t len,
+                           zq_page *page, uint64_t *place);
+
+/* A document in pieces, cut anywhere. zq_parser_new fills parser with an input of no bytes; zq_parser_feed adds a piece, and where it fails the
+ * input is as it was; zq_parser_finish parses all of it as zq_parse would, and leaves the parser empty whatever it answers. The pieces are kept until
+ * then: with max_input code points of at most four bytes that is at most 4 * max_input bytes, if the caller stops there. */
+uint32_t zq_parser_new(const zq_options *options, zq_parser *parser);
+uint32_t zq_parser_feed(zq_parser *parser, const void *piece, size_t len);
+uint32_t zq_parser_finish(zq_parser *parser, zq_entities *entities, zq_page *page, uint64_t *place);
+
+/* ---- reading a page ---- */
+
+/* What the page counts. */
+uint32_t zq_counts_of(zq_page *page, zq_counts *counts);
+
+/* The node that all others are below: a document, or of a fragment an element html whose children are the fragment. ZQ_NO_NODE without a page. */
+uint64_t zq_root(zq_page *page);
+
+/* An enum zq_kind: ZQ_NO_KIND where there is no such node. */
+uint32_t zq_kind_of(zq_page *page, uint64_t node);
+
+/* The node that an enum zq_link_name leads to, or ZQ_NO_NODE; and the same by names of their own. */
+uint64_t zq_link(zq_page *page, uint32_t link, uint64_t node);
+uint64_t zq_parent(zq_page *page, uint64_t node);
+uint64_t zq_first_child(zq_page *page, uint64_t node);
+uint64_t zq_last_child(zq_page *page, uint64_t node);
+uint64_t zq_next(zq_page *page, uint64_t node);
+uint64_t zq_previous(zq_page *page, uint64_t node);
+uint64_t zq_template_contents(zq_page *page, uint64_t node);
+
+/* How many attributes a node has: 0 where there is no such node. */
+uint64_t zq_attr_count(zq_page *page, uint64_t node);
+
+/* Tells where a text of a node lies (part is an enum zq_part; index is the number of the attribute, from 0, and else not looked at). A name, or a text,
+ * that nodes of this kind do not have is empty; an attribute, or a part of a doctype, that is not there is ZQ_BAD_INDEX. */
+uint32_t zq_text(zq_page *page, uint32_t part, uint64_t node, uint64_t index, zq_span *text);
+
+/* The same texts, empty where there is no such text. */
+zq_span zq_name(zq_page *page, uint64_t node);
+zq_span zq_data(zq_page *page, uint64_t node);
+zq_span zq_attr_name(zq_page *page, uint64_t node, uint64_t index);
+zq_span zq_attr_value(zq_page *page, uint64_t node, uint64_t index);
+
+/* Copies a text of a node to the front of the room bytes at out, if it fits there, and tells its length. Nothing is written where it does not fit: a
+ * call with no room asks for the length. */
+uint32_t zq_copy(zq_page *page, uint32_t part, uint64_t node, uint64_t index, void *out, size_t room, size_t *len);
+
+/* Fills rows with the nodes from, from + 1, .., at most len of them, and answers how many were there: one call for many nodes. */
+size_t zq_rows(zq_page *page, uint64_t from, zq_row *rows, size_t len);
+
+/* Fills buffer with all texts of a page, and tells where they lie: of each node, from 0 up, its name, its text, and the name and the value of each of its
+ * attributes. With zq_rows that is a page in two calls, for languages in which a call is dear. zq_bytes does not read such a buffer. */
+uint32_t zq_all_texts(zq_page *page, zq_buffer *buffer, zq_texts *texts);
+
+/* The parse error of a number, from 0: fills name with the standard's name of it ("tree-construction" stands for all that tree construction finds), and
+ * tells its place, as in zq_parse. ZQ_BAD_INDEX behind the last. */
+uint32_t zq_error(zq_page *page, uint64_t index, zq_buffer *name, uint64_t *place);
+
+/* ---- writing ---- */
+
+/* Fills buffer with the page as text, in UTF-8, as the standard serializes it (13.3). angles: 0, or not 0 to write < and > in values of attributes as
+ * &lt; and &gt; too. */
+uint32_t zq_serialise(zq_page *page, int angles, zq_buffer *buffer);
+
+/* Parses as zq_parse does and fills buffer as zq_serialise does. */
+uint32_t zq_normalise(zq_entities *entities, const zq_options *options, const void *bytes, size_t len, int angles, zq_buffer *buffer, uint64_t *place);
+
+/* Tells where the bytes of a buffer lie. */
+uint32_t zq_bytes(zq_buffer *buffer, zq_span *bytes);
+
+/* Hands the page as text to a function, in one piece; context goes along. The function answers 0 where it took it. */
+typedef int (*zq_write)(void *context, const uint8_t *bytes, size_t len);
+uint32_t zq_serialise_to(zq_page *page, int angles, zq_write write, void *context);
+
+#ifdef __cplusplus
+}
+#endif
+#endif

@@ -1,0 +1,4 @@
+pub mod Values
+pub mod SlotValues
+pub mod Gathering
+pub mod Filling

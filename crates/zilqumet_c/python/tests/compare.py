@@ -1,0 +1,86 @@
+"""compare.py PROGRAM ZQTREE TREE_LINES SUITES [COUNT]: trees by C, Python and Rust against html_cmd's.
+
+PROGRAM is html_cmd, ZQTREE the tool in C, TREE_LINES that in Rust; SUITES has html5lib-tests and entities.json. The pages: the inputs of all cases of tree
+construction, documents and fragments, and COUNT (1,000) that are cut out of them at random. By Python each; by C each; by Rust each seventh, since a
+process is dear. Refusals are compared by their causes and places.
+"""
+
+import random
+import re
+import subprocess
+import sys
+from pathlib import Path
+
+import zilqumet
+
+def cases(folder):
+    """Yields the inputs of the cases of tree construction, each with its context or None."""
+    for path in sorted(Path(folder).glob("html5lib-tests/tree-construction/*.dat")):
+        for case in path.read_bytes().split(b"\n\n#data\n"):
+            data = case.removeprefix(b"#data\n").split(b"\n#errors\n")[0]
+            context = re.search(rb"\n#document-fragment\n(.*)\n", case)
+            yield data, context and context[1].decode()
+
+
+def lines(root):
+    """Yields the lines of a tree."""
+    stack = [(child, 0) for child in root.children][::-1]
+    while stack:
+        node, depth = stack.pop()
+        space = "| " + "  " * depth
+        if node.kind == "contents":
+            yield space + "content"
+        elif node.kind == "element":
+            yield f"{space}<{node.name}>"
+            for name, value in sorted(node.attrs.items(), key=lambda attr: attr[0].encode("utf-16-be")):
+                yield f'{space}  {name}="{value}"'
+        elif node.kind == "text":
+            yield f'{space}"{node.text}"'
+        elif node.kind == "comment":
+            yield f"{space}<!-- {node.text} -->"
+        else:
+            name, public, system = (it or "" for it in node.doctype)
+            yield f"{space}<!DOCTYPE {name}" + (f' "{public}" "{system}"' if public or system else "") + ">"
+        stack += [(child, depth + 1) for child in ([node.contents] if node.contents else []) + [*node.children]][::-1]
+
+
+def by_python(data, context):
+    try:
+        page = zilqumet.parse(data) if context is None else zilqumet.parse_fragment(data, context)
+    except zilqumet.Refused as refused:
+        return 1, "", str(refused).replace("zilqumet", "refused") + "\n"
+    return 0, "".join(line + "\n" for line in lines(page.root)), ""
+
+
+def by_program(words, data):
+    ran = subprocess.run(words, input=data, stdout=subprocess.PIPE, stderr=subprocess.PIPE)
+    return ran.returncode, ran.stdout.decode(), ran.stderr.decode()
+
+
+def main():
+    program, zqtree, tree_lines, suites = sys.argv[1:5]
+    count = int(sys.argv[5]) if len(sys.argv) > 5 else 1000
+    entities = f"{suites}/entities.json"
+    pages = [*cases(suites)]
+    whole, chance = b"".join(data for data, _ in pages), random.Random(1)
+    for _ in range(count):
+        start = chance.randrange(len(whole))
+        pages.append((whole[start : start + chance.randrange(1, 400)], chance.choice([None, None, "div", "table", "tr", "select", "template"])))
+    different = refused = 0
+    for at, (data, context) in enumerate(pages):
+        name = [] if context is None else [context]
+        want = by_program([program, "tree", "--entities", entities, *(["--fragment", *name] if name else [])], data)
+        told = {"Python": by_python(data, context), "C": by_program([zqtree, "-e", entities, *(["-f", *name] if name else []), "tree", "-"], data)}
+        if at % 7 == 0:
+            told["Rust"] = by_program([tree_lines, entities, *name], data)
+        refused += want[0] != 0
+        for who, it in told.items():
+            if it != want:
+                different += 1
+                print(f"compare: {who} differs on {data!r} in {context}: {it[2]!r} {want[2]!r}")
+    print(f"compare: {len(pages)} pages, {refused} of them refused, {different} different")
+    return different != 0 or len(pages) < count + 1000
+
+
+if __name__ == "__main__":
+    sys.exit(main())

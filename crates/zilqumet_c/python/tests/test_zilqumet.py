@@ -1,0 +1,178 @@
+"""What the module answers."""
+
+import gc
+import html.entities
+import threading
+import unittest
+import xml.etree.ElementTree as ElementTree
+
+import zilqumet
+
+
+def shown(page):
+    return [(node.kind, node.name or node.text) for node in page]
+
+
+class Trees(unittest.TestCase):
+    PAGE = b"<!DOCTYPE html><p id=a class='b c'>One<p>Tw\xc3\xb6<!--x--><template><b>T</b></template>"
+
+    def test_nodes(self):
+        page = zilqumet.parse(self.PAGE)
+        self.assertEqual(shown(page), [
+            ("doctype", ""), ("element", "html"), ("element", "head"), ("element", "body"), ("element", "p"), ("text", "One"), ("element", "p"),
+            ("text", "Twö"), ("comment", "x"), ("element", "template"), ("element", "b"), ("text", "T")])
+        p = next(node for node in page if node.name == "p")
+        self.assertEqual(p.attrs, {"id": "a", "class": "b c"})
+        self.assertEqual([*p.attrs], ["id", "class"])
+        self.assertEqual((p.parent.name, p.parent.parent.parent, page.root.parent), ("body", page.root, None))
+        self.assertEqual([node.name for node in p.parent.children], ["p", "p"])
+        self.assertEqual((page.root.kind, page.root.number), ("document", 0))
+        self.assertEqual(next(iter(page)).doctype, ("html", None, None))
+        self.assertEqual(next(zilqumet.parse(b"<!DOCTYPE a PUBLIC 'b' 'c'>").root.children).doctype, ("a", "b", "c"))
+
+    def test_templates(self):
+        page = zilqumet.parse(self.PAGE)
+        template = next(node for node in page if node.name == "template")
+        self.assertEqual([*template.children], [])
+        self.assertEqual((template.contents.kind, [node.name for node in template.contents.children]), ("contents", ["b"]))
+        self.assertEqual(shown(template), [("element", "b"), ("text", "T")])
+        self.assertEqual(template.contents.parent, None)
+
+    def test_text_below(self):
+        page = zilqumet.parse(self.PAGE)
+        self.assertEqual(page.root.text_below, "OneTwö")
+        self.assertEqual(next(node for node in page if node.kind == "text").text_below, "One")
+
+    def test_equality(self):
+        page, other = zilqumet.parse(b"<p>"), zilqumet.parse(b"<p>")
+        self.assertEqual(page.root, page.root)
+        self.assertEqual(len({page.root, page.root, other.root}), 2)
+        self.assertNotEqual(page.root, other.root)
+        self.assertEqual(repr(page.root), "<document ''>")
+
+    def test_a_node_keeps_its_page(self):
+        node = next(iter(zilqumet.parse(b"<p>kept")))
+        gc.collect()
+        self.assertEqual(node.text_below, "kept")
+
+    def test_depth(self):
+        page = zilqumet.parse(b"<div>" * 20000 + b"x")
+        self.assertEqual(page.root.text_below, "x")
+        self.assertEqual(sum(node.name == "div" for node in page), 20000)
+
+    def test_etree(self):
+        root = zilqumet.parse(b"<p a=b>One<b>Two</b>Three<!--c-->Four<template><i>T</i></template>").to_etree()
+        self.assertEqual(
+            ElementTree.tostring(root, encoding="unicode"),
+            '<html><head /><body><p a="b">One<b>Two</b>Three<!--c-->Four<template><i>T</i></template></p></body></html>')
+
+
+class Texts(unittest.TestCase):
+    def test_normalise(self):
+        self.assertEqual(zilqumet.normalise(b"<p>One<p>Two"), "<html><head></head><body><p>One</p><p>Two</p></body></html>")
+        self.assertEqual(zilqumet.normalise("<p>Ö"), "<html><head></head><body><p>Ö</p></body></html>")
+        self.assertEqual(zilqumet.normalise(b""), "<html><head></head><body></body></html>")
+        self.assertEqual(zilqumet.normalise(b"\xff"), "<html><head></head><body>\ufffd</body></html>")
+        self.assertEqual(zilqumet.normalise("\ud800"), zilqumet.normalise(b"\xed\xa0\x80"))
+
+    def test_angles(self):
+        page = zilqumet.parse(b"<a b='<'>")
+        self.assertIn('<a b="<">', page.serialise())
+        self.assertIn('<a b="&lt;">', page.serialise(escape_angles=True))
+        self.assertIn('<a b="&lt;">', zilqumet.normalise(b"<a b='<'>", escape_angles=True))
+
+    def test_fragment(self):
+        self.assertEqual(shown(zilqumet.parse_fragment(b"<td>x", "tr")), [("element", "td"), ("text", "x")])
+        self.assertEqual(zilqumet.parse_fragment(b"<td>x").serialise(), "x")
+        self.assertEqual(zilqumet.parse_fragment(b"<form>x", in_form=True).serialise(), "x")
+        self.assertEqual(zilqumet.parse_fragment(b"<p><table>", quirks=True).serialise(), "<p><table></table></p>")
+
+    def test_pieces(self):
+        parser = zilqumet.Parser()
+        for byte in "<p>é&eacute;<p>".encode():
+            parser.feed(bytes([byte]))
+        self.assertEqual(parser.finish().serialise(), "<html><head></head><body><p>éé</p><p></p></body></html>")
+        with self.assertRaises(ValueError):
+            parser.feed(b"x")
+        with self.assertRaises(ValueError):
+            parser.finish()
+
+    def test_errors_and_counts(self):
+        self.assertEqual(zilqumet.parse(b"<!DOCTYPE html><p a a>").errors, [(21, "duplicate-attribute")])
+        self.assertEqual(zilqumet.parse(b"<p>").errors[0], zilqumet.ParseError(0, "tree-construction"))
+        counts = zilqumet.parse(b"<p a=b>x").counts
+        self.assertEqual((counts.code_points, counts.nodes, counts.held, counts.tokens, counts.errors), (8, 6, 16, 3, 1))
+
+
+class References(unittest.TestCase):
+    def test_standard(self):
+        for name, text in html.entities.html5.items():
+            if name.endswith(";"):
+                self.assertEqual(zilqumet.parse_fragment(f"&{name}".encode()).root.text_below, text)
+
+    def test_others(self):
+        table = zilqumet.Entities(b'{"&eacute;": {"codepoints": [233], "characters": "\\u00e9"}}')
+        self.assertEqual(zilqumet.parse_fragment(b"&eacute;&Eacute;", entities=table).root.text_below, "é&Eacute;")
+        self.assertEqual(zilqumet.parse_fragment(b"&eacute;&lt;", entities=zilqumet.Entities.core()).root.text_below, "&eacute;<")
+        with self.assertRaises(zilqumet.BadEntities):
+            zilqumet.Entities(b"{")
+
+
+class Refusals(unittest.TestCase):
+    def refused(self, cause, place, text, call, *arguments, **options):
+        with self.assertRaises(cause) as told:
+            call(*arguments, **options)
+        self.assertEqual((type(told.exception), told.exception.place, str(told.exception)), (cause, place, text))
+
+    def test_foreign_content(self):
+        self.refused(zilqumet.ForeignContent, 4, "zilqumet: foreign svg at 4", zilqumet.parse, b"<p>x<svg>")
+        self.refused(zilqumet.ForeignContent, 0, "zilqumet: foreign math at 0", zilqumet.normalise, b"<math>")
+
+    def test_limits(self):
+        self.refused(zilqumet.NodeBudget, 0, "zilqumet: node budget at 0", zilqumet.parse, b"<p>", max_nodes=3)
+        self.refused(zilqumet.HeldBudget, 0, "zilqumet: held budget at 0", zilqumet.parse, b"<p>", max_held=3)
+        self.refused(zilqumet.InputTooLong, None, "zilqumet: input too long", zilqumet.parse, b"xxx", max_input=2)
+        with self.assertRaises(zilqumet.StepBudget):
+            zilqumet.parse(b"<p>" * 99, max_steps=100)
+        self.assertEqual(zilqumet.parse(b"<p>", max_nodes=5, max_held=None).counts.nodes, 5)
+        parser = zilqumet.Parser(max_nodes=3)
+        parser.feed(b"<p>")
+        self.refused(zilqumet.NodeBudget, 0, "zilqumet: node budget at 0", parser.finish)
+        with self.assertRaises(TypeError):
+            zilqumet.parse(b"", max_node=3)
+
+    def test_context(self):
+        for context in ("svg", "Q", "a b", ""):
+            self.refused(zilqumet.BadContext, None, "zilqumet: bad context", zilqumet.parse_fragment, b"x", context)
+
+    def test_all_are_refusals(self):
+        with self.assertRaises(zilqumet.Refused):
+            zilqumet.parse(b"<svg>")
+        self.assertTrue(issubclass(zilqumet.Refused, ValueError))
+
+
+class Threads(unittest.TestCase):
+    def test_threads(self):
+        done = []
+
+        def work():
+            for _ in range(100):
+                done.append(zilqumet.normalise(b"<b><p>x&eacute;</b>" * 50))
+
+        threads = [threading.Thread(target=work) for _ in range(4)]
+        for it in threads:
+            it.start()
+        for it in threads:
+            it.join()
+        self.assertEqual((len(set(done)), len(done)), (1, 400))
+
+    def test_many(self):
+        for _ in range(2000):
+            zilqumet.parse(b"<table><tr><td>x")
+
+    def test_version(self):
+        self.assertEqual(zilqumet.library_version(), zilqumet.__version__)
+
+
+if __name__ == "__main__":
+    unittest.main()

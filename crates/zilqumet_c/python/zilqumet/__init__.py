@@ -1,0 +1,503 @@
+"""HTML to trees, by a parser that no page can make hang, or grow past a known limit.
+
+    import zilqumet
+
+    page = zilqumet.parse(b"<p class=a>One<p>Two")
+    for node in page:                           # every node, in tree order
+        print(node.kind, node.name, node.text, node.attrs)
+    page.serialise()                            # '<html><head></head><body><p class="a">One</p><p>Two</p></body></html>'
+    zilqumet.normalise(b"<p>One<p>Two")         # the same in one call
+    zilqumet.parse(data, max_nodes=100_000)     # NodeBudget where a page would have more
+
+Where there is no page, an exception says why: `Refused` is above all of them, and has the place. The work is done by libzilqumet, whose calls are proved;
+this module holds its handles, and copies names and texts into Python's strings.
+"""
+
+from __future__ import annotations
+
+import ctypes
+import html.entities
+import json
+import os
+import threading
+from itertools import accumulate
+from pathlib import Path
+from typing import Any, Iterator, NamedTuple, Optional, Union
+
+__all__ = [
+    "BadContext", "BadEntities", "Counts", "Entities", "ForeignContent", "HeldBudget", "InputTooLong", "Node", "NodeBudget", "Page", "ParseError", "Parser",
+    "Refused", "StepBudget", "library_version", "normalise", "parse", "parse_fragment",
+]
+__version__ = "0.1.0"
+
+Data = Union[bytes, bytearray, memoryview, str]
+
+_NONE = 2**64 - 1
+_KINDS = ("", "document", "contents", "element", "text", "comment", "doctype")
+_TEXT = 4
+_IN_FORM, _QUIRKS = 1, 2
+
+
+# THE LIBRARY
+
+
+class _Handle(ctypes.Structure):
+    _fields_ = [("held", ctypes.c_void_p)]
+
+
+class _Span(ctypes.Structure):
+    _fields_ = [("at", ctypes.c_void_p), ("len", ctypes.c_size_t)]
+
+
+class _Options(ctypes.Structure):
+    _fields_ = [(name, ctypes.c_uint64) for name in ("max_nodes", "max_held", "max_input", "max_steps")] + [("flags", ctypes.c_uint32)]
+
+
+class _Counts(ctypes.Structure):
+    _fields_ = [(name, ctypes.c_uint64) for name in ("code_points", "nodes", "held", "steps", "tokens", "errors")]
+
+
+class _Row(ctypes.Structure):
+    _fields_ = [(name, ctypes.c_uint64) for name in ("parent", "first_child", "next", "contents", "attrs")] + [
+        ("name", _Span), ("text", _Span), ("kind", ctypes.c_uint32)]
+
+
+class _Texts(ctypes.Structure):
+    _fields_ = [("at", ctypes.c_void_p), ("ends", ctypes.c_void_p), ("count", ctypes.c_size_t)]
+
+
+# a row as numbers of 64 bits: how many, and where two of them stand; the first four are links
+_CELLS = ctypes.sizeof(_Row) // 8
+_ATTRS, _KIND = 4, 9
+
+
+def _library() -> str:
+    """The library's file: what ZILQUMET_LIBRARY names, or what lies beside this module, or what the system finds."""
+    beside = Path(__file__).with_name("libzilqumet.so.1")
+    return os.environ.get("ZILQUMET_LIBRARY") or (str(beside) if beside.exists() else "libzilqumet.so.1")
+
+
+# Calls that take a while let other threads run; each of them has handles of its own, or the lock of what it shares.
+_slow = ctypes.CDLL(_library())
+# The others keep the interpreter's lock, so that no two are in one page at once.
+_quick = ctypes.PyDLL(_library())
+
+_H = ctypes.POINTER(_Handle)
+_O = ctypes.POINTER(_Options)
+_U32, _U64, _SIZE, _BYTES, _INT = ctypes.c_uint32, ctypes.c_uint64, ctypes.c_size_t, ctypes.c_char_p, ctypes.c_int
+_PLACE = ctypes.POINTER(_U64)
+
+
+def _call(library: Any, name: str, result: Any, *arguments: Any) -> Any:
+    function = getattr(library, name)
+    function.restype, function.argtypes = result, list(arguments)
+    return function
+
+
+_free = _call(_quick, "zq_free", None, _H)
+_entities_read = _call(_slow, "zq_entities_read", _U32, _BYTES, _SIZE, _H)
+_parse = _call(_slow, "zq_parse", _U32, _H, _O, _BYTES, _SIZE, _H, _PLACE)
+_parse_fragment = _call(_slow, "zq_parse_fragment", _U32, _H, _O, _BYTES, _SIZE, _BYTES, _SIZE, _H, _PLACE)
+_normalise = _call(_slow, "zq_normalise", _U32, _H, _O, _BYTES, _SIZE, _INT, _H, _PLACE)
+_parser_new = _call(_quick, "zq_parser_new", _U32, _O, _H)
+_parser_feed = _call(_quick, "zq_parser_feed", _U32, _H, _BYTES, _SIZE)
+_parser_finish = _call(_quick, "zq_parser_finish", _U32, _H, _H, _H, _PLACE)
+_counts_of = _call(_quick, "zq_counts_of", _U32, _H, ctypes.POINTER(_Counts))
+_root = _call(_quick, "zq_root", _U64, _H)
+_rows = _call(_quick, "zq_rows", _SIZE, _H, _U64, ctypes.POINTER(_Row), _SIZE)
+_all_texts = _call(_quick, "zq_all_texts", _U32, _H, _H, ctypes.POINTER(_Texts))
+_text_of = _call(_quick, "zq_text", _U32, _H, _U32, _U64, _U64, ctypes.POINTER(_Span))
+_error = _call(_quick, "zq_error", _U32, _H, _U64, _H, _PLACE)
+_serialise = _call(_quick, "zq_serialise", _U32, _H, _INT, _H)
+_bytes = _call(_quick, "zq_bytes", _U32, _H, ctypes.POINTER(_Span))
+_strerror = _call(_quick, "zq_strerror", _BYTES, _U32)
+
+
+def library_version() -> str:
+    """The version of libzilqumet."""
+    return _call(_quick, "zq_version", _BYTES)().decode()
+
+
+# WHY THERE IS NO PAGE
+
+
+class Refused(ValueError):
+    """Why there is no page. `place` counts the code points of the text before what was refused, or is None."""
+
+    place: Optional[int] = None
+
+
+class InputTooLong(Refused):
+    """More code points than `max_input`, or than 268,435,456."""
+
+
+class ForeignContent(Refused):
+    """A start tag svg or math: SVG and MathML are not parsed."""
+
+
+class BadContext(Refused):
+    """No HTML element can have the name of the fragment's context, or it is svg or math."""
+
+
+class NodeBudget(Refused):
+    """More nodes than `max_nodes`."""
+
+
+class HeldBudget(Refused):
+    """The nodes would hold more code points than `max_held`."""
+
+
+class StepBudget(Refused):
+    """More counted steps than `max_steps`."""
+
+
+class BadEntities(Refused):
+    """Not a table of named character references."""
+
+
+_CAUSES = {
+    2: InputTooLong, 3: ForeignContent, 4: ForeignContent, 5: BadContext, 6: NodeBudget, 7: HeldBudget, 8: StepBudget, 14: BadEntities,
+}
+_OUT_OF_MEMORY, _BAD_HANDLE, _BAD_INDEX = 1, 12, 13
+_PLACED = (ForeignContent, NodeBudget, HeldBudget, StepBudget)
+
+
+def _check(status: int, place: int = 0) -> None:
+    """Raises what a status stands for."""
+    if status == 0:
+        return
+    text = f"zilqumet: {_strerror(status).decode()}"
+    if status == _OUT_OF_MEMORY:
+        raise MemoryError(text)
+    cause = _CAUSES.get(status)
+    if cause is None:
+        raise RuntimeError(text)
+    if issubclass(cause, _PLACED):
+        refused = cause(f"{text} at {place}")
+        refused.place = place
+        raise refused
+    raise cause(text)
+
+
+class _Owner:
+    """Owns a handle."""
+
+    def __init__(self) -> None:
+        self._handle = _Handle()
+
+    def __del__(self, _free: Any = _free) -> None:
+        _free(self._handle)
+
+
+class _Buffer(_Owner):
+    def text(self) -> str:
+        span = _Span()
+        _check(_bytes(self._handle, span))
+        return ctypes.string_at(span.at, span.len).decode()
+
+
+# NAMED CHARACTER REFERENCES
+
+
+class Entities(_Owner):
+    """A table of named character references, from the JSON of the standard's entities.json. `Entities.standard()` is the one that all calls use where
+    they are given none; `Entities.core()` has `amp lt gt quot nbsp` alone."""
+
+    _standard: Optional[Entities] = None
+    _making = threading.Lock()
+
+    def __init__(self, source: Optional[bytes] = None) -> None:
+        super().__init__()
+        self._lock = threading.Lock()
+        if source is not None:
+            _check(_entities_read(source, len(source), self._handle))
+
+    @classmethod
+    def core(cls) -> Entities:
+        return cls()
+
+    @classmethod
+    def standard(cls) -> Entities:
+        """The standard's 2,231 references, which Python's `html.entities` has."""
+        with Entities._making:
+            if Entities._standard is None:
+                rows = {"&" + name: {"codepoints": [*map(ord, text)], "characters": text} for name, text in html.entities.html5.items()}
+                Entities._standard = Entities(json.dumps(rows).encode())
+            return Entities._standard
+
+
+# PAGES
+
+
+class Counts(NamedTuple):
+    """What a page counts: code points of its text, nodes, code points that the nodes hold, steps, tokens, parse errors."""
+
+    code_points: int
+    nodes: int
+    held: int
+    steps: int
+    tokens: int
+    errors: int
+
+
+class ParseError(NamedTuple):
+    """A parse error: how many code points of the text are before it, and the standard's name of it (`tree-construction` for all of tree construction)."""
+
+    place: int
+    name: str
+
+
+class Node:
+    """A node of a page: `kind` is document, element, text, comment, doctype or contents (of a template)."""
+
+    __slots__ = ("page", "number")
+
+    def __init__(self, page: Page, number: int) -> None:
+        self.page, self.number = page, number
+
+    def _to(self, number: int) -> Optional[Node]:
+        return None if number == _NONE else Node(self.page, number)
+
+    @property
+    def kind(self) -> str:
+        return _KINDS[self.page._kinds[self.number]]
+
+    @property
+    def name(self) -> str:
+        """The name of an element, else an empty text."""
+        return self.page._text(self.page._firsts[self.number])
+
+    @property
+    def text(self) -> str:
+        """The text of a text or of a comment, else an empty one. `text_below` is the text in an element."""
+        return self.page._text(self.page._firsts[self.number] + 1)
+
+    @property
+    def attrs(self) -> dict[str, str]:
+        """The attributes of an element, in the order of its tag."""
+        text, first, behind = self.page._text, self.page._firsts[self.number] + 2, self.page._firsts[self.number + 1]
+        return {text(at): text(at + 1) for at in range(first, behind, 2)}
+
+    @property
+    def doctype(self) -> tuple[Optional[str], Optional[str], Optional[str]]:
+        """The name, the public and the system identifier of a doctype, None for what is absent."""
+        name, public, system = (self.page._part(part, self.number) for part in (4, 5, 6))
+        return name, public, system
+
+    @property
+    def parent(self) -> Optional[Node]:
+        return self._to(self.page._parents[self.number])
+
+    @property
+    def contents(self) -> Optional[Node]:
+        """What a template holds, which are no children of it."""
+        return self._to(self.page._contents[self.number])
+
+    @property
+    def children(self) -> Iterator[Node]:
+        page, nexts = self.page, self.page._nexts
+        at = page._first_children[self.number]
+        while at != _NONE:
+            yield Node(page, at)
+            at = nexts[at]
+
+    def _numbers(self, with_contents: bool) -> Iterator[int]:
+        """The numbers of the nodes below this one, in tree order."""
+        page = self.page
+        firsts, nexts, contents = page._first_children, page._nexts, page._contents
+        inside = contents[self.number] if with_contents else _NONE
+        stack = [firsts[self.number if inside == _NONE else inside]]
+        while stack:
+            number = stack.pop()
+            while number != _NONE:
+                yield number
+                inside = contents[number] if with_contents else _NONE
+                first = firsts[number if inside == _NONE else inside]
+                if first == _NONE:
+                    number = nexts[number]
+                else:
+                    stack.append(nexts[number])
+                    number = first
+
+    def __iter__(self) -> Iterator[Node]:
+        """Every node below this one, in tree order; what a template holds in place of its children."""
+        page = self.page
+        for number in self._numbers(True):
+            yield Node(page, number)
+
+    @property
+    def text_below(self) -> str:
+        """All text below this node, or of it, comments and what templates hold left out."""
+        page = self.page
+        texts = (page._text(page._firsts[number] + 1) for number in self._numbers(False) if page._kinds[number] == _TEXT)
+        return self.text if self.kind == "text" else "".join(texts)
+
+    def __eq__(self, other: object) -> bool:
+        return isinstance(other, Node) and self.page is other.page and self.number == other.number
+
+    def __hash__(self) -> int:
+        return hash((id(self.page), self.number))
+
+    def __repr__(self) -> str:
+        return f"<{self.kind} {self.name or self.text[:20]!r}>"
+
+
+class Page(_Owner):
+    """A parsed page, which its nodes keep. `for node in page` goes over all of them, in tree order."""
+
+    def _read(self) -> Page:
+        """Reads all links and texts, in two calls."""
+        count = self.counts.nodes
+        rows = bytearray(count * ctypes.sizeof(_Row))
+        _rows(self._handle, 0, ctypes.cast((_Row * count).from_buffer(rows), ctypes.POINTER(_Row)), count)
+        cells = memoryview(rows).cast("Q")
+        self._parents, self._first_children, self._nexts, self._contents = (cells[column::_CELLS].tolist() for column in range(4))
+        self._kinds = rows[8 * _KIND :: 8 * _CELLS]
+        # of each node the number of its first text, and behind them that of all
+        self._firsts = [0, *accumulate([2 + 2 * attrs for attrs in cells[_ATTRS::_CELLS].tolist()])]
+        buffer, texts = _Buffer(), _Texts()
+        _check(_all_texts(self._handle, buffer._handle, texts))
+        self._ends = [0, *memoryview(ctypes.string_at(texts.ends, 8 * texts.count)).cast("Q")]
+        self._bytes = ctypes.string_at(texts.at, self._ends[-1])
+        # (where all is ASCII a place in the bytes is one in the text)
+        self._ascii = self._bytes.decode("ascii") if self._bytes.isascii() else None
+        return self
+
+    def _text(self, index: int) -> str:
+        start, end = self._ends[index], self._ends[index + 1]
+        return self._bytes[start:end].decode() if self._ascii is None else self._ascii[start:end]
+
+    def _part(self, part: int, node: int) -> Optional[str]:
+        span = _Span()
+        status = _text_of(self._handle, part, node, 0, span)
+        return None if status == _BAD_INDEX else ctypes.string_at(span.at, span.len).decode()
+
+    @property
+    def counts(self) -> Counts:
+        counts = _Counts()
+        _check(_counts_of(self._handle, counts))
+        return Counts(*(getattr(counts, name) for name in Counts._fields))
+
+    @property
+    def root(self) -> Node:
+        """The document, or the root that a fragment stands in."""
+        return Node(self, _root(self._handle))
+
+    def __iter__(self) -> Iterator[Node]:
+        return iter(self.root)
+
+    @property
+    def errors(self) -> list[ParseError]:
+        """The parse errors, in order."""
+        told: list[ParseError] = []
+        buffer, place = _Buffer(), _U64(0)
+        while True:
+            status = _error(self._handle, len(told), buffer._handle, place)
+            if status == _BAD_INDEX:
+                return told
+            _check(status)
+            told.append(ParseError(place.value, buffer.text()))
+
+    def serialise(self, *, escape_angles: bool = False) -> str:
+        """The page as the standard writes it. escape_angles: `<` and `>` in values of attributes are escaped too."""
+        buffer = _Buffer()
+        _check(_serialise(self._handle, escape_angles, buffer._handle))
+        return buffer.text()
+
+    def to_etree(self, module: Any = None) -> Any:
+        """The element html as an element of xml.etree.ElementTree, or of another module with its Element, SubElement and Comment, as lxml.etree. What a
+        template holds are its children there; doctypes, and comments outside of html, are left out."""
+        if module is None:
+            import xml.etree.ElementTree as module  # type: ignore[no-redef]
+        top = next((node for node in self.root.children if node.kind == "element"), None)
+        if top is None:
+            return None
+        made = module.Element(top.name, top.attrs)
+        stack = [(top, made)]
+        while stack:
+            node, element = stack.pop()
+            last = None
+            for child in (node.contents or node).children:
+                if child.kind == "text":
+                    if last is None:
+                        element.text = (element.text or "") + child.text
+                    else:
+                        last.tail = (last.tail or "") + child.text
+                elif child.kind == "comment":
+                    last = module.Comment(child.text)
+                    element.append(last)
+                elif child.kind == "element":
+                    last = module.SubElement(element, child.name, child.attrs)
+                    stack.append((child, last))
+        return made
+
+
+def _data(data: Data) -> bytes:
+    return data.encode("utf-8", "surrogatepass") if isinstance(data, str) else bytes(data)
+
+
+def _limits(options: dict[str, Optional[int]], flags: int = 0) -> _Options:
+    unknown = set(options) - {name for name, _ in _Options._fields_[:4]}
+    if unknown:
+        raise TypeError(f"unexpected keyword argument {unknown.pop()!r}")
+    numbers = (options.get(name) for name, _ in _Options._fields_[:4])
+    return _Options(*(_NONE if number is None else number for number in numbers), flags)
+
+
+def _run(entities: Optional[Entities], function: Any, filled: Any, *arguments: Any) -> Any:
+    """Calls what parses, with a table that no other thread reads meanwhile."""
+    table = Entities.standard() if entities is None else entities
+    place = _U64(0)
+    with table._lock:
+        status = function(table._handle, *arguments, filled._handle, place)
+    _check(status, place.value)
+    return filled
+
+
+def parse(data: Data, *, entities: Optional[Entities] = None, **limits: Optional[int]) -> Page:
+    """The page of a document in UTF-8 (a str is encoded). Limits, each None or a number: max_nodes, max_held (code points in names, texts and attributes),
+    max_input (code points) and max_steps."""
+    data = _data(data)
+    return _run(entities, _parse, Page(), _limits(limits), data, len(data))._read()
+
+
+def parse_fragment(
+    data: Data, context: str = "div", *, in_form: bool = False, quirks: bool = False, entities: Optional[Entities] = None, **limits: Optional[int]
+) -> Page:
+    """The page of a fragment, as innerHTML reads it, in the context of an element of this name. Its nodes are the children of the element html that is
+    the root."""
+    data, name = _data(data), context.encode()
+    options = _limits(limits, _IN_FORM * in_form | _QUIRKS * quirks)
+    return _run(entities, _parse_fragment, Page(), options, name, len(name), data, len(data))._read()
+
+
+def normalise(data: Data, *, escape_angles: bool = False, entities: Optional[Entities] = None, **limits: Optional[int]) -> str:
+    """The text of a document's tree, as the standard writes it."""
+    data = _data(data)
+    return _run(entities, _normalise, _Buffer(), _limits(limits), data, len(data), escape_angles).text()
+
+
+class Parser(_Owner):
+    """A document in pieces: `feed` each, then `finish`. The pieces are kept, and parsed at the end."""
+
+    def __init__(self, *, entities: Optional[Entities] = None, **limits: Optional[int]) -> None:
+        super().__init__()
+        self._entities = entities
+        _check(_parser_new(_limits(limits), self._handle))
+
+    def feed(self, piece: Data) -> None:
+        data = _data(piece)
+        status = _parser_feed(self._handle, data, len(data))
+        if status == _BAD_HANDLE:
+            raise ValueError("zilqumet: the parser is finished")
+        _check(status)
+
+    def finish(self) -> Page:
+        page, place = Page(), _U64(0)
+        table = Entities.standard() if self._entities is None else self._entities
+        with table._lock:
+            status = _parser_finish(self._handle, table._handle, page._handle, place)
+        if status == _BAD_HANDLE:
+            raise ValueError("zilqumet: the parser is finished")
+        _check(status, place.value)
+        return page._read()

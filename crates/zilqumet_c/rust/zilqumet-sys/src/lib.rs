@@ -1,0 +1,119 @@
+//! `zilqumet.h`, call by call: that file says what each asks for and answers. The crate `zilqumet` has the same as safe Rust.
+#![no_std]
+#![allow(non_camel_case_types)]
+
+use core::ffi::{c_char, c_int, c_void};
+
+/// A page, a parser, a table of references or a buffer: each is such a struct in C.
+#[repr(C)]
+pub struct zq_handle {
+    pub held: *mut c_void,
+}
+
+#[repr(C)]
+#[derive(Clone, Copy)]
+pub struct zq_span {
+    pub at: *const u8,
+    pub len: usize,
+}
+
+#[repr(C)]
+#[derive(Clone, Copy)]
+pub struct zq_options {
+    pub max_nodes: u64,
+    pub max_held: u64,
+    pub max_input: u64,
+    pub max_steps: u64,
+    pub flags: u32,
+}
+
+#[repr(C)]
+#[derive(Clone, Copy)]
+pub struct zq_counts {
+    pub code_points: u64,
+    pub nodes: u64,
+    pub held: u64,
+    pub steps: u64,
+    pub tokens: u64,
+    pub errors: u64,
+}
+
+pub const ZQ_OK: u32 = 0;
+pub const ZQ_OUT_OF_MEMORY: u32 = 1;
+pub const ZQ_INPUT_TOO_LONG: u32 = 2;
+pub const ZQ_FOREIGN_SVG: u32 = 3;
+pub const ZQ_FOREIGN_MATH: u32 = 4;
+pub const ZQ_BAD_CONTEXT: u32 = 5;
+pub const ZQ_NODE_BUDGET: u32 = 6;
+pub const ZQ_HELD_BUDGET: u32 = 7;
+pub const ZQ_STEP_BUDGET: u32 = 8;
+pub const ZQ_BAD_HANDLE: u32 = 12;
+pub const ZQ_BAD_INDEX: u32 = 13;
+pub const ZQ_BAD_ENTITIES: u32 = 14;
+
+pub const ZQ_IN_FORM: u32 = 1;
+pub const ZQ_QUIRKS: u32 = 2;
+
+pub const ZQ_DOCUMENT: u32 = 1;
+pub const ZQ_CONTENTS: u32 = 2;
+pub const ZQ_ELEMENT: u32 = 3;
+pub const ZQ_TEXT: u32 = 4;
+pub const ZQ_COMMENT: u32 = 5;
+pub const ZQ_DOCTYPE: u32 = 6;
+
+pub const ZQ_PARENT: u32 = 0;
+pub const ZQ_FIRST_CHILD: u32 = 1;
+pub const ZQ_LAST_CHILD: u32 = 2;
+pub const ZQ_NEXT: u32 = 3;
+pub const ZQ_PREVIOUS: u32 = 4;
+pub const ZQ_TEMPLATE_CONTENTS: u32 = 5;
+pub const ZQ_HOST: u32 = 6;
+
+pub const ZQ_NAME: u32 = 0;
+pub const ZQ_DATA: u32 = 1;
+pub const ZQ_ATTR_NAME: u32 = 2;
+pub const ZQ_ATTR_VALUE: u32 = 3;
+pub const ZQ_DOCTYPE_NAME: u32 = 4;
+pub const ZQ_PUBLIC_ID: u32 = 5;
+pub const ZQ_SYSTEM_ID: u32 = 6;
+
+pub const ZQ_NO_NODE: u64 = u64::MAX;
+
+extern "C" {
+    pub fn zq_version() -> *const c_char;
+    pub fn zq_strerror(status: u32) -> *const c_char;
+    pub fn zq_free(handle: *mut zq_handle);
+    pub fn zq_entities_read(json: *const u8, len: usize, entities: *mut zq_handle) -> u32;
+    pub fn zq_parse(entities: *mut zq_handle, options: *const zq_options, bytes: *const u8, len: usize, page: *mut zq_handle, place: *mut u64) -> u32;
+    pub fn zq_parse_fragment(
+        entities: *mut zq_handle,
+        options: *const zq_options,
+        context: *const u8,
+        context_len: usize,
+        bytes: *const u8,
+        len: usize,
+        page: *mut zq_handle,
+        place: *mut u64,
+    ) -> u32;
+    pub fn zq_parser_new(options: *const zq_options, parser: *mut zq_handle) -> u32;
+    pub fn zq_parser_feed(parser: *mut zq_handle, piece: *const u8, len: usize) -> u32;
+    pub fn zq_parser_finish(parser: *mut zq_handle, entities: *mut zq_handle, page: *mut zq_handle, place: *mut u64) -> u32;
+    pub fn zq_counts_of(page: *mut zq_handle, counts: *mut zq_counts) -> u32;
+    pub fn zq_root(page: *mut zq_handle) -> u64;
+    pub fn zq_kind_of(page: *mut zq_handle, node: u64) -> u32;
+    pub fn zq_link(page: *mut zq_handle, link: u32, node: u64) -> u64;
+    pub fn zq_attr_count(page: *mut zq_handle, node: u64) -> u64;
+    pub fn zq_text(page: *mut zq_handle, part: u32, node: u64, index: u64, text: *mut zq_span) -> u32;
+    pub fn zq_error(page: *mut zq_handle, index: u64, name: *mut zq_handle, place: *mut u64) -> u32;
+    pub fn zq_serialise(page: *mut zq_handle, angles: c_int, buffer: *mut zq_handle) -> u32;
+    pub fn zq_normalise(
+        entities: *mut zq_handle,
+        options: *const zq_options,
+        bytes: *const u8,
+        len: usize,
+        angles: c_int,
+        buffer: *mut zq_handle,
+        place: *mut u64,
+    ) -> u32;
+    pub fn zq_bytes(buffer: *mut zq_handle, bytes: *mut zq_span) -> u32;
+}

@@ -1,0 +1,107 @@
+//! What the crate answers.
+
+use zilqumet::{normalise, parse, parse_fragment, Error, Kind, Options};
+
+fn written(bytes: &[u8]) -> String {
+    normalise(bytes).unwrap()
+}
+
+#[test]
+fn nodes() {
+    let page = parse("<!DOCTYPE html><p a=\"ä\" b>One<p>Two<!--c--><template><i>T</template>".as_bytes()).unwrap();
+    let root = page.root();
+    assert_eq!((root.kind(), root.parent()), (Kind::Document, None));
+    let [doctype, html] = root.children().collect::<Vec<_>>()[..] else { panic!("two children") };
+    assert_eq!((doctype.kind(), doctype.doctype()), (Kind::Doctype, [Some("html"), None, None]));
+    let body = html.last_child().unwrap();
+    assert_eq!((html.name(), html.first_child().unwrap().name(), body.name()), ("html", "head", "body"));
+    assert_eq!(body.previous_sibling(), html.first_child());
+    let p = body.first_child().unwrap();
+    assert_eq!(p.attrs().collect::<Vec<_>>(), [("a", "ä"), ("b", "")]);
+    assert_eq!((p.attrs().len(), p.attr("b"), p.attr("c"), p.text()), (2, Some(""), None, ""));
+    let below: Vec<_> = body.descendants().map(|it| (it.kind(), it.name().to_owned() + it.text())).collect();
+    let want = [
+        (Kind::Element, "p"),
+        (Kind::Text, "One"),
+        (Kind::Element, "p"),
+        (Kind::Text, "Two"),
+        (Kind::Comment, "c"),
+        (Kind::Element, "template"),
+        (Kind::Element, "i"),
+        (Kind::Text, "T"),
+    ];
+    assert_eq!(below, want.map(|(kind, text)| (kind, text.to_owned())));
+    let template = body.last_child().unwrap().last_child().unwrap();
+    let contents = template.contents().unwrap();
+    assert_eq!((contents.kind(), contents.host(), contents.parent(), template.first_child()), (Kind::Contents, Some(template), None, None));
+    assert_eq!(template.descendants().count(), 2);
+    assert_eq!(contents.descendants().count(), 2);
+    assert_eq!(format!("{:?}", p), "Node { kind: Element, name: \"p\", text: \"\" }");
+}
+
+#[test]
+fn texts() {
+    assert_eq!(written(b"<p>One<p>Two"), "<html><head></head><body><p>One</p><p>Two</p></body></html>");
+    assert_eq!(written(b""), "<html><head></head><body></body></html>");
+    assert_eq!(written(b"\xff"), "<html><head></head><body>\u{fffd}</body></html>");
+    let page = parse_fragment("div", b"<a b='<'>").unwrap();
+    assert_eq!(page.serialise().unwrap(), "<a b=\"<\"></a>");
+    assert_eq!(page.serialise_with(true).unwrap(), "<a b=\"&lt;\"></a>");
+}
+
+#[test]
+fn fragments() {
+    assert_eq!(parse_fragment("tr", b"<td>x").unwrap().serialise().unwrap(), "<td>x</td>");
+    let write = |options: Options, bytes: &[u8]| options.parse_fragment("div", bytes).unwrap().serialise().unwrap();
+    assert_eq!(write(Options::new().in_form(true), b"<form>x"), "x");
+    assert_eq!(write(Options::new().in_form(true).in_form(false), b"<form>x"), "<form>x</form>");
+    assert_eq!(write(Options::new().quirks(true), b"<p><table>"), "<p><table></table></p>");
+    assert_eq!(parse_fragment("svg", b"x").err(), Some(Error::BadContext));
+}
+
+#[test]
+fn pieces() {
+    let options = Options::new();
+    let mut parser = options.parser().unwrap();
+    for byte in "<p>é".bytes() {
+        parser.feed(&[byte]).unwrap();
+    }
+    parser.feed(b"").unwrap();
+    assert_eq!(parser.finish().unwrap().serialise().unwrap(), "<html><head></head><body><p>é</p></body></html>");
+}
+
+#[test]
+fn references() {
+    let json = br#"{"&eacute;": {"codepoints": [233], "characters": "\u00e9"}}"#;
+    assert!(Options::new().entities(json).unwrap().normalise(b"&eacute;").unwrap().contains("é"));
+    assert!(written(b"&eacute;").contains("&amp;eacute;"));
+    assert_eq!(Options::new().entities(b"{").err(), Some(Error::BadEntities));
+}
+
+#[test]
+fn refusals() {
+    assert_eq!(parse(b"<p><svg>").err(), Some(Error::ForeignSvg { at: 3 }));
+    let told = normalise(b"<math>").err().unwrap();
+    assert_eq!((told.status(), told.place(), told.to_string().as_str()), (4, Some(0), "foreign math at 0"));
+    assert_eq!(Options::new().max_nodes(3).parse(b"<p>").err(), Some(Error::NodeBudget { at: 0 }));
+    assert_eq!(Options::new().max_held(3).parse(b"<p>").err(), Some(Error::HeldBudget { at: 0 }));
+    assert!(matches!(Options::new().max_steps(9).parse(b"<p>").err(), Some(Error::StepBudget { .. })));
+    assert_eq!(Options::new().max_input(2).parse(b"<p>").err().map(|it| it.to_string()), Some("input too long".to_owned()));
+}
+
+#[test]
+fn counts_and_errors() {
+    let page = parse(b"<!DOCTYPE html><p a a>").unwrap();
+    let counts = page.counts();
+    assert_eq!((counts.code_points, counts.nodes, counts.tokens, counts.errors), (22, 6, 3, 1));
+    let errors = page.errors().unwrap();
+    assert_eq!((errors.len(), errors[0].place, errors[0].name.as_str()), (1, 21, "duplicate-attribute"));
+    assert_eq!(zilqumet::library_version(), env!("CARGO_PKG_VERSION"));
+}
+
+#[test]
+fn threads() {
+    let threads: Vec<_> = (0..4).map(|_| std::thread::spawn(|| (0..100).map(|_| written(b"<b><p>x</b>")).collect::<Vec<_>>())).collect();
+    let all: Vec<_> = threads.into_iter().flat_map(|it| it.join().unwrap()).collect();
+    assert!(all.len() == 400 && all.iter().all(|it| *it == all[0]));
+}

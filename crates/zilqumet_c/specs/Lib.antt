@@ -1,0 +1,6 @@
+-- Claimed.
+pub mod Causes
+pub mod Kept
+pub mod Reads
+pub mod Status
+pub mod Texts

@@ -1,0 +1,36 @@
+//! What a handle holds.
+
+ghost use Rattle.html_arena.specs.Walking.{IsRoot};
+
+use html_parser::{EntityTable, Limits, Tree};
+
+/// What a handle holds: a page, a table of references, an input that is not at its end, bytes, or texts.
+#[derive(Drop)]
+pub enum Held {
+    Page(Rooted),
+    Entities(EntityTable),
+    Parser(Pushed),
+    Buffer(Vec<u8>),
+    Texts(Gathered),
+}
+
+/// A tree from its root.
+#[derive(Drop)]
+pub struct Rooted {
+    pub tree: Tree,
+    ghost root: { IsRoot tree.arena tree.root },
+}
+
+/// Texts one behind the other, and how many bytes there are up to the end of each.
+#[derive(Drop)]
+pub struct Gathered {
+    pub bytes: Vec<u8>,
+    pub ends: Vec<u64>,
+}
+
+/// An input so far.
+#[derive(Drop)]
+pub struct Pushed {
+    pub bytes: Vec<u8>,
+    pub limits: Limits,
+}

@@ -1,0 +1,132 @@
+//! Pages as text.
+
+ghost use Rattle.std.specs.Prelude.{◌≡◌, ◌≢◌, ◌⊎◌, Option, None, Some, IfOk, IfErr, List, length};
+ghost use Rattle.std.specs.Str.{encode_utf8_all};
+ghost use Rattle.html_page.specs.Serialised.{html_below};
+ghost use Rattle.html_page.specs.declared.profile.Profile.{Profile};
+ghost use Rattle.html_parser.specs.Parsed.{IsTreeOf};
+ghost use Rattle.html_parser.specs.Start.{document_start};
+ghost use Rattle.html_parser.specs.declared.page.Tree.{Tree};
+ghost use Rattle.zilqumet_c.specs.Reads.{IfBuffer, IfPage, limits_in, profile_of, rows_in, written};
+ghost use Rattle.zilqumet_c.specs.Causes.{IsDocumentCause, IsToldBy};
+
+use crate::held::{Held, Rooted};
+use crate::numbers::{ZqLimits, limits_of};
+use crate::parsing::document;
+use crate::slot::Slot;
+use crate::status::{BAD_HANDLE, OK, OUT_OF_MEMORY, place_of, status_of};
+use crate::text::{Text, text_of};
+use html_parser::{OverWrite, Profile};
+use std::alloc::Global;
+
+/// Writes a page to a buffer, as text in UTF-8. In values of attributes `<` and `>` are escaped where `angles` says so.
+#[unsafe(no_mangle)]
+pub extern "C" fn proved_serialise(
+    alloc: Global,
+    page: &mut Slot,
+    angles: bool,
+    buffer: &mut Slot,
+) -> u32
+    ensures kept { page.new.value ≡ page.old.value }
+    ensures text { result ≡ 0 → IfPage page.old.value (λ t. IfBuffer buffer.new.value (λ b. b ≡ written (profile_of angles) t)) }
+{
+    let _old = buffer.take(alloc);
+    let held = page.take(alloc);
+    let said = match &held {
+        Some(held) => write_held(alloc, held.as_ref(), angles, buffer),
+        None => BAD_HANDLE,
+    };
+    page.restore(alloc, held);
+    said
+}
+
+/// The text of a document's page, in one call.
+#[unsafe(no_mangle)]
+pub extern "C" fn proved_normalise(
+    alloc: Global,
+    entities: &mut Slot,
+    limits: &ZqLimits,
+    bytes: &[u8],
+    angles: bool,
+    buffer: &mut Slot,
+    at: &mut u64,
+) -> u32
+    ensures entities { entities.new.value ≡ entities.old.value }
+    ensures text { result ≡ 0 → (t : Tree) × IsTreeOf (document_start (rows_in entities.old.value) (Some (limits_in limits.now))) bytes.now t
+        × IfBuffer buffer.new.value (λ b. b ≡ written (profile_of angles) t) }
+    ensures cause { result ≢ 0 → IsToldBy (IsDocumentCause (rows_in entities.old.value) (limits_in limits.now) bytes.now) result at.new }
+{
+    let _old = buffer.take(alloc);
+    *at = 0;
+    let held = entities.take(alloc);
+    let parsed = document(alloc, &held, limits_of(limits), bytes);
+    entities.restore(alloc, held);
+    match parsed {
+        Ok(rooted) => write_tree(alloc, &rooted, angles, buffer),
+        Err(error) => {
+            *at = place_of(error);
+            status_of(error)
+        }
+    }
+}
+
+/// The bytes of a buffer, which stay where they are until it is freed or written to.
+#[unsafe(no_mangle)]
+pub extern "C" fn proved_bytes(alloc: Global, buffer: &mut Slot, bytes: &mut Text) -> u32
+    ensures kept { buffer.new.value ≡ buffer.old.value }
+    ensures len { IfBuffer buffer.old.value (λ b. (result ≡ 0) × (bytes.new.len ≡ length b)) }
+{
+    let held = buffer.take(alloc);
+    let said = match &held {
+        Some(held) => bytes_of(held.as_ref(), bytes),
+        None => BAD_HANDLE,
+    };
+    buffer.restore(alloc, held);
+    said
+}
+
+/// The bytes of a buffer.
+fn bytes_of(held: &Held, bytes: &mut Text) -> u32
+    ensures len { IfBuffer (Some held.now) (λ b. (result ≡ 0) × (bytes.new.len ≡ length b)) }
+{
+    let Held::Buffer(buffer) = held else {
+        return BAD_HANDLE;
+    };
+    *bytes = text_of(buffer.as_slice());
+    OK
+}
+
+/// Which characters are escaped.
+fn profile(angles: bool) -> Profile
+    ensures { result ≡ profile_of angles }
+{
+    if angles { Profile::Two } else { Profile::One }
+}
+
+/// Writes what a handle holds to a buffer.
+fn write_held(alloc: Global, held: &Held, angles: bool, buffer: &mut Slot) -> u32
+    ensures text { result ≡ 0 → IfPage (Some held.now) (λ t. IfBuffer buffer.new.value (λ b. b ≡ written (profile_of angles) t)) }
+{
+    let Held::Page(page) = held else {
+        return BAD_HANDLE;
+    };
+    write_tree(alloc, page, angles, buffer)
+}
+
+/// Writes a tree to a buffer. Only memory can be refused.
+fn write_tree(alloc: Global, page: &Rooted, angles: bool, buffer: &mut Slot) -> u32
+    ensures text { result ≡ 0 → IfBuffer buffer.new.value (λ b. b ≡ written (profile_of angles) page.now.tree) }
+    ensures cause { result ≢ 0 → result ≡ 1 }
+{
+    let mut out = OverWrite::new(Vec::new(alloc));
+    let Ok(()) = page.tree.serialise(profile(angles), &mut out) else {
+        return OUT_OF_MEMORY;
+    };
+    match Box::new(alloc, Held::Buffer(out.into_inner())) {
+        Ok(held) => {
+            buffer.put(held);
+            OK
+        }
+        Err(_) => OUT_OF_MEMORY,
+    }
+}
