@@ -1,8 +1,12 @@
 """Random pages, the same for the same seed: pieces of markup that the rules tell apart, and bytes among them. The least part of a page that shows what
-the page shows. And the model of the suites."""
+the page shows. The worked pages. And the model of the suites."""
 import importlib.util
 import re
 from pathlib import Path
+
+TOP = Path(__file__).resolve().parent.parent
+# how the rows show what cannot stand in a line
+SHOWN = {"␊": "\n", "␍": "\r", "␀": "\0", "␠": " "}
 
 BLOCKS = "div p ul li dl dt dd address article center h1 h2 pre listing form fieldset blockquote".split()
 INLINE = "b i em strong a nobr font code u s small big tt span label".split()
@@ -97,6 +101,27 @@ def least(text, differs):
 def files(folder):
     """Yields the files .html and .htm below a folder, in order."""
     yield from sorted(it for it in Path(folder).rglob("*.htm*") if it.suffix in (".html", ".htm") and it.is_file())
+
+
+def unescaped(text):
+    return "".join(SHOWN.get(c, c) for c in text)
+
+
+def worked_pages():
+    """Returns the rows of page_cases, but those in a form or in quirks mode, as the arguments and the bytes that the program takes."""
+    rows = []
+    for line in (TOP / "crates/page_cases/stdin").read_bytes().decode().split("\n")[1:]:
+        if line.count("|") < 2:
+            continue
+        _, words, page = line.split("|", 2)
+        words = dict(it.partition("=")[::2] for it in words.split())
+        if "in_form" in words or "quirks" in words:
+            continue
+        options = [it for word in ("nodes", "held", "input", "steps") if word in words for it in (f"--max-{word}", words[word])]
+        if "context" in words:
+            options += ["--fragment", unescaped(words["context"])]
+        rows.append((options, unescaped(page).encode()))
+    return rows
 
 
 def model_of(suites):
