@@ -1,6 +1,10 @@
-"""Random pages, the same for the same seed: pieces of markup that the rules tell apart, and bytes among them. And the model of the suites."""
+"""Random pages, the same for the same seed: pieces of markup that the rules tell apart, and bytes among them. The worked pages. And the model of the suites."""
 import importlib.util
 from pathlib import Path
+
+TOP = Path(__file__).resolve().parent.parent
+# how the rows show what cannot stand in a line
+SHOWN = {"␊": "\n", "␍": "\r", "␀": "\0", "␠": " "}
 
 BLOCKS = "div p ul li dl dt dd address article center h1 h2 pre listing form fieldset blockquote".split()
 INLINE = "b i em strong a nobr font code u s small big tt span label".split()
@@ -37,6 +41,27 @@ def page(chance, is_bytes, most=30):
             at = chance.randrange(len(text) + 1)
             text = text[:at] + chance.randbytes(chance.randrange(1, 4)) + text[at + chance.randrange(2):]
     return text
+
+
+def unescaped(text):
+    return "".join(SHOWN.get(c, c) for c in text)
+
+
+def worked_pages():
+    """Returns the rows of page_cases, but those in a form or in quirks mode, as the arguments and the bytes that the program takes."""
+    rows = []
+    for line in (TOP / "crates/page_cases/stdin").read_bytes().decode().split("\n")[1:]:
+        if line.count("|") < 2:
+            continue
+        _, words, page = line.split("|", 2)
+        words = dict(it.partition("=")[::2] for it in words.split())
+        if "in_form" in words or "quirks" in words:
+            continue
+        options = [it for word in ("nodes", "held", "input", "steps") if word in words for it in (f"--max-{word}", words[word])]
+        if "context" in words:
+            options += ["--fragment", unescaped(words["context"])]
+        rows.append((options, unescaped(page).encode()))
+    return rows
 
 
 def model_of(suites):
