@@ -42,10 +42,6 @@ is_stopped b = b.stopped
 abbrev pub parses_foreign : BuilderState → Bool
 parses_foreign b = b.page.parses_foreign
 
--- the same builder, where it is
-abbrev pub with_foreign : BuilderState → BuilderState
-with_foreign b = record b { page = record b.page { parses_foreign = true } }
-
 -- the adjusted current node is one of foreign content
 abbrev pub reads_foreign : BuilderState → Bool
 reads_foreign b = is_some (foreign_tag_of b.page)

@@ -9,6 +9,8 @@ ghost use Rattle.html_construction.specs.Copies.{implied_count, most_clones};
 ghost use Rattle.html_construction.specs.Modes.{is_reset};
 ghost use Rattle.html_construction.specs.Works.{reach_of};
 ghost use Rattle.html_names.specs.declared.tag.Tag.TheVariants as tag;
+ghost use Rattle.html_ledger.specs.Entries.{begun};
+ghost use Rattle.html_tree.specs.States.{document_state};
 ghost use Rattle.html_ledger.specs.MayDrop.{MayBeForeign};
 ghost use Rattle.html_ledger.specs.declared.setting.Setting.{Setting};
 ghost use Rattle.html_ledger.specs.declared.setting.Setting.TheVariants.{Document};
@@ -20,7 +22,7 @@ ghost use Rattle.html_page.specs.Plain.{IsPlainPage};
 ghost use Rattle.html_page.specs.Shows.{Shows};
 ghost use Rattle.html_builder.specs.Contexts.{IsGood, IsGoodAnywhere, setting_of};
 ghost use Rattle.html_builder.specs.Errors.{IsTextTold, IsTold};
-ghost use Rattle.html_builder.specs.Handed.{AddsFates, AreSo, CostAtMost, EndsAtEof, EntersNone, GivesFates, Handed, HandsIn, HaveFates, IsBuildCause, IsForeignOutside, IsForeignRefused, IsTextCause, fates_of, is_stopped, parses_foreign, reads_foreign, with_foreign};
+ghost use Rattle.html_builder.specs.Handed.{AddsFates, AreSo, CostAtMost, EndsAtEof, EntersNone, GivesFates, Handed, HandsIn, HaveFates, IsBuildCause, IsForeignOutside, IsForeignRefused, IsTextCause, fates_of, is_stopped, parses_foreign, reads_foreign};
 ghost use Rattle.html_builder.specs.Outcome.{IsBounded, IsOutcome, most_entries};
 ghost use Rattle.html_builder.specs.Plain.{HavePlainFates};
 ghost use Rattle.html_builder.specs.Saying.{said_in};
@@ -172,6 +174,28 @@ impl Builder {
         })
     }
 
+    /// Begins a document that parses foreign content, and whose tree keeps to limits, where there are any.
+    ///
+    /// # Errors
+    ///
+    /// `NodeBudget` at 0 where not even the document is within the limits; `OutOfMemory`.
+    #[tactic(auto, using(crate::proofs::Handing::begin_rules))]
+    pub fn foreign_document(alloc: Global, limits: Option<Limits>) -> Result<Builder, BuildError>
+        ensures begun { IfOk result (λ b. Handed Document limits [] b) }
+        ensures fates { IfOk result (λ b. fates_of b ≡ []) }
+        ensures fresh { IfOk result (λ b. is_stopped b ≡ false) }
+        ensures parses { IfOk result (λ b. parses_foreign b ≡ true) }
+        ensures cause { IfErr result (λ e. (e ≡ BuildError.OutOfMemory) ⊎ ((e ≡ BuildError.NodeBudget 0) × AreSo limits (λ m. m.nodes < 1))) }
+    {
+        let mut construction = begun_document(alloc, limits)?;
+        construction.parse_foreign();
+        Ok(Builder {
+            construction,
+            entries: 0,
+            stopped: false,
+        })
+    }
+
     /// Begins a fragment that parses foreign content, in a context of HTML or of foreign content, whose tree keeps to limits, where there are any.
     ///
     /// # Errors
@@ -204,15 +228,6 @@ impl Builder {
             entries: 0,
             stopped: false,
         })
-    }
-
-    /// From here on foreign content is parsed, and not refused.
-    #[tactic(auto, using(crate::proofs::Handing::begin_rules))]
-    pub fn parse_foreign(&mut self)
-        ensures parses { self.new ≡ with_foreign self.old }
-        ensures handed { (s : Setting) (l : Option Limits) (tokens : List TokenKind) → Handed s l tokens self.old → Handed s l tokens self.new }
-    {
-        self.construction.parse_foreign();
     }
 
     /// Whether the text that follows is read as that of foreign content: the adjusted current node is one of foreign content.
@@ -382,6 +397,29 @@ impl Builder {
             → tokens ≡ page_kinds page → HavePlainFates tokens result.1 }
     {
         self.construction.into_parts()
+    }
+}
+
+/// The tree construction of a document, within limits, where there are any.
+fn begun_document(alloc: Global, limits: Option<Limits>) -> Result<Construction, Refusal>
+    ensures built { IfOk result (λ b. IsBuilt (nothing_of Document limits) b) }
+    ensures mode { IfOk result (λ b. b.mode ≡ Mode.Initial) }
+    ensures stack { IfOk result (λ b. b.stack ≡ []) }
+    ensures quiet { IfOk result (λ b. b.ledger.kept ≡ []) }
+    ensures listed { IfOk result (λ b. b.tree.list ≡ []) }
+    ensures nodes { IfOk result (λ b. length b.tree.tree.labels ≡ 1) }
+    ensures uncloned { IfOk result (λ b. most_clones b.tree.tree.labels ≡ 0) }
+    ensures implied { IfOk result (λ b. implied_count b.tree.tree.labels ≤ 1) }
+    ensures counted { IfOk result (λ b. b.tree.steps ≤ 2 + reach_of b) }
+    ensures tree { IfOk result (λ b. (l : Option Limits) × (k : ℕ) × (b.tree ≡ document_state l k)) }
+    ensures ledger { IfOk result (λ b. b.ledger ≡ begun Document) }
+    ensures fostering { IfOk result (λ b. b.fostering ≡ false) }
+    ensures context { IfOk result (λ b. b.context ≡ None) }
+    ensures cause { IfErr result (λ e. (e ≡ Refusal.OutOfMemory) ⊎ ((e ≡ Refusal.NodeBudget) × AreSo limits (λ m. m.nodes < 1))) }
+{
+    match limits {
+        None => Construction::document(alloc),
+        Some(limits) => Construction::document_within(alloc, limits),
     }
 }
 

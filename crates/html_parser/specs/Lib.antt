@@ -5,8 +5,10 @@ pub mod Fed
 pub mod Feeding
 pub mod Kinds
 pub mod Normalised
+pub mod Options
 pub mod Parsed
 pub mod Reading
+pub mod Said
 pub mod Staged
 pub mod Start
 -- For this crate's own functions.

@@ -6,10 +6,12 @@ ghost use Rattle.html_parser.specs.Feeding.{AreHandedOn};
 ghost use Rattle.html_parser.specs.Parsed.{IsPageOf};
 ghost use Rattle.html_parser.specs.Staged.{KeepsTokens};
 ghost use Rattle.html_builder.specs.Contexts.{IsGood};
+ghost use Rattle.html_parser.specs.Options.{HasGoodContext, IsBeginCause, start_of};
 ghost use Rattle.html_parser.specs.Start.{Start, document_start, fragment_start};
 
 use crate::error::ParseError;
 use crate::feeder::Feeder;
+use crate::options::{Foreign, Options};
 use crate::page::Page;
 use crate::tree_parser::TreeParser;
 use html_arena::Limits;
@@ -30,6 +32,58 @@ pub struct Parser<'a> {
 
 impl<'a> Parser<'a> {
     ghost use Rattle.html_parser.specs.Fed.{IsFed, IsStopped};
+
+    /// A parser as these options ask for.
+    ///
+    /// # Errors
+    ///
+    /// `BadContext` where the context is none that a fragment can have: where foreign content is refused no start tag can have its name, or the name is
+    /// `svg` or `math`; where it is parsed it isn't that of an element of foreign content either. `NodeBudget` and `HeldBudget` at 0 where not even the
+    /// first node is within the limits; `OutOfMemory`.
+    pub fn new(
+        alloc: Global,
+        table: &'a EntityTable,
+        options: &Options,
+    ) -> Result<Parser<'a>, ParseError>
+        ensures begun { IfOk result (λ p. IsFed (start_of table.entry.now options.now) p.feeder []) }
+        ensures keeps { IfOk result (λ p. KeepsTokens p.feeder.stages) }
+        ensures empty { IfOk result (λ p. p.feeder.stages.kept.tokens ≡ []) }
+        ensures good { OnOk result (HasGoodContext options.now) }
+        ensures cause { IfErr result (IsBeginCause options.now) }
+    {
+        match options.foreign {
+            Foreign::Refuse => Parser::refusing(alloc, table, options),
+            Foreign::Parse => Parser::parsing(alloc, table, options),
+        }
+    }
+
+    /// A parser that refuses foreign content.
+    fn refusing(
+        alloc: Global,
+        table: &'a EntityTable,
+        options: &Options,
+    ) -> Result<Parser<'a>, ParseError> {
+        match (&options.context, options.limits) {
+            (None, None) => Parser::document(alloc, table),
+            (None, Some(limits)) => Parser::document_within(alloc, table, limits),
+            (Some(context), None) => Parser::fragment(alloc, table, context),
+            (Some(context), Some(limits)) =>
+                Parser::fragment_within(alloc, table, context, limits),
+        }
+    }
+
+    /// A parser that parses foreign content.
+    fn parsing(
+        alloc: Global,
+        table: &'a EntityTable,
+        options: &Options,
+    ) -> Result<Parser<'a>, ParseError> {
+        let decoder = decoder_within(options.limits);
+        let builder = foreign_builder(alloc, options)?;
+        let mode = options.text_mode();
+        let feeder = Feeder::new(alloc, table, decoder, mode, builder)?;
+        Ok(Parser { feeder })
+    }
 
     /// A parser of a document.
     ///
@@ -129,7 +183,7 @@ impl<'a> Parser<'a> {
     /// # Errors
     ///
     /// `InputTooLong` where the code points so far pass the limit; `ForeignContent` for a start tag `svg` or `math` that the rules of the
-    /// body meet; `NodeBudget` and `HeldBudget` where a token would pass a limit; `OutOfMemory`. After a refusal each later call answers
+    /// body meet, where foreign content is refused; `NodeBudget` and `HeldBudget` where a token would pass a limit; `OutOfMemory`. After a refusal each later call answers
     /// `Stopped`.
     pub fn feed(&mut self, piece: &[u8]) -> Result<(), ParseError>
         ensures fed { OnOk result ((start : Start) (bytes : List ℕ) → IsFed start self.old.feeder bytes → IsFed start self.new.feeder (bytes ++ piece.now)) }
@@ -168,4 +222,21 @@ impl<'a> Parser<'a> {
         feeder.end()?;
         feeder.stages.into_page()
     }
+}
+
+/// A decoder of at most as many code points as the limits allow, where there are any.
+fn decoder_within(limits: Option<Limits>) -> Decoder {
+    match limits {
+        None => Decoder::new(),
+        Some(limits) => Decoder::with_limit(limits.code_points),
+    }
+}
+
+/// Tree construction that parses foreign content.
+fn foreign_builder(alloc: Global, options: &Options) -> Result<Builder, ParseError> {
+    let builder = match &options.context {
+        None => Builder::foreign_document(alloc, options.limits)?,
+        Some(context) => Builder::foreign_fragment(alloc, context, options.limits)?,
+    };
+    Ok(builder)
 }

@@ -238,7 +238,8 @@ impl<'a> Stages<'a> {
         let _ = &self.kept;
     }
 
-    /// Hands on the plain text that comes next, if any, unless the tokens are to be counted for one by one.
+    /// Hands on the plain text that comes next, if any, unless the tokens are to be counted for one by one, or are of foreign content: there a code point
+    /// may change how the text after it is read.
     fn hand_text(&mut self) -> Result<(), ParseError>
         ensures further { OnOk result ((start : Start) (finished : Bool) (bytes : List ℕ) (run : Run) → IsRun start finished self.old bytes run → IsFurther start finished self.new bytes run.text) }
         ensures same { OnOk result (length self.old.kept.starts ≤ length self.new.kept.starts) }
@@ -246,7 +247,7 @@ impl<'a> Stages<'a> {
         ensures keeps { self.new.kept.keeps_tokens ≡ self.old.kept.keeps_tokens }
         ensures count { OnOk result (fed_len self.new.tokenizer ≤ fed_len self.old.tokenizer) }
     {
-        if !self.counts_steps() {
+        if !self.counts_steps() && !self.builder.reads_foreign() {
             self.hand_run()?;
         }
         Ok(())
