@@ -19,6 +19,7 @@ use crate::guards::{is_astray, is_table_text, is_unfounded};
 use crate::modes::after::{after_after_body, after_body};
 use crate::modes::body::in_body;
 use crate::modes::cell::in_cell;
+use crate::modes::foreign::{around_foreign, goes_on, stay};
 use crate::modes::frameset::{after_after_frameset, after_frameset, in_frameset};
 use crate::modes::head::{after_head, in_head, in_head_noscript};
 use crate::modes::initial::{before_head, before_html, initial};
@@ -32,6 +33,7 @@ use crate::modes::text::text;
 use crate::outcome::{Foreign, Outcome};
 use html_construction::{Construction, Mode, Refusal};
 use html_ledger::Symbol;
+use html_names::Tag;
 use html_tokens::TokenKind;
 
 /// Takes the next token through all its entries into the rules of the modes, and answers none; or answers which foreign content the token begins,
@@ -100,7 +102,7 @@ fn settle(page: &mut Construction)
     }
 }
 
-/// One entry: the text of a table, what every mode drops, or the rules of the mode that is set.
+/// One entry: the text of a table, what every mode drops, the rules for foreign content, or those of the mode that is set (13.2.6).
 #[tactic(auto, using(crate::proofs::Settled::step_rules, crate::proofs::Plain::step_plain, crate::proofs::RawText::step_texts, crate::proofs::Begun::first_rules, crate::proofs::Begun::text_stays))]
 fn step(page: &mut Construction, token: &TokenKind, symbol: Symbol) -> Result<Outcome, Refusal>
     requires symbol { symbol_of token.now ≡ symbol }
@@ -131,8 +133,29 @@ fn step(page: &mut Construction, token: &TokenKind, symbol: Symbol) -> Result<Ou
         page.set_mode(Mode::InBody);
         return Ok(Outcome::Reprocess);
     }
+    if let Some(around) = around_foreign(page, token, symbol) {
+        let outcome = foreign_rules(page, token, symbol, around)?;
+        return Ok(outcome);
+    }
     let outcome = rules(page, token, symbol)?;
     Ok(outcome)
+}
+
+/// The rules for foreign content (13.2.6.5), where the adjusted current node has this tag. Where they hand the token on, it goes by the rules of the mode
+/// that is set, in the same entry.
+#[inline(never)]
+fn foreign_rules(
+    page: &mut Construction,
+    token: &TokenKind,
+    symbol: Symbol,
+    around: Tag,
+) -> Result<Outcome, Refusal> {
+    if goes_on(page, token, symbol) {
+        let outcome = rules(page, token, symbol)?;
+        return Ok(outcome);
+    }
+    stay(page, token, symbol, around)?;
+    Ok(Outcome::Done)
 }
 
 /// The rules of the mode that is set.

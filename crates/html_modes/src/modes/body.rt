@@ -11,19 +11,20 @@ ghost use Rattle.html_modes.specs.Begun.{TextStays};
 ghost use Rattle.html_modes.specs.Fitting.{Fits, Calls};
 ghost use Rattle.html_modes.specs.Plain.{IsPlainState, IsRunTurn, Turns, TurnsInBody};
 ghost use Rattle.html_modes.specs.Runs.{CountsRun};
-ghost use Rattle.html_modes.specs.Steps.{Falls, Grows, Steps, Worked, root_of};
+ghost use Rattle.html_modes.specs.Steps.{Falls, Grows, Steps, Worked, root_of, root_space};
 ghost use Rattle.html_tree.specs.Proper.{is_foreign_root};
 ghost use Rattle.html_modes.specs.declared.outcome.Outcome.TheVariants.{Done};
 ghost use Rattle.html_modes.specs.RawText.{Opens};
 
 use crate::modes::body_end::{body_end, html_end};
 use crate::modes::body_start::body_start;
+use crate::modes::foreign::root_start;
 use crate::modes::initial::doctype;
 use crate::modes::template::template_eof;
 use crate::outcome::{Foreign, Outcome};
 use html_construction::{Construction, Mode, Refusal};
 use html_ledger::{Cause, Symbol, is_space};
-use html_names::Tag;
+use html_names::{Space, Tag};
 use html_tokens::TokenKind;
 
 /// The rules for the "in body" insertion mode (13.2.6.4.7).
@@ -109,7 +110,7 @@ pub(crate) fn body_rules(
     Ok(Outcome::Done)
 }
 
-/// A start tag: that of the root of foreign content is refused.
+/// A start tag.
 #[tactic(auto, using(crate::proofs::Settled::body_rules, crate::proofs::RawText::open_rules))]
 fn any_start(page: &mut Construction, token: &TokenKind, tag: Tag) -> Result<Outcome, Refusal>
     requires symbol { symbol_of token.now ≡ Symbol.Start tag }
@@ -123,13 +124,51 @@ fn any_start(page: &mut Construction, token: &TokenKind, tag: Tag) -> Result<Out
     ensures opens { IfOk result (λ o. Opens o (Symbol.Start tag) page.new) }
     ensures refuses { IfErr result (λ e. Refuses token.now e page.old page.new) }
 {
-    // A start tag whose tag name is "math", or "svg": foreign content is refused.
+    // A start tag whose tag name is "math", or "svg".
     if let Some(name) = foreign_root(tag) {
-        return Ok(Outcome::Foreign(name));
+        let outcome = any_root_start(page, token, tag, name)?;
+        return Ok(outcome);
     }
     // Any other start tag.
     body_start(page, token, tag)?;
     Ok(Outcome::Done)
+}
+
+/// The start tag of a root of foreign content, which is refused or parsed.
+#[tactic(auto, using(crate::proofs::Settled::body_rules, crate::proofs::RawText::open_rules))]
+fn any_root_start(
+    page: &mut Construction,
+    token: &TokenKind,
+    tag: Tag,
+    name: Foreign,
+) -> Result<Outcome, Refusal>
+    requires symbol { symbol_of token.now ≡ Symbol.Start tag }
+    requires root { Symbol.Start tag ≡ root_of name }
+    requires calls { Calls page.old }
+    ensures fits { OnOk result (Fits page.new) }
+    ensures takes { IfOk result (λ o. Steps o token.now page.old page.new) }
+    ensures falls { IfOk result (λ o. Falls o (Symbol.Start tag) page.old page.new) }
+    ensures grows { IfOk result (λ o. Grows o page.old page.new) }
+    ensures works { IfOk result (λ o. Worked o token.now page.old page.new) }
+    ensures plain { IfOk result (λ o. TurnsInBody o (Symbol.Start tag) token.now page.old page.new) }
+    ensures opens { IfOk result (λ o. Opens o (Symbol.Start tag) page.new) }
+    ensures refuses { IfErr result (λ e. Refuses token.now e page.old page.new) }
+{
+    if !page.parses_foreign() {
+        return Ok(Outcome::Foreign(name));
+    }
+    root_start(page, token, tag, space_of(name))?;
+    Ok(Outcome::Done)
+}
+
+/// The namespace of a kind of foreign content.
+fn space_of(name: Foreign) -> Space
+    ensures { result ≡ root_space name }
+{
+    match name {
+        Foreign::Svg => Space::Svg,
+        Foreign::Math => Space::Math,
+    }
 }
 
 /// The kind of foreign content of which an element of this tag is the root.
