@@ -13,6 +13,7 @@ pub mod Staged
 pub mod Start
 -- For this crate's own functions.
 pub mod Made
+pub mod Making
 pub mod Saying
 pub mod Stretches
 pub mod Tokenizing

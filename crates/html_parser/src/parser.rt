@@ -1,13 +1,17 @@
 //! Bytes in pieces to a page.
 
-ghost use Rattle.std.specs.Prelude.{◌≡◌, ◌↔◌, ◌++◌, ◌≤◌, ◌<◌, ◌^◌, ◌⊎◌, ℕ, List, [], None, Some, Err, IfErr, IfOk, OnErr, OnOk, length};
+ghost use Rattle.std.specs.Prelude.{◌≡◌, ◌↔◌, ◌++◌, ◌≤◌, ◌<◌, ◌^◌, ◌⊎◌, ℕ, List, [], None, Some, Err, false, IfErr, IfOk, OnErr, OnOk, length};
 ghost use Rattle.html_parser.specs.Causes.{IsCause, IsFeedCause};
 ghost use Rattle.html_parser.specs.Feeding.{AreHandedOn};
 ghost use Rattle.html_parser.specs.Parsed.{IsPageOf};
 ghost use Rattle.html_parser.specs.Staged.{KeepsTokens};
-ghost use Rattle.html_builder.specs.Contexts.{IsGood};
-ghost use Rattle.html_parser.specs.Options.{HasGoodContext, IsBeginCause, start_of};
-ghost use Rattle.html_parser.specs.Start.{Start, document_start, fragment_start};
+ghost use Rattle.html_builder.specs.Contexts.{IsGood, setting_of};
+ghost use Rattle.html_builder.specs.Handed.{Handed, fates_of, is_stopped, parses_foreign};
+ghost use Rattle.html_input.specs.Fed.{Fed as Decodes};
+ghost use Rattle.html_ledger.specs.declared.setting.Setting.TheVariants.{Document};
+ghost use Rattle.html_parser.specs.Options.{HasGoodContext, IsBeginCause, is_context, start_of};
+ghost use Rattle.html_parser.specs.Making.{IsDocumentCause, IsFragmentCause};
+ghost use Rattle.html_parser.specs.Start.{Start, document_start, fragment_start, most_within, parses, setting_in};
 
 use crate::error::ParseError;
 use crate::feeder::Feeder;
@@ -15,7 +19,7 @@ use crate::options::{Foreign, Options};
 use crate::page::Page;
 use crate::tree_parser::TreeParser;
 use html_arena::Limits;
-use html_builder::{Builder, Context};
+use html_builder::{BuildError, Builder, Context};
 use html_charref::EntityTable;
 use html_input::Decoder;
 use html_token_list::Tokens;
@@ -51,35 +55,8 @@ impl<'a> Parser<'a> {
         ensures good { OnOk result (HasGoodContext options.now) }
         ensures cause { IfErr result (IsBeginCause options.now) }
     {
-        match options.foreign {
-            Foreign::Refuse => Parser::refusing(alloc, table, options),
-            Foreign::Parse => Parser::parsing(alloc, table, options),
-        }
-    }
-
-    /// A parser that refuses foreign content.
-    fn refusing(
-        alloc: Global,
-        table: &'a EntityTable,
-        options: &Options,
-    ) -> Result<Parser<'a>, ParseError> {
-        match (&options.context, options.limits) {
-            (None, None) => Parser::document(alloc, table),
-            (None, Some(limits)) => Parser::document_within(alloc, table, limits),
-            (Some(context), None) => Parser::fragment(alloc, table, context),
-            (Some(context), Some(limits)) =>
-                Parser::fragment_within(alloc, table, context, limits),
-        }
-    }
-
-    /// A parser that parses foreign content.
-    fn parsing(
-        alloc: Global,
-        table: &'a EntityTable,
-        options: &Options,
-    ) -> Result<Parser<'a>, ParseError> {
         let decoder = decoder_within(options.limits);
-        let builder = foreign_builder(alloc, options)?;
+        let builder = builder_for(alloc, options)?;
         let mode = options.text_mode();
         let feeder = Feeder::new(alloc, table, decoder, mode, builder)?;
         Ok(Parser { feeder })
@@ -225,18 +202,71 @@ impl<'a> Parser<'a> {
 }
 
 /// A decoder of at most as many code points as the limits allow, where there are any.
-fn decoder_within(limits: Option<Limits>) -> Decoder {
+fn decoder_within(limits: Option<Limits>) -> Decoder
+    ensures decodes { Decodes (most_within limits) false result [] [] }
+{
     match limits {
         None => Decoder::new(),
         Some(limits) => Decoder::with_limit(limits.code_points),
     }
 }
 
-/// Tree construction that parses foreign content.
-fn foreign_builder(alloc: Global, options: &Options) -> Result<Builder, ParseError> {
+/// Tree construction as these options ask for.
+fn builder_for(alloc: Global, options: &Options) -> Result<Builder, ParseError>
+    ensures handed { IfOk result (λ b. Handed (setting_in options.now.context) options.now.limits [] b) }
+    ensures fates { IfOk result (λ b. fates_of b ≡ []) }
+    ensures fresh { IfOk result (λ b. is_stopped b ≡ false) }
+    ensures parses { IfOk result (λ b. parses_foreign b ≡ parses options.now.foreign) }
+    ensures good { OnOk result (HasGoodContext options.now) }
+    ensures cause { IfErr result (IsBeginCause options.now) }
+{
     let builder = match &options.context {
-        None => Builder::foreign_document(alloc, options.limits)?,
-        Some(context) => Builder::foreign_fragment(alloc, context, options.limits)?,
+        None => document_for(alloc, options.limits, options.foreign)?,
+        Some(context) => fragment_for(alloc, context, options.limits, options.foreign)?,
     };
     Ok(builder)
+}
+
+/// Tree construction of a document.
+fn document_for(
+    alloc: Global,
+    limits: Option<Limits>,
+    foreign: Foreign,
+) -> Result<Builder, BuildError>
+    ensures handed { IfOk result (λ b. Handed Document limits [] b) }
+    ensures fates { IfOk result (λ b. fates_of b ≡ []) }
+    ensures fresh { IfOk result (λ b. is_stopped b ≡ false) }
+    ensures parses { IfOk result (λ b. parses_foreign b ≡ parses foreign) }
+    ensures cause { IfErr result (IsDocumentCause limits) }
+{
+    match foreign {
+        Foreign::Parse => Builder::foreign_document(alloc, limits),
+        Foreign::Refuse => match limits {
+            None => Builder::document(alloc),
+            Some(limits) => Builder::document_within(alloc, limits),
+        },
+    }
+}
+
+/// Tree construction of a fragment in a context.
+fn fragment_for(
+    alloc: Global,
+    context: &Context,
+    limits: Option<Limits>,
+    foreign: Foreign,
+) -> Result<Builder, BuildError>
+    ensures handed { IfOk result (λ b. Handed (setting_of context.now) limits [] b) }
+    ensures fates { IfOk result (λ b. fates_of b ≡ []) }
+    ensures fresh { IfOk result (λ b. is_stopped b ≡ false) }
+    ensures parses { IfOk result (λ b. parses_foreign b ≡ parses foreign) }
+    ensures good { OnOk result (is_context foreign context.now.name ≡ true) }
+    ensures cause { IfErr result (IsFragmentCause foreign context.now.name limits) }
+{
+    match foreign {
+        Foreign::Parse => Builder::foreign_fragment(alloc, context, limits),
+        Foreign::Refuse => match limits {
+            None => Builder::fragment(alloc, context),
+            Some(limits) => Builder::fragment_within(alloc, context, limits),
+        },
+    }
 }
