@@ -445,12 +445,12 @@ fn begun_fragment(
 {
     match limits {
         None => Construction::fragment(alloc, context.tag(), context.in_form, context.quirks),
-        Some(limits) => Construction::fragment_within(
+        Some(most) => Construction::fragment_within(
             alloc,
             context.tag(),
             context.in_form,
             context.quirks,
-            limits,
+            most,
         ),
     }
 }

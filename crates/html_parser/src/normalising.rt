@@ -66,7 +66,7 @@ pub fn normalise_with<S: Source, W: Sink>(
         (W.taken writer.old) (W.taken writer.new) (W.failed writer.new) (W.stalled writer.new) e) }
 {
     match parse_tree_from_with(alloc, table, options, reader) {
-        Ok(tree) => tree.serialise(profile, writer),
+        Ok(page) => page.serialise(profile, writer),
         Err(error) => Err(error),
     }
 }

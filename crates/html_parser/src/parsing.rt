@@ -16,7 +16,6 @@ use crate::error::ParseError;
 use crate::options::Options;
 use crate::page::{Page, Tree};
 use crate::parser::Parser;
-use crate::tree_parser::TreeParser;
 use html_arena::Limits;
 use html_builder::Context;
 use html_charref::EntityTable;
@@ -101,7 +100,7 @@ pub fn parse_tree_with(
 {
     let parser = Parser::new(alloc, table, options)?;
     check_length(bytes, most_code_points(options.limits))?;
-    tree_of(parser.without_ledger(), bytes)
+    tree_of(parser, bytes)
 }
 
 /// The page of a fragment in a context (13.4).
@@ -139,9 +138,7 @@ pub fn parse_tree(alloc: Global, table: &EntityTable, bytes: &[u8]) -> Result<Tr
 {
     check_length(bytes, LIMIT)?;
     let parser = Parser::document(alloc, table)?;
-    let mut parser = parser.without_ledger();
-    parser.feed(bytes)?;
-    parser.finish()
+    tree_of(parser, bytes)
 }
 
 /// The page of an input by a parser that was fed nothing.
@@ -155,11 +152,11 @@ fn page_of(parser: Parser<'_>, bytes: &[u8]) -> Result<Page, ParseError>
 }
 
 /// The tree of an input by a parser that was fed nothing.
-fn tree_of(parser: TreeParser<'_>, bytes: &[u8]) -> Result<Tree, ParseError>
+fn tree_of(parser: Parser<'_>, bytes: &[u8]) -> Result<Tree, ParseError>
     ensures tree { IfOk result (λ tree. (start : Start) → IsFed start parser.entry.feeder [] → IsTreeOf start bytes.now tree) }
     ensures cause { IfErr result (λ e. (start : Start) → IsFed start parser.entry.feeder [] → IsCause start bytes.now e) }
 {
-    let mut parser = parser;
+    let mut parser = parser.without_ledger();
     parser.feed(bytes)?;
     parser.finish()
 }
