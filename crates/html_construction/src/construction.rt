@@ -100,7 +100,7 @@ impl Construction {
         ensures ledger { IfOk result (λ b. b.ledger ≡ begun Document) }
         ensures fostering { IfOk result (λ b. b.fostering ≡ false) }
         ensures context { IfOk result (λ b. b.context ≡ None) }
-        ensures foreign { IfOk result (λ b. b.parses_foreign ≡ false) }
+        ensures refuses { IfOk result (λ b. b.parses_foreign ≡ false) }
         ensures cause { IfErr result (λ e. e ≡ Refusal.OutOfMemory) }
     {
         let tree = OpenTree::document(alloc)?;
@@ -134,7 +134,7 @@ impl Construction {
         ensures ledger { IfOk result (λ b. b.ledger ≡ begun Document) }
         ensures fostering { IfOk result (λ b. b.fostering ≡ false) }
         ensures context { IfOk result (λ b. b.context ≡ None) }
-        ensures foreign { IfOk result (λ b. b.parses_foreign ≡ false) }
+        ensures refuses { IfOk result (λ b. b.parses_foreign ≡ false) }
         ensures cause { IfErr result (λ e. (e ≡ Refusal.OutOfMemory) ⊎ ((e ≡ Refusal.NodeBudget) × (limits.nodes < 1))) }
     {
         let tree = OpenTree::document_within(alloc, limits)?;
@@ -158,7 +158,7 @@ impl Construction {
         ensures stack { IfOk result (λ b. b.stack ≡ tag.Html ∷ []) }
         ensures context { IfOk result (λ b. b.context ≡ Some context) }
         ensures quirks { IfOk result (λ b. b.quirks ≡ quirks) }
-        ensures foreign { IfOk result (λ b. b.parses_foreign ≡ false) }
+        ensures refuses { IfOk result (λ b. b.parses_foreign ≡ false) }
         ensures quiet { IfOk result (λ b. b.ledger.kept ≡ []) }
         ensures listed { IfOk result (λ b. b.tree.list ≡ []) }
         ensures nodes { IfOk result (λ b. length b.tree.tree.labels ≡ 1) }
@@ -189,7 +189,7 @@ impl Construction {
         ensures stack { IfOk result (λ b. b.stack ≡ tag.Html ∷ []) }
         ensures context { IfOk result (λ b. b.context ≡ Some context) }
         ensures quirks { IfOk result (λ b. b.quirks ≡ quirks) }
-        ensures foreign { IfOk result (λ b. b.parses_foreign ≡ false) }
+        ensures refuses { IfOk result (λ b. b.parses_foreign ≡ false) }
         ensures quiet { IfOk result (λ b. b.ledger.kept ≡ []) }
         ensures listed { IfOk result (λ b. b.tree.list ≡ []) }
         ensures nodes { IfOk result (λ b. length b.tree.tree.labels ≡ 1) }
@@ -271,7 +271,7 @@ impl Construction {
         ensures ledger { result.ledger ≡ begun Document }
         ensures fostering { result.fostering ≡ false }
         ensures context { result.context ≡ None }
-        ensures foreign { result.parses_foreign ≡ false }
+        ensures refuses { result.parses_foreign ≡ false }
     {
         Construction {
             tree,
@@ -295,7 +295,7 @@ impl Construction {
         ensures stack { IfOk result (λ b. b.stack ≡ tag.Html ∷ []) }
         ensures context { IfOk result (λ b. b.context ≡ Some context) }
         ensures quirks { IfOk result (λ b. b.quirks ≡ quirks) }
-        ensures foreign { IfOk result (λ b. b.parses_foreign ≡ false) }
+        ensures refuses { IfOk result (λ b. b.parses_foreign ≡ false) }
         ensures quiet { IfOk result (λ b. b.ledger.kept ≡ []) }
         ensures listed { IfOk result (λ b. b.tree.list ≡ []) }
         ensures nodes { IfOk result (λ b. length b.tree.tree.labels ≡ 1) }

@@ -51,7 +51,7 @@ impl Registers {
         ensures quirks { result.quirks ≡ quirks }
         ensures outer_form { result.outer_form ≡ outer_form }
         ensures fostering { result.fostering ≡ false }
-        ensures foreign { result.parses_foreign ≡ false }
+        ensures refuses { result.parses_foreign ≡ false }
     {
         Registers {
             mode: Mode::Initial,

@@ -1,6 +1,6 @@
--- Claimed, but for this crate's own functions: takes_start, takes_char, goes_by_foreign, if_goes, around_foreign, has_font_attr, breaks_out, leaves_foreign, ends_any, closed_foreign, stack_after, goes_on, closes_itself, embedded, IsEmbedded, IsRooted, Stays.
+-- Claimed, but for this crate's own functions: takes_start, takes_char, goes_by_foreign, if_goes, around_foreign, has_font_attr, breaks_out, leaves_foreign, ends_any, closed_foreign, stack_after, goes_on, closes_itself, embedded, IsEmbedded, IsRootMade, IsInserted, Stays, Stayed, Follows, FollowsForeign.
 -- The tokens that go by the rules for foreign content: the tree construction dispatcher (13.2.6). And those rules (13.2.6.5).
-use Rattle.std.specs.Prelude.{ℕ, ◌+◌, ◌==◌, ◌||◌, ◌&&◌, Bool, true, false, not, cond, List, [], ◌∷◌, length, is_some, Option, Some, None}
+use Rattle.std.specs.Prelude.{ℕ, ◌≡◌, ◌+◌, ◌==◌, ◌||◌, ◌&&◌, Bool, true, false, not, cond, List, [], ◌∷◌, length, is_some, Option, Some, None}
 use Rattle.html_names.specs.declared.foreign.Space.{Space}
 use Rattle.html_names.specs.declared.tag.Tag.{Tag}
 use Rattle.html_names.specs.declared.tag.Tag.TheVariants as tag
@@ -14,6 +14,7 @@ use Rattle.html_ledger.specs.declared.fate.Fate.TheVariants.{Foreign, Text}
 use Rattle.html_ledger.specs.declared.symbol.Symbol.{Symbol}
 use Rattle.html_ledger.specs.declared.symbol.Symbol.TheVariants.{Start, End, Char, Comment, Doctype, Eof}
 use Rattle.html_ledger.specs.Entries.{number_of}
+use Rattle.html_ledger.specs.Flags.{must_drop}
 use Rattle.html_tree.specs.declared.groups.Target.TheVariants.{Current}
 use Rattle.html_tree.specs.Closing.{before_index}
 use Rattle.html_tree.specs.Foreign.{found_foreign, is_at_html_point, left_foreign}
@@ -23,9 +24,12 @@ use Rattle.html_tree.specs.States.{State as Tree}
 use Rattle.html_tree.specs.Texts.{text_node, with_text}
 use Rattle.html_construction.specs.Calls.{HasFate, IsTree, counting, foreign_of, opened_at, placed_at}
 use Rattle.html_construction.specs.Foreign.{foreign_tag}
+use Rattle.html_construction.specs.Modes.{is_of_frames, is_of_selects}
 use Rattle.html_construction.specs.States.{State}
 use Rattle.html_construction.specs.Tokens.{attrs_of, tag_name}
 use Rattle.html_modes.specs.Fitting.{is_loose}
+use Rattle.html_modes.specs.declared.outcome.Outcome.{Outcome}
+use Rattle.html_modes.specs.declared.outcome.Outcome.TheVariants.{Done}
 
 -- THE DISPATCHER
 -- where the adjusted current node is an element of foreign content, of this tag
@@ -128,3 +132,19 @@ abbrev pub Stays : Tag → Symbol → TokenKind → State → State → Type 0
 Stays g (Start t) k a b = IsEmbedded (space_of g) (Start t) k a b
 Stays g (Char c) k a b = IsInserted c a b
 Stays g _ k a b = Unit {0}
+
+-- the same with what an end tag closes
+abbrev pub Stayed : Tag → Symbol → TokenKind → State → State → Type 0
+Stayed g (End t) k a b = IsTree (record a.tree { stack = stack_after a.tree (End t) k }) b
+Stayed g y k a b = Stays g y k a b
+
+-- The rules for foreign content are done with the token.
+pub record Follows (g : Tag) (o : Outcome) (y : Symbol) (k : TokenKind) (a b : State) : Type 0 where
+  pub done : o ≡ Done
+  pub stayed : Stayed g y k a b
+
+-- So is an entry of a token that goes by them and stays in foreign content, where the mode is none of selects or of frames and the token is not dropped in
+-- every mode.
+pub record FollowsForeign (o : Outcome) (y : Symbol) (k : TokenKind) (a b : State) : Type 0 where
+  pub follows : (g : Tag) → around_foreign a y k ≡ Some g → goes_on a.tree y k ≡ false → must_drop a.ledger.history y ≡ None → is_of_selects a.mode ≡ false → is_of_frames a.mode ≡ false
+      → Follows g o y k a b

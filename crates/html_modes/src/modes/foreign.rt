@@ -30,6 +30,7 @@ use html_tokens::{Attr, TokenKind};
 
 /// The tag of the adjusted current node, where that is one of foreign content and the token goes by the rules for foreign content: the tree
 /// construction dispatcher (13.2.6).
+#[tactic(auto, using(crate::proofs::Foreign::around_rules))]
 #[inline(always)]
 pub(crate) fn around_foreign(page: &Construction, token: &TokenKind, symbol: Symbol) -> Option<Tag>
     ensures value { result ≡ around_foreign page.now symbol token.now }
@@ -107,6 +108,7 @@ pub(crate) fn goes_on(page: &mut Construction, token: &TokenKind, symbol: Symbol
 }
 
 /// A start tag that breaks out of foreign content closes elements up to one of HTML, or an integration point, and goes on.
+#[tactic(auto, using(crate::proofs::Foreign::closing_rules))]
 fn start_goes_on(page: &mut Construction, token: &TokenKind, tag: Tag) -> bool
     requires opened { 0 < length page.old.stack }
     ensures rest { page.new ≡ record page.old { tree = page.new.tree; stack = page.new.stack } }
@@ -128,6 +130,7 @@ fn start_goes_on(page: &mut Construction, token: &TokenKind, tag: Tag) -> bool
 
 /// So does the end tag of a br or of a p. Any other end tag closes the element of foreign content that has its name, and goes on where one of HTML
 /// stands after that; where the root alone is open it is ignored.
+#[tactic(auto, using(crate::proofs::Foreign::closing_rules))]
 fn end_goes_on(page: &mut Construction, token: &TokenKind, tag: Tag) -> bool
     requires opened { 0 < length page.old.stack }
     ensures rest { page.new ≡ record page.old { tree = page.new.tree; stack = page.new.stack } }
@@ -148,6 +151,7 @@ fn end_goes_on(page: &mut Construction, token: &TokenKind, tag: Tag) -> bool
 }
 
 /// Any other end tag.
+#[tactic(auto, using(crate::proofs::Foreign::closing_rules))]
 fn any_end_goes_on(page: &mut Construction, token: &TokenKind) -> bool
     requires opened { 0 < length page.old.stack }
     ensures rest { page.new ≡ record page.old { tree = page.new.tree; stack = page.new.stack } }
@@ -167,6 +171,7 @@ fn any_end_goes_on(page: &mut Construction, token: &TokenKind) -> bool
 }
 
 /// Any other token stays in foreign content.
+#[tactic(auto, using(crate::proofs::Foreign::stay_rules))]
 pub(crate) fn stay(
     page: &mut Construction,
     token: &TokenKind,
@@ -185,6 +190,7 @@ pub(crate) fn stay(
     ensures works { OnOk result (Works 6 0 6 page.old page.new) }
     ensures heavier { OnOk result (weight page.new.stack ≤ weight page.old.stack + 4) }
     ensures opened { OnOk result (0 < length page.new.stack) }
+    ensures ended { ends_any symbol ≡ true → OnOk result (page.new.tree ≡ page.old.tree) }
     ensures stays { OnOk result (Stays around symbol token.now page.old page.new) }
     ensures opens { OnOk result (Opens Done symbol page.new) }
     ensures refuses { IfErr result (λ e. Refuses token.now e page.old page.new) }
@@ -206,6 +212,7 @@ pub(crate) fn stay(
 }
 
 /// A code point: U+0000 becomes U+FFFD.
+#[tactic(auto, using(crate::proofs::Foreign::char_rules))]
 fn insert_foreign_char(page: &mut Construction, token: &TokenKind, c: char) -> Result<(), Refusal>
     requires symbol { symbol_of token.now ≡ Symbol.Char c }
     requires foreign { page.old.ledger.history.foreign ≡ true }
@@ -221,7 +228,8 @@ fn insert_foreign_char(page: &mut Construction, token: &TokenKind, c: char) -> R
     ensures refuses { IfErr result (λ e. RefusesAny e page.old page.new) }
 {
     if c == '\0' {
-        return page.insert_null(token);
+        page.insert_null(token)?;
+        return Ok(());
     }
     page.insert_char(token, c)?;
     if !is_space(c) {
@@ -231,7 +239,7 @@ fn insert_foreign_char(page: &mut Construction, token: &TokenKind, c: char) -> R
 }
 
 /// The start tag of a root of foreign content, in the body.
-#[tactic(auto, using(crate::proofs::Settled::body_rules))]
+#[tactic(auto, using(crate::proofs::Settled::body_rules, crate::proofs::Foreign::root_rules))]
 pub(crate) fn root_start(
     page: &mut Construction,
     token: &TokenKind,
@@ -252,10 +260,12 @@ pub(crate) fn root_start(
     ensures refuses { IfErr result (λ e. Refuses token.now e page.old page.new) }
 {
     page.reconstruct()?;
-    embed(page, token, tag, space)
+    embed(page, token, tag, space)?;
+    Ok(())
 }
 
 /// An element of foreign content of a start tag, which is opened unless the tag closes itself.
+#[tactic(auto, using(crate::proofs::Foreign::embed_rules))]
 fn embed(page: &mut Construction, token: &TokenKind, tag: Tag, space: Space) -> Result<(), Refusal>
     requires symbol { symbol_of token.now ≡ Symbol.Start tag }
     requires outside { is_html_space space ≡ false }
@@ -274,9 +284,11 @@ fn embed(page: &mut Construction, token: &TokenKind, tag: Tag, space: Space) -> 
     ensures refuses { IfErr result (λ e. Refuses token.now e page.old page.new) }
 {
     if closes_itself(token) {
-        return page.insert_foreign_void(token, tag, space);
+        page.insert_foreign_void(token, tag, space)?;
+        return Ok(());
     }
-    page.insert_foreign(token, tag, space)
+    page.insert_foreign(token, tag, space)?;
+    Ok(())
 }
 
 /// Whether a start tag ends foreign content: of these names, and a font that has a color, a face or a size.
