@@ -1,5 +1,5 @@
 // Tree construction, token by token.
-ghost use Rattle.std.specs.Prelude.{◌≡◌, ◌↔◌, ◌⊎◌, ◌<◌, ◌≤◌, ℕ, ◌∷◌, [], IfOk, IfErr, OnOk, OnErr, Err, List, None, Option, Some, length, take, true, false};
+ghost use Rattle.std.specs.Prelude.{◌≡◌, ◌↔◌, ◌⊎◌, ◌<◌, ◌≤◌, ◌+◌, ℕ, ◌∷◌, [], IfOk, IfErr, OnOk, OnErr, Err, List, None, Option, Some, length, take, true, false};
 ghost use Rattle.html_arena.specs.Budget.{AreWithin};
 ghost use Rattle.html_arena.specs.Forest.{Forest};
 ghost use Rattle.html_arena.specs.declared.arena.Limits.{Limits};
