@@ -81,8 +81,8 @@ follows-on o y k a i n b d f l h r = record {
       let z : StaysIn g y k a = record { around = around; stays = stays; kept = kept; select = select; frames = frames } in
       let j : IsAlike i n = l g (stays-alike g y k a i f z) in
       let w : Follows g o y k n b = follows-in g o y k n b h (stays-alike g y k i n j (stays-alike g y k a i f z)) in
-      record { done = refl; stayed = subst (λ (x : State). Stayed g y k a x) (sym r) (stayed-settled g y k a b d.mode (back a i f (back i n j w.stayed))) };
+      record { done = refl; stayed = subst (λ (x : State). Stayed g y k a x) (sym r) (stayed-settled g y k a b d.mode (back g a i f (back g i n j w.stayed))) };
 }
   where
-    back : {u : Tag} (a c : State) → IsAlike a c → Stayed u y k c b → Stayed u y k a b
-    back a c f w = stayed-later _ y k a b c.tree.steps c.began c.depth c.nodes (subst (λ (x : State). Stayed _ y k x b) f.same w)
+    back : (u : Tag) (a c : State) → IsAlike a c → Stayed u y k c b → Stayed u y k a b
+    back u a c f w = stayed-later u y k a b c.tree.steps c.began c.depth c.nodes (subst (λ (x : State). Stayed u y k x b) f.same w)

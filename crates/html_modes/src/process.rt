@@ -109,7 +109,7 @@ fn settle(page: &mut Construction)
 }
 
 /// One entry: the text of a table, what every mode drops, the rules for foreign content, or those of the mode that is set (13.2.6).
-#[tactic(auto, using(crate::proofs::Settled::step_rules, crate::proofs::Plain::step_plain, crate::proofs::RawText::step_texts, crate::proofs::Begun::first_rules, crate::proofs::Begun::text_stays, crate::proofs::Foreign::step_foreign))]
+#[tactic(auto, using(crate::proofs::Settled::step_rules, crate::proofs::Plain::step_plain, crate::proofs::RawText::step_texts, crate::proofs::Begun::first_rules, crate::proofs::Begun::text_stays, crate::proofs::Embedding::step_foreign))]
 fn step(page: &mut Construction, token: &TokenKind, symbol: Symbol) -> Result<Outcome, Refusal>
     requires symbol { symbol_of token.now ≡ symbol }
     requires fits { Fits page.old }
@@ -151,7 +151,7 @@ fn step(page: &mut Construction, token: &TokenKind, symbol: Symbol) -> Result<Ou
 
 /// The rules for foreign content (13.2.6.5), where the adjusted current node has this tag. Where they hand the token on, it goes by the rules of the mode
 /// that is set, in the same entry.
-#[tactic(auto, using(crate::proofs::Foreign::foreign_rules))]
+#[tactic(auto, using(crate::proofs::Embedding::foreign_rules))]
 #[inline(never)]
 fn foreign_rules(
     page: &mut Construction,

@@ -140,7 +140,7 @@ fn any_start(page: &mut Construction, token: &TokenKind, tag: Tag) -> Result<Out
 }
 
 /// The start tag of a root of foreign content, which is refused or parsed.
-#[tactic(auto, using(crate::proofs::Settled::body_rules, crate::proofs::RawText::open_rules, crate::proofs::Foreign::body_roots))]
+#[tactic(auto, using(crate::proofs::Settled::body_rules, crate::proofs::RawText::open_rules, crate::proofs::Embedding::body_roots))]
 fn any_root_start(
     page: &mut Construction,
     token: &TokenKind,

@@ -72,7 +72,10 @@ pub(crate) fn phrase_start(
         // A start tag whose tag name is one of: "area", "br", "embed", "img", "keygen", "wbr".
         _ if tag.is_void_phrase() => void_start(page, token, tag),
         // A start tag whose tag name is one of: "param", "source", "track".
-        _ if tag.is_void_part() => page.insert_void(token, tag),
+        _ if tag.is_void_part() => {
+            page.insert_void(token, tag)?;
+            Ok(())
+        }
         // A start tag whose tag name is one of: "iframe", "noembed", "textarea", "xmp".
         _ if is_body_text(tag) => body_text_start(page, token, tag),
         _ => other_start(page, token, tag),

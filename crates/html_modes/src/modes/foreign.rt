@@ -30,7 +30,7 @@ use html_tokens::{Attr, TokenKind};
 
 /// The tag of the adjusted current node, where that is one of foreign content and the token goes by the rules for foreign content: the tree
 /// construction dispatcher (13.2.6).
-#[tactic(auto, using(crate::proofs::Foreign::around_rules))]
+#[tactic(auto, using(crate::proofs::Embedding::around_rules))]
 #[inline(always)]
 pub(crate) fn around_foreign(page: &Construction, token: &TokenKind, symbol: Symbol) -> Option<Tag>
     ensures value { result ≡ around_foreign page.now symbol token.now }
@@ -84,7 +84,7 @@ fn is_html_point(page: &Construction, around: Tag) -> bool
 }
 
 /// What the rules for foreign content close, and whether the token goes on by the rules of the insertion mode then (13.2.6.5).
-#[tactic(auto, using(crate::proofs::Foreign::closing_rules))]
+#[tactic(auto, using(crate::proofs::Embedding::closing_rules))]
 pub(crate) fn goes_on(page: &mut Construction, token: &TokenKind, symbol: Symbol) -> bool
     requires opened { 0 < length page.old.stack }
     ensures rest { page.new ≡ record page.old { tree = page.new.tree; stack = page.new.stack } }
@@ -108,7 +108,7 @@ pub(crate) fn goes_on(page: &mut Construction, token: &TokenKind, symbol: Symbol
 }
 
 /// A start tag that breaks out of foreign content closes elements up to one of HTML, or an integration point, and goes on.
-#[tactic(auto, using(crate::proofs::Foreign::closing_rules))]
+#[tactic(auto, using(crate::proofs::Embedding::closing_rules))]
 fn start_goes_on(page: &mut Construction, token: &TokenKind, tag: Tag) -> bool
     requires opened { 0 < length page.old.stack }
     ensures rest { page.new ≡ record page.old { tree = page.new.tree; stack = page.new.stack } }
@@ -130,7 +130,7 @@ fn start_goes_on(page: &mut Construction, token: &TokenKind, tag: Tag) -> bool
 
 /// So does the end tag of a br or of a p. Any other end tag closes the element of foreign content that has its name, and goes on where one of HTML
 /// stands after that; where the root alone is open it is ignored.
-#[tactic(auto, using(crate::proofs::Foreign::closing_rules))]
+#[tactic(auto, using(crate::proofs::Embedding::closing_rules))]
 fn end_goes_on(page: &mut Construction, token: &TokenKind, tag: Tag) -> bool
     requires opened { 0 < length page.old.stack }
     ensures rest { page.new ≡ record page.old { tree = page.new.tree; stack = page.new.stack } }
@@ -151,7 +151,7 @@ fn end_goes_on(page: &mut Construction, token: &TokenKind, tag: Tag) -> bool
 }
 
 /// Any other end tag.
-#[tactic(auto, using(crate::proofs::Foreign::closing_rules))]
+#[tactic(auto, using(crate::proofs::Embedding::closing_rules))]
 fn any_end_goes_on(page: &mut Construction, token: &TokenKind) -> bool
     requires opened { 0 < length page.old.stack }
     ensures rest { page.new ≡ record page.old { tree = page.new.tree; stack = page.new.stack } }
@@ -171,7 +171,7 @@ fn any_end_goes_on(page: &mut Construction, token: &TokenKind) -> bool
 }
 
 /// Any other token stays in foreign content.
-#[tactic(auto, using(crate::proofs::Foreign::stay_rules))]
+#[tactic(auto, using(crate::proofs::Embedding::stay_rules))]
 pub(crate) fn stay(
     page: &mut Construction,
     token: &TokenKind,
@@ -212,7 +212,7 @@ pub(crate) fn stay(
 }
 
 /// A code point: U+0000 becomes U+FFFD.
-#[tactic(auto, using(crate::proofs::Foreign::char_rules))]
+#[tactic(auto, using(crate::proofs::Embedding::char_rules))]
 fn insert_foreign_char(page: &mut Construction, token: &TokenKind, c: char) -> Result<(), Refusal>
     requires symbol { symbol_of token.now ≡ Symbol.Char c }
     requires foreign { page.old.ledger.history.foreign ≡ true }
@@ -239,7 +239,7 @@ fn insert_foreign_char(page: &mut Construction, token: &TokenKind, c: char) -> R
 }
 
 /// The start tag of a root of foreign content, in the body.
-#[tactic(auto, using(crate::proofs::Settled::body_rules, crate::proofs::Foreign::root_rules))]
+#[tactic(auto, using(crate::proofs::Settled::body_rules, crate::proofs::Embedding::root_rules))]
 pub(crate) fn root_start(
     page: &mut Construction,
     token: &TokenKind,
@@ -265,7 +265,7 @@ pub(crate) fn root_start(
 }
 
 /// An element of foreign content of a start tag, which is opened unless the tag closes itself.
-#[tactic(auto, using(crate::proofs::Foreign::embed_rules))]
+#[tactic(auto, using(crate::proofs::Embedding::embed_rules))]
 fn embed(page: &mut Construction, token: &TokenKind, tag: Tag, space: Space) -> Result<(), Refusal>
     requires symbol { symbol_of token.now ≡ Symbol.Start tag }
     requires outside { is_html_space space ≡ false }

@@ -1,7 +1,7 @@
 use Rattle.std.proofs.Common.{ap, sym, ◌∙◌}
 use Rattle.html_construction.specs.States.{State}
 use Rattle.html_modes.proofs.Begun.{ignores-done, ignores-in, stays-same, stays-then}
-use Rattle.html_modes.proofs.Foreign.{Counted-stayed, Falls-after, Falls-stayed, Ignores-after, Settles-after, Settles-stayed, Spends-after, Spends-stayed, Steps-after, follows-done}
+use Rattle.html_modes.proofs.Embedding.{Counted-stayed, Falls-after, Falls-stayed, Ignores-after, Settles-after, Settles-stayed, Spends-after, Spends-stayed, Steps-after, follows-done}
 use Rattle.html_modes.proofs.Settled.{Counted-after}
 use Rattle.html_modes.proofs.process.foreign_rules.Goals as goal
 

@@ -161,12 +161,12 @@ around-loose a y k g e = (cond-some (is_loose a.mode) (if_goes a y k (foreign_ta
 pub around-tag : (a : State) (y : Symbol) (k : TokenKind) (g : Tag) → around_foreign a y k ≡ Some g → foreign_tag a ≡ Some g
 around-tag a y k g e = goes-some a y k (foreign_tag a) g (cond-some (is_loose a.mode) (if_goes a y k (foreign_tag a)) g e).1
 
+cond-none : (b : Bool) (n : Option Tag) → n ≡ None → cond b n None ≡ None
+cond-none true n e = e
+cond-none false n e = refl
+
 pub around-none : (a : State) (y : Symbol) (k : TokenKind) → foreign_tag a ≡ None → around_foreign a y k ≡ None
-around-none a y k e = rw e (by (is_loose a.mode))
-  where
-    by : (b : Bool) → cond b None None ≡ None
-    by true = refl
-    by false = refl
+around-none a y k e = cond-none (is_loose a.mode) (if_goes a y k (foreign_tag a)) (ap (if_goes a y k) e)
 
 pub around-some : (a : State) (y : Symbol) (k : TokenKind) (g : Tag) → foreign_tag a ≡ Some g → is_loose a.mode ≡ true → goes_by_foreign a g y k ≡ true → around_foreign a y k ≡ Some g
 around-some a y k g e l h = rw (l, e, h) refl
@@ -175,11 +175,7 @@ pub around-strict : (a : State) (y : Symbol) (k : TokenKind) → is_loose a.mode
 around-strict a y k l = rw l refl
 
 pub around-not : (a : State) (y : Symbol) (k : TokenKind) (g : Tag) → foreign_tag a ≡ Some g → goes_by_foreign a g y k ≡ false → around_foreign a y k ≡ None
-around-not a y k g e h = rw (e, h) (by (is_loose a.mode))
-  where
-    by : (b : Bool) → cond b None None ≡ None
-    by true = refl
-    by false = refl
+around-not a y k g e h = cond-none (is_loose a.mode) (if_goes a y k (foreign_tag a)) (ap (if_goes a y k) e ∙ ap (λ b. cond b (Some g) None) h)
 
 -- WHAT THE RULES CLOSE
 
