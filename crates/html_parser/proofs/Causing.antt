@@ -98,10 +98,10 @@ never-spent build.Stopped at e = absurd (let k = e in cc)
 never-spent (build.NodeBudget place) at e = absurd (let k = e in cc)
 never-spent (build.HeldBudget place) at e = absurd (let k = e in cc)
 
-pub build_spent : {C : BuildError → Type 0} (spent : Bool) (e : ParseError) (at place k n : ℕ) (o : Option Limits) → (spent ≡ true → AreTooManySteps o k n)
-    → ((e ≡ StepBudget place) × (spent ≡ true)) ⊎ ((x : BuildError) × (e ≡ build_cause x) × C x) → e ≡ StepBudget at → AreTooManySteps o k n
+pub build_spent : {C D : BuildError → Type 0} (spent : Bool) (e : ParseError) (at place k n : ℕ) (o : Option Limits) → (spent ≡ true → AreTooManySteps o k n)
+    → ((e ≡ StepBudget place) × (spent ≡ true)) ⊎ ((x : BuildError) × (e ≡ build_cause x) × C x × D x) → e ≡ StepBudget at → AreTooManySteps o k n
 build_spent spent e at place k n o limited (inl (is, over)) told = limited over
-build_spent spent e at place k n o limited (inr (x, is, c)) told = absurd (never-spent x at (sym is ∙ told))
+build_spent spent e at place k n o limited (inr (x, is, c, d)) told = absurd (never-spent x at (sym is ∙ told))
 
 -- a code point of plain text that was given, and then refused
 char-at : (start : Start) (finished : Bool) (p : Stages) (bytes : List ℕ) (run : Run) (t : Tokenizer) (place : ℕ) (text : List ℕ) (at : ℕ) → IsRun start finished p bytes run

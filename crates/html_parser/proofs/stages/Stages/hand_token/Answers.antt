@@ -85,3 +85,15 @@ returns-clause-further c =
     (c.in-Ok.ensures.takes start.setting start.limits (kinds run.given) r.handed))
     (c.counted-2.ensures.foreign start.setting start.limits (kinds run.given ++ token.kind ∷ [])
     (c.in-Ok.ensures.takes start.setting start.limits (kinds run.given) r.handed)) r
+
+pub invariant_of-self-2 : goal.invariant_of-self-2
+invariant_of-self-2 c =
+    let token = c.in-Some.token in
+    let given = rw c.in-Some.is at c.in_ok-token.ensures.given in
+    let unsaid = rw c.in-Some.is at c.in_ok-token.ensures.unsaid in
+    let says = may_say token.kind c.build.new.builder c.in-Ok.mode c.in-Ok.ensures.said in
+    record {
+      tokenizing = one_either c.args.self.now.tokenizer c.tell.new.tokenizer c.args.self.now.kept.starts c.push.new.self.starts token c.in-Ok.mode
+          (not_stopped c.next.result _ _ c.in_ok-token.was c.next.ensures.stopped) c.args.self.now.tokenizing
+          (λ run fed. c.tell.ensures.told run token (unsaid run fed) (given run fed) says) c.push.ensures.either;
+    }
