@@ -220,11 +220,16 @@ fn builder_for(alloc: Global, options: &Options) -> Result<Builder, ParseError>
     ensures good { OnOk result (HasGoodContext options.now) }
     ensures cause { IfErr result (IsBeginCause options.now) }
 {
-    let builder = match &options.context {
-        None => document_for(alloc, options.limits, options.foreign)?,
-        Some(context) => fragment_for(alloc, context, options.limits, options.foreign)?,
-    };
-    Ok(builder)
+    match &options.context {
+        None => {
+            let builder = document_for(alloc, options.limits, options.foreign)?;
+            Ok(builder)
+        }
+        Some(context) => {
+            let builder = fragment_for(alloc, context, options.limits, options.foreign)?;
+            Ok(builder)
+        }
+    }
 }
 
 /// Tree construction of a document.
