@@ -1,5 +1,5 @@
 // The mode in body (13.2.6.4.7): the start tags of the parts of a page, and of blocks.
-ghost use Rattle.std.specs.Prelude.{◌≡◌, ◌+◌, ◌<◌, ◌≤◌, [], OnOk, length, false, IfErr, true};
+ghost use Rattle.std.specs.Prelude.{◌≡◌, ◌+◌, ◌<◌, ◌≤◌, ◌⊎◌, ◌∷◌, [], OnOk, length, false, IfErr, true};
 ghost use Rattle.html_ledger.specs.Symbols.{symbol_of};
 ghost use Rattle.html_construction.specs.Budgets.{Refuses};
 ghost use Rattle.html_construction.specs.Built.{Keeps, Takes};
@@ -133,6 +133,7 @@ fn late_frameset_start(page: &mut Construction, token: &TokenKind) -> Result<(),
     ensures falls { OnOk result (Falls Done (Symbol.Start Tag.Frameset) page.old page.new) }
     ensures grows { OnOk result (Grows Done page.old page.new) }
     ensures works { OnOk result (Worked Done token.now page.old page.new) }
+    ensures replaces { OnOk result ((page.new.stack ≡ page.old.stack) ⊎ (page.new.stack ≡ Tag.Frameset ∷ Tag.Html ∷ [])) }
     ensures refuses { IfErr result (λ e. Refuses token.now e page.old page.new) }
 {
     if !page.is_frameset_ok() || !page.can_replace_body() {

@@ -1,8 +1,7 @@
 //! `zilqumet.h`, call by call: that file says what each asks for and answers. The crate `zilqumet` has the same as safe Rust.
-#![no_std]
 #![allow(non_camel_case_types)]
 
-use core::ffi::{c_char, c_int, c_void};
+use std::os::raw::{c_char, c_int, c_void};
 
 /// A page, a parser, a table of references or a buffer: each is such a struct in C.
 #[repr(C)]

@@ -11,7 +11,9 @@ fn nodes() {
     let page = parse("<!DOCTYPE html><p a=\"ä\" b>One<p>Two<!--c--><template><i>T</template>".as_bytes()).unwrap();
     let root = page.root();
     assert_eq!((root.kind(), root.parent()), (Kind::Document, None));
-    let [doctype, html] = root.children().collect::<Vec<_>>()[..] else { panic!("two children") };
+    let children: Vec<_> = root.children().collect();
+    assert_eq!(children.len(), 2);
+    let (doctype, html) = (children[0], children[1]);
     assert_eq!((doctype.kind(), doctype.doctype()), (Kind::Doctype, [Some("html"), None, None]));
     let body = html.last_child().unwrap();
     assert_eq!((html.name(), html.first_child().unwrap().name(), body.name()), ("html", "head", "body"));
