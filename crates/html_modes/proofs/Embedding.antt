@@ -1,5 +1,5 @@
 -- Foreign content: which tokens go by its rules, and what an entry makes of them.
-use Rattle.std.proofs.Common.{ℕ, ◌+◌, ◌≡◌, ◌==◌, ◌<◌, ◌≤◌, ◌&&◌, ◌||◌, Bool, true, false, not, cond, List, [], ◌∷◌, ◌++◌, Option, Some, None, Result, IfErr, IsTrue, length, refl, sym, ap, subst, ◌∙◌, arith}
+use Rattle.std.proofs.Common.{ℕ, ◌+◌, ◌≡◌, ◌==◌, ◌≤◌, ◌&&◌, ◌||◌, Bool, true, false, not, cond, List, [], ◌∷◌, Option, Some, None, IsTrue, length, refl, sym, ap, subst, ◌∙◌, arith}
 use Rattle.std.specs.Prelude.{is_some, unwrap_or, if◌then◌else◌}
 use Rattle.std.proofs.lemmas.Bool.{false≢true}
 use Rattle.html_names.specs.declared.foreign.Space.{Space}
@@ -27,7 +27,7 @@ use Rattle.html_tree.specs.States.{State as Tree}
 use Rattle.html_tree.specs.Texts.{text_node, with_text}
 use Rattle.html_construction.specs.declared.mode.Mode.{Mode}
 use Rattle.html_construction.specs.declared.mode.Mode.TheVariants as mode
-use Rattle.html_construction.specs.Built.{Keeps, Takes, with_tokens}
+use Rattle.html_construction.specs.Built.{Keeps}
 use Rattle.html_construction.specs.Calls.{HasFate, IsTree, counting, foreign_of, opened_at, placed_at}
 use Rattle.html_construction.specs.Foreign.{adjusted_tag, foreign_tag, if_foreign}
 use Rattle.html_construction.specs.Grown.{Grown}
@@ -42,23 +42,20 @@ use Rattle.html_modes.specs.declared.outcome.Outcome.TheVariants.{Done, Reproces
 use Rattle.html_modes.specs.declared.outcome.Foreign.{Foreign as Root}
 use Rattle.html_modes.specs.declared.outcome.Foreign.TheVariants as root
 use Rattle.html_modes.specs.Begun.{IgnoresIn}
-use Rattle.html_modes.specs.Fitting.{Fits, is_loose}
-use Rattle.html_modes.specs.Foreign.{Follows, FollowsForeign, IsEmbedded, IsInserted, IsRootMade, Stayed, Stays, around_foreign, breaks_out, closed_foreign, closes_itself, embedded, ends_any, ends_foreign, goes_by_foreign, goes_on, if_goes, leaves_foreign, stack_after}
-use Rattle.html_modes.specs.Guards.{is_table_text, is_text}
+use Rattle.html_modes.specs.Fitting.{is_loose}
+use Rattle.html_modes.specs.Foreign.{Follows, FollowsForeign, IsEmbedded, IsInserted, IsRootMade, Stayed, Stays, around_foreign, breaks_out, closed_foreign, closes_itself, ends_any, ends_foreign, goes_by_foreign, goes_on, if_goes, leaves_foreign, stack_after}
+use Rattle.html_modes.specs.Guards.{is_table_text}
 use Rattle.html_modes.specs.Ranks.{rank, top_rank}
 use Rattle.html_modes.specs.Plain.{IsNextInBody, TurnsInBody, is_plain_tag}
 use Rattle.html_modes.specs.RawText.{HasOpened, Opens, holds_text_alone}
-use Rattle.html_modes.specs.Steps.{Counted, Falls, Grows, Settles, Spends, Steps, Worked, compared, is_code_point, root_of, root_space}
+use Rattle.html_modes.specs.Steps.{Counted, Falls, Grows, Settles, Spends, Steps, Worked, root_of, root_space}
 use Rattle.html_modes.proofs.RawText.{adds-other, ends-other, opens-not, push-last, text-loose}
 use Rattle.html_modes.proofs.Counting.{Settles-grows}
 use Rattle.html_modes.proofs.Moded.{top_rank-loose}
-use Rattle.html_modes.proofs.Settled.{Counted-after, Counted-entry, Counted-worked, Fits-loose, Spends-one}
+use Rattle.html_modes.proofs.Settled.{Counted-entry, Counted-worked, Fits-loose, Spends-one}
 use Rattle.html_modes.proofs.Tagged.{weight_of-plain}
 
 -- ELEMENTS
-
-html-template : is_html_space (space_of tag.Template) ≡ true
-html-template = refl
 
 no-template : (t : Tag) → is_html_space (space_of t) ≡ false → is_same t tag.Template ≡ false
 no-template tag.Template e = absurd (false≢true (sym e))

@@ -1,5 +1,5 @@
 -- What a token makes that stays in foreign content, from the beginning of its call to the end: one entry is all.
-use Rattle.std.proofs.Common.{ℕ, ◌≡◌, Bool, true, false, Some, None, refl, sym, ap, subst, ◌∙◌, inl, inr}
+use Rattle.std.proofs.Common.{ℕ, ◌≡◌, false, Some, None, refl, sym, ap, subst, ◌∙◌, inl, inr}
 use Rattle.html_open.proofs.Keeps.{cases_bool}
 use Rattle.html_names.specs.declared.foreign.Space.{Space}
 use Rattle.html_names.specs.declared.tag.Tag.{Tag}
@@ -13,7 +13,7 @@ use Rattle.html_construction.specs.declared.mode.Mode.{Mode}
 use Rattle.html_construction.specs.Calls.{IsTree}
 use Rattle.html_construction.specs.Modes.{is_of_frames, is_of_selects}
 use Rattle.html_construction.specs.States.{State}
-use Rattle.html_modes.specs.Foreign.{Follows, FollowsForeign, IsEmbedded, IsInserted, Stayed, around_foreign, closes_itself, embedded, goes_on, stack_after}
+use Rattle.html_modes.specs.Foreign.{Follows, FollowsForeign, IsEmbedded, Stayed, around_foreign, closes_itself, embedded, goes_on}
 use Rattle.html_modes.specs.declared.outcome.Outcome.{Outcome}
 use Rattle.html_modes.specs.declared.outcome.Outcome.TheVariants.{Done, Reprocess}
 use Rattle.html_modes.proofs.Plain.{IsAlike, later}

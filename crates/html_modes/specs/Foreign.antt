@@ -1,4 +1,4 @@
--- Claimed, but for this crate's own functions: takes_start, takes_char, goes_by_foreign, if_goes, around_foreign, has_font_attr, breaks_out, leaves_foreign, ends_any, closed_foreign, stack_after, goes_on, closes_itself, embedded, IsEmbedded, IsRootMade, IsInserted, Stays, Stayed, Follows, FollowsForeign.
+-- Claimed, but for this crate's own functions: IsRootMade.
 -- The tokens that go by the rules for foreign content: the tree construction dispatcher (13.2.6). And those rules (13.2.6.5).
 use Rattle.std.specs.Prelude.{ℕ, ◌≡◌, ◌+◌, ◌==◌, ◌||◌, ◌&&◌, Bool, true, false, not, cond, List, [], ◌∷◌, length, is_some, Option, Some, None}
 use Rattle.html_names.specs.declared.foreign.Space.{Space}
@@ -12,7 +12,7 @@ use Rattle.html_tokens.specs.declared.token.TokenKind.TheVariants as kind
 use Rattle.html_tokens.specs.Cut.{null_replaced}
 use Rattle.html_ledger.specs.declared.fate.Fate.TheVariants.{Foreign, Text}
 use Rattle.html_ledger.specs.declared.symbol.Symbol.{Symbol}
-use Rattle.html_ledger.specs.declared.symbol.Symbol.TheVariants.{Start, End, Char, Comment, Doctype, Eof}
+use Rattle.html_ledger.specs.declared.symbol.Symbol.TheVariants.{Start, End, Char, Eof}
 use Rattle.html_ledger.specs.Entries.{number_of}
 use Rattle.html_ledger.specs.Flags.{must_drop}
 use Rattle.html_tree.specs.declared.groups.Target.TheVariants.{Current}

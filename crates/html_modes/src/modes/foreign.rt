@@ -1,11 +1,10 @@
 // The rules for parsing tokens in foreign content (13.2.6.5), and which tokens go by them (13.2.6).
 ghost use Rattle.std.specs.Prelude.{◌≡◌, ◌+◌, ◌<◌, ◌≤◌, ◌==◌, ◌||◌, ◌&&◌, [], not, IsTrue, OnOk, Some, false, is_some, length, true, IfErr};
 ghost use Rattle.std.specs.Str.{chars};
-ghost use Rattle.html_names.specs.Foreign.{is_font_attr, is_foreign, is_html_space, is_math_text_part, is_unknown_breakout, space_of};
-ghost use Rattle.html_names.specs.Tags.{is_same as same_tag};
+ghost use Rattle.html_names.specs.Foreign.{is_font_attr, is_html_space, is_math_text_part, is_unknown_breakout};
 ghost use Rattle.html_ledger.specs.Flags.{is_free, may_embed};
 ghost use Rattle.html_ledger.specs.Symbols.{symbol_of};
-ghost use Rattle.html_tree.specs.Foreign.{found_foreign, left_foreign};
+ghost use Rattle.html_tree.specs.Foreign.{found_foreign};
 ghost use Rattle.html_construction.specs.Budgets.{Refuses, RefusesAny};
 ghost use Rattle.html_construction.specs.Built.{Keeps, Takes};
 ghost use Rattle.html_construction.specs.Calls.{IsTree};
@@ -16,7 +15,6 @@ ghost use Rattle.html_construction.specs.Weights.{weight};
 ghost use Rattle.html_construction.specs.Works.{Works};
 ghost use Rattle.html_modes.specs.Fitting.{Calls, Fits};
 ghost use Rattle.html_modes.specs.Foreign.{IsEmbedded, IsInserted, IsRootMade, Stays, around_foreign, breaks_out, closed_foreign, closes_itself, ends_any, ends_foreign, goes_by_foreign, goes_on, has_font_attr, is_html_point_here, stack_after, takes_char, takes_start};
-ghost use Rattle.html_modes.specs.Plain.{TurnsInBody};
 ghost use Rattle.html_modes.specs.RawText.{HasOpened, Opens};
 ghost use Rattle.html_modes.specs.Steps.{Falls, Grows, Worked};
 ghost use Rattle.html_modes.specs.declared.outcome.Outcome.TheVariants.{Done};

@@ -1,6 +1,6 @@
-use Rattle.std.proofs.Common.{ap, sym, ◌∙◌}
+use Rattle.std.proofs.Common.{ap}
 use Rattle.html_construction.specs.States.{State}
-use Rattle.html_modes.proofs.Begun.{ignores-done, ignores-in, stays-same, stays-then}
+use Rattle.html_modes.proofs.Begun.{ignores-done, ignores-in}
 use Rattle.html_modes.proofs.Embedding.{Counted-stayed, Falls-after, Falls-stayed, Ignores-after, Settles-after, Settles-stayed, Spends-after, Spends-stayed, Steps-after, follows-done}
 use Rattle.html_modes.proofs.Settled.{Counted-after}
 use Rattle.html_modes.proofs.process.foreign_rules.Goals as goal
@@ -40,4 +40,3 @@ returns-clause-ignores c = ignores-in _ _ c.args.symbol (ignores-done c.args.sym
 
 pub returns-clause-follows : goal.returns-clause-follows
 returns-clause-follows c = λ n. follows-done c.args.around c.args.symbol c.args.token.now c.args.page.now c.goes_on.new.page c.stay.new.page c.goes_on.result c.goes_on.ensures.answer c.if-goes_on.false c.goes_on.ensures.same c.goes_on.ensures.exact c.in_ok-stay.ensures.stays c.in_ok-stay.ensures.ended
-

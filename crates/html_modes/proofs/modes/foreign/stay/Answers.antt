@@ -1,4 +1,4 @@
-use Rattle.std.proofs.Common.{ap, refl, ◌∙◌}
+use Rattle.std.proofs.Common.{ap}
 use Rattle.html_modes.specs.Foreign.{ends_any}
 use Rattle.html_modes.proofs.Embedding.{may-around}
 use Rattle.html_modes.proofs.modes.foreign.stay.Goals as goal
