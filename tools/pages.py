@@ -75,8 +75,6 @@ def worked_pages():
         if "in_form" in words or "quirks" in words:
             continue
         options = [it for word in ("nodes", "held", "input", "steps") if word in words for it in (f"--max-{word}", words[word])]
-        if "foreign" in words:
-            options += ["--foreign", "parse"]
         if "context" in words:
             options += ["--fragment", unescaped(words["context"])]
         if "foreign" in words:

@@ -1,4 +1,4 @@
--- Claimed, but for this crate's own functions: or_said.
+-- Claimed.
 -- What is said of the text after a token: what its fate says; and, where foreign content was made or is the context, whether it is read as that of
 -- foreign content (13.2.6.2, 13.2.6.4, and 13.2.5.42).
 use Rattle.std.specs.Prelude.{◌≡◌, ◌⊎◌, Bool, true, false, List, length, Option, Some, None, if◌then◌else◌}
