@@ -1,6 +1,6 @@
 //! Numbers that cross to C.
 
-ghost use Rattle.std.specs.Prelude.{◌≡◌, Option, None, Some, MatchOption, length};
+ghost use Rattle.std.specs.Prelude.{◌≡◌, ◌-◌, ◌^◌, Option, None, Some, MatchOption, length, min};
 ghost use Rattle.html_arena.specs.declared.arena.Limits.{Limits};
 ghost use Rattle.zilqumet_c.specs.Reads.{foreign_in, limits_in, options_in, tree_in, IfPage};
 
@@ -68,7 +68,9 @@ fn foreign_of(number: u64) -> Foreign
 }
 
 /// A count in 64 bits.
-fn few(count: u128) -> u64 {
+fn few(count: u128) -> u64
+    ensures { result ≡ min count (2 ^ 64 - 1) }
+{
     u64::try_from(count).unwrap_or(u64::MAX)
 }
 
@@ -77,6 +79,7 @@ fn few(count: u128) -> u64 {
 pub extern "C" fn proved_counts_of(alloc: Global, page: &mut Slot, counts: &mut ZqCounts) -> u32
     ensures kept { page.new.value ≡ page.old.value }
     ensures told { IfPage page.old.value (λ t. (result ≡ 0) × (counts.new.code_points ≡ t.n) × (counts.new.nodes ≡ length t.arena.labels)
+        × (counts.new.held ≡ min t.arena.held (2 ^ 64 - 1)) × (counts.new.steps ≡ min t.steps (2 ^ 64 - 1))
         × (counts.new.tokens ≡ t.token_count) × (counts.new.errors ≡ length t.errors.items)) }
 {
     let held = page.take(alloc);
@@ -91,6 +94,7 @@ pub extern "C" fn proved_counts_of(alloc: Global, page: &mut Slot, counts: &mut 
 /// What a page counts.
 fn count(held: &Held, counts: &mut ZqCounts) -> u32
     ensures { IfPage (Some held.now) (λ t. (result ≡ 0) × (counts.new.code_points ≡ t.n) × (counts.new.nodes ≡ length t.arena.labels)
+        × (counts.new.held ≡ min t.arena.held (2 ^ 64 - 1)) × (counts.new.steps ≡ min t.steps (2 ^ 64 - 1))
         × (counts.new.tokens ≡ t.token_count) × (counts.new.errors ≡ length t.errors.items)) }
 {
     let Held::Page(page) = held else {
