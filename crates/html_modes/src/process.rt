@@ -40,7 +40,7 @@ use html_names::Tag;
 use html_tokens::TokenKind;
 
 /// Takes the next token through all its entries into the rules of the modes, and answers none; or answers which foreign content the token begins,
-/// where it is a start tag that no rule takes; this is so in no call that begins inside a select or in a page of frames. `symbol` is the token as the rules tell tokens apart. `entries` counts the entries.
+/// where that is refused; this is so in no call that begins inside a select or in a page of frames. `symbol` is the token as the rules tell tokens apart. `entries` counts the entries.
 ///
 /// # Errors
 ///
