@@ -77,6 +77,8 @@ def worked_pages():
         options = [it for word in ("nodes", "held", "input", "steps") if word in words for it in (f"--max-{word}", words[word])]
         if "context" in words:
             options += ["--fragment", unescaped(words["context"])]
+        if "foreign" in words:
+            options += ["--foreign", "parse"]
         rows.append((options, unescaped(page).encode()))
     return rows
 
@@ -124,9 +126,14 @@ def files(folder):
     yield from sorted(it for it in Path(folder).rglob("*.htm*") if it.suffix in (".html", ".htm") and it.is_file())
 
 
+def module_of(suites, name):
+    """Returns a module of the model in a folder of suites."""
+    spec = importlib.util.spec_from_file_location(name, Path(suites, "model", f"{name}.py"))
+    module = importlib.util.module_from_spec(spec)
+    spec.loader.exec_module(module)
+    return module
+
+
 def model_of(suites):
     """Returns the model in a folder of suites, as a module."""
-    spec = importlib.util.spec_from_file_location("profile_model", Path(suites, "model", "profile_model.py"))
-    model = importlib.util.module_from_spec(spec)
-    spec.loader.exec_module(model)
-    return model
+    return module_of(suites, "profile_model")
