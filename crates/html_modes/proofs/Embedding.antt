@@ -336,6 +336,14 @@ Falls-stayed y a m b l e f w v =
 pub follows-none : (o : Outcome) (y : Symbol) (k : TokenKind) (a b : State) → around_foreign a y k ≡ None → FollowsForeign o y k a b
 follows-none o y k a b e = record { follows = λ g f h d s r. absurd (let z : None ≡ Some g = sym e ∙ f in cc) }
 
+-- where none was made and none is the context
+pub follows-native : (o : Outcome) (y : Symbol) (k : TokenKind) (a b : State) → a.ledger.history.foreign ≡ false → FollowsForeign o y k a b
+follows-native o y k a b e = follows-none o y k a b (around-none a y k (by a.ledger.history.foreign (if_foreign (adjusted_tag a)) e))
+  where
+    by : (h : Bool) (n : Option Tag) → h ≡ false → (if h then n else None) ≡ None
+    by false n e = refl
+    by true n e = absurd (false≢true (sym e))
+
 pub follows-table_text : (o : Outcome) (y : Symbol) (k : TokenKind) (a b : State) → is_table_text a.mode ≡ true → FollowsForeign o y k a b
 follows-table_text o y k a b e = follows-none o y k a b (around-strict a y k (by a.mode e))
   where
@@ -352,6 +360,6 @@ follows-astray o y k a b n = record { follows = λ g f h d s r. absurd (n s r) }
 pub follows-some : (o : Outcome) (y : Symbol) (k : TokenKind) (g : Tag) (a b : State) → around_foreign a y k ≡ Some g → (goes_on a.tree y k ≡ false → Follows g o y k a b) → FollowsForeign o y k a b
 follows-some o y k g a b e f = record { follows = λ u v h d s r. subst (λ x. Follows x o y k a b) (let z : Some g ≡ Some u = sym e ∙ v in cc) (f h) }
 
-pub ruleset step_foreign = (around-loose, around-tag, follows-none, follows-table_text, follows-dropped, follows-astray, follows-some, text-loose, adds-other, ends-other)
+pub ruleset step_foreign = (around-loose, around-tag, follows-none, follows-native, follows-table_text, follows-dropped, follows-astray, follows-some, text-loose, adds-other, ends-other)
 
 pub ruleset foreign_rules = (Fits-loose, any-refused)

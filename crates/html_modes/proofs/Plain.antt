@@ -34,7 +34,6 @@ use Rattle.html_tree.proofs.OpenTags.{length-tags, push-tags}
 use Rattle.html_construction.specs.declared.mode.Mode.{Mode}
 use Rattle.html_construction.specs.declared.mode.Mode.TheVariants as mode
 use Rattle.html_construction.specs.Calls.{IsTree}
-use Rattle.html_construction.specs.Foreign.{foreign_tag}
 use Rattle.html_construction.specs.States.{State}
 use Rattle.html_construction.proofs.Weighing.{same-tag}
 use Rattle.html_construction.specs.Modes.{is_of_frames, is_of_selects}
@@ -314,12 +313,9 @@ turns-dropped o y k a b c e = turns-never o y k a b (λ h. let z = sym (must-non
 pub turns-astray : (o : Outcome) (y : Symbol) (k : TokenKind) (a b : State) → (is_of_selects a.mode ≡ false → is_of_frames a.mode ≡ false → ⊥) → Turns o y k a b
 turns-astray o y k a b n = turns-never o y k a b (λ h. let z = own-mode a.mode a.stack h.plain.stands in n z.0 z.1)
 
--- nor does it go by the rules for foreign content
-pub turns-foreign : (o : Outcome) (y : Symbol) (k : TokenKind) (g : Tag) (a b : State) → foreign_tag a ≡ Some g → Turns o y k a b
-turns-foreign o y k g a b e = turns-never o y k a b (λ h. let z : None ≡ Some g = sym (no-foreign a h.plain.no_foreign) ∙ e in cc)
-  where
-    no-foreign : (a : State) → a.ledger.history.foreign ≡ false → foreign_tag a ≡ None
-    no-foreign a e = rw e refl
+-- nor was foreign content made
+pub turns-embedded : (o : Outcome) (y : Symbol) (k : TokenKind) (a b : State) → a.ledger.history.foreign ≡ true → Turns o y k a b
+turns-embedded o y k a b e = turns-never o y k a b (λ h. false≢true (sym h.plain.no_foreign ∙ e))
 
 -- the modes in which no plain page stands
 abbrev pub is_other : Mode → Bool
@@ -623,6 +619,6 @@ goes-on o y k a n b d q f t same w g = λ h.
 pub goes-not : (o : Outcome) (y : Symbol) (k : TokenKind) (a n b : State) → o ≡ Reprocess → IsAlike a n → Turns o y k n b → IsNext y k a → ⊥
 goes-not o y k a n b q f t h = (let z : Turns Reprocess y k n b = subst (λ x. Turns x y k n b) q t in z (next-alike y k a n f h))
 
-pub ruleset step_plain = (turns-table_text, turns-astray, turns-foreign)
+pub ruleset step_plain = (turns-table_text, turns-astray, turns-embedded)
 
 pub ruleset rules_plain = (turns-other)

@@ -40,7 +40,7 @@ use html_names::Tag;
 use html_tokens::TokenKind;
 
 /// Takes the next token through all its entries into the rules of the modes, and answers none; or answers which foreign content the token begins,
-/// where it is a start tag that no rule takes; this is so in no call that begins inside a select or in a page of frames. `symbol` is the token as the rules tell tokens apart. `entries` counts the entries.
+/// where that is refused; this is so in no call that begins inside a select or in a page of frames. `symbol` is the token as the rules tell tokens apart. `entries` counts the entries.
 ///
 /// # Errors
 ///
@@ -141,6 +141,44 @@ fn step(page: &mut Construction, token: &TokenKind, symbol: Symbol) -> Result<Ou
         page.set_mode(Mode::InBody);
         return Ok(Outcome::Reprocess);
     }
+    if page.history().foreign {
+        let outcome = dispatch(page, token, symbol)?;
+        return Ok(outcome);
+    }
+    let outcome = rules(page, token, symbol)?;
+    Ok(outcome)
+}
+
+/// The tree construction dispatcher (13.2.6), where foreign content was made or is the context.
+#[tactic(auto, using(crate::proofs::Settled::step_rules, crate::proofs::Plain::step_plain, crate::proofs::RawText::step_texts, crate::proofs::Begun::text_stays, crate::proofs::Embedding::step_foreign))]
+#[inline(never)]
+fn dispatch(page: &mut Construction, token: &TokenKind, symbol: Symbol) -> Result<Outcome, Refusal>
+    requires symbol { symbol_of token.now ≡ symbol }
+    requires foreign { page.old.ledger.history.foreign ≡ true }
+    requires fits { Fits page.old }
+    requires quiet { page.old.ledger.kept ≡ [] }
+    requires free { IsTrue (is_free page.old.ledger.history symbol) }
+    requires other { is_table_text page.old.mode ≡ false }
+    requires select { is_droppable symbol ≡ true → is_of_selects page.old.mode ≡ true → may_select page.old.ledger.history ≡ true }
+    requires frameset { is_droppable symbol ≡ true → is_of_frames page.old.mode ≡ true → page.old.ledger.history.frameset ≡ true }
+    requires in_select { is_droppable symbol ≡ true → is_of_selects page.old.mode ≡ true → is_of_selects page.old.began ≡ true }
+    requires in_frameset { is_droppable symbol ≡ true → is_of_frames page.old.mode ≡ true → is_of_frames page.old.began ≡ true }
+    ensures fits { OnOk result (Fits page.new) }
+    ensures takes { IfOk result (λ o. Steps o token.now page.old page.new) }
+    ensures parses { OnOk result (page.new.parses_foreign ≡ page.old.parses_foreign) }
+    ensures falls { IfOk result (λ o. Falls o symbol page.old page.new) }
+    ensures out { OnOk result (TextStays symbol page.old.mode page.new.mode) }
+    ensures spends { OnOk result (Spends 2 page.old page.new) }
+    ensures counts { IfOk result (λ o. Counted 26 o token.now page.old page.new) }
+    ensures ignores { IfOk result (λ o. IgnoresIn page.old.mode o symbol) }
+    ensures settles { IfOk result (λ o. Settles o symbol page.old page.new) }
+    ensures plain { IfOk result (λ o. Turns o symbol token.now page.old page.new) }
+    ensures opens { IfOk result (λ o. Opens o symbol page.new) }
+    ensures adds { IfOk result (λ o. Adds o symbol page.old page.new) }
+    ensures ends { IfOk result (λ o. Ends o symbol token.now page.old page.new) }
+    ensures foreign { IfOk result (λ o. FollowsForeign o symbol token.now page.old page.new) }
+    ensures refuses { IfErr result (λ e. Refuses token.now e page.old page.new) }
+{
     if let Some(around) = around_foreign(page, token, symbol) {
         let outcome = foreign_rules(page, token, symbol, around)?;
         return Ok(outcome);
