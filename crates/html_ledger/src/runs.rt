@@ -14,6 +14,7 @@ pub struct Run {
 }
 
 /// Adds the fate of so many more tokens.
+#[inline(always)]
 pub(crate) fn add(runs: &mut Vec<Run>, fate: &Fate, count: u64) -> Result<(), AllocError>
     requires filled { AllFilled runs.old.items }
     requires apart { AllApart runs.old.items }

@@ -129,7 +129,10 @@ impl OpenTree {
         ensures tags { open_tags self.new ≡ open_tags self.old }
     {
         let steps = self.list.look_steps();
-        self.charge(steps * times as u128);
+        let _ = self.steps();
+        if steps > 0 {
+            self.charge(steps * times as u128);
+        }
     }
 
     /// Follows an end tag of a formatting name (13.2.6.4.7, the adoption agency).

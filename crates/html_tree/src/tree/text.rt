@@ -1,5 +1,5 @@
 // Text.
-ghost use Rattle.std.specs.Prelude.{◌≡◌, ℕ, ◌+◌, ◌*◌, ◌<◌, ◌≤◌, Err, IfErr, IfOk, IfSome, None, OnErr, OnOk, length, take};
+ghost use Rattle.std.specs.Prelude.{◌≡◌, ℕ, ◌+◌, ◌*◌, ◌-◌, ◌^◌, ◌<◌, ◌≤◌, Err, IfErr, IfOk, IfSome, None, OnErr, OnOk, length, min, take};
 ghost use Rattle.html_names.specs.Sets.{is_fostering};
 ghost use Rattle.html_arena.specs.declared.arena.ArenaError.TheVariants as arena;
 ghost use Rattle.html_arena.specs.Budget.{budget};
@@ -51,8 +51,28 @@ impl OpenTree {
         let steps = self.here_steps(foster);
         let node = self.text_at(foster)?;
         let count = self.append_to(node, run)?;
-        self.charge(steps.saturating_mul((count - 1) as u128));
+        self.charge_again(steps, count - 1);
         Ok((node, count))
+    }
+
+    /// Counts the steps of a place so many times: nearly always one step, or no time.
+    #[inline(always)]
+    fn charge_again(&mut self, steps: u128, times: usize)
+        ensures rest { self.new ≡ record self.old { steps = self.new.steps } }
+        ensures counted { self.new.steps ≡ more self.old.steps (min (steps * times) (2 ^ 128 - 1)) }
+        ensures keeps { Keeps self.old self.new }
+        ensures grown { Grown 0 0 0 0 self.old self.new }
+        ensures tags { open_tags self.new ≡ open_tags self.old }
+    {
+        let _ = self.steps();
+        if times == 0 {
+            return;
+        }
+        if steps == 1 {
+            self.charge(times as u128);
+        } else {
+            self.charge(steps.saturating_mul(times as u128));
+        }
     }
 
     /// How many steps the place for the current node counts.

@@ -25,10 +25,10 @@ returns-in_err-count-clause-told c =
 pub returns-clause-counted : goal.returns-clause-counted
 returns-clause-counted c =
     run-steps c.args.self.now.steps (here_steps c.args.self.now c.args.foster) (new_text_steps (text_before c.args.self.now.tree (place_here c.args.self.now c.args.foster)) (here_steps c.args.self.now c.args.foster)) c.in_ok-count.count
-    c.text_at.new.self.steps c.append_to.new.self.steps c.saturating_mul.result c.charge.new.self.steps c.in_ok-count.ensures.count.0 c.in_ok-node.ensures.counted c.in_ok-count.ensures.counted
-    (c.saturating_mul.ensures ∙ ap (λ h. min (h * (c.in_ok-count.count - 1)) (2 ^ 128 - 1)) c.here_steps-steps.ensures.value) c.charge.ensures.counted
+    c.text_at.new.self.steps c.append_to.new.self.steps (min (c.here_steps-steps.result * (c.in_ok-count.count - 1)) (2 ^ 128 - 1)) c.charge_again.new.self.steps c.in_ok-count.ensures.count.0 c.in_ok-node.ensures.counted c.in_ok-count.ensures.counted
+    (ap (λ h. min (h * (c.in_ok-count.count - 1)) (2 ^ 128 - 1)) c.here_steps-steps.ensures.value) c.charge_again.ensures.counted
 
 pub returns-clause-steps : goal.returns-clause-steps
 returns-clause-steps c =
     run-most c.args.self.now.steps (here_steps c.args.self.now c.args.foster) (new_text_steps (text_before c.args.self.now.tree (place_here c.args.self.now c.args.foster)) (here_steps c.args.self.now c.args.foster)) c.in_ok-count.count
-    (length c.args.self.now.stack) c.charge.new.self.steps c.in_ok-count.ensures.count.0 (place-most c.args.self.now.tree c.args.self.now.stack c.args.foster) (new-text-most (text_before c.args.self.now.tree (place_here c.args.self.now c.args.foster)) (here_steps c.args.self.now c.args.foster)) (returns-clause-counted c)
+    (length c.args.self.now.stack) c.charge_again.new.self.steps c.in_ok-count.ensures.count.0 (place-most c.args.self.now.tree c.args.self.now.stack c.args.foster) (new-text-most (text_before c.args.self.now.tree (place_here c.args.self.now c.args.foster)) (here_steps c.args.self.now c.args.foster)) (returns-clause-counted c)
