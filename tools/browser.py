@@ -2,6 +2,7 @@
 import base64
 import json
 import os
+import select
 import subprocess
 import sys
 import tempfile
@@ -9,6 +10,8 @@ from pathlib import Path
 
 # What is newer than the profile, and can be switched off.
 LATER = "HTMLProcessingInstruction,DocumentPatching"
+# seconds that an answer may take
+PATIENCE = 300
 WORDS = ["--headless", "--no-sandbox", "--disable-gpu", "--disable-dev-shm-usage", "--disable-extensions", "--no-first-run", "--remote-debugging-pipe"]
 
 
@@ -44,9 +47,11 @@ class Browser:
 
     def answer(self):
         while b"\0" not in self.unread:
+            if not select.select([self.answers], [], [], PATIENCE)[0]:
+                sys.exit(f"the browser has not answered for {PATIENCE} seconds")
             part = os.read(self.answers, 1 << 20)
             if not part:
-                sys.exit("the browser ended")
+                sys.exit("the browser ended: is it there?")
             self.unread += part
         text, _, self.unread = self.unread.partition(b"\0")
         return json.loads(text)
