@@ -60,6 +60,29 @@ def page(chance, is_bytes, most=30):
     return text
 
 
+def unescaped(text):
+    return "".join(SHOWN.get(c, c) for c in text)
+
+
+def worked_pages():
+    """Returns the rows of page_cases, but those in a form or in quirks mode, as the arguments and the bytes that the program takes."""
+    rows = []
+    for line in (TOP / "crates/page_cases/stdin").read_bytes().decode().split("\n")[1:]:
+        if line.count("|") < 2:
+            continue
+        _, words, page = line.split("|", 2)
+        words = dict(it.partition("=")[::2] for it in words.split())
+        if "in_form" in words or "quirks" in words:
+            continue
+        options = [it for word in ("nodes", "held", "input", "steps") if word in words for it in (f"--max-{word}", words[word])]
+        if "context" in words:
+            options += ["--fragment", unescaped(words["context"])]
+        if "foreign" in words:
+            options += ["--foreign", "parse"]
+        rows.append((options, unescaped(page).encode()))
+    return rows
+
+
 def parts(chance):
     """Returns the bytes of a page of parts of tags, comments, doctypes and references."""
     return "".join(chance.choices(PARTS, k=chance.randrange(1, 15))).encode()
@@ -103,30 +126,14 @@ def files(folder):
     yield from sorted(it for it in Path(folder).rglob("*.htm*") if it.suffix in (".html", ".htm") and it.is_file())
 
 
-def unescaped(text):
-    return "".join(SHOWN.get(c, c) for c in text)
-
-
-def worked_pages():
-    """Returns the rows of page_cases, but those in a form or in quirks mode, as the arguments and the bytes that the program takes."""
-    rows = []
-    for line in (TOP / "crates/page_cases/stdin").read_bytes().decode().split("\n")[1:]:
-        if line.count("|") < 2:
-            continue
-        _, words, page = line.split("|", 2)
-        words = dict(it.partition("=")[::2] for it in words.split())
-        if "in_form" in words or "quirks" in words:
-            continue
-        options = [it for word in ("nodes", "held", "input", "steps") if word in words for it in (f"--max-{word}", words[word])]
-        if "context" in words:
-            options += ["--fragment", unescaped(words["context"])]
-        rows.append((options, unescaped(page).encode()))
-    return rows
+def module_of(suites, name):
+    """Returns a module of the model in a folder of suites."""
+    spec = importlib.util.spec_from_file_location(name, Path(suites, "model", f"{name}.py"))
+    module = importlib.util.module_from_spec(spec)
+    spec.loader.exec_module(module)
+    return module
 
 
 def model_of(suites):
     """Returns the model in a folder of suites, as a module."""
-    spec = importlib.util.spec_from_file_location("profile_model", Path(suites, "model", "profile_model.py"))
-    model = importlib.util.module_from_spec(spec)
-    spec.loader.exec_module(model)
-    return model
+    return module_of(suites, "profile_model")

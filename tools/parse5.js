@@ -4,6 +4,8 @@
 const parse5 = require("parse5");
 const {createElement} = parse5.defaultTreeAdapter;
 const HTML = "http://www.w3.org/1999/xhtml";
+// how the tests write the namespaces of foreign content
+const SPACES = {"http://www.w3.org/2000/svg": "svg ", "http://www.w3.org/1998/Math/MathML": "math "};
 // errors of tree construction, and of the input stream
 const OTHER_ERRORS = new Set([
     "abandoned-head-element-child", "closing-of-element-with-open-child-elements", "disallowed-content-in-noscript-in-head",
@@ -18,9 +20,14 @@ function doctype(node) {
     return `<!DOCTYPE ${node.name ?? ""}${ids}>`;
 }
 
+// an attribute of another namespace by its prefix, of which `xmlns` alone has none
+function attribute({prefix, namespace, name, value}) {
+    return [namespace ? `${prefix || "xmlns"} ${name}` : name, value];
+}
+
 function* attributes(node, indent) {
-    const sorted = [...node.attrs].sort((a, b) => (a.name < b.name ? -1 : a.name > b.name ? 1 : 0));
-    for (const {name, value} of sorted) yield `${indent}  ${name}="${value}"\n`;
+    const sorted = node.attrs.map(attribute).sort(([a], [b]) => (a < b ? -1 : a > b ? 1 : 0));
+    for (const [name, value] of sorted) yield `${indent}  ${name}="${value}"\n`;
 }
 
 function* lines(node, level) {
@@ -29,7 +36,7 @@ function* lines(node, level) {
     else if (node.nodeName === "#comment") yield `${indent}<!-- ${node.data} -->\n`;
     else if (node.nodeName === "#documentType") yield `${indent}${doctype(node)}\n`;
     else {
-        yield `${indent}<${node.tagName}>\n`;
+        yield `${indent}<${SPACES[node.namespaceURI] ?? ""}${node.tagName}>\n`;
         yield* attributes(node, indent);
         if (node.content) {
             yield `${indent}  content\n`;

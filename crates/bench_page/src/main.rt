@@ -1,11 +1,11 @@
-//! How long pages take. `bench FILE REPS` parses the bytes of a file so many times to a tree and lets it go, and prints one line: `ours`, the
+//! How long pages take, foreign content parsed. `bench FILE REPS` parses the bytes of a file so many times to a tree and lets it go, and prints one line: `ours`, the
 //! bytes, the times, the least and the median time of a parse and the least time in which a tree was let go, in milliseconds, the nodes,
 //! and the most memory that the process had, in kilobytes (0 where the system doesn't tell). `ledger FILE REPS` does the same with a parser
 //! that keeps the tokens and their fates. Without an argument it parses small pages, and prints how large their trees are.
 #![tactic(auto)]
 
 use anyhow::{Result, bail};
-use html_parser::{EntityTable, ParseError, parse, parse_tree};
+use html_parser::{EntityTable, Foreign, Options, ParseError, parse_tree_with, parse_with};
 use std::alloc::{AllocError, Global};
 use std::env;
 use std::fs::File;
@@ -19,7 +19,7 @@ struct Load {
     times: u32,
 }
 
-const LOADS: [Load; 5] = [
+const LOADS: [Load; 6] = [
     Load {
         name: "text",
         piece: "The quick brown fox jumps over the lazy dog. ",
@@ -43,6 +43,11 @@ const LOADS: [Load; 5] = [
     Load {
         name: "reopened",
         piece: "<p><b id=a><i id=b>x",
+        times: 10,
+    },
+    Load {
+        name: "icons",
+        piece: "<svg viewbox=\"0 0 24 24\"><path d=\"M1 2h3\"/></svg>",
         times: 10,
     },
 ];
@@ -90,7 +95,7 @@ fn show(rt: &HostRuntime, table: &EntityTable, load: &Load) -> Result<()> {
 
 /// How many tokens and nodes a page has.
 fn sizes(alloc: Global, table: &EntityTable, page: &[u8]) -> Result<(u64, u64), ParseError> {
-    let tree = parse_tree(alloc, table, page)?;
+    let tree = parse_tree_with(alloc, table, &options(), page)?;
     Ok((tree.token_count, tree.arena.len()))
 }
 
@@ -153,9 +158,14 @@ fn bench(
     Ok(())
 }
 
+/// What is asked of parsing.
+fn options() -> Options {
+    Options::new().with_foreign(Foreign::Parse)
+}
+
 fn with_ledger(rt: &HostRuntime, table: &EntityTable, bytes: &[u8]) -> Result<Taken> {
     let start = Instant::now(rt)?;
-    let page = parse(rt.alloc(), table, bytes)?;
+    let page = parse_with(rt.alloc(), table, &options(), bytes)?;
     let parse = start.elapsed(rt)?.as_micros();
     let nodes = page.arena.len();
     let start = Instant::now(rt)?;
@@ -166,7 +176,7 @@ fn with_ledger(rt: &HostRuntime, table: &EntityTable, bytes: &[u8]) -> Result<Ta
 
 fn without_ledger(rt: &HostRuntime, table: &EntityTable, bytes: &[u8]) -> Result<Taken> {
     let start = Instant::now(rt)?;
-    let tree = parse_tree(rt.alloc(), table, bytes)?;
+    let tree = parse_tree_with(rt.alloc(), table, &options(), bytes)?;
     let parse = start.elapsed(rt)?.as_micros();
     let nodes = tree.arena.len();
     let start = Instant::now(rt)?;

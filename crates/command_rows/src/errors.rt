@@ -1,17 +1,17 @@
 //! The status and the line of each error.
 
 use anyhow::Result;
-use html_parser::{Foreign, OverWrite, ParseError};
+use html_parser::{ForeignRoot, OverWrite, ParseError};
 use html_refusal::{outcome, tell};
 use std::alloc::Global;
 
 const SVG: ParseError = ParseError::ForeignContent {
-    name: Foreign::Svg,
+    name: ForeignRoot::Svg,
     at: 0,
 };
 
 const MATH: ParseError = ParseError::ForeignContent {
-    name: Foreign::Math,
+    name: ForeignRoot::Math,
     at: 7,
 };
 

@@ -214,8 +214,8 @@ counted-none ts a s w =
 -- BY THE TOKENS ALONE
 
 -- what entries and fees come to
-entries-most : (t d m : ℕ) → t ≤ m → d ≤ 17 * t + 1 → (16 + 16 * t) * (24 * (2 * d + 4) + 25) ≤ (16 + 16 * m) * (816 * m + 169)
-entries-most t d m p q = mul-le (16 + 16 * t) (24 * (2 * d + 4) + 25) (16 + 16 * m) (816 * m + 169) (omega (arith, p)) (omega (arith, p, q))
+entries-most : (t d m : ℕ) → t ≤ m → d ≤ 17 * t + 1 → (16 + 16 * t) * (26 * (2 * d + 4) + 25) ≤ (16 + 16 * m) * (884 * m + 181)
+entries-most t d m p q = mul-le (16 + 16 * t) (26 * (2 * d + 4) + 25) (16 + 16 * m) (884 * m + 181) (omega (arith, p)) (omega (arith, p, q))
 
 tolls-most : (f d l m : ℕ) → f ≤ m → d ≤ 17 * m + 1 → l ≤ 40 + 32 * m + (f * f + 35 * f) → f * (d + f + 7) + l + 4 * d + 3 * f + 37 ≤ 19 * (m * m) + 146 * m + 81
 tolls-most f d l m p q r =
@@ -228,20 +228,20 @@ tolls-most f d l m p q r =
     ring m = grind arith
 
 fees-most : (f d l m : ℕ) → f ≤ m → d ≤ 17 * m + 1 → l ≤ 40 + 32 * m + (f * f + 35 * f)
-    → f * (10 * (f * (d + f + 7) + l + 4 * d + 3 * f + 37) + 24 * (2 * d + 4) + 50) ≤ m * (190 * (m * m) + 2276 * m + 1004)
+    → f * (10 * (f * (d + f + 7) + l + 4 * d + 3 * f + 37) + 26 * (2 * d + 4) + 50) ≤ m * (190 * (m * m) + 2344 * m + 1016)
 fees-most f d l m p q r =
     let a = tolls-most f d l m p q r in
-    mul-le f (10 * (f * (d + f + 7) + l + 4 * d + 3 * f + 37) + 24 * (2 * d + 4) + 50) m (190 * (m * m) + 2276 * m + 1004) p (omega (arith, a, q))
+    mul-le f (10 * (f * (d + f + 7) + l + 4 * d + 3 * f + 37) + 26 * (2 * d + 4) + 50) m (190 * (m * m) + 2344 * m + 1016) p (omega (arith, a, q))
 
 attributes-most : (a t m : ℕ) → a ≤ m → t ≤ m → a * a * (t + 1) ≤ m * m * (m + 1)
 attributes-most a t m p q = mul-le (a * a) (t + 1) (m * m) (m + 1) (mul-le a a m m p p) (omega (arith, q))
 
-all-most : (n : ℕ) → (n + 1) * (190 * ((n + 1) * (n + 1)) + 2276 * (n + 1) + 1004) + (16 + 16 * (n + 1)) * (816 * (n + 1) + 169) + 2 * ((n + 1) * (n + 1) * ((n + 1) + 1)) ≤ most_tree_steps n
+all-most : (n : ℕ) → (n + 1) * (190 * ((n + 1) * (n + 1)) + 2344 * (n + 1) + 1016) + (16 + 16 * (n + 1)) * (884 * (n + 1) + 181) + 2 * ((n + 1) * (n + 1) * ((n + 1) + 1)) ≤ most_tree_steps n
 all-most n = let a = ring n in omega (arith, a)
   where
     ring : (n : ℕ) → 512 * ((n + 32) * (n + 32) * (n + 32))
-        ≡ (n + 1) * (190 * ((n + 1) * (n + 1)) + 2276 * (n + 1) + 1004) + (16 + 16 * (n + 1)) * (816 * (n + 1) + 169) + 2 * ((n + 1) * (n + 1) * ((n + 1) + 1))
-        + (320 * ((n + 1) * (n + 1) * (n + 1)) + 32282 * ((n + 1) * (n + 1)) + 1459332 * (n + 1) + 15250288)
+        ≡ (n + 1) * (190 * ((n + 1) * (n + 1)) + 2344 * (n + 1) + 1016) + (16 + 16 * (n + 1)) * (884 * (n + 1) + 181) + 2 * ((n + 1) * (n + 1) * ((n + 1) + 1))
+        + (320 * ((n + 1) * (n + 1) * (n + 1)) + 31126 * ((n + 1) * (n + 1)) + 1458040 * (n + 1) + 15250096)
     ring n = grind arith
 
 -- so many steps at most, where no more elements come from no token than no token asked for

@@ -21,9 +21,8 @@ use Rattle.html_ledger.specs.declared.fate.Cause.TheVariants as cause
 use Rattle.html_ledger.specs.declared.fate.Fate.{Fate}
 use Rattle.html_ledger.specs.declared.fate.Fate.TheVariants as fate
 use Rattle.html_ledger.specs.Symbols.{symbol_of}
-use Rattle.html_ledger.specs.Runs.{last_of}
 use Rattle.html_construction.specs.Budgets.{IsPassed, IsRefused, Refuses, RefusesAny}
-use Rattle.html_construction.specs.Built.{Accepts, AcceptsRun, Handed as Given, IsBuilt, chars_of, ends_made, in_call, nothing_of, some_made, symbols, with_tokens}
+use Rattle.html_construction.specs.Built.{Accepts, AcceptsRun, Handed as Given, IsBuilt, chars_of, in_call, nothing_of, some_made, symbols, with_tokens}
 use Rattle.html_construction.specs.Begun.{IsFounded, IsInCall, drops_in, gives_in}
 use Rattle.html_construction.specs.Modes.{is_of_frames, is_of_selects, is_reset}
 use Rattle.html_construction.specs.States.{State}
@@ -241,7 +240,7 @@ begun-fragment u form l b g z w m k n c i t f =
 
 -- WHAT IS SAID AND REFUSED
 
-said-one : (t : TokenKind) (o : Option Fate) → said_after (symbol_of t) (some_made o) ≡ switch_after t o
+pub said-one : (t : TokenKind) (o : Option Fate) → said_after (symbol_of t) (some_made o) ≡ switch_after t o
 said-one (kind.Start n a c) None = refl
 said-one (kind.Start n a c) (Some (fate.Made d)) = refl
 said-one (kind.Start n a c) (Some (fate.Foreign d)) = refl
@@ -259,9 +258,6 @@ said-one (kind.Doctype n p i q) None = refl
 said-one (kind.Doctype n p i q) (Some f) = refl
 said-one kind.Eof None = refl
 said-one kind.Eof (Some f) = refl
-
-pub said-by : (t : TokenKind) (y : Symbol) (m : Option TextMode) (fs : List Fate) → symbol_of t ≡ y → m ≡ said_after y (ends_made fs) → m ≡ switch_after t (last_of fs)
-said-by t y m fs e p = p ∙ ap (λ z. said_after z (ends_made fs)) (sym e) ∙ said-one t (last_of fs)
 
 abbrev tag_or : Symbol → Tag
 tag_or (Start t) = t
@@ -400,6 +396,6 @@ not-stopped refusal.HeldBudget at e = absurd (let k = e in cc)
 
 pub ruleset begin_rules = (none-fated)
 
-pub ruleset process_rules = (handed-token, added-token, said-by, cause-foreign, not-stopped)
+pub ruleset process_rules = (handed-token, added-token, cause-foreign, not-stopped)
 
 pub ruleset text_rules = (handed-run, added-run, not-stopped)

@@ -7,5 +7,6 @@ pub mod Holding
 pub mod Adding
 pub mod Opened
 pub mod Standing
+pub mod Saying
 pub mod Going
 pub mod Plainly

@@ -211,6 +211,7 @@ begun-plain b m st l k t g f c = (
     no_context = c;
     quiet = ap (λ (e : Entries). e.kept) g;
     no_newline = ap (λ (e : Entries). e.history.ignore_line_feed) g;
+    no_foreign = ap (λ (e : Entries). e.history.foreign) g;
     seen = subst (λ (z : Mode). HasSeen z b.ledger.history) (sym m) (ap (λ (e : Entries). e.history.awaits_doctype) g);
     tags = st ∙ sym (ap open_tags t);
     sound = subst IsSound (sym t) (begun-sound l k);

@@ -1,9 +1,13 @@
 -- Claimed.
 -- The context of a fragment, and which names it may have (13.4).
-use Rattle.std.specs.Prelude.{ℕ, ◌≡◌, ◌==◌, Bool, true, false, not, ◌||◌, ◌&&◌, nat_lt, List, [], ◌∷◌}
+use Rattle.std.specs.Prelude.{ℕ, ◌≡◌, ◌==◌, Bool, true, false, not, ◌||◌, ◌&&◌, nat_lt, List, [], ◌∷◌, unwrap_or, if◌then◌else◌}
 use Rattle.std.specs.List.{list_all}
+use Rattle.std.specs.Str.{bytes_eq}
+use Rattle.html_names.specs.declared.foreign.Space.{Space}
+use Rattle.html_names.specs.Foreign.{adjusted_name, is_foreign, local_name, lowered, space_of}
 use Rattle.html_names.specs.Names.{tag_of}
 use Rattle.html_tokens.specs.declared.token.TextMode.{TextMode}
+use Rattle.html_tokens.specs.declared.token.TextMode.TheVariants.{Foreign}
 use Rattle.html_ledger.specs.declared.setting.Setting.{Setting}
 use Rattle.html_ledger.specs.declared.setting.Setting.TheVariants.{Fragment}
 use Rattle.html_tree.specs.Proper.{is_foreign_root}
@@ -37,10 +41,29 @@ is_good name = is_tag_name name && not (is_foreign_root (tag_of name))
 abbrev pub IsGood : Context → Type 0
 IsGood c = is_good c.name ≡ true
 
+-- the local name that the element of a start tag of this name has in foreign content (13.2.6.5)
+abbrev pub local_of : Space → List ℕ → List ℕ
+local_of s own = unwrap_or (adjusted_name s own) own
+
+-- the local name of the element of some start tag in this space
+abbrev pub is_good_local : Space → List ℕ → Bool
+is_good_local s local = is_tag_name (lowered local) && bytes_eq (local_of s (lowered local)) local
+
+-- the name of an element of foreign content that a start tag can have: its space, and then its local name
+abbrev pub is_good_foreign : List ℕ → Bool
+is_good_foreign name = is_foreign (tag_of name) && is_good_local (space_of (tag_of name)) (local_name name)
+
+-- a name that is good where foreign content is parsed
+abbrev pub is_good_anywhere : List ℕ → Bool
+is_good_anywhere name = is_good name || is_good_foreign name
+
+abbrev pub IsGoodAnywhere : Context → Type 0
+IsGoodAnywhere c = is_good_anywhere c.name ≡ true
+
 -- what the ledger is to know of it
 abbrev pub setting_of : Context → Setting
 setting_of c = Fragment (tag_of c.name) c.in_form
 
 -- how the text of a fragment in it is read
 abbrev pub text_mode_of : Context → TextMode
-text_mode_of c = text_mode_in (tag_of c.name)
+text_mode_of c = if is_foreign (tag_of c.name) then Foreign else text_mode_in (tag_of c.name)

@@ -1,6 +1,6 @@
 -- Claimed.
 -- What callers know of a builder: what it was begun with, the tokens handed in, and what became of them.
-use Rattle.std.specs.Prelude.{◌≡◌, ℕ, ◌+◌, ◌*◌, ◌<◌, ◌≤◌, Bool, false, List, [], ◌∷◌, ◌++◌, length, Option, None, Some}
+use Rattle.std.specs.Prelude.{◌≡◌, ℕ, ◌+◌, ◌*◌, ◌<◌, ◌≤◌, Bool, false, List, [], ◌∷◌, ◌++◌, length, is_some, Option, None, Some}
 use Rattle.std.specs.List.{sum_by}
 use Rattle.html_names.specs.declared.tag.Tag.{Tag}
 use Rattle.html_names.specs.declared.tag.Tag.TheVariants as tag
@@ -16,6 +16,7 @@ use Rattle.html_construction.specs.declared.mode.Mode.{Mode}
 use Rattle.html_construction.specs.Begun.{IsFounded}
 use Rattle.html_construction.specs.Built.{Handed as Given, IsBuilt, chars_of, symbols}
 use Rattle.html_construction.specs.Copies.{implied_count, most_clones}
+use Rattle.html_construction.specs.Foreign.{foreign_tag as foreign_tag_of}
 use Rattle.html_construction.specs.Tokens.{attrs_of}
 use Rattle.html_construction.specs.Weights.{weight}
 use Rattle.html_modes.specs.declared.outcome.Foreign.{Foreign}
@@ -36,6 +37,14 @@ fates_of b = b.page.ledger.fates
 -- a call was refused
 abbrev pub is_stopped : BuilderState → Bool
 is_stopped b = b.stopped
+
+-- foreign content is parsed, and not refused
+abbrev pub parses_foreign : BuilderState → Bool
+parses_foreign b = b.page.parses_foreign
+
+-- the adjusted current node is one of foreign content
+abbrev pub reads_foreign : BuilderState → Bool
+reads_foreign b = is_some (foreign_tag_of b.page)
 
 -- what was handed in
 abbrev pub given : Setting → Option Limits → List TokenKind → Given
@@ -110,6 +119,15 @@ foreign_tag Math = tag.Math
 abbrev pub Starts : Tag → TokenKind → Type 0
 Starts t (kind.Start name attrs self_closing) = tag_of name ≡ t
 Starts t _ = ⊥
+
+-- Foreign content is refused where it is not parsed alone.
+abbrev pub IsForeignRefused : BuilderState → BuildError → Type 0
+IsForeignRefused b (refusal.ForeignContent name place) = parses_foreign b ≡ false
+IsForeignRefused b _ = Unit {0}
+
+-- there are limits, of which this holds
+abbrev pub AreSo : Option Limits → (Limits → Type 0) → Type 0
+AreSo limits P = (l : Limits) × (limits ≡ Some l) × P l
 
 -- there are limits
 abbrev pub AreSet : Option Limits → Type 0

@@ -6,4 +6,5 @@ pub mod Handed
 pub mod Outcome
 pub mod Plain
 pub mod RawTexts
+pub mod Saying
 pub mod Switches

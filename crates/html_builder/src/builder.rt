@@ -1,10 +1,17 @@
 // Tree construction, token by token.
-ghost use Rattle.std.specs.Prelude.{◌≡◌, ◌↔◌, ◌⊎◌, ◌<◌, ◌≤◌, ℕ, ◌∷◌, [], IfOk, IfErr, OnOk, OnErr, Err, List, None, Option, Some, length, take, true, false};
+ghost use Rattle.std.specs.Prelude.{◌≡◌, ◌↔◌, ◌⊎◌, ◌<◌, ◌≤◌, ◌+◌, ℕ, ◌∷◌, [], IfOk, IfErr, OnOk, OnErr, Err, List, None, Option, Some, length, take, true, false};
 ghost use Rattle.html_arena.specs.Budget.{AreWithin};
 ghost use Rattle.html_arena.specs.Forest.{Forest};
 ghost use Rattle.html_arena.specs.declared.arena.Limits.{Limits};
-ghost use Rattle.html_construction.specs.Built.{chars_of};
-ghost use Rattle.html_ledger.specs.Runs.{last_of};
+ghost use Rattle.html_construction.specs.Begun.{IsFounded};
+ghost use Rattle.html_construction.specs.Built.{IsBuilt, chars_of, nothing_of, symbols};
+ghost use Rattle.html_construction.specs.Copies.{implied_count, most_clones};
+ghost use Rattle.html_construction.specs.Modes.{is_reset};
+ghost use Rattle.html_construction.specs.Works.{reach_of};
+ghost use Rattle.html_names.specs.declared.tag.Tag.TheVariants as tag;
+ghost use Rattle.html_ledger.specs.Entries.{begun};
+ghost use Rattle.html_tree.specs.States.{document_state};
+ghost use Rattle.html_ledger.specs.MayDrop.{MayBeForeign};
 ghost use Rattle.html_ledger.specs.declared.setting.Setting.{Setting};
 ghost use Rattle.html_ledger.specs.declared.setting.Setting.TheVariants.{Document};
 ghost use Rattle.html_names.specs.Names.{tag_of};
@@ -13,18 +20,18 @@ ghost use Rattle.html_page.specs.Label.{Label};
 ghost use Rattle.html_page.specs.PageTokens.{page_kinds};
 ghost use Rattle.html_page.specs.Plain.{IsPlainPage};
 ghost use Rattle.html_page.specs.Shows.{Shows};
-ghost use Rattle.html_builder.specs.Contexts.{IsGood, setting_of};
+ghost use Rattle.html_builder.specs.Contexts.{IsGood, IsGoodAnywhere, setting_of};
 ghost use Rattle.html_builder.specs.Errors.{IsTextTold, IsTold};
-ghost use Rattle.html_builder.specs.Handed.{AddsFates, CostAtMost, EndsAtEof, EntersNone, GivesFates, Handed, HandsIn, HaveFates, IsBuildCause, IsForeignOutside, IsTextCause, fates_of, is_stopped};
+ghost use Rattle.html_builder.specs.Handed.{AddsFates, AreSo, CostAtMost, EndsAtEof, EntersNone, GivesFates, Handed, HandsIn, HaveFates, IsBuildCause, IsForeignOutside, IsForeignRefused, IsTextCause, fates_of, is_stopped, parses_foreign, reads_foreign};
 ghost use Rattle.html_builder.specs.Outcome.{IsBounded, IsOutcome, most_entries};
 ghost use Rattle.html_builder.specs.Plain.{HavePlainFates};
-ghost use Rattle.html_builder.specs.Switches.{switch_after};
+ghost use Rattle.html_builder.specs.Saying.{said_in};
 
 use crate::context::Context;
 use crate::error::BuildError;
-use crate::switches::text_mode_after;
+use crate::switches::mode_said;
 use html_arena::{Arena, Limits};
-use html_construction::{Construction, Mode};
+use html_construction::{Construction, Mode, Refusal};
 use html_ledger::{Fates, Symbol};
 use html_modes::{take, take_front};
 use html_tokens::{TextMode, Token};
@@ -62,6 +69,7 @@ impl Builder {
         ensures begun { IfOk result (λ b. Handed Document None [] b) }
         ensures fates { IfOk result (λ b. fates_of b ≡ []) }
         ensures fresh { IfOk result (λ b. is_stopped b ≡ false) }
+        ensures refuses { IfOk result (λ b. parses_foreign b ≡ false) }
         ensures cause { IfErr result (λ e. e ≡ BuildError.OutOfMemory) }
     {
         let construction = Construction::document(alloc)?;
@@ -89,6 +97,7 @@ impl Builder {
         ensures begun { IfOk result (λ b. Handed Document (Some limits) [] b) }
         ensures fates { IfOk result (λ b. fates_of b ≡ []) }
         ensures fresh { IfOk result (λ b. is_stopped b ≡ false) }
+        ensures refuses { IfOk result (λ b. parses_foreign b ≡ false) }
         ensures cause { IfErr result (λ e. (e ≡ BuildError.OutOfMemory) ⊎ ((e ≡ BuildError.NodeBudget 0) × (limits.nodes < 1))) }
     {
         let construction = Construction::document_within(alloc, limits)?;
@@ -111,6 +120,7 @@ impl Builder {
         ensures quirks { IfOk result (λ b. b.page.quirks ≡ context.now.quirks) }
         ensures fates { IfOk result (λ b. fates_of b ≡ []) }
         ensures fresh { IfOk result (λ b. is_stopped b ≡ false) }
+        ensures refuses { IfOk result (λ b. parses_foreign b ≡ false) }
         ensures good { OnOk result (IsGood context.now) }
         ensures cause { IfErr result (λ e. (e ≡ BuildError.OutOfMemory) ⊎ ((e ≡ BuildError.BadContext) × (IsGood context.now → ⊥))) }
     {
@@ -142,6 +152,7 @@ impl Builder {
         ensures quirks { IfOk result (λ b. b.page.quirks ≡ context.now.quirks) }
         ensures fates { IfOk result (λ b. fates_of b ≡ []) }
         ensures fresh { IfOk result (λ b. is_stopped b ≡ false) }
+        ensures refuses { IfOk result (λ b. parses_foreign b ≡ false) }
         ensures good { OnOk result (IsGood context.now) }
         ensures cause { IfErr result (λ e. (e ≡ BuildError.OutOfMemory) ⊎ ((e ≡ BuildError.BadContext) × (IsGood context.now → ⊥))
             ⊎ ((e ≡ BuildError.NodeBudget 0) × (limits.nodes < 1)) ⊎ ((e ≡ BuildError.HeldBudget 0) × (limits.held < 4))) }
@@ -161,6 +172,69 @@ impl Builder {
             entries: 0,
             stopped: false,
         })
+    }
+
+    /// Begins a document that parses foreign content, and whose tree keeps to limits, where there are any.
+    ///
+    /// # Errors
+    ///
+    /// `NodeBudget` at 0 where not even the document is within the limits; `OutOfMemory`.
+    #[tactic(auto, using(crate::proofs::Handing::begin_rules))]
+    pub fn foreign_document(alloc: Global, limits: Option<Limits>) -> Result<Builder, BuildError>
+        ensures begun { IfOk result (λ b. Handed Document limits [] b) }
+        ensures fates { IfOk result (λ b. fates_of b ≡ []) }
+        ensures fresh { IfOk result (λ b. is_stopped b ≡ false) }
+        ensures parses { IfOk result (λ b. parses_foreign b ≡ true) }
+        ensures cause { IfErr result (λ e. (e ≡ BuildError.OutOfMemory) ⊎ ((e ≡ BuildError.NodeBudget 0) × AreSo limits (λ m. m.nodes < 1))) }
+    {
+        let mut construction = begun_document(alloc, limits)?;
+        construction.parse_foreign();
+        Ok(Builder {
+            construction,
+            entries: 0,
+            stopped: false,
+        })
+    }
+
+    /// Begins a fragment that parses foreign content, in a context of HTML or of foreign content, whose tree keeps to limits, where there are any.
+    ///
+    /// # Errors
+    ///
+    /// `BadContext` where the context is good neither for `fragment` nor as an element of foreign content, before all else; `NodeBudget` and
+    /// `HeldBudget` at 0 where not even the root is within the limits; `OutOfMemory`.
+    #[tactic(auto, using(crate::proofs::Handing::begin_rules))]
+    pub fn foreign_fragment(
+        alloc: Global,
+        context: &Context,
+        limits: Option<Limits>,
+    ) -> Result<Builder, BuildError>
+        ensures begun { IfOk result (λ b. Handed (setting_of context.now) limits [] b) }
+        ensures context { IfOk result (λ b. b.page.context ≡ Some (tag_of context.now.name)) }
+        ensures quirks { IfOk result (λ b. b.page.quirks ≡ context.now.quirks) }
+        ensures fates { IfOk result (λ b. fates_of b ≡ []) }
+        ensures fresh { IfOk result (λ b. is_stopped b ≡ false) }
+        ensures parses { IfOk result (λ b. parses_foreign b ≡ true) }
+        ensures good { OnOk result (IsGoodAnywhere context.now) }
+        ensures cause { IfErr result (λ e. (e ≡ BuildError.OutOfMemory) ⊎ ((e ≡ BuildError.BadContext) × (IsGoodAnywhere context.now → ⊥))
+            ⊎ ((e ≡ BuildError.NodeBudget 0) × AreSo limits (λ m. m.nodes < 1)) ⊎ ((e ≡ BuildError.HeldBudget 0) × AreSo limits (λ m. m.held < 4))) }
+    {
+        if !context.is_good_anywhere(alloc)? {
+            return Err(BuildError::BadContext);
+        }
+        let mut construction = begun_fragment(alloc, context, limits)?;
+        construction.parse_foreign();
+        Ok(Builder {
+            construction,
+            entries: 0,
+            stopped: false,
+        })
+    }
+
+    /// Whether the text that follows is read as that of foreign content: the adjusted current node is one of foreign content.
+    pub fn reads_foreign(&self) -> bool
+        ensures value { result ≡ reads_foreign self.now }
+    {
+        self.construction.foreign_tag().is_some()
     }
 
     /// The insertion mode.
@@ -184,21 +258,25 @@ impl Builder {
         self.construction.steps()
     }
 
-    /// Takes the next token, and answers how the text after it is read, where it is a start tag that changes that.
+    /// Takes the next token, and answers how the text after it is read, where the token changes that: a start tag does whose element holds text, and
+    /// where foreign content was made or is the context each token says whether its text follows.
     ///
     /// # Errors
     ///
-    /// `ForeignContent` for a start tag `svg` or `math` that the rules of the body meet, `NodeBudget` and `HeldBudget` where the next node or
-    /// code point would pass a limit, each with the start of the token; `OutOfMemory`. After a refusal every call answers `Stopped`.
+    /// `ForeignContent` for a start tag `svg` or `math` that the rules of the body meet, where foreign content is refused; `NodeBudget` and
+    /// `HeldBudget` where the next node or code point would pass a limit; each with the start of the token; `OutOfMemory`. After a refusal every
+    /// call answers `Stopped`.
     #[tactic(auto, using(crate::proofs::Handing::process_rules))]
     pub fn process(&mut self, token: &Token) -> Result<Option<TextMode>, BuildError>
         ensures takes { OnOk result (HandsIn (token.now.kind ∷ []) self.old self.new) }
         ensures grows { OnOk result (AddsFates self.old self.new) }
         ensures gives { OnOk result (GivesFates self.old self.new) }
-        ensures switch { IfOk result (λ m. m ≡ switch_after token.now.kind (last_of (fates_of self.new))) }
+        ensures said { IfOk result (λ m. m ≡ said_in token.now.kind self.new) }
+        ensures parses { OnOk result (parses_foreign self.new ≡ parses_foreign self.old) }
         ensures cause { IfErr result (λ e. (s : Setting) (l : Option Limits) (tokens : List TokenKind) → Handed s l tokens self.old
             → IsBuildCause s l tokens (fates_of self.old) token.now.kind token.now.span.start e) }
         ensures foreign { IfErr result (λ e. (s : Setting) (l : Option Limits) (tokens : List TokenKind) → Handed s l tokens self.old → IsForeignOutside self.old.page.mode e) }
+        ensures refused { IfErr result (λ e. IsForeignRefused self.old e) }
         ensures told { IfErr result (λ e. (s : Setting) (l : Option Limits) (tokens : List TokenKind) → Handed s l tokens self.old → IsTold l token.now.kind self.new.page e) }
         ensures ok { OnOk result (is_stopped self.new ≡ false) }
         ensures err { OnErr result (is_stopped self.new ≡ true) }
@@ -217,7 +295,7 @@ impl Builder {
         ) {
             Ok(None) => {
                 self.stopped = false;
-                Ok(text_mode_after(symbol, self.construction.last_made()))
+                Ok(mode_said(&self.construction, symbol))
             }
             Ok(Some(name)) => Err(BuildError::ForeignContent {
                 name,
@@ -238,6 +316,7 @@ impl Builder {
         ensures grows { OnOk result (AddsFates self.old self.new) }
         ensures gives { OnOk result (GivesFates self.old self.new) }
         ensures enters { OnOk result (EntersNone self.old self.new) }
+        ensures parses { OnOk result (parses_foreign self.new ≡ parses_foreign self.old) }
         ensures cause { IfErr result (λ e. (s : Setting) (l : Option Limits) (tokens : List TokenKind) → Handed s l tokens self.old
             → IsTextCause s l tokens (fates_of self.old) text.now start e) }
         ensures told { IfErr result (λ e. (s : Setting) (l : Option Limits) (tokens : List TokenKind) → Handed s l tokens self.old → IsTextTold l self.new.page e) }
@@ -262,6 +341,7 @@ impl Builder {
         ensures grows { OnOk result (AddsFates self.old self.new) }
         ensures gives { OnOk result (GivesFates self.old self.new) }
         ensures enters { OnOk result (EntersNone self.old self.new) }
+        ensures parses { OnOk result (parses_foreign self.new ≡ parses_foreign self.old) }
         ensures count { IfOk result (λ n. (0 < n) × (n ≤ length text.now)) }
         ensures cause { IfErr result (λ e. (s : Setting) (l : Option Limits) (tokens : List TokenKind) → Handed s l tokens self.old
             → IsTextCause s l tokens (fates_of self.old) (take 1 text.now) at e) }
@@ -291,10 +371,12 @@ impl Builder {
         self.entries
     }
 
-    /// A law: the tokens that have no fate yet are code points, and the last ones.
+    /// A law: the tokens that have no fate yet are code points, and the last ones; and what is known of foreign content is so of the tokens.
     #[tactic(auto, using(crate::proofs::Endings::count_rules))]
     pub fn counted(&self)
         ensures counted { (s : Setting) (l : Option Limits) (tokens : List TokenKind) → Handed s l tokens self.now → HaveFates s tokens (fates_of self.now) }
+        ensures foreign { (s : Setting) (l : Option Limits) (tokens : List TokenKind) → Handed s l tokens self.now → self.now.page.ledger.history.foreign ≡ true
+            → MayBeForeign s (symbols tokens) (fates_of self.now) }
     {
         let _ = self.stopped;
     }
@@ -315,5 +397,60 @@ impl Builder {
             → tokens ≡ page_kinds page → HavePlainFates tokens result.1 }
     {
         self.construction.into_parts()
+    }
+}
+
+/// The tree construction of a document, within limits, where there are any.
+fn begun_document(alloc: Global, limits: Option<Limits>) -> Result<Construction, Refusal>
+    ensures built { IfOk result (λ b. IsBuilt (nothing_of Document limits) b) }
+    ensures mode { IfOk result (λ b. b.mode ≡ Mode.Initial) }
+    ensures stack { IfOk result (λ b. b.stack ≡ []) }
+    ensures quiet { IfOk result (λ b. b.ledger.kept ≡ []) }
+    ensures listed { IfOk result (λ b. b.tree.list ≡ []) }
+    ensures nodes { IfOk result (λ b. length b.tree.tree.labels ≡ 1) }
+    ensures uncloned { IfOk result (λ b. most_clones b.tree.tree.labels ≡ 0) }
+    ensures implied { IfOk result (λ b. implied_count b.tree.tree.labels ≤ 1) }
+    ensures counted { IfOk result (λ b. b.tree.steps ≤ 2 + reach_of b) }
+    ensures tree { IfOk result (λ b. (l : Option Limits) × (k : ℕ) × (b.tree ≡ document_state l k)) }
+    ensures ledger { IfOk result (λ b. b.ledger ≡ begun Document) }
+    ensures fostering { IfOk result (λ b. b.fostering ≡ false) }
+    ensures context { IfOk result (λ b. b.context ≡ None) }
+    ensures cause { IfErr result (λ e. (e ≡ Refusal.OutOfMemory) ⊎ ((e ≡ Refusal.NodeBudget) × AreSo limits (λ m. m.nodes < 1))) }
+{
+    match limits {
+        None => Construction::document(alloc),
+        Some(limits) => Construction::document_within(alloc, limits),
+    }
+}
+
+/// The tree construction of a fragment in a context, within limits, where there are any.
+fn begun_fragment(
+    alloc: Global,
+    context: &Context,
+    limits: Option<Limits>,
+) -> Result<Construction, Refusal>
+    ensures built { IfOk result (λ b. IsBuilt (nothing_of (setting_of context.now) limits) b) }
+    ensures reset { IfOk result (λ b. is_reset b.mode ≡ true) }
+    ensures founded { IfOk result (λ b. IsFounded b) }
+    ensures stack { IfOk result (λ b. b.stack ≡ tag.Html ∷ []) }
+    ensures context { IfOk result (λ b. b.context ≡ Some (tag_of context.now.name)) }
+    ensures quirks { IfOk result (λ b. b.quirks ≡ context.now.quirks) }
+    ensures quiet { IfOk result (λ b. b.ledger.kept ≡ []) }
+    ensures listed { IfOk result (λ b. b.tree.list ≡ []) }
+    ensures nodes { IfOk result (λ b. length b.tree.tree.labels ≡ 1) }
+    ensures uncloned { IfOk result (λ b. most_clones b.tree.tree.labels ≡ 0) }
+    ensures implied { IfOk result (λ b. implied_count b.tree.tree.labels ≤ 1) }
+    ensures counted { IfOk result (λ b. b.tree.steps ≤ 2 + reach_of b) }
+    ensures cause { IfErr result (λ e. (e ≡ Refusal.OutOfMemory) ⊎ (((e ≡ Refusal.NodeBudget) × AreSo limits (λ m. m.nodes < 1)) ⊎ ((e ≡ Refusal.HeldBudget) × AreSo limits (λ m. m.held < 4)))) }
+{
+    match limits {
+        None => Construction::fragment(alloc, context.tag(), context.in_form, context.quirks),
+        Some(most) => Construction::fragment_within(
+            alloc,
+            context.tag(),
+            context.in_form,
+            context.quirks,
+            most,
+        ),
     }
 }

@@ -1,18 +1,21 @@
 // The context of a fragment (13.4).
-ghost use Rattle.std.specs.Prelude.{◌≡◌};
+ghost use Rattle.std.specs.Prelude.{◌≡◌, IfOk};
 ghost use Rattle.std.specs.List.{list_all};
 ghost use Rattle.std.specs.Str.{chars};
-ghost use Rattle.html_builder.specs.Contexts.{begins_name, ends_name, is_lower, stays_in_name};
+ghost use Rattle.std.specs.Str.{bytes_eq};
+ghost use Rattle.html_names.specs.Foreign.{adjusted_name, lowered};
+ghost use Rattle.html_builder.specs.Contexts.{begins_name, ends_name, is_good_local, is_lower, is_tag_name, local_of, stays_in_name};
 
 use crate::switches::text_mode_of;
 use html_charref::Str;
-use html_names::Tag;
+use html_names::{Space, Tag, adjusted_name, local_name};
 use html_tokens::TextMode;
+use std::alloc::{AllocError, Global};
 
 /// The element around a fragment.
 #[derive(Drop)]
 pub struct Context {
-    /// Its name.
+    /// Its name: of an element of HTML as it stands, of one of foreign content behind `svg ` or `math `, as `svg path`.
     pub name: Str,
     /// Whether it stands in a form.
     pub in_form: bool,
@@ -21,9 +24,9 @@ pub struct Context {
 }
 
 impl Context {
-    ghost use Rattle.std.specs.Prelude.{◌≡◌};
+    ghost use Rattle.std.specs.Prelude.{◌≡◌, IfOk};
     ghost use Rattle.html_names.specs.Names.{tag_of};
-    ghost use Rattle.html_builder.specs.Contexts.{is_good, text_mode_of};
+    ghost use Rattle.html_builder.specs.Contexts.{is_good, is_good_anywhere, is_good_foreign, text_mode_of};
 
     /// The tag of the name.
     pub(crate) fn tag(&self) -> Tag
@@ -36,17 +39,84 @@ impl Context {
     pub(crate) fn is_good(&self) -> bool
         ensures value { result ≡ is_good self.now.name }
     {
-        begins_name(self.name.as_str())
-            && has_no_end(self.name.as_str())
-            && !matches!(self.tag(), Tag::Svg | Tag::Math)
+        is_tag_name(self.name.as_str()) && !matches!(self.tag(), Tag::Svg | Tag::Math)
+    }
+
+    /// Whether the name is good where foreign content is parsed: as one of HTML, or as one of foreign content.
+    ///
+    /// # Errors
+    ///
+    /// Memory was refused.
+    pub(crate) fn is_good_anywhere(&self, alloc: Global) -> Result<bool, AllocError>
+        ensures value { IfOk result (λ b. b ≡ is_good_anywhere self.now.name) }
+    {
+        if self.is_good() {
+            return Ok(true);
+        }
+        let good = self.is_good_foreign(alloc)?;
+        Ok(good)
+    }
+
+    /// Whether the name is that of an element of foreign content that a start tag can have.
+    fn is_good_foreign(&self, alloc: Global) -> Result<bool, AllocError>
+        ensures value { IfOk result (λ b. b ≡ is_good_foreign self.now.name) }
+    {
+        let tag = self.tag();
+        if !tag.is_foreign() {
+            return Ok(false);
+        }
+        let good = is_good_local(alloc, tag.space(), local_name(self.name.as_str()))?;
+        Ok(good)
     }
 
     /// How the text of the fragment is read.
     pub fn text_mode(&self) -> TextMode
         ensures value { result ≡ text_mode_of self.now }
     {
-        text_mode_of(self.tag()).unwrap_or(TextMode::Data)
+        let tag = self.tag();
+        if tag.is_foreign() {
+            return TextMode::Foreign;
+        }
+        text_mode_of(tag).unwrap_or(TextMode::Data)
     }
+}
+
+/// Whether a local name is the one that the element of a start tag has in this space: in lower case the name of a tag, of which that of the element is made.
+fn is_good_local(alloc: Global, space: Space, local: &str) -> Result<bool, AllocError>
+    ensures value { IfOk result (λ b. b ≡ is_good_local space (chars local.now)) }
+{
+    let own = lowered(alloc, local)?;
+    let local = Str::of(alloc, local)?;
+    let made = local_of(alloc, space, own.as_str())?;
+    Ok(is_tag_name(own.as_str()) && made == local)
+}
+
+/// The local name that the element of a start tag of this name has in this space (13.2.6.5).
+fn local_of(alloc: Global, space: Space, name: &str) -> Result<Str, AllocError>
+    ensures value { IfOk result (λ s. s ≡ local_of space (chars name.now)) }
+{
+    match adjusted_name(space, name) {
+        Some(adjusted) => Str::of(alloc, adjusted),
+        None => Str::of(alloc, name),
+    }
+}
+
+/// A text with its letters in lower case, as far as they are ASCII.
+fn lowered(alloc: Global, text: &str) -> Result<Str, AllocError>
+    ensures value { IfOk result (λ s. s ≡ lowered (chars text.now)) }
+{
+    let mut lower = Str::new(alloc);
+    for c in text.chars() {
+        lower.push(c.to_ascii_lowercase())?;
+    }
+    Ok(lower)
+}
+
+/// Whether a text is the name of some start tag.
+fn is_tag_name(name: &str) -> bool
+    ensures value { result ≡ is_tag_name (chars name.now) }
+{
+    begins_name(name) && has_no_end(name)
 }
 
 /// Whether a text begins as the name of a start tag.

@@ -2,6 +2,7 @@
 
 use html_construction::Refusal;
 use html_modes::Foreign;
+use std::alloc::AllocError;
 use thiserror::Error;
 
 /// Why a call was refused. `at` is the start of the token handed in, and 0 before the first.
@@ -49,5 +50,16 @@ impl From<Refusal> for BuildError {
 
     fn from(refusal: Refusal) -> BuildError {
         BuildError::at(refusal, 0)
+    }
+}
+
+impl From<AllocError> for BuildError {
+    ghost use Rattle.std.specs.Prelude.{◌≡◌};
+    ghost use Rattle.html_builder.specs.declared.error.BuildError.TheVariants.{OutOfMemory};
+
+    ghost from_gives = { λ _ e. e ≡ OutOfMemory };
+
+    fn from(_error: AllocError) -> BuildError {
+        BuildError::OutOfMemory
     }
 }

@@ -71,6 +71,7 @@ impl Model for Construction {
       frameset_ok = b.registers.frameset_ok;
       fostering = b.registers.fostering;
       outer_form = b.registers.outer_form;
+      parses_foreign = b.registers.parses_foreign;
       began = b.registers.call.began;
       depth = b.registers.call.depth;
       nodes = b.registers.call.nodes;
@@ -99,6 +100,7 @@ impl Construction {
         ensures ledger { IfOk result (λ b. b.ledger ≡ begun Document) }
         ensures fostering { IfOk result (λ b. b.fostering ≡ false) }
         ensures context { IfOk result (λ b. b.context ≡ None) }
+        ensures refuses { IfOk result (λ b. b.parses_foreign ≡ false) }
         ensures cause { IfErr result (λ e. e ≡ Refusal.OutOfMemory) }
     {
         let tree = OpenTree::document(alloc)?;
@@ -132,6 +134,7 @@ impl Construction {
         ensures ledger { IfOk result (λ b. b.ledger ≡ begun Document) }
         ensures fostering { IfOk result (λ b. b.fostering ≡ false) }
         ensures context { IfOk result (λ b. b.context ≡ None) }
+        ensures refuses { IfOk result (λ b. b.parses_foreign ≡ false) }
         ensures cause { IfErr result (λ e. (e ≡ Refusal.OutOfMemory) ⊎ ((e ≡ Refusal.NodeBudget) × (limits.nodes < 1))) }
     {
         let tree = OpenTree::document_within(alloc, limits)?;
@@ -155,6 +158,7 @@ impl Construction {
         ensures stack { IfOk result (λ b. b.stack ≡ tag.Html ∷ []) }
         ensures context { IfOk result (λ b. b.context ≡ Some context) }
         ensures quirks { IfOk result (λ b. b.quirks ≡ quirks) }
+        ensures refuses { IfOk result (λ b. b.parses_foreign ≡ false) }
         ensures quiet { IfOk result (λ b. b.ledger.kept ≡ []) }
         ensures listed { IfOk result (λ b. b.tree.list ≡ []) }
         ensures nodes { IfOk result (λ b. length b.tree.tree.labels ≡ 1) }
@@ -185,6 +189,7 @@ impl Construction {
         ensures stack { IfOk result (λ b. b.stack ≡ tag.Html ∷ []) }
         ensures context { IfOk result (λ b. b.context ≡ Some context) }
         ensures quirks { IfOk result (λ b. b.quirks ≡ quirks) }
+        ensures refuses { IfOk result (λ b. b.parses_foreign ≡ false) }
         ensures quiet { IfOk result (λ b. b.ledger.kept ≡ []) }
         ensures listed { IfOk result (λ b. b.tree.list ≡ []) }
         ensures nodes { IfOk result (λ b. length b.tree.tree.labels ≡ 1) }
@@ -266,6 +271,7 @@ impl Construction {
         ensures ledger { result.ledger ≡ begun Document }
         ensures fostering { result.fostering ≡ false }
         ensures context { result.context ≡ None }
+        ensures refuses { result.parses_foreign ≡ false }
     {
         Construction {
             tree,
@@ -289,6 +295,7 @@ impl Construction {
         ensures stack { IfOk result (λ b. b.stack ≡ tag.Html ∷ []) }
         ensures context { IfOk result (λ b. b.context ≡ Some context) }
         ensures quirks { IfOk result (λ b. b.quirks ≡ quirks) }
+        ensures refuses { IfOk result (λ b. b.parses_foreign ≡ false) }
         ensures quiet { IfOk result (λ b. b.ledger.kept ≡ []) }
         ensures listed { IfOk result (λ b. b.tree.list ≡ []) }
         ensures nodes { IfOk result (λ b. length b.tree.tree.labels ≡ 1) }

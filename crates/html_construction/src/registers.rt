@@ -32,6 +32,8 @@ pub(crate) struct Registers {
     pub fostering: bool,
     /// The form element pointer is at a form around the fragment.
     pub outer_form: bool,
+    /// Whether foreign content is parsed, or refused.
+    pub parses_foreign: bool,
     pub call: Call,
 }
 
@@ -49,6 +51,7 @@ impl Registers {
         ensures quirks { result.quirks ≡ quirks }
         ensures outer_form { result.outer_form ≡ outer_form }
         ensures fostering { result.fostering ≡ false }
+        ensures refuses { result.parses_foreign ≡ false }
     {
         Registers {
             mode: Mode::Initial,
@@ -59,6 +62,7 @@ impl Registers {
             frameset_ok: true,
             fostering: false,
             outer_form,
+            parses_foreign: false,
             call: Call {
                 began: Mode::Initial,
                 depth: 0,

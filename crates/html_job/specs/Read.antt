@@ -6,6 +6,8 @@ use Rattle.clap.specs.Words.{Row, Text, all_of, fault_of, first_of, subcommand_o
 use Rattle.html_job.specs.Line.{line}
 use Rattle.html_job.specs.declared.jobs.Command.{Command}
 use Rattle.html_job.specs.declared.jobs.Command.TheVariants.{Tree, Errors, Audit, Normalise, Counts, Suite}
+use Rattle.html_job.specs.declared.jobs.Foreign.{Foreign}
+use Rattle.html_job.specs.declared.jobs.Foreign.TheVariants.{Refuse, Parse}
 use Rattle.html_job.specs.declared.jobs.Profile.{Profile}
 use Rattle.html_job.specs.declared.jobs.Profile.TheVariants.{One, Two}
 use Rattle.html_job.specs.declared.jobs.Job.{Job}
@@ -26,6 +28,11 @@ abbrev pub profile_text : Profile → Text
 profile_text One = codes "1"
 profile_text Two = codes "2"
 
+-- the word of what is done with foreign content
+abbrev pub foreign_text : Foreign → Text
+foreign_text Refuse = codes "refuse"
+foreign_text Parse = codes "parse"
+
 -- a text that is a number of 64 bits
 abbrev pub IsNumeralText : Text → Type 0
 IsNumeralText t = IsNumeral 10 (without_leading_plus t) × (digits_value 10 (without_leading_plus t) < 2 ^ 64)
@@ -42,6 +49,7 @@ pub record Reads (job : Job) (rows : List Row) : Type 0 where
   pub entities : option_map (λ s. s.now) job.entities ≡ first_of (codes "entities") rows
   pub input : option_map (λ s. s.now) job.input ≡ first_of (codes "INPUT") rows
   pub fragment : option_map (λ s. s.now) job.fragment ≡ first_of (codes "fragment") rows
+  pub foreign : foreign_text job.foreign ≡ unwrap_or (first_of (codes "foreign") rows) (codes "refuse")
   pub max_nodes : IsNumber job.max_nodes (first_of (codes "max-nodes") rows)
   pub max_held : IsNumber job.max_held (first_of (codes "max-held") rows)
   pub max_input : IsNumber job.max_input (first_of (codes "max-input") rows)
@@ -64,17 +72,23 @@ abbrev pub IsBadProfile : Option Text → Type 0
 IsBadProfile None = ⊥
 IsBadProfile (Some t) = (t ≢ codes "1") × (t ≢ codes "2")
 
+-- a text that names nothing that is done with foreign content
+abbrev pub IsBadForeign : Option Text → Type 0
+IsBadForeign None = ⊥
+IsBadForeign (Some t) = (t ≢ codes "refuse") × (t ≢ codes "parse")
+
 -- a text that is no number
 abbrev pub IsBadNumber : Option Text → Type 0
 IsBadNumber None = ⊥
 IsBadNumber (Some t) = IsNumeralText t → ⊥
 
--- the rows have a profile that is none, or a limit that is no number
+-- the rows have a profile that is none, a word that is none of those for foreign content, or a limit that is no number
 abbrev pub HasBadValue : List Row → Type 0
 HasBadValue rows = IsBadProfile (first_of (codes "profile") rows)
+    ⊎ (IsBadForeign (first_of (codes "foreign") rows)
     ⊎ (IsBadNumber (first_of (codes "max-nodes") rows)
     ⊎ (IsBadNumber (first_of (codes "max-held") rows)
-    ⊎ (IsBadNumber (first_of (codes "max-input") rows) ⊎ IsBadNumber (first_of (codes "max-steps") rows))))
+    ⊎ (IsBadNumber (first_of (codes "max-input") rows) ⊎ IsBadNumber (first_of (codes "max-steps") rows)))))
 
 -- clap refuses the words, or takes them with such a value
 abbrev pub IsRefused : List Text → Type 0

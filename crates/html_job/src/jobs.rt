@@ -31,6 +31,13 @@ pub enum Profile {
     Two,
 }
 
+/// What is done with foreign content, SVG and MathML: a page is refused where it begins, or it is parsed.
+#[derive(Clone, Copy, Debug, PartialEq, Eq)]
+pub enum Foreign {
+    Refuse,
+    Parse,
+}
+
 /// A command with its options and files, as text borrowed from the words.
 #[derive(Debug, Drop)]
 pub struct Job<'a> {
@@ -39,6 +46,8 @@ pub struct Job<'a> {
     pub entities: Option<&'a str>,
     /// The name of the context, where the page is a fragment.
     pub fragment: Option<&'a str>,
+    /// What is done with foreign content; `Refuse` where the words do not say.
+    pub foreign: Foreign,
     /// The most nodes that a page may have.
     pub max_nodes: Option<u64>,
     /// The most code points that a page's nodes may hold.

@@ -5,5 +5,5 @@ mod jobs;
 mod line;
 mod words;
 
-pub use jobs::{Command, Job, JobFault, Profile};
+pub use jobs::{Command, Foreign, Job, JobFault, Profile};
 pub use words::job;

@@ -64,6 +64,19 @@ fn fragment<'a>(alloc: Global) -> Arg<'a>
     )
 }
 
+/// What is done with foreign content.
+fn foreign<'a>(alloc: Global) -> Arg<'a>
+    ensures rule { rule_of result ≡ option_rule (codes "foreign") }
+    ensures local { result.global ≡ false }
+{
+    text_option(
+        alloc,
+        "foreign",
+        "WHAT",
+        "What is done with SVG and MathML: refuse the page, or parse them [default: refuse]",
+    )
+}
+
 /// The most nodes of a page.
 fn max_nodes<'a>(alloc: Global) -> Arg<'a>
     ensures rule { rule_of result ≡ option_rule (codes "max-nodes") }
@@ -125,6 +138,7 @@ fn page_command<'a>(alloc: Global, name: &'a str, about: &'a str) -> Result<Comm
         .about(about)
         .arg(entities(alloc))?
         .arg(fragment(alloc))?
+        .arg(foreign(alloc))?
         .arg(max_nodes(alloc))?
         .arg(max_held(alloc))?
         .arg(max_input(alloc))?
@@ -154,6 +168,7 @@ fn suite<'a>(alloc: Global) -> Result<Command<'a>, AllocError>
     Command::new(alloc, "suite")
         .about("Run files of test cases")
         .arg(entities(alloc))?
+        .arg(foreign(alloc))?
         .arg(files(alloc))
 }
 

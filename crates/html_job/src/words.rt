@@ -3,9 +3,9 @@
 ghost use Rattle.std.specs.Prelude.{◌≡◌, ◌≢◌, [], true, IfOk, IfErr, OnErr, OnOk, map, option_map, unwrap_or, codes};
 ghost use Rattle.clap.specs.Words.{all_of, first_of, found_of, kind_of, rows_of, fault_of, subcommand_of, subcommand_rows_of, has_subcommand};
 ghost use Rattle.html_job.specs.Line.{line};
-ghost use Rattle.html_job.specs.Read.{HasBadValue, IsBadNumber, IsBadProfile, IsJobOf, IsNumber, IsRefused, IsWords, Reads, profile_text};
+ghost use Rattle.html_job.specs.Read.{HasBadValue, IsBadForeign, IsBadNumber, IsBadProfile, IsJobOf, IsNumber, IsRefused, IsWords, Reads, foreign_text, profile_text};
 
-use crate::jobs::{Command, Job, JobFault, Profile};
+use crate::jobs::{Command, Foreign, Job, JobFault, Profile};
 use crate::line::line;
 use clap::error::ErrorKind;
 use clap::{ArgMatches, Error};
@@ -14,6 +14,9 @@ use std::convert::AsStr;
 
 const WRONG_PROFILE: &str =
     "error: invalid value for '--profile <PROFILE>'\n  [possible values: 1, 2]\n";
+
+const WRONG_FOREIGN: &str =
+    "error: invalid value for '--foreign <WHAT>'\n  [possible values: refuse, parse]\n";
 
 /// The job that the words ask for. The first word is the program's name.
 ///
@@ -60,6 +63,7 @@ fn job_of<'a>(
     ensures refused { IfErr result (λ e. IsWords e → HasBadValue (rows_of (found_of matches.entry.now))) }
 {
     let profile = profile(alloc, matches)?;
+    let foreign = foreign(alloc, matches)?;
     let max_nodes = number(alloc, matches, "max-nodes")?;
     let max_held = number(alloc, matches, "max-held")?;
     let max_input = number(alloc, matches, "max-input")?;
@@ -69,6 +73,7 @@ fn job_of<'a>(
         command,
         entities: text(matches, "entities"),
         fragment: text(matches, "fragment"),
+        foreign,
         max_nodes,
         max_held,
         max_input,
@@ -89,6 +94,19 @@ fn profile(alloc: Global, matches: &ArgMatches<'_>) -> Result<Profile, JobFault>
         Some(text) if text == "1" => Ok(Profile::One),
         Some(text) if text == "2" => Ok(Profile::Two),
         Some(_) => Err(words_fault(alloc, WRONG_PROFILE)),
+    }
+}
+
+/// What the words ask to be done with foreign content, `Refuse` where they do not say.
+fn foreign(alloc: Global, matches: &ArgMatches<'_>) -> Result<Foreign, JobFault>
+    ensures ok { IfOk result (λ f. foreign_text f ≡ unwrap_or (first_of (codes "foreign") (rows_of (found_of matches.now))) (codes "refuse")) }
+    ensures refused { OnErr result (IsBadForeign (first_of (codes "foreign") (rows_of (found_of matches.now)))) }
+{
+    match text(matches, "foreign") {
+        None => Ok(Foreign::Refuse),
+        Some(text) if text == "refuse" => Ok(Foreign::Refuse),
+        Some(text) if text == "parse" => Ok(Foreign::Parse),
+        Some(_) => Err(words_fault(alloc, WRONG_FOREIGN)),
     }
 }
 

@@ -11,3 +11,6 @@ pub mod Closing
 pub mod Plain
 pub mod TextRuns
 pub mod RawText
+pub mod Embedding
+pub mod Words
+pub mod Following

@@ -255,6 +255,15 @@ newline-next m s Comment f e = and-false _
 newline-next m s Doctype f e = and-false _
 newline-next m s Eof f e = and-false _
 
+-- no foreign content is made of it
+foreign-next : (a : State) (y : Symbol) → a.ledger.history.foreign ≡ false → (after a.ledger.history y (next_fate a y)).foreign ≡ false
+foreign-next a (Start t) e = rw e refl
+foreign-next a (End t) e = rw e refl
+foreign-next a (Char c) e = rw e refl
+foreign-next a Comment e = rw e refl
+foreign-next a Doctype e = rw e refl
+foreign-next a Eof e = rw e refl
+
 seen-next : (m : Mode) (s : List Tag) (y : Symbol) (h : History) (f : Fate) → is_next m s y ≡ true → HasSeen m h → HasSeen (next_mode m y) (after h y f)
 seen-next mode.AfterHead s (Start tag.Body) h f e k = (and-false _, and-false _)
 seen-next mode.AfterHead s (Start _) h f e k = absurd (false≢true e)
@@ -303,6 +312,10 @@ turns-dropped o y k a b c e = turns-never o y k a b (λ h. let z = sym (must-non
 
 pub turns-astray : (o : Outcome) (y : Symbol) (k : TokenKind) (a b : State) → (is_of_selects a.mode ≡ false → is_of_frames a.mode ≡ false → ⊥) → Turns o y k a b
 turns-astray o y k a b n = turns-never o y k a b (λ h. let z = own-mode a.mode a.stack h.plain.stands in n z.0 z.1)
+
+-- nor was foreign content made
+pub turns-embedded : (o : Outcome) (y : Symbol) (k : TokenKind) (a b : State) → a.ledger.history.foreign ≡ true → Turns o y k a b
+turns-embedded o y k a b e = turns-never o y k a b (λ h. false≢true (sym h.plain.no_foreign ∙ e))
 
 -- the modes in which no plain page stands
 abbrev pub is_other : Mode → Bool
@@ -444,6 +457,7 @@ plain-next y k a b h t w g = record {
   no_context = t.same_context ∙ h.plain.no_context;
   quiet = ap (λ (x : Entries). x.kept) t.ledger_is.1 ∙ h.plain.quiet;
   no_newline = ap (λ (x : Entries). x.history.ignore_line_feed) t.ledger_is.1 ∙ newline-next a.mode a.stack y (next_fate a y) h.next;
+  no_foreign = ap (λ (x : Entries). x.history.foreign) t.ledger_is.1 ∙ foreign-next a y h.plain.no_foreign;
   seen = subst (λ m. HasSeen m b.ledger.history) (sym t.mode_is)
       (subst (λ (x : Entries). HasSeen (next_mode a.mode y) x.history) (sym t.ledger_is.1) (seen-next a.mode a.stack y a.ledger.history (next_fate a y) h.next h.plain.seen));
   tags = g;
@@ -523,6 +537,7 @@ plain-later a s m d n p = record {
   no_context = p.no_context;
   quiet = p.quiet;
   no_newline = p.no_newline;
+  no_foreign = p.no_foreign;
   seen = p.seen;
   tags = p.tags;
   sound = sound-later a.tree s p.sound;
@@ -604,6 +619,6 @@ goes-on o y k a n b d q f t same w g = λ h.
 pub goes-not : (o : Outcome) (y : Symbol) (k : TokenKind) (a n b : State) → o ≡ Reprocess → IsAlike a n → Turns o y k n b → IsNext y k a → ⊥
 goes-not o y k a n b q f t h = (let z : Turns Reprocess y k n b = subst (λ x. Turns x y k n b) q t in z (next-alike y k a n f h))
 
-pub ruleset step_plain = (turns-table_text, turns-astray)
+pub ruleset step_plain = (turns-table_text, turns-astray, turns-embedded)
 
 pub ruleset rules_plain = (turns-other)

@@ -205,7 +205,7 @@ and-false : (b : Bool) → (b && false) ≡ false
 and-false true = refl
 and-false false = refl
 
-push-last : {X : Type 0} (xs ys : List X) (x y : X) → xs ++ x ∷ [] ≡ ys ++ y ∷ [] → x ≡ y
+pub push-last : {X : Type 0} (xs ys : List X) (x y : X) → xs ++ x ∷ [] ≡ ys ++ y ∷ [] → x ≡ y
 push-last [] [] x y e = cc
 push-last [] (z ∷ []) x y e = absurd cc
 push-last [] (z ∷ w ∷ ys) x y e = absurd cc
@@ -476,7 +476,7 @@ adds-other Reprocess Doctype a b e = tt
 adds-other Reprocess Eof a b e = tt
 adds-other (Foreign name) y a b e = tt
 
-text-loose : (m : Mode) → is_loose m ≡ true → is_text m ≡ false
+pub text-loose : (m : Mode) → is_loose m ≡ true → is_text m ≡ false
 text-loose mode.Text e = absurd (false≢true e)
 text-loose _ e = refl
 

@@ -90,10 +90,10 @@ Grows-fostering Done a b x y h = h
 Grows-fostering Reprocess a b x y h = h
 Grows-fostering (Foreign name) a b x y h = h
 
-pub Steps-kept : (o : Outcome) (t : TokenKind) (a b c d : State) → Keeps a b → Steps o t b c → Keeps c d → Steps o t a d
-Steps-kept Done t a b c d j s k = λ h w. k (with_tokens h (t ∷ [])) (s h (j h w))
-Steps-kept Reprocess t a b c d j s k = λ h w. k h (s h (j h w))
-Steps-kept (Foreign name) t a b c d j s k = s
+pub Steps-kept : (o : Outcome) (t : TokenKind) (a b c d : State) → b.parses_foreign ≡ a.parses_foreign → Keeps a b → Steps o t b c → Keeps c d → Steps o t a d
+Steps-kept Done t a b c d e j s k = λ h w. k (with_tokens h (t ∷ [])) (s h (j h w))
+Steps-kept Reprocess t a b c d e j s k = λ h w. k h (s h (j h w))
+Steps-kept (Foreign name) t a b c d e j s k = (s.0, sym e ∙ s.1)
 
 pub ruleset table_rules = (Fits-loose, Calls-loose, Fits-opened, Fits-table_text, rank-char_table, rank-start_table, rank-reset_table, loose-reset, loose-table, top_rank-reset, is_visible-space, small-is_section, named-is_section, part-is_section, any-refused)
 
@@ -133,29 +133,53 @@ Spends-more a b w = (omega (arith, w.0), (w.1.0, omega (arith, w.1.1)))
 one-fate : (f g p : ℕ) → g ≡ f + 1 → g * p ≡ f * p + p
 one-fate f g p e = rw e (grind arith)
 
-Counts-done : (t : TokenKind) (a b : State) → length b.ledger.fates ≡ length a.ledger.fates + 1 → Worked Done t a b → Counts 1 (compared t b) a b
+Counts-done : (t : TokenKind) (a b : State) → length b.ledger.fates ≡ length a.ledger.fates + 1 → Worked Done t a b → Counts 24 1 (compared t b) a b
 Counts-done t a b e w = let p = one-fate (length a.ledger.fates) (length b.ledger.fates) (fee_of b) e in (w.0, (w.1.0, (omega (arith, e), omega (arith, p, w.1.1))))
 
-Counts-same : (c m : ℕ) (a b : State) → c ≤ 24 → m ≤ 24 → length b.ledger.fates ≡ length a.ledger.fates → Works c 0 m a b → Counts 1 0 a b
+Counts-same : (c m : ℕ) (a b : State) → c ≤ 24 → m ≤ 24 → length b.ledger.fates ≡ length a.ledger.fates → Works c 0 m a b → Counts 24 1 0 a b
 Counts-same c m a b h k e w =
     let p : length b.ledger.fates * fee_of b ≡ length a.ledger.fates * fee_of b = ap (λ n. n * fee_of b) e in
     let q = mul-le c (reach_of b) 24 (reach_of b) h (omega arith) in
     (w.0, (w.1.0, (omega (arith, e), omega (arith, p, q, k, w.1.1))))
 
-pub Counted-worked : (o : Outcome) (t : TokenKind) (a b : State) → Grows o a b → Worked o t a b → Counted o t a b
+pub Counted-worked : (o : Outcome) (t : TokenKind) (a b : State) → Grows o a b → Worked o t a b → Counted 24 o t a b
 Counted-worked Done t a b g w = Counts-done t a b g.0 w
 Counted-worked Reprocess t a b g w = Counts-same 24 24 a b (omega arith) (omega arith) (omega (arith, g.0)) w
 Counted-worked (Foreign name) t a b g w = tt
 
-pub Counts-none : (a b : State) → Grown 0 0 0 0 0 a b → Works 0 0 0 a b → Counts 1 0 a b
+pub Counts-none : (a b : State) → Grown 0 0 0 0 0 a b → Works 0 0 0 a b → Counts 24 1 0 a b
 Counts-none a b g w = Counts-same 0 0 a b (omega arith) (omega arith) (omega (arith, g.0)) w
 
 -- a code point is kept
-pub Counts-held : (t : TokenKind) (a b : State) → Grown 0 0 0 0 0 a b → Works 0 0 0 a b → Counts 1 (compared t b) a b
+pub Counts-held : (t : TokenKind) (a b : State) → Grown 0 0 0 0 0 a b → Works 0 0 0 a b → Counts 24 1 (compared t b) a b
 Counts-held t a b g w = let h = Counts-none a b g w in (h.0, (h.1.0, (h.1.1.0, omega (arith, h.1.1.1))))
 
-pub Counts-dropped : (t : TokenKind) (a b : State) → Grown 1 0 0 0 0 a b → Works 0 0 0 a b → Counts 1 (compared t b) a b
+pub Counts-dropped : (t : TokenKind) (a b : State) → Grown 1 0 0 0 0 a b → Works 0 0 0 a b → Counts 24 1 (compared t b) a b
 Counts-dropped t a b g w = Counts-done t a b g.0 (w.0, (w.1.0, omega (arith, w.1.1)))
+
+-- the rules of a mode in an entry, which has room for two calls more
+pub Counted-entry : (o : Outcome) (t : TokenKind) (a b : State) → Counted 24 o t a b → Counted 26 o t a b
+Counted-entry Done t a b v = (v.0, (v.1.0, (v.1.1.0, omega (arith, v.1.1.1))))
+Counted-entry Reprocess t a b v = (v.0, (v.1.0, (v.1.1.0, omega (arith, v.1.1.1))))
+Counted-entry (Foreign name) t a b v = tt
+
+pub Counts-entry_none : (a b : State) → Grown 0 0 0 0 0 a b → Works 0 0 0 a b → Counts 26 1 0 a b
+Counts-entry_none a b g w = let v = Counts-none a b g w in (v.0, (v.1.0, (v.1.1.0, omega (arith, v.1.1.1))))
+
+pub Counts-entry_dropped : (t : TokenKind) (a b : State) → Grown 1 0 0 0 0 a b → Works 0 0 0 a b → Counts 26 1 (compared t b) a b
+Counts-entry_dropped t a b g w = let v = Counts-dropped t a b g w in (v.0, (v.1.0, (v.1.1.0, omega (arith, v.1.1.1))))
+
+-- those calls before them
+counts-after : (more : ℕ) (a m b : State) → Grown 0 0 0 0 0 a m → Works 2 0 0 a m → Counts 24 1 more m b → Counts 26 1 more a b
+counts-after more a m b g w v =
+    let e : length m.ledger.fates ≡ length a.ledger.fates = omega (arith, g.0) in
+    let p : length m.ledger.fates * fee_of b ≡ length a.ledger.fates * fee_of b = ap (λ n. n * fee_of b) e in
+    (omega (arith, w.0, v.0), (omega (arith, w.1.0, v.1.0), (omega (arith, e, v.1.1.0), omega (arith, p, w.1.1, v.0, v.1.1.1))))
+
+pub Counted-after : (o : Outcome) (t : TokenKind) (a m b : State) → Grown 0 0 0 0 0 a m → Works 2 0 0 a m → Counted 24 o t m b → Counted 26 o t a b
+Counted-after Done t a m b g w v = counts-after (compared t b) a m b g w v
+Counted-after Reprocess t a m b g w v = counts-after 0 a m b g w v
+Counted-after (Foreign name) t a m b g w v = tt
 
 -- fees one after another
 fees-then : (f g h p q : ℕ) → f ≤ g → p ≤ q → h * q + g * p + f * q ≤ h * q + f * p + g * q
@@ -165,7 +189,7 @@ fees-then f g h p q e r = let k = mul-le (g - f) p (g - f) q (omega arith) r in 
     by d e k = rw e (let x : (f + d) * p ≡ f * p + d * p = grind arith in let y : (f + d) * q ≡ f * q + d * q = grind arith in omega (arith, x, y, k))
 
 -- one kept code point more
-pub Counts-kept : (a b c : State) → Counts 0 0 a b → Grown 1 (length b.ledger.fates + 1) 0 1 0 b c → Works 6 1 6 b c → Counts 0 0 a c
+pub Counts-kept : (a b c : State) → Counts 24 0 0 a b → Grown 1 (length b.ledger.fates + 1) 0 1 0 b c → Works 6 1 6 b c → Counts 24 0 0 a c
 Counts-kept a b c v g w =
     let p = one-fate (length b.ledger.fates) (length c.ledger.fates) (fee_of c) g.0 in
     let q : fee_of b ≤ fee_of c = omega (arith, w.0, w.1.0) in
@@ -173,12 +197,12 @@ Counts-kept a b c v g w =
     (omega (arith, v.0, w.0), (omega (arith, v.1.0, w.1.0), (omega (arith, v.1.1.0, g.0), omega (arith, v.1.1.1, w.1.1, p, r))))
 
 -- nothing but what was kept was taken out before
-pub Counts-taken : (a b c : State) → Grown 0 0 0 0 0 a b → Works 0 0 0 a b → Counts 0 0 b c → Counts 0 0 a c
+pub Counts-taken : (a b c : State) → Grown 0 0 0 0 0 a b → Works 0 0 0 a b → Counts 24 0 0 b c → Counts 24 0 0 a c
 Counts-taken a b c g w v =
     let p : length b.ledger.fates * fee_of c ≡ length a.ledger.fates * fee_of c = ap (λ n. n * fee_of c) (let e : length b.ledger.fates ≡ length a.ledger.fates = omega (arith, g.0) in e) in
     (omega (arith, v.0, w.0), (omega (arith, v.1.0, w.1.0), (omega (arith, g.0, v.1.1.0), omega (arith, v.1.1.1, w.1.1, p))))
 
-pub Counts-more : (a b : State) → Counts 0 0 a b → Counts 1 0 a b
+pub Counts-more : (a b : State) → Counts 24 0 0 a b → Counts 24 1 0 a b
 Counts-more a b v = (v.0, (v.1.0, (v.1.1.0, omega (arith, v.1.1.1))))
 
 -- one more entry
@@ -212,7 +236,7 @@ pub Fits-quiet : (s : State) → is_table_text s.mode ≡ false → Fits s → s
 Fits-quiet s n f = Quiet-other s.mode s.ledger.kept n f.quiet
 
 -- steps one after another
-pub ruleset step_rules = (Fits-loose, Fits-opened, Fits-dropped, Fits-quiet, is-table_text, other-loose, top_rank-all, Spends-none, Spends-dropped, Counts-none, Counts-dropped, any-refused)
+pub ruleset step_rules = (Fits-loose, Fits-opened, Fits-dropped, Fits-quiet, is-table_text, other-loose, top_rank-all, Spends-none, Spends-dropped, Counted-entry, Counts-entry_none, Counts-entry_dropped, any-refused)
 
 -- no code point is the start tag of foreign content
 pub char-foreign : (c : ℕ) (f : Option Root) → IfSome f (λ name. Char c ≡ root_of name) → f ≡ None
@@ -311,11 +335,11 @@ entered-one y i m n e g w h =
     let l : allowance (length n.ledger.fates) ≡ allowance (length m.ledger.fates) = ap allowance f in
     (omega (arith, h.0, s, r, l, g.1.0), (omega (arith, h.1.0, f, g.1.1.1.1.0), omega (arith, h.1.1.0, s, r, g.1.1.1.1.1)))
 
-pub entered-next : (o : Outcome) (y : Symbol) (t : TokenKind) (i m n b : State) → o ≡ Reprocess → n ≡ record m { tree = n.tree } → Grown 0 0 0 0 0 m n → Works 0 0 1 m n → Spends 2 n b → Counted o t n b → Falls o y n b
+pub entered-next : (o : Outcome) (y : Symbol) (t : TokenKind) (i m n b : State) → o ≡ Reprocess → n ≡ record m { tree = n.tree } → Grown 0 0 0 0 0 m n → Works 0 0 1 m n → Spends 2 n b → Counted 26 o t n b → Falls o y n b
     → Entered y i m → Entered y i b
 entered-next o y t i m n b q e g w p c f h =
     let k = entered-one y i m n e g w h in
-    let d : Counts 1 0 n b = subst (λ x. Counted x t n b) q c in
+    let d : Counts 26 1 0 n b = subst (λ x. Counted 26 x t n b) q c in
     let v : weight b.stack + rank b.mode y < weight n.stack + rank n.mode y = subst (λ x. Falls x y n b) q f in
     let s : weight n.stack ≡ weight m.stack = ap (λ (x : State). weight x.stack) e in
     let r : rank n.mode y ≡ rank m.mode y = ap (λ (x : State). rank x.mode y) e in
@@ -337,14 +361,14 @@ entered-next o y t i m n b q e g w p c f h =
     )
 
 -- the token is done with
-pub toils-done : (o : Outcome) (y : Symbol) (t : TokenKind) (i m n b d : State) → o ≡ Done → n ≡ record m { tree = n.tree } → Works 0 0 1 m n → Counted o t n b → Falls o y n b
+pub toils-done : (o : Outcome) (y : Symbol) (t : TokenKind) (i m n b d : State) → o ≡ Done → n ≡ record m { tree = n.tree } → Works 0 0 1 m n → Counted 26 o t n b → Falls o y n b
     → d ≡ record b { mode = d.mode } → top_rank d.mode ≤ top_rank b.mode → Entered y i m → Toils (compared t d) i d
 toils-done o y t i m n b d q e w c f z l h =
     subst (λ (x : State). Toils (compared t x) i x) (sym z)
     (omega (arith, h.1.1.1.0, w.0, k.0), (omega (arith, h.1.1.1.1.0, w.1.0, k.1.0), omega (arith, all, a)))
   where
-    k : Counts 1 (compared t b) n b
-    k = subst (λ x. Counted x t n b) q c
+    k : Counts 26 1 (compared t b) n b
+    k = subst (λ x. Counted 26 x t n b) q c
 
     v : weight b.stack + top_rank b.mode ≤ weight n.stack + 15
     v = subst (λ x. Falls x y n b) q f

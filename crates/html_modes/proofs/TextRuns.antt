@@ -103,6 +103,7 @@ record HasPassed (e : Entries) : Type 0 where
   doctype : e.history.awaits_doctype ≡ false
   prolog : e.history.prolog ≡ false
   newline : e.history.ignore_line_feed ≡ false
+  foreign : e.history.foreign ≡ false
   quiet : e.kept ≡ []
 
 passed-run : (cs : List ℕ) (e : Entries) (d : ℕ) → HasPassed e → HasPassed (given_run e cs (Text d))
@@ -111,6 +112,7 @@ passed-run (c ∷ cs) e d h = passed-run cs (given e (Char c) (Text d)) d record
   doctype = rw h.doctype refl;
   prolog = rw h.prolog refl;
   newline = refl;
+  foreign = rw h.foreign refl;
   quiet = h.quiet;
 }
 
@@ -119,6 +121,7 @@ passed-body a p e = let s = subst (λ m. HasSeen m a.ledger.history) e p.seen in
   doctype = s.0;
   prolog = s.1;
   newline = p.no_newline;
+  foreign = p.no_foreign;
   quiet = p.quiet;
 }
 
@@ -130,6 +133,7 @@ plain-run run a b p e t w g =
       no_context = t.same_context ∙ p.no_context;
       quiet = h.quiet;
       no_newline = h.newline;
+      no_foreign = h.foreign;
       seen = subst (λ m. HasSeen m b.ledger.history) (sym (t.turn.mode_is ∙ e)) (h.doctype, h.prolog);
       tags = g;
       sound = w;

@@ -2,6 +2,7 @@
 pub mod Begun
 pub mod Entering
 pub mod Fitting
+pub mod Foreign
 pub mod Guards
 pub mod Plain
 pub mod Ranks

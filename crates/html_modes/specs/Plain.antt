@@ -74,12 +74,14 @@ HasSeen Initial h = h.awaits_doctype ≡ true
 HasSeen InBody h = (h.awaits_doctype ≡ false) × (h.prolog ≡ false)
 HasSeen _ h = Unit {0}
 
--- Tree construction of a document of which the tokens so far begin a plain page: nothing is fostered or kept, and what is listed is open.
+-- Tree construction of a document of which the tokens so far begin a plain page: nothing is fostered or kept, no foreign content was made, and what is
+-- listed is open.
 pub record IsPlainState (a : State) : Type 0 where
   pub unfostered : a.fostering ≡ false
   pub no_context : a.context ≡ None
   pub quiet : a.ledger.kept ≡ []
   pub no_newline : a.ledger.history.ignore_line_feed ≡ false
+  pub no_foreign : a.ledger.history.foreign ≡ false
   pub seen : HasSeen a.mode a.ledger.history
   pub tags : a.stack ≡ open_tags a.tree
   pub sound : IsSound a.tree

@@ -1,10 +1,12 @@
--- Claimed, but for this crate's own functions: Steps, Falls, Grows, Spends, Settles, Worked, Counts, Counted.
+-- Claimed, but for this crate's own functions: root_space, IsRefused, Steps, Falls, Grows, Spends, Settles, Worked, Counts, Counted.
 -- What one entry of a token into the rules of a mode does (13.2.6).
 use Rattle.std.specs.Prelude.{ℕ, ◌+◌, ◌*◌, ◌≡◌, ◌<◌, ◌≤◌, Bool, true, false, [], length}
 use Rattle.html_tokens.specs.declared.token.TokenKind.{TokenKind}
 use Rattle.html_ledger.specs.declared.symbol.Symbol.{Symbol}
 use Rattle.html_ledger.specs.declared.symbol.Symbol.TheVariants.{Char, Start}
 use Rattle.html_ledger.specs.Symbols.{symbol_of}
+use Rattle.html_names.specs.declared.foreign.Space.{Space}
+use Rattle.html_names.specs.declared.foreign.Space.TheVariants as space
 use Rattle.html_names.specs.declared.tag.Tag.TheVariants as tag
 use Rattle.html_construction.specs.Built.{Keeps, Takes}
 use Rattle.html_construction.specs.Copies.{implied_count, most_clones}
@@ -24,11 +26,20 @@ abbrev pub root_of : Root → Symbol
 root_of root.Svg = Start tag.Svg
 root_of root.Math = Start tag.Math
 
--- the token was handed in, is still in hand, or is the start tag of foreign content
+-- the namespace of one
+abbrev pub root_space : Root → Space
+root_space root.Svg = space.Svg
+root_space root.Math = space.Math
+
+-- the token is the start tag of foreign content, which is refused
+abbrev pub IsRefused : Root → TokenKind → State → Type 0
+IsRefused name t a = (symbol_of t ≡ root_of name) × (a.parses_foreign ≡ false)
+
+-- the token was handed in, is still in hand, or is the start tag of foreign content that is refused
 abbrev pub Steps : Outcome → TokenKind → State → State → Type 0
 Steps Done t a b = Takes t a b
 Steps Reprocess t a b = Keeps a b
-Steps (Foreign name) t a b = symbol_of t ≡ root_of name
+Steps (Foreign name) t a b = IsRefused name t a
 
 -- what open elements and the mode count together falls, and rises by fifteen at most where the token is done with
 abbrev pub Falls : Outcome → Symbol → State → State → Type 0
@@ -95,25 +106,25 @@ Worked (Foreign name) t a b = Unit {0}
 
 -- the most steps of an entry after which the token is still in hand, and one that the entry counts itself
 abbrev pub turn_of : State → ℕ
-turn_of a = 24 * reach_of a + 25
+turn_of a = 26 * reach_of a + 25
 
 -- the most steps for a token that gets its fate, apart from the attributes that are compared
 abbrev pub fee_of : State → ℕ
-fee_of a = 10 * toll_of a + 24 * reach_of a + 50
+fee_of a = 10 * toll_of a + 26 * reach_of a + 50
 
--- so many entries, and a fee for each token that got its fate
-abbrev pub Counts : ℕ → ℕ → State → State → Type 0
-Counts entries more a b =
+-- so many entries, each of which calls the tree so often at most, and a fee for each token that got its fate
+abbrev pub Counts : ℕ → ℕ → ℕ → State → State → Type 0
+Counts calls entries more a b =
     (reach_of a ≤ reach_of b)
     × ((toll_of a ≤ toll_of b)
     × ((length a.ledger.fates ≤ length b.ledger.fates)
-    × (b.tree.steps + length a.ledger.fates * fee_of b ≤ a.tree.steps + length b.ledger.fates * fee_of b + entries * (24 * reach_of b + 24) + more)))
+    × (b.tree.steps + length a.ledger.fates * fee_of b ≤ a.tree.steps + length b.ledger.fates * fee_of b + entries * (calls * reach_of b + 24) + more)))
 
--- the same of one entry
-abbrev pub Counted : Outcome → TokenKind → State → State → Type 0
-Counted Done t a b = Counts 1 (compared t b) a b
-Counted Reprocess t a b = Counts 1 0 a b
-Counted (Foreign name) t a b = Unit {0}
+-- the same of one entry: the rules of a mode call the tree 24 times at most, and those for foreign content twice before
+abbrev pub Counted : ℕ → Outcome → TokenKind → State → State → Type 0
+Counted calls Done t a b = Counts calls 1 (compared t b) a b
+Counted calls Reprocess t a b = Counts calls 1 0 a b
+Counted calls (Foreign name) t a b = Unit {0}
 
 -- The same after a token: its entries are paid for by what the open elements and the mode count, and sixteen more.
 abbrev pub Toils : ℕ → State → State → Type 0

@@ -1,11 +1,12 @@
 // Guards: tests in place of a proof about the shape of the stack of open elements. In a real run each answers as is said here; where it would
 // not, the token goes on by a rule that asks for nothing.
-ghost use Rattle.std.specs.Prelude.{◌≡◌, ◌≤◌, ◌==◌, IsTrue, true, false};
+ghost use Rattle.std.specs.Prelude.{◌≡◌, ◌≤◌, ◌==◌, IsTrue, None, true, false};
 ghost use Rattle.html_ledger.specs.Flags.{is_free, may_select, may_drop};
 ghost use Rattle.html_modes.specs.Fitting.{is_loose};
 ghost use Rattle.html_modes.specs.Ranks.{rank, top_rank};
 ghost use Rattle.html_ledger.specs.declared.fate.Cause.TheVariants.{InColumnGroup};
 ghost use Rattle.html_construction.specs.Begun.{IsFounded};
+ghost use Rattle.html_construction.specs.Foreign.{foreign_tag};
 ghost use Rattle.html_construction.specs.Modes.{is_of_column_groups, is_of_frames, is_of_selects};
 ghost use Rattle.html_modes.specs.Guards.{is_droppable, is_table_text, is_text, takes_runs};
 ghost use Rattle.html_ledger.specs.declared.symbol.Symbol.{Symbol as AnySymbol};
@@ -76,17 +77,30 @@ pub(crate) fn has_form(page: &Construction) -> bool
     page.points_to_form() && page.history().form
 }
 
-/// Whether a code point begins a run that the mode takes in one go, up to the next U+0000.
+/// Whether a code point begins a run that the mode takes in one go, up to the next U+0000. In foreign content none does.
 pub(crate) fn takes_run(page: &Construction, first: char) -> bool
     ensures visible { result ≡ true → (first == 0) ≡ false }
     ensures mode { result ≡ true → takes_runs page.now.mode ≡ true }
     ensures doctype { result ≡ true → page.now.ledger.history.awaits_doctype ≡ false }
     ensures free { result ≡ true → IsTrue (is_free page.now.ledger.history (Symbol.Char first)) }
+    ensures home { result ≡ true → foreign_tag page.now ≡ None }
 {
     first != '\0'
         && takes_runs(page.mode())
         && !page.history().awaits_doctype
         && page.history().is_free(Symbol::Char(first))
+        && page.foreign_tag().is_none()
+}
+
+/// A mode in which an element of foreign content may be the current node. Others: before the html element none is open, in the mode text the current
+/// node is one of HTML, and so it is where the text of a table is kept.
+pub(crate) fn has_elements(mode: Mode) -> bool
+    ensures value { result ≡ is_loose mode }
+{
+    !matches!(
+        mode,
+        Mode::Initial | Mode::BeforeHtml | Mode::Text | Mode::InTableText
+    )
 }
 
 /// The mode in which the text of a table is kept.

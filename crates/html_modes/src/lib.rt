@@ -26,6 +26,8 @@
 //! | 13.2.6.4.21 | after frameset | `modes/frameset.rt` | `after_frameset` |
 //! | 13.2.6.4.22 | after after body | `modes/after.rt` | `after_after_body` |
 //! | 13.2.6.4.23 | after after frameset | `modes/frameset.rt` | `after_after_frameset` |
+//!
+//! The rules for parsing tokens in foreign content (13.2.6.5), and which tokens go by them (13.2.6), stand in `modes/foreign.rt`.
 #![tactic(auto)]
 
 mod guards;

@@ -8,6 +8,7 @@ pub(crate) mod body_phrase;
 pub(crate) mod body_start;
 pub(crate) mod body_text;
 pub(crate) mod cell;
+pub(crate) mod foreign;
 pub(crate) mod formatting;
 pub(crate) mod frameset;
 pub(crate) mod head;

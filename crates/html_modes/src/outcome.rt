@@ -14,6 +14,6 @@ pub(crate) enum Outcome {
     Done,
     /// The token is reprocessed by the rules of the mode that is set now.
     Reprocess,
-    /// The token is the start tag of foreign content, which no rule here takes.
+    /// The token is the start tag of foreign content, which is refused.
     Foreign(Foreign),
 }

@@ -1,5 +1,5 @@
 // The entries of a token into the rules of the modes (13.2.6).
-ghost use Rattle.std.specs.Prelude.{◌≡◌, ◌≤◌, [], IfOk, IfSome, None, OnOk, IsTrue, true, false, IfErr};
+ghost use Rattle.std.specs.Prelude.{◌≡◌, ◌≤◌, [], IfOk, IfSome, None, OnOk, Some, IsTrue, true, false, IfErr};
 ghost use Rattle.html_ledger.specs.Symbols.{symbol_of};
 ghost use Rattle.html_ledger.specs.Flags.{is_free, may_select};
 ghost use Rattle.html_construction.specs.Budgets.{Refuses};
@@ -7,8 +7,11 @@ ghost use Rattle.html_construction.specs.Begun.{IsFounded};
 ghost use Rattle.html_construction.specs.Built.{Accepts, Keeps};
 ghost use Rattle.html_modes.specs.Begun.{GivesIn, IgnoresFirst, IgnoresIn, StaysOut, TextStays, ignores_foreign};
 ghost use Rattle.html_modes.specs.Entering.{Enters};
-ghost use Rattle.html_modes.specs.Fitting.{Fits};
+ghost use Rattle.html_construction.specs.Foreign.{foreign_tag};
+ghost use Rattle.html_modes.specs.Fitting.{Fits, is_loose};
+ghost use Rattle.html_modes.specs.Foreign.{Follows, FollowsForeign, goes_on};
 ghost use Rattle.html_modes.specs.Plain.{GoesOn, Turns};
+ghost use Rattle.html_modes.specs.declared.outcome.Outcome.TheVariants.{Done};
 ghost use Rattle.html_modes.specs.Steps.{Counted, Falls, Pays, Settles, Spends, Steps, Toils, compared, root_of};
 ghost use Rattle.html_modes.specs.Ranks.{top_rank};
 ghost use Rattle.html_construction.specs.Modes.{is_of_frames, is_of_selects};
@@ -19,6 +22,7 @@ use crate::guards::{is_astray, is_table_text, is_unfounded};
 use crate::modes::after::{after_after_body, after_body};
 use crate::modes::body::in_body;
 use crate::modes::cell::in_cell;
+use crate::modes::foreign::{around_foreign, goes_on, stay};
 use crate::modes::frameset::{after_after_frameset, after_frameset, in_frameset};
 use crate::modes::head::{after_head, in_head, in_head_noscript};
 use crate::modes::initial::{before_head, before_html, initial};
@@ -32,10 +36,11 @@ use crate::modes::text::text;
 use crate::outcome::{Foreign, Outcome};
 use html_construction::{Construction, Mode, Refusal};
 use html_ledger::Symbol;
+use html_names::Tag;
 use html_tokens::TokenKind;
 
 /// Takes the next token through all its entries into the rules of the modes, and answers none; or answers which foreign content the token begins,
-/// where it is a start tag that no rule takes; this is so in no call that begins inside a select or in a page of frames. `symbol` is the token as the rules tell tokens apart. `entries` counts the entries.
+/// where that is refused; this is so in no call that begins inside a select or in a page of frames. `symbol` is the token as the rules tell tokens apart. `entries` counts the entries.
 ///
 /// # Errors
 ///
@@ -53,14 +58,17 @@ pub fn take(
     requires fits { Fits page.old }
     ensures fits { OnOk result (Fits page.new) }
     ensures takes { IfOk result (λ f. f ≡ None → Accepts token.now page.old page.new) }
+    ensures parses { OnOk result (page.new.parses_foreign ≡ page.old.parses_foreign) }
     ensures gives { IfOk result (λ f. f ≡ None → GivesIn page.old page.new) }
     ensures out { IfOk result (λ f. f ≡ None → TextStays symbol page.old.mode page.new.mode) }
     ensures founded { IfOk result (λ f. f ≡ None → IsFounded page.new) }
     ensures foreign { IfOk result (λ f. IfSome f (λ name. symbol ≡ root_of name)) }
+    ensures refused { IfOk result (λ f. IfSome f (λ name. page.old.parses_foreign ≡ false)) }
     ensures ignores { IfOk result (λ f. IfSome f (λ name. IsFounded page.old → ignores_foreign page.old.mode ≡ false)) }
     ensures pays { IfOk result (λ f. f ≡ None → Pays page.old page.new) }
     ensures enters { IfOk result (λ f. f ≡ None → Enters 1 entries.old entries.new page.old page.new) }
     ensures toils { IfOk result (λ f. f ≡ None → Toils (compared token.now page.new) page.old page.new) }
+    ensures embeds { IfOk result (λ f. f ≡ None → FollowsForeign Done symbol token.now page.old page.new) }
     ensures plain { IfOk result (λ f. f ≡ None → GoesOn symbol token.now page.old page.new) }
     ensures opens { IfOk result (λ f. f ≡ None → OpensBy symbol page.new) }
     ensures adds { IfOk result (λ f. f ≡ None → AddsBy symbol page.old page.new) }
@@ -100,23 +108,25 @@ fn settle(page: &mut Construction)
     }
 }
 
-/// One entry: the text of a table, what every mode drops, or the rules of the mode that is set.
-#[tactic(auto, using(crate::proofs::Settled::step_rules, crate::proofs::Plain::step_plain, crate::proofs::RawText::step_texts, crate::proofs::Begun::first_rules, crate::proofs::Begun::text_stays))]
+/// One entry: the text of a table, what every mode drops, the rules for foreign content, or those of the mode that is set (13.2.6).
+#[tactic(auto, using(crate::proofs::Settled::step_rules, crate::proofs::Plain::step_plain, crate::proofs::RawText::step_texts, crate::proofs::Begun::first_rules, crate::proofs::Begun::text_stays, crate::proofs::Embedding::step_foreign))]
 fn step(page: &mut Construction, token: &TokenKind, symbol: Symbol) -> Result<Outcome, Refusal>
     requires symbol { symbol_of token.now ≡ symbol }
     requires fits { Fits page.old }
     ensures fits { OnOk result (Fits page.new) }
     ensures takes { IfOk result (λ o. Steps o token.now page.old page.new) }
+    ensures parses { OnOk result (page.new.parses_foreign ≡ page.old.parses_foreign) }
     ensures falls { IfOk result (λ o. Falls o symbol page.old page.new) }
     ensures out { OnOk result (TextStays symbol page.old.mode page.new.mode) }
     ensures spends { OnOk result (Spends 2 page.old page.new) }
-    ensures counts { IfOk result (λ o. Counted o token.now page.old page.new) }
+    ensures counts { IfOk result (λ o. Counted 26 o token.now page.old page.new) }
     ensures ignores { IfOk result (λ o. IgnoresFirst page.old o symbol) }
     ensures settles { IfOk result (λ o. Settles o symbol page.old page.new) }
     ensures plain { IfOk result (λ o. Turns o symbol token.now page.old page.new) }
     ensures opens { IfOk result (λ o. Opens o symbol page.new) }
     ensures adds { IfOk result (λ o. Adds o symbol page.old page.new) }
     ensures ends { IfOk result (λ o. Ends o symbol token.now page.old page.new) }
+    ensures foreign { IfOk result (λ o. FollowsForeign o symbol token.now page.old page.new) }
     ensures refuses { IfErr result (λ e. Refuses token.now e page.old page.new) }
 {
     if is_table_text(page.mode()) {
@@ -131,8 +141,91 @@ fn step(page: &mut Construction, token: &TokenKind, symbol: Symbol) -> Result<Ou
         page.set_mode(Mode::InBody);
         return Ok(Outcome::Reprocess);
     }
+    if page.history().foreign {
+        let outcome = dispatch(page, token, symbol)?;
+        return Ok(outcome);
+    }
     let outcome = rules(page, token, symbol)?;
     Ok(outcome)
+}
+
+/// The tree construction dispatcher (13.2.6), where foreign content was made or is the context.
+#[tactic(auto, using(crate::proofs::Settled::step_rules, crate::proofs::Plain::step_plain, crate::proofs::RawText::step_texts, crate::proofs::Begun::text_stays, crate::proofs::Embedding::step_foreign))]
+#[inline(never)]
+fn dispatch(page: &mut Construction, token: &TokenKind, symbol: Symbol) -> Result<Outcome, Refusal>
+    requires symbol { symbol_of token.now ≡ symbol }
+    requires foreign { page.old.ledger.history.foreign ≡ true }
+    requires fits { Fits page.old }
+    requires quiet { page.old.ledger.kept ≡ [] }
+    requires free { IsTrue (is_free page.old.ledger.history symbol) }
+    requires other { is_table_text page.old.mode ≡ false }
+    requires select { is_droppable symbol ≡ true → is_of_selects page.old.mode ≡ true → may_select page.old.ledger.history ≡ true }
+    requires frameset { is_droppable symbol ≡ true → is_of_frames page.old.mode ≡ true → page.old.ledger.history.frameset ≡ true }
+    requires in_select { is_droppable symbol ≡ true → is_of_selects page.old.mode ≡ true → is_of_selects page.old.began ≡ true }
+    requires in_frameset { is_droppable symbol ≡ true → is_of_frames page.old.mode ≡ true → is_of_frames page.old.began ≡ true }
+    ensures fits { OnOk result (Fits page.new) }
+    ensures takes { IfOk result (λ o. Steps o token.now page.old page.new) }
+    ensures parses { OnOk result (page.new.parses_foreign ≡ page.old.parses_foreign) }
+    ensures falls { IfOk result (λ o. Falls o symbol page.old page.new) }
+    ensures out { OnOk result (TextStays symbol page.old.mode page.new.mode) }
+    ensures spends { OnOk result (Spends 2 page.old page.new) }
+    ensures counts { IfOk result (λ o. Counted 26 o token.now page.old page.new) }
+    ensures ignores { IfOk result (λ o. IgnoresIn page.old.mode o symbol) }
+    ensures settles { IfOk result (λ o. Settles o symbol page.old page.new) }
+    ensures plain { IfOk result (λ o. Turns o symbol token.now page.old page.new) }
+    ensures opens { IfOk result (λ o. Opens o symbol page.new) }
+    ensures adds { IfOk result (λ o. Adds o symbol page.old page.new) }
+    ensures ends { IfOk result (λ o. Ends o symbol token.now page.old page.new) }
+    ensures foreign { IfOk result (λ o. FollowsForeign o symbol token.now page.old page.new) }
+    ensures refuses { IfErr result (λ e. Refuses token.now e page.old page.new) }
+{
+    if let Some(around) = around_foreign(page, token, symbol) {
+        let outcome = foreign_rules(page, token, symbol, around)?;
+        return Ok(outcome);
+    }
+    let outcome = rules(page, token, symbol)?;
+    Ok(outcome)
+}
+
+/// The rules for foreign content (13.2.6.5), where the adjusted current node has this tag. Where they hand the token on, it goes by the rules of the mode
+/// that is set, in the same entry.
+#[tactic(auto, using(crate::proofs::Embedding::foreign_rules))]
+#[inline(never)]
+fn foreign_rules(
+    page: &mut Construction,
+    token: &TokenKind,
+    symbol: Symbol,
+    around: Tag,
+) -> Result<Outcome, Refusal>
+    requires symbol { symbol_of token.now ≡ symbol }
+    requires fits { Fits page.old }
+    requires loose { is_loose page.old.mode ≡ true }
+    requires around { foreign_tag page.old ≡ Some around }
+    requires quiet { page.old.ledger.kept ≡ [] }
+    requires free { IsTrue (is_free page.old.ledger.history symbol) }
+    requires select { is_droppable symbol ≡ true → is_of_selects page.old.mode ≡ true → may_select page.old.ledger.history ≡ true }
+    requires frameset { is_droppable symbol ≡ true → is_of_frames page.old.mode ≡ true → page.old.ledger.history.frameset ≡ true }
+    requires in_select { is_droppable symbol ≡ true → is_of_selects page.old.mode ≡ true → is_of_selects page.old.began ≡ true }
+    requires in_frameset { is_droppable symbol ≡ true → is_of_frames page.old.mode ≡ true → is_of_frames page.old.began ≡ true }
+    ensures fits { OnOk result (Fits page.new) }
+    ensures takes { IfOk result (λ o. Steps o token.now page.old page.new) }
+    ensures parses { OnOk result (page.new.parses_foreign ≡ page.old.parses_foreign) }
+    ensures falls { IfOk result (λ o. Falls o symbol page.old page.new) }
+    ensures out { OnOk result (TextStays symbol page.old.mode page.new.mode) }
+    ensures spends { OnOk result (Spends 2 page.old page.new) }
+    ensures counts { IfOk result (λ o. Counted 26 o token.now page.old page.new) }
+    ensures ignores { IfOk result (λ o. IgnoresIn page.old.mode o symbol) }
+    ensures settles { IfOk result (λ o. Settles o symbol page.old page.new) }
+    ensures opens { IfOk result (λ o. Opens o symbol page.new) }
+    ensures follows { IfOk result (λ o. goes_on page.old.tree symbol token.now ≡ false → Follows around o symbol token.now page.old page.new) }
+    ensures refuses { IfErr result (λ e. Refuses token.now e page.old page.new) }
+{
+    if goes_on(page, token, symbol) {
+        let outcome = rules(page, token, symbol)?;
+        return Ok(outcome);
+    }
+    stay(page, token, symbol, around)?;
+    Ok(Outcome::Done)
 }
 
 /// The rules of the mode that is set.
@@ -150,10 +243,11 @@ fn rules(page: &mut Construction, token: &TokenKind, symbol: Symbol) -> Result<O
     requires in_frameset { is_droppable symbol ≡ true → is_of_frames page.old.mode ≡ true → is_of_frames page.old.began ≡ true }
     ensures fits { OnOk result (Fits page.new) }
     ensures takes { IfOk result (λ o. Steps o token.now page.old page.new) }
+    ensures parses { OnOk result (page.new.parses_foreign ≡ page.old.parses_foreign) }
     ensures falls { IfOk result (λ o. Falls o symbol page.old page.new) }
     ensures out { OnOk result (TextStays symbol page.old.mode page.new.mode) }
     ensures spends { OnOk result (Spends 2 page.old page.new) }
-    ensures counts { IfOk result (λ o. Counted o token.now page.old page.new) }
+    ensures counts { IfOk result (λ o. Counted 24 o token.now page.old page.new) }
     ensures ignores { IfOk result (λ o. IgnoresIn page.old.mode o symbol) }
     ensures settles { IfOk result (λ o. Settles o symbol page.old page.new) }
     ensures plain { IfOk result (λ o. Turns o symbol token.now page.old page.new) }

@@ -1,10 +1,11 @@
 // Text that is taken in runs (13.2.6.1).
-ghost use Rattle.std.specs.Prelude.{◌≡◌, ◌+◌, ◌<◌, ◌≤◌, ◌==◌, ℕ, IfOk, IsTrue, OnOk, Some, [], ◌∷◌, false, length, slice_get, take, true, IfErr};
+ghost use Rattle.std.specs.Prelude.{◌≡◌, ◌+◌, ◌<◌, ◌≤◌, ◌==◌, ℕ, IfOk, IfSome, IsTrue, OnOk, Some, [], ◌∷◌, false, length, slice_get, take, true, IfErr};
 ghost use Rattle.std.specs.List.{list_all};
 ghost use Rattle.html_ledger.specs.Flags.{is_not_null, may_text_run};
 ghost use Rattle.html_construction.specs.Budgets.{RefusesAny};
 ghost use Rattle.html_construction.specs.Begun.{IsFounded};
 ghost use Rattle.html_construction.specs.Built.{Accepts, AcceptsRun};
+ghost use Rattle.html_construction.specs.Foreign.{foreign_tag};
 ghost use Rattle.html_modes.specs.Begun.{GivesIn, StaysOut};
 ghost use Rattle.html_modes.specs.Entering.{Enters};
 ghost use Rattle.html_modes.specs.Fitting.{Fits, is_loose};
@@ -23,7 +24,7 @@ use html_ledger::Symbol;
 use html_tokens::TokenKind;
 
 /// Takes a front of a text that isn't empty, a code point a token, and answers its length: a run where the mode takes one, else one code
-/// point. Of a run the longest front is taken that the limit on held code points takes. `entries` counts the entries of these tokens into the
+/// point; in foreign content one. Of a run the longest front is taken that the limit on held code points takes. `entries` counts the entries of these tokens into the
 /// rules, one for each code point of a run.
 ///
 /// # Errors
@@ -38,6 +39,7 @@ pub fn take_front(
     requires some { 0 < length text.now }
     ensures fits { OnOk result (Fits page.new) }
     ensures takes { IfOk result (λ n. AcceptsRun (take n text.now) page.old page.new) }
+    ensures parses { OnOk result (page.new.parses_foreign ≡ page.old.parses_foreign) }
     ensures gives { OnOk result (GivesIn page.old page.new) }
     ensures out { OnOk result (StaysOut page.old.mode page.new.mode) }
     ensures founded { OnOk result (IsFounded page.new) }
@@ -45,6 +47,7 @@ pub fn take_front(
     ensures pays { OnOk result (Pays page.old page.new) }
     ensures enters { IfOk result (λ n. Enters n entries.old entries.new page.old page.new) }
     ensures toils { OnOk result (Toils 0 page.old page.new) }
+    ensures one { IfOk result (λ n. IfSome (foreign_tag page.old) (λ g. n ≡ 1)) }
     ensures plain { IfOk result (λ n. list_all is_not_null (take n text.now) ≡ true → GoesOnText (take n text.now) page.old page.new) }
     ensures adds { IfOk result (λ n. AddsText (take n text.now) page.old page.new) }
     ensures refuses { IfErr result (λ e. RefusesAny e page.old page.new) }
@@ -65,6 +68,7 @@ fn take_char(page: &mut Construction, c: char, entries: &mut u64) -> Result<(), 
     requires fits { Fits page.old }
     ensures fits { OnOk result (Fits page.new) }
     ensures takes { OnOk result (Accepts (TokenKind.Char c) page.old page.new) }
+    ensures parses { OnOk result (page.new.parses_foreign ≡ page.old.parses_foreign) }
     ensures gives { OnOk result (GivesIn page.old page.new) }
     ensures out { OnOk result (StaysOut page.old.mode page.new.mode) }
     ensures founded { OnOk result (IsFounded page.new) }
@@ -89,6 +93,7 @@ fn take_run(page: &mut Construction, run: &[char]) -> Result<usize, Refusal>
     requires may { IsTrue (may_text_run page.old.ledger.history run.now) }
     ensures fits { OnOk result (Fits page.new) }
     ensures takes { IfOk result (λ n. AcceptsRun (take n run.now) page.old page.new) }
+    ensures parses { OnOk result (page.new.parses_foreign ≡ page.old.parses_foreign) }
     ensures gives { OnOk result (GivesIn page.old page.new) }
     ensures out { OnOk result (StaysOut page.old.mode page.new.mode) }
     ensures founded { OnOk result (IsFounded page.new) }
@@ -117,6 +122,7 @@ fn take_text_run(page: &mut Construction, run: &[char]) -> Result<usize, Refusal
     requires may { IsTrue (may_text_run page.old.ledger.history run.now) }
     ensures fits { OnOk result (Fits page.new) }
     ensures takes { IfOk result (λ n. AcceptsRun (take n run.now) page.old page.new) }
+    ensures parses { OnOk result (page.new.parses_foreign ≡ page.old.parses_foreign) }
     ensures mode { OnOk result (page.new.mode ≡ page.old.mode) }
     ensures count { IfOk result (λ n. (0 < n) × (n ≤ length run.now)) }
     ensures pays { OnOk result (Pays page.old page.new) }
@@ -140,6 +146,7 @@ fn take_body_run(page: &mut Construction, run: &[char]) -> Result<usize, Refusal
     requires may { IsTrue (may_text_run page.old.ledger.history run.now) }
     ensures fits { OnOk result (Fits page.new) }
     ensures takes { IfOk result (λ n. AcceptsRun (take n run.now) page.old page.new) }
+    ensures parses { OnOk result (page.new.parses_foreign ≡ page.old.parses_foreign) }
     ensures mode { OnOk result (page.new.mode ≡ page.old.mode) }
     ensures count { IfOk result (λ n. (0 < n) × (n ≤ length run.now)) }
     ensures pays { OnOk result (Pays page.old page.new) }

@@ -1,14 +1,18 @@
 -- The stages after some more tokens.
-use Rattle.std.proofs.Common.{ℕ, ◌≡◌, ◌∙◌, Bool, true, false, List, [], ◌∷◌, ◌++◌, length, replicate, None, refl, sym, ap, ap₂, subst}
+use Rattle.std.proofs.Common.{ℕ, ◌≡◌, ◌∙◌, Bool, true, false, List, [], ◌∷◌, ◌++◌, Option, refl, sym, ap, subst}
 use Rattle.html_input.specs.Fed.{Fed as Decodes}
 use Rattle.html_tokens.specs.Given.{Fed, is_stopped as tokenizer_stopped}
 use Rattle.html_tokens.specs.Runs.{gave_all, plain_tokens}
 use Rattle.html_tokens.specs.Stream.{Run, gave}
 use Rattle.html_tokens.specs.declared.token.Token.{Token}
 use Rattle.html_ledger.specs.Runs.{last_of}
-use Rattle.html_builder.specs.Handed.{AddsFates, Handed, HandsIn, HaveFates, fates_of, is_stopped as builder_stopped}
-use Rattle.html_builder.specs.Switches.{switch_after, switches_by}
-use Rattle.html_construction.specs.Built.{chars_of}
+use Rattle.html_builder.specs.Handed.{AddsFates, Handed, HandsIn, HaveFates, fates_of, is_stopped as builder_stopped, parses_foreign}
+use Rattle.html_construction.specs.Built.{chars_of, symbols}
+use Rattle.html_ledger.specs.MayDrop.{MayBeForeign}
+use Rattle.html_ledger.specs.declared.setting.Setting.{Setting}
+use Rattle.html_tokens.specs.declared.token.TextMode.{TextMode}
+use Rattle.html_tokens.specs.declared.token.TokenKind.{TokenKind}
+use Rattle.html_parser.specs.Said.{AreSaid, MaySayAfter}
 use Rattle.html_parser.specs.Kinds.{kinds, starts_of}
 use Rattle.html_parser.specs.Causes.{IsTokenCause}
 use Rattle.html_parser.specs.Staged.{IsFurther, IsHandedOn, IsRun}
@@ -32,6 +36,7 @@ pub record HandsText (old new : Stages) (place : ℕ) (text : List ℕ) : Type 0
   pub keeps : new.kept.keeps_tokens ≡ old.kept.keeps_tokens
   pub running : tokenizer_stopped new.tokenizer ≡ false
   pub building : builder_stopped new.builder ≡ builder_stopped old.builder
+  pub parses : parses_foreign new.builder ≡ parses_foreign old.builder
 
 pub text_further : (start : Start) (finished : Bool) (bytes : List ℕ) (run : Run) (old new : Stages) (place : ℕ) (text : List ℕ)
     → HandsText old new place text → HaveFates start.setting (kinds run.given) (fates_of old.builder) → IsRun start finished old bytes run
@@ -52,9 +57,11 @@ text_further start finished bytes run old new place text s h r =
             (subst (λ d. Decodes (most_input start) finished d bytes run.text) (sym s.decoder) r.decoded);
         tokenized = s.given run r.tokenized;
         handed = subst (λ ks. Handed start.setting start.limits ks new.builder) (sym are) (s.takes start.setting start.limits (kinds run.given) r.handed);
-        switched = gave-switches run place text ∙ ap (λ x. x ++ replicate (length text) None) r.switched
-            ∙ sym (says-text start.setting (kinds run.given) text (fates_of old.builder) grown.0 h)
-            ∙ ap₂ switches_by (sym are) (sym grown.1);
+        said = subst (λ ks. AreSaid start.setting ks (fates_of new.builder) after.switches) (sym are)
+            (subst (λ fs. AreSaid start.setting (kinds run.given ++ chars_of text) fs after.switches) (sym grown.1)
+            (subst (AreSaid start.setting (kinds run.given ++ chars_of text) (fates_of old.builder ++ grown.0)) (sym (gave-switches run place text))
+            (says-text start.setting (kinds run.given) text (fates_of old.builder) grown.0 run.switches h r.said)));
+        foreign = s.parses ∙ r.foreign;
         starts = s.starts ∙ ap (λ x. x ++ starts_of tokens) r.starts ∙ sym (ap starts_of given ∙ starts-append run.given tokens);
         tokens = λ keeps.
             let kept = sym s.keeps ∙ keeps in
@@ -66,9 +73,11 @@ text_further start finished bytes run old new place text s h r =
     }
 
 -- What a call did that handed on one token, with what was said of the text after it.
-pub record HandsOne (old new : Stages) (token : Token) : Type 0 where
+pub record HandsOne (old new : Stages) (token : Token) (said : Option TextMode) : Type 0 where
   pub decoder : new.decoder ≡ old.decoder
-  pub given : (run : Run) → Fed old.tokenizer run → Fed new.tokenizer (gave run token (switch_after token.kind (last_of (fates_of new.builder))))
+  pub given : (run : Run) → Fed old.tokenizer run → Fed new.tokenizer (gave run token said)
+  pub may : (s : Setting) (ts : List TokenKind) → (new.builder.page.ledger.history.foreign ≡ true → MayBeForeign s (symbols ts) (fates_of new.builder))
+      → MaySayAfter s ts (fates_of new.builder) token.kind (last_of (fates_of new.builder)) said
   pub takes : HandsIn (token.kind ∷ []) old.builder new.builder
   pub grows : AddsFates old.builder new.builder
   pub starts : new.kept.starts ≡ old.kept.starts ++ starts_of (token ∷ [])
@@ -76,28 +85,32 @@ pub record HandsOne (old new : Stages) (token : Token) : Type 0 where
   pub keeps : new.kept.keeps_tokens ≡ old.kept.keeps_tokens
   pub running : tokenizer_stopped new.tokenizer ≡ false
   pub building : builder_stopped new.builder ≡ false
+  pub parses : parses_foreign new.builder ≡ parses_foreign old.builder
 
-pub one_further : (start : Start) (finished : Bool) (bytes : List ℕ) (run : Run) (old new : Stages) (token : Token)
-    → HandsOne old new token → HaveFates start.setting (kinds run.given) (fates_of old.builder)
-    → HaveFates start.setting (kinds run.given ++ token.kind ∷ []) (fates_of new.builder) → IsRun start finished old bytes run
-    → IsFurther start finished new bytes run.text
-one_further start finished bytes run old new token s h k r =
-    let switch = switch_after token.kind (last_of (fates_of new.builder)) in
+pub one_further : (start : Start) (finished : Bool) (bytes : List ℕ) (run : Run) (old new : Stages) (token : Token) (said : Option TextMode)
+    → HandsOne old new token said → HaveFates start.setting (kinds run.given) (fates_of old.builder)
+    → HaveFates start.setting (kinds run.given ++ token.kind ∷ []) (fates_of new.builder)
+    → (new.builder.page.ledger.history.foreign ≡ true → MayBeForeign start.setting (symbols (kinds run.given ++ token.kind ∷ [])) (fates_of new.builder))
+    → IsRun start finished old bytes run → IsFurther start finished new bytes run.text
+one_further start finished bytes run old new token said s h k known r =
     let are : kinds (run.given ++ token ∷ []) ≡ kinds run.given ++ token.kind ∷ [] = kinds-append run.given (token ∷ []) in
     let grown = s.grows start.setting start.limits (kinds run.given) r.handed in
     let both : HaveFates start.setting (kinds run.given ++ token.kind ∷ []) (fates_of old.builder ++ grown.0)
     = subst (HaveFates start.setting (kinds run.given ++ token.kind ∷ [])) grown.1 k in
     record {
-      run = gave run token switch;
+      run = gave run token said;
       is_run = record {
         begun = r.begun;
         ended = r.ended;
         decoded = subst (λ d. Decodes (most_input start) finished d bytes run.text) (sym s.decoder) r.decoded;
         tokenized = s.given run r.tokenized;
         handed = subst (λ ks. Handed start.setting start.limits ks new.builder) (sym are) (s.takes start.setting start.limits (kinds run.given) r.handed);
-        switched = ap₂ (λ x f. x ++ switch_after token.kind (last_of f) ∷ []) r.switched grown.1
-            ∙ sym (says-one start.setting (kinds run.given) token.kind (fates_of old.builder) grown.0 h both)
-            ∙ ap₂ switches_by (sym are) (sym grown.1);
+        said = subst (λ ks. AreSaid start.setting ks (fates_of new.builder) (run.switches ++ said ∷ [])) (sym are)
+            (subst (λ fs. AreSaid start.setting (kinds run.given ++ token.kind ∷ []) fs (run.switches ++ said ∷ [])) (sym grown.1)
+            (says-one start.setting (kinds run.given) token.kind (fates_of old.builder) grown.0 run.switches said h both r.said
+            (subst (λ fs. MaySayAfter start.setting (kinds run.given ++ token.kind ∷ []) fs token.kind (last_of fs) said) grown.1
+            (s.may start.setting (kinds run.given ++ token.kind ∷ []) known))));
+        foreign = s.parses ∙ r.foreign;
         starts = s.starts ∙ ap (λ x. x ++ starts_of (token ∷ [])) r.starts ∙ sym (starts-append run.given (token ∷ []));
         tokens = λ keeps.
             let kept = sym s.keeps ∙ keeps in

@@ -30,7 +30,6 @@ use Rattle.html_tokens.specs.declared.token.TokenKind.{TokenKind}
 use Rattle.html_tokens.specs.declared.tokenizer.Tokenizer.{Tokenizer}
 use Rattle.html_builder.specs.Builders.{BuilderState}
 use Rattle.html_builder.specs.Handed.{CostAtMost, EndsAtEof, Handed, fates_of}
-use Rattle.html_builder.specs.Switches.{switches_by}
 use Rattle.html_construction.specs.Built.{symbols}
 use Rattle.html_builder.specs.Outcome.{IsBounded, IsOutcome, most_tree_steps}
 use Rattle.html_builder.specs.Plain.{HavePlainFates}
@@ -38,6 +37,9 @@ use Rattle.html_parser.proofs.Plain.{text-kinds}
 use Rattle.html_parser.specs.Faults.{construction_fault, fault_list, front_below, places_of, rest_from, told_fault}
 use Rattle.html_parser.specs.Kinds.{kinds, starts_of}
 use Rattle.html_parser.specs.Made.{IsWhole}
+use Rattle.html_parser.specs.Said.{AreSaid}
+use Rattle.html_parser.proofs.Switching.{by-fates}
+use Rattle.html_ledger.specs.Fated.{Fated}
 use Rattle.html_parser.specs.Parsed.{Headline, IsTreeOf, most_token_steps}
 use Rattle.html_parser.specs.Staged.{IsEnded}
 use Rattle.html_parser.specs.Start.{Start, most_input, text_start}
@@ -146,21 +148,25 @@ made start bytes run d t b starts told numbers fates arena errors n own steps e 
     let ends : EndsAtEof (kinds run.given) = subst (λ ts. EndsAtEof (kinds ts)) w.all (ends_at_eof run.text run.switches run.start) in
     let outcome = e.outcome start.setting start.limits (kinds run.given) w.handed ends in
     let fed : fed_len t ≡ length run.text = e.fed run w.tokenized in
-    let switched : run.switches ≡ switches_by (kinds run.given) fates = w.switched ∙ ap (switches_by (kinds run.given)) (sym e.fates_are) in
+    let said : AreSaid start.setting (kinds run.given) fates run.switches = subst (λ fs. AreSaid start.setting (kinds run.given) fs run.switches) (sym e.fates_are) w.said in
     let rising : 0 + length numbers ≤ length fates = between-length 0 numbers (length fates) outcome.told.rising in
     let all : length fates ≡ length run.given = outcome.fated.counted ∙ symbols-length (kinds run.given) ∙ kinds-length run.given in
     let bounds = e.bounds start.setting start.limits (kinds run.given) w.handed n (costs (length run.text) n run.given costed few) in
     let own_few : own ≤ most_token_steps n = omega (arith, e.own_few, fed, few, square (fed_len t) n (omega (arith, fed, few))) in
     let faults : errors ≡ fault_list told (places_of (starts_of run.given) numbers)
     = e.errors_are ∙ ap (λ ss. fault_list told (places_of ss numbers)) w.starts_are in
-    let tokens : run.given ≡ tokens_of (decode bytes) (switches_by (kinds run.given) fates) (text_start start)
+    let tokens : run.given ≡ tokens_of (decode bytes) run.switches (text_start start)
     = sym w.all
     ∙ ap (λ s. tokens_of run.text run.switches s) w.begun
-    ∙ ap (λ ss. tokens_of run.text ss (text_start start)) switched
-    ∙ ap (λ x. tokens_of x (switches_by (kinds run.given) fates) (text_start start)) text in
+    ∙ ap (λ x. tokens_of x run.switches (text_start start)) text in
     let table : IsTable start.rows = ap-table run.start (text_start start) w.begun (table-of t run w.tokenized) in
     record {
-      tokens_are = tokens;
+      tokens_are = record {
+        said = run.switches;
+        are_said = said;
+        by_fates = by-fates start.setting (kinds run.given) fates run.switches said;
+        are = tokens;
+      };
       cost = subst (λ m. AreCosted m run.given) (ap length text) costed;
       ordered = in_order (length run.text) run.given told numbers errors costed (subst (AreRising 0 numbers) all outcome.told.rising) e.told_ordered faults;
       least_own = subst (λ x. length x ≤ own) text (e.own_least run w.tokenized w.finished w.all);
@@ -170,7 +176,7 @@ made start bytes run d t b starts told numbers fates arena errors n own steps e 
         fed = w.tokenized;
         start_is = w.begun;
         text_is = text;
-        switches_are = switched;
+        switches_are = refl;
         finished = w.finished;
         all = w.all;
         errors_are = sym e.told_is;
@@ -178,8 +184,9 @@ made start bytes run d t b starts told numbers fates arena errors n own steps e 
       };
       plain = λ document core p page h written.
           let handed : Handed Document start.limits (kinds run.given) b = subst (λ s. Handed s start.limits (kinds run.given) b) document.setting_is w.handed in
-          let same : kinds run.given ≡ page_kinds page = text-kinds start.rows p page (decode bytes) run.given fates table core h written
-          (tokens ∙ ap (λ m. tokens_after start.rows 0 m None 0 (decode bytes) (switches_by (kinds run.given) fates)) document.mode_is) in
+          let same : kinds run.given ≡ page_kinds page = text-kinds start.rows p page (decode bytes) run.given fates run.switches table core h written
+          (subst (λ s. Fated s (symbols (kinds run.given)) fates) document.setting_is outcome.fated) (subst (λ s. AreSaid s (kinds run.given) fates run.switches) document.setting_is said)
+          (tokens ∙ ap (λ m. tokens_after start.rows 0 m None 0 (decode bytes) run.switches) document.mode_is) in
           (e.plain start.limits (kinds run.given) handed page h same, e.plain_fates start.limits (kinds run.given) handed page h same);
       numbers = numbers;
       outcome = outcome;
@@ -225,7 +232,7 @@ whole start p bytes e = record {
   decoded = e.is_run.decoded;
   tokenized = e.is_run.tokenized;
   handed = e.is_run.handed;
-  switched = e.is_run.switched;
+  said = e.is_run.said;
   starts_are = e.is_run.starts;
   all = e.all;
   few = e.few;

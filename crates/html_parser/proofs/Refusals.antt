@@ -6,10 +6,8 @@ use Rattle.std.specs.Io.KnownBytes.{Consumes, IsAtEnd}
 use Rattle.html_input.specs.Decode.{code_points, decode}
 use Rattle.html_tokens.specs.Stream.{tokens_of}
 use Rattle.html_tokens.specs.declared.token.Token.{Token}
-use Rattle.html_builder.specs.Switches.{switches_by}
-use Rattle.html_modes.specs.declared.outcome.Foreign.{Foreign}
+use Rattle.html_modes.specs.declared.outcome.Foreign.{Foreign as Root}
 use Rattle.html_parser.specs.Causes.{IsCause, IsFeedCause, IsForeignAt, IsFront, IsTokenAt, IsTokenCause, IsTokenOrEnd}
-use Rattle.html_parser.specs.Kinds.{kinds}
 use Rattle.html_parser.specs.Reading.{IsPieceCause, IsReaderCause}
 use Rattle.html_parser.specs.Start.{Start, most_input, text_start}
 use Rattle.html_parser.specs.declared.error.ParseError.{ParseError}
@@ -70,15 +68,17 @@ token-whole start text rest at t = record {
   fates = t.fates;
   token = t.token;
   fated = t.fated;
+  said = t.said;
+  are_said = t.are_said;
   listed = λ more switches _.
-      subst (λ x. (later : List Token) × (tokens_of x (switches_by (kinds t.before) t.fates ++ None ∷ switches) (text_start start) ≡ t.before ++ t.token ∷ later))
+      subst (λ x. (later : List Token) × (tokens_of x (t.said ++ None ∷ switches) (text_start start) ≡ t.before ++ t.token ∷ later))
       (sym (append_assoc text rest more)) (t.listed (rest ++ more) switches (λ no. absurd (true≢false (sym no))));
   place = t.place;
 }
 
-foreign-whole : (start : Start) (text rest : List ℕ) (name : Foreign) (at : ℕ) → IsForeignAt start false text name at → IsForeignAt start true (text ++ rest) name at
+foreign-whole : (start : Start) (text rest : List ℕ) (name : Root) (at : ℕ) → IsForeignAt start false text name at → IsForeignAt start true (text ++ rest) name at
 unfolding token-whole
-foreign-whole start text rest name at f = record { token = token-whole start text rest at f.token; foreign = f.foreign }
+foreign-whole start text rest name at f = record { token = token-whole start text rest at f.token; foreign = f.foreign; refused = f.refused }
 
 token-or-end-whole : (start : Start) (text rest : List ℕ) (at : ℕ) → IsTokenOrEnd start false text at → IsTokenOrEnd start true (text ++ rest) at
 token-or-end-whole start text rest at (inl t) = inl (token-whole start text rest at t)

@@ -1,40 +1,79 @@
 -- What tokens say of the text after them, as more tokens come.
-use Rattle.std.proofs.Common.{ℕ, zero, suc, ◌+◌, ◌-◌, ◌≡◌, ◌∙◌, Bool, true, false, arith, List, [], ◌∷◌, ◌++◌, length, drop, replicate, Option, Some, None, refl, sym, ap, append_assoc, length-append}
+use Rattle.std.proofs.Common.{ℕ, zero, suc, ◌+◌, ◌-◌, ◌<◌, ◌≤◌, ◌≡◌, ◌∙◌, ◌⊎◌, inl, inr, Bool, true, false, arith, List, [], ◌∷◌, ◌++◌, length, take, replicate, Option, Some, None, refl, sym, ap, subst, append_assoc, length-append}
 use Rattle.std.specs.Prelude.{slice_get}
-use Rattle.std.proofs.Math.Seq.{drop-nil}
-use Rattle.std.proofs.lemmas.List.{append-nil}
+use Rattle.std.proofs.lemmas.Bool.{cases_lt}
+use Rattle.std.proofs.lemmas.Option.{slice_get_within}
+use Rattle.html_names.specs.declared.tag.Tag.{Tag}
+use Rattle.html_tokens.specs.declared.token.TextMode.{TextMode}
 use Rattle.html_tokens.specs.declared.token.TokenKind.{TokenKind}
 use Rattle.html_tokens.specs.declared.token.TokenKind.TheVariants.{Start, End, Char, Comment, Doctype, Eof}
 use Rattle.html_ledger.specs.declared.fate.Fate.{Fate}
 use Rattle.html_ledger.specs.declared.setting.Setting.{Setting}
+use Rattle.html_ledger.specs.declared.symbol.Symbol.{Symbol}
+use Rattle.html_ledger.specs.MayDrop.{MayBeForeign, Since, any_token, embeds}
 use Rattle.html_ledger.specs.Runs.{last_of}
+use Rattle.html_ledger.specs.Symbols.{symbol_of}
+use Rattle.html_construction.specs.Built.{chars_of, symbols}
 use Rattle.html_builder.specs.Handed.{HaveFates}
 use Rattle.html_builder.specs.Switches.{switch_after, switch_by, switches_by}
-use Rattle.html_construction.specs.Built.{chars_of, symbols}
+use Rattle.html_parser.specs.Said.{AreSaid, AreSaidByFates, IsData, MaySayAfter}
 
--- code points say nothing, whatever becomes of them
-pub chars-none : (cs : List ℕ) (fs : List Fate) → switches_by (chars_of cs) fs ≡ replicate (length cs) None
-chars-none [] fs = refl
-chars-none (c ∷ cs) [] = ap (λ r. None ∷ r) (chars-none cs [])
-chars-none (c ∷ cs) (f ∷ fs) = ap (λ r. None ∷ r) (chars-none cs fs)
+-- MORE OF A LIST
 
--- tokens that have their fates, and others after them
-pub switches-split : (ts us : List TokenKind) (fs gs : List Fate) → length ts ≡ length fs
-    → switches_by (ts ++ us) (fs ++ gs) ≡ switches_by ts fs ++ switches_by us gs
-switches-split [] us [] gs e = refl
-switches-split [] us (f ∷ fs) gs e = cc
-switches-split (t ∷ ts) us [] gs e = cc
-switches-split (t ∷ ts) us (f ∷ fs) gs e =
-    let one : suc (length ts) ≡ suc (length fs) = e in
-    let same : length ts ≡ length fs = omega (arith, one) in
-    ap (λ r. switch_by t f ∷ r) (switches-split ts us fs gs same)
+get-none : {A : Type 0} → (i : ℕ) → slice_get {X = A} [] i ≡ None
+get-none zero = refl
+get-none (suc i) = refl
 
-pub switches-length : (ts : List TokenKind) (fs : List Fate) → length (switches_by ts fs) ≡ length ts
-switches-length [] fs = refl
-switches-length (t ∷ ts) [] = ap suc (switches-length ts [])
-switches-length (t ∷ ts) (f ∷ fs) = ap suc (switches-length ts fs)
+some-none : {A B : Type 0} → (x : A) → Some x ≡ None → B
+some-none x e = absurd (let k = e in cc)
 
-symbols-length : (ts : List TokenKind) → length (symbols ts) ≡ length ts
+-- what a front has, all has
+get-front : {A : Type 0} → (xs ys : List A) (i : ℕ) (x : A) → slice_get xs i ≡ Some x → slice_get (xs ++ ys) i ≡ Some x
+get-front [] ys i x e = some-none x (sym e ∙ get-none i)
+get-front (y ∷ xs) ys zero x e = e
+get-front (y ∷ xs) ys (suc i) x e = get-front xs ys i x e
+
+-- what all has within the front, the front has
+get-within : {A : Type 0} → (xs ys : List A) (i : ℕ) → i < length xs → slice_get (xs ++ ys) i ≡ slice_get xs i
+get-within [] ys i h = absurd (omega (arith, h))
+get-within (x ∷ xs) ys zero h = refl
+get-within (x ∷ xs) ys (suc i) h = let less : suc i < suc (length xs) = h in get-within xs ys i (omega (arith, less))
+
+get-behind : {A : Type 0} → (xs ys : List A) (i : ℕ) → slice_get (xs ++ ys) (length xs + i) ≡ slice_get ys i
+get-behind [] ys i = let e : 0 + i ≡ i = omega arith in ap (slice_get ys) e
+get-behind (x ∷ xs) ys i =
+    let e : suc (length xs) + i ≡ suc (length xs + i) = omega arith in
+    ap (slice_get (x ∷ (xs ++ ys))) e ∙ get-behind xs ys i
+
+-- a part of a front is a part of all
+get-taken : {A : Type 0} → (n : ℕ) (xs ys : List A) (i : ℕ) (x : A) → slice_get (take n xs) i ≡ Some x → slice_get (take n (xs ++ ys)) i ≡ Some x
+get-taken zero xs ys i x e = some-none x (sym e ∙ get-none i)
+get-taken (suc n) [] ys i x e = some-none x (sym e ∙ get-none i)
+get-taken (suc n) (y ∷ xs) ys zero x e = e
+get-taken (suc n) (y ∷ xs) ys (suc i) x e = get-taken n xs ys i x e
+
+pub get-whole : {A : Type 0} → (n : ℕ) (xs : List A) (i : ℕ) (x : A) → slice_get (take n xs) i ≡ Some x → slice_get xs i ≡ Some x
+get-whole zero xs i x e = some-none x (sym e ∙ get-none i)
+get-whole (suc n) [] i x e = some-none x (sym e ∙ get-none i)
+get-whole (suc n) (y ∷ xs) zero x e = e
+get-whole (suc n) (y ∷ xs) (suc i) x e = get-whole n xs i x e
+
+take-all : {A : Type 0} → (n : ℕ) (xs : List A) → length xs ≤ n → take n xs ≡ xs
+take-all zero [] h = refl
+take-all zero (x ∷ xs) h = absurd (let no : suc (length xs) ≤ 0 = h in omega (arith, no))
+take-all (suc n) [] h = refl
+take-all (suc n) (x ∷ xs) h = let less : suc (length xs) ≤ suc n = h in ap (λ r. x ∷ r) (take-all n xs (omega (arith, less)))
+
+same-some : {A : Type 0} → (x y : A) → Some x ≡ Some y → x ≡ y
+same-some x y e = cc
+
+-- OF TOKENS
+
+pub symbols-append : (ts us : List TokenKind) → symbols (ts ++ us) ≡ symbols ts ++ symbols us
+symbols-append [] us = refl
+symbols-append (t ∷ ts) us = ap (λ r. symbol_of t ∷ r) (symbols-append ts us)
+
+pub symbols-length : (ts : List TokenKind) → length (symbols ts) ≡ length ts
 symbols-length [] = refl
 symbols-length (t ∷ ts) = ap suc (symbols-length ts)
 
@@ -45,46 +84,6 @@ front-counted s ts fs h = sym (h.fated.counted ∙ symbols-length h.front)
 chars-length : (cs : List ℕ) → length (chars_of cs) ≡ length cs
 chars-length [] = refl
 chars-length (c ∷ cs) = ap suc (chars-length cs)
-
--- code points first, which may have fates or not
-chars-first : (cs : List ℕ) (us : List TokenKind) (gs : List Fate)
-    → switches_by (chars_of cs ++ us) gs ≡ replicate (length cs) None ++ switches_by us (drop (length cs) gs)
-chars-first [] us gs = refl
-chars-first (c ∷ cs) us [] =
-    ap (λ r. None ∷ r) (chars-first cs us [] ∙ ap (λ fs. replicate (length cs) None ++ switches_by us fs) (drop-nil (length cs)))
-chars-first (c ∷ cs) us (g ∷ gs) = ap (λ r. None ∷ r) (chars-first cs us gs)
-
--- what tokens say, all but the last of which have fates
-says : (s : Setting) (ts : List TokenKind) (fs : List Fate) (h : HaveFates s ts fs)
-    → switches_by ts fs ≡ switches_by h.front fs ++ replicate (length h.kept) None
-says s ts fs h =
-    ap (λ xs. switches_by xs fs) h.tokens_are ∙ ap (switches_by (h.front ++ chars_of h.kept)) (sym (append-nil fs))
-    ∙ switches-split h.front (chars_of h.kept) fs [] (front-counted s ts fs h) ∙ ap (λ r. switches_by h.front fs ++ r) (chars-none h.kept [])
-
--- more tokens, and more fates
-pub says-more : (s : Setting) (ts us : List TokenKind) (fs gs : List Fate) (h : HaveFates s ts fs)
-    → switches_by (ts ++ us) (fs ++ gs) ≡ switches_by ts fs ++ switches_by us (drop (length h.kept) gs)
-says-more s ts us fs gs h =
-    let front = switches_by h.front fs in
-    let nones = replicate (length h.kept) None in
-    let later = switches_by us (drop (length h.kept) gs) in
-    ap (λ xs. switches_by (xs ++ us) (fs ++ gs)) h.tokens_are
-    ∙ ap (λ xs. switches_by xs (fs ++ gs)) (append_assoc h.front (chars_of h.kept) us)
-    ∙ switches-split h.front (chars_of h.kept ++ us) fs gs (front-counted s ts fs h)
-    ∙ ap (λ r. front ++ r) (chars-first h.kept us gs)
-    ∙ sym (append_assoc front nones later)
-    ∙ ap (λ r. r ++ later) (sym (says s ts fs h))
-
--- plain text says nothing
-pub says-text : (s : Setting) (ts : List TokenKind) (text : List ℕ) (fs gs : List Fate) → HaveFates s ts fs
-    → switches_by (ts ++ chars_of text) (fs ++ gs) ≡ switches_by ts fs ++ replicate (length text) None
-says-text s ts text fs gs h =
-    says-more s ts (chars_of text) fs gs h ∙ ap (λ r. switches_by ts fs ++ r) (chars-none text (drop (length h.kept) gs))
-
--- the same where the text has no fates yet
-pub says-kept : (s : Setting) (ts : List TokenKind) (text : List ℕ) (fs : List Fate) → HaveFates s ts fs
-    → switches_by (ts ++ chars_of text) fs ≡ switches_by ts fs ++ replicate (length text) None
-says-kept s ts text fs h = ap (switches_by (ts ++ chars_of text)) (sym (append-nil fs)) ∙ says-text s ts text fs [] h
 
 pub chars-append : (xs ys : List ℕ) → chars_of (xs ++ ys) ≡ chars_of xs ++ chars_of ys
 chars-append [] ys = refl
@@ -98,6 +97,111 @@ kept-more s ts text fs h = record {
       ∙ ap (λ xs. h.front ++ xs) (sym (chars-append h.kept text));
   fated = h.fated;
 }
+
+-- code points say nothing, whatever becomes of them
+char-none : (c : ℕ) (f : Option Fate) → switch_after (Char c) f ≡ None
+char-none c None = refl
+char-none c (Some f) = refl
+
+char-at : (cs : List ℕ) (i : ℕ) (t : TokenKind) → slice_get (chars_of cs) i ≡ Some t → (c : ℕ) × (t ≡ Char c)
+char-at [] i t e = some-none t (sym e ∙ get-none i)
+char-at (c ∷ cs) zero t e = (c, sym (same-some (Char c) t e))
+char-at (c ∷ cs) (suc i) t e = char-at cs i t e
+
+-- what a token says by its fate stays so when more fates are given
+same-says : (front : List TokenKind) (kept : List ℕ) (fs gs : List Fate) (i : ℕ) (t : TokenKind) → length front ≡ length fs
+    → slice_get (front ++ chars_of kept) i ≡ Some t → switch_after t (slice_get fs i) ≡ switch_after t (slice_get (fs ++ gs) i)
+same-says front kept fs gs i t e is = elim (cases_lt i (length fs)) [
+  | inl less ↦ ap (switch_after t) (sym (get-within fs gs i less))
+  | inr more ↦
+      let n : ℕ = i - length front in
+      let at : length front + n ≡ i = omega (arith, e, more) in
+      let late : slice_get (chars_of kept) n ≡ Some t
+      = sym (get-behind front (chars_of kept) n) ∙ ap (slice_get (front ++ chars_of kept)) at ∙ is in
+      let c = char-at kept n t late in
+      ap (λ u. switch_after u (slice_get fs i)) c.1 ∙ char-none c.0 (slice_get fs i) ∙ sym (char-none c.0 (slice_get (fs ++ gs) i))
+      ∙ ap (λ u. switch_after u (slice_get (fs ++ gs) i)) (sym c.1)
+]
+
+-- FOREIGN CONTENT
+
+-- what was made is made
+pub since-more : (s : Setting) (ys zs : List Symbol) (fs gs : List Fate) → ((i : ℕ) (y : Symbol) → slice_get ys i ≡ Some y → slice_get zs i ≡ Some y)
+    → ((i : ℕ) (f : Fate) → slice_get fs i ≡ Some f → slice_get gs i ≡ Some f) → MayBeForeign s ys fs → MayBeForeign s zs gs
+since-more s ys zs fs gs p q (inl w) = inl (record {
+  at = w.at;
+  token = w.token;
+  fate = w.fate;
+  token_is = p w.at w.token w.token_is;
+  fate_is = q w.at w.fate w.fate_is;
+  is_such = w.is_such;
+  kept = λ k t less is. refl;
+})
+since-more s ys zs fs gs p q (inr h) = inr h
+
+more-tokens : (ts us : List TokenKind) (i : ℕ) (y : Symbol) → slice_get (symbols ts) i ≡ Some y → slice_get (symbols (ts ++ us)) i ≡ Some y
+more-tokens ts us i y e = ap (λ ys. slice_get ys i) (symbols-append ts us) ∙ get-front (symbols ts) (symbols us) i y e
+
+-- MORE TOKENS
+
+none-said : (s : Setting) → AreSaid s [] [] []
+none-said s = record { count = refl; each = λ i t m is said. some-none t (sym is ∙ get-none i) }
+
+pub nothing-said : (s : Setting) (ts : List TokenKind) (fs : List Fate) (ms : List (Option TextMode)) → ts ≡ [] → fs ≡ [] → ms ≡ [] → AreSaid s ts fs ms
+nothing-said s ts fs ms a b c = subst (λ x. AreSaid s x fs ms) (sym a) (subst (λ x. AreSaid s [] x ms) (sym b) (subst (λ x. AreSaid s [] [] x) (sym c) (none-said s)))
+
+-- what a token said it said, when more tokens come and more fates are given
+may-more : (s : Setting) (ts us : List TokenKind) (fs gs : List Fate) (i : ℕ) (t : TokenKind) (m : Option TextMode) → switch_after t (slice_get fs i) ≡ switch_after t (slice_get (fs ++ gs) i)
+    → MaySayAfter s ts (take (suc i) fs) t (slice_get fs i) m → MaySayAfter s (ts ++ us) (take (suc i) (fs ++ gs)) t (slice_get (fs ++ gs) i) m
+may-more s ts us fs gs i t m same (inl e) = inl (e ∙ same)
+may-more s ts us fs gs i t m same (inr (none, foreign, data_is)) =
+    inr (
+      sym same ∙ none,
+      since-more s (symbols ts) (symbols (ts ++ us)) (take (suc i) fs) (take (suc i) (fs ++ gs)) (more-tokens ts us) (get-taken (suc i) fs gs) foreign,
+      data_is,
+    )
+
+-- so with all of them, and what the new ones say
+pub said-more : (s : Setting) (ts us : List TokenKind) (fs gs : List Fate) (ms ns : List (Option TextMode)) → HaveFates s ts fs → AreSaid s ts fs ms → length ns ≡ length us
+    → ((j : ℕ) (t : TokenKind) (m : Option TextMode) → slice_get us j ≡ Some t → slice_get ns j ≡ Some m
+    → MaySayAfter s (ts ++ us) (take (suc (length ts + j)) (fs ++ gs)) t (slice_get (fs ++ gs) (length ts + j)) m)
+    → AreSaid s (ts ++ us) (fs ++ gs) (ms ++ ns)
+said-more s ts us fs gs ms ns h a n each = record {
+  count = let p = a.count in let q = length-append ms ns in let r = length-append ts us in omega (arith, p, q, r, n);
+  each = λ i t m is said. elim (cases_lt i (length ts)) [
+    | inl less ↦
+        let here : slice_get ts i ≡ Some t = sym (get-within ts us i less) ∙ is in
+        let count : length ms ≡ length ts = a.count in
+        let there : slice_get ms i ≡ Some m = sym (get-within ms ns i (omega (arith, less, count))) ∙ said in
+        let same = same-says h.front h.kept fs gs i t (front-counted s ts fs h) (ap (λ xs. slice_get xs i) (sym h.tokens_are) ∙ here) in
+        may-more s ts us fs gs i t m same (a.each i t m here there)
+    | inr more ↦
+        let j : ℕ = i - length ts in
+        let at : length ts + j ≡ i = omega (arith, more) in
+        let count : length ms ≡ length ts = a.count in
+        let also : length ms + j ≡ i = omega (arith, more, count) in
+        let here : slice_get us j ≡ Some t = sym (get-behind ts us j) ∙ ap (slice_get (ts ++ us)) at ∙ is in
+        let there : slice_get ns j ≡ Some m = sym (get-behind ms ns j) ∙ ap (slice_get (ms ++ ns)) also ∙ said in
+        subst (λ k. MaySayAfter s (ts ++ us) (take (suc k) (fs ++ gs)) t (slice_get (fs ++ gs) k) m) at (each j t m here there)
+  ];
+}
+
+none-at : (n i : ℕ) (m : Option TextMode) → slice_get (replicate n None) i ≡ Some m → m ≡ None
+none-at zero i m e = some-none m (sym e ∙ get-none i)
+none-at (suc n) zero m e = sym (same-some None m e)
+none-at (suc n) (suc i) m e = none-at n i m e
+
+nones-length : (n : ℕ) → length (replicate {A = Option TextMode} n None) ≡ n
+nones-length zero = refl
+nones-length (suc n) = ap suc (nones-length n)
+
+-- plain text says nothing
+pub says-text : (s : Setting) (ts : List TokenKind) (text : List ℕ) (fs gs : List Fate) (ms : List (Option TextMode)) → HaveFates s ts fs → AreSaid s ts fs ms
+    → AreSaid s (ts ++ chars_of text) (fs ++ gs) (ms ++ replicate (length text) None)
+says-text s ts text fs gs ms h a = said-more s ts (chars_of text) fs gs ms (replicate (length text) None) h a (nones-length (length text) ∙ sym (chars-length text))
+    (λ j t m is said.
+    let c = char-at text j t is in
+    inl (none-at (length text) j m said ∙ sym (char-none c.0 (slice_get (fs ++ gs) (length ts + j))) ∙ ap (λ u. switch_after u (slice_get (fs ++ gs) (length ts + j))) (sym c.1)))
 
 -- THE LAST TOKEN
 
@@ -137,74 +241,82 @@ none-kept ts front t (c ∷ cs) other e =
     let no : false ≡ true = sym other ∙ sym a ∙ d ∙ b in
     cc
 
--- the last of some fates
-record Last (n : ℕ) (gs : List Fate) : Type 0 where
-  pub fate : Fate
-  pub rest : drop n gs ≡ fate ∷ []
-  pub got : slice_get gs n ≡ Some fate
+-- so many fates as tokens, or fewer where the last tokens are code points
+all-counted : (s : Setting) (ts : List TokenKind) (fs : List Fate) (h : HaveFates s ts fs) → length ts ≡ length fs + length h.kept
+all-counted s ts fs h =
+    let a : length ts ≡ length h.front + length (chars_of h.kept) = ap length h.tokens_are ∙ length-append h.front (chars_of h.kept) in
+    let b : length h.front ≡ length fs = front-counted s ts fs h in
+    let c : length (chars_of h.kept) ≡ length h.kept = chars-length h.kept in
+    omega (arith, a, b, c)
 
-last-fate : (n : ℕ) (gs : List Fate) → length gs ≡ suc n → Last n gs
-last-fate n [] e = cc
-last-fate zero (g ∷ []) e = record { fate = g; rest = refl; got = refl }
-last-fate zero (g ∷ h ∷ hs) e =
-    let two : suc (suc (length hs)) ≡ 1 = e in
-    absurd (omega (arith, two))
-last-fate (suc n) (g ∷ gs) e =
-    let more : suc (length gs) ≡ suc (suc n) = e in
-    let h = last-fate n gs (omega (arith, more)) in
-    record { fate = h.fate; rest = h.rest; got = h.got }
+-- what the last token says by the last fate, it says by its own
+last-says : (s : Setting) (ts : List TokenKind) (t : TokenKind) (fs : List Fate) → HaveFates s (ts ++ t ∷ []) fs → switch_after t (last_of fs) ≡ switch_after t (slice_get fs (length ts))
+last-says s ts t fs k = by t refl
+  where
+    other : is_char t ≡ false → switch_after t (last_of fs) ≡ switch_after t (slice_get fs (length ts))
+    other plain =
+        let none : length k.kept ≡ 0 = none-kept ts k.front t k.kept plain k.tokens_are in
+        let all : length (ts ++ t ∷ []) ≡ length fs + length k.kept = all-counted s (ts ++ t ∷ []) fs k in
+        let one : length (ts ++ t ∷ []) ≡ length ts + 1 = length-append ts (t ∷ []) in
+        let at : length fs - 1 ≡ length ts = omega (arith, none, all, one) in
+        ap (λ n. switch_after t (slice_get fs n)) at
 
-get-after : (fs gs : List Fate) (n : ℕ) → slice_get (fs ++ gs) (length fs + n) ≡ slice_get gs n
-get-after [] gs n =
-    let e : 0 + n ≡ n = omega arith in
-    ap (slice_get gs) e
-get-after (f ∷ fs) gs n =
-    let e : length (f ∷ fs) + n ≡ suc (length fs + n) = omega arith in
-    ap (slice_get (f ∷ (fs ++ gs))) e ∙ get-after fs gs n
-
-last-after : (fs gs : List Fate) (n : ℕ) → length gs ≡ suc n → last_of (fs ++ gs) ≡ slice_get gs n
-last-after fs gs n e =
-    let all : length (fs ++ gs) ≡ length fs + length gs = length-append fs gs in
-    let at : length (fs ++ gs) - 1 ≡ length fs + n = omega (arith, all, e) in
-    ap (slice_get (fs ++ gs)) at ∙ get-after fs gs n
-
-char-says : (c : ℕ) (gs : List Fate) (f : Option Fate) → switches_by (Char c ∷ []) gs ≡ switch_after (Char c) f ∷ []
-char-says c [] None = refl
-char-says c [] (Some f) = refl
-char-says c (g ∷ gs) None = refl
-char-says c (g ∷ gs) (Some f) = refl
-
-one-switch : (t : TokenKind) (gs all : List Fate) (n : ℕ) → (last : Last n gs) → last_of all ≡ slice_get gs n
-    → switches_by (t ∷ []) (drop n gs) ≡ switch_after t (last_of all) ∷ []
-one-switch t gs all n last e = ap (switches_by (t ∷ [])) last.rest ∙ ap (λ o. switch_after t o ∷ []) (sym (e ∙ last.got))
-
--- a token that is no code point has its fate, and those before it have theirs
-other-says : (s : Setting) (ts : List TokenKind) (t : TokenKind) (fs gs : List Fate) (h : HaveFates s ts fs) → is_char t ≡ false
-    → HaveFates s (ts ++ t ∷ []) (fs ++ gs) → switches_by (t ∷ []) (drop (length h.kept) gs) ≡ switch_after t (last_of (fs ++ gs)) ∷ []
-other-says s ts t fs gs h other k =
-    let none : length k.kept ≡ 0 = none-kept ts k.front t k.kept other k.tokens_are in
-    let a : length k.front ≡ length (fs ++ gs) = front-counted s (ts ++ t ∷ []) (fs ++ gs) k in
-    let b : length (fs ++ gs) ≡ length fs + length gs = length-append fs gs in
-    let c : length (ts ++ t ∷ []) ≡ length k.front + length (chars_of k.kept) = ap length k.tokens_are ∙ length-append k.front (chars_of k.kept) in
-    let d : length (ts ++ t ∷ []) ≡ length ts + 1 = length-append ts (t ∷ []) in
-    let e : length ts ≡ length h.front + length (chars_of h.kept) = ap length h.tokens_are ∙ length-append h.front (chars_of h.kept) in
-    let f : length h.front ≡ length fs = front-counted s ts fs h in
-    let g : length (chars_of k.kept) ≡ length k.kept = chars-length k.kept in
-    let i : length (chars_of h.kept) ≡ length h.kept = chars-length h.kept in
-    let one : length gs ≡ suc (length h.kept) = omega (arith, none, a, b, c, d, e, f, g, i) in
-    let last = last-fate (length h.kept) gs one in
-    one-switch t gs (fs ++ gs) (length h.kept) last (last-after fs gs (length h.kept) one)
+    by : (u : TokenKind) → t ≡ u → switch_after t (last_of fs) ≡ switch_after t (slice_get fs (length ts))
+    by (Char c) e =
+        ap (λ u. switch_after u (last_of fs)) e ∙ char-none c (last_of fs) ∙ sym (char-none c (slice_get fs (length ts)))
+        ∙ ap (λ u. switch_after u (slice_get fs (length ts))) (sym e)
+    by (Start name attrs closes) e = other (ap is_char e)
+    by (End name) e = other (ap is_char e)
+    by (Comment text) e = other (ap is_char e)
+    by (Doctype name public_text system_text forced) e = other (ap is_char e)
+    by Eof e = other (ap is_char e)
 
 -- one more token
-pub one-says : (s : Setting) (ts : List TokenKind) (t : TokenKind) (fs gs : List Fate) (h : HaveFates s ts fs)
-    → HaveFates s (ts ++ t ∷ []) (fs ++ gs) → switches_by (t ∷ []) (drop (length h.kept) gs) ≡ switch_after t (last_of (fs ++ gs)) ∷ []
-one-says s ts (Start name attrs closes) fs gs h k = other-says s ts (Start name attrs closes) fs gs h refl k
-one-says s ts (End name) fs gs h k = other-says s ts (End name) fs gs h refl k
-one-says s ts (Char c) fs gs h k = char-says c (drop (length h.kept) gs) (last_of (fs ++ gs))
-one-says s ts (Comment text) fs gs h k = other-says s ts (Comment text) fs gs h refl k
-one-says s ts (Doctype name public_text system_text forced) fs gs h k = other-says s ts (Doctype name public_text system_text forced) fs gs h refl k
-one-says s ts Eof fs gs h k = other-says s ts Eof fs gs h refl k
+pub says-one : (s : Setting) (ts : List TokenKind) (t : TokenKind) (fs gs : List Fate) (ms : List (Option TextMode)) (m : Option TextMode) → HaveFates s ts fs → HaveFates s (ts ++ t ∷ []) (fs ++ gs) → AreSaid s ts fs ms
+    → MaySayAfter s (ts ++ t ∷ []) (fs ++ gs) t (last_of (fs ++ gs)) m → AreSaid s (ts ++ t ∷ []) (fs ++ gs) (ms ++ m ∷ [])
+says-one s ts t fs gs ms m h k a may = said-more s ts (t ∷ []) fs gs ms (m ∷ []) h a refl each
+  where
+    same : switch_after t (last_of (fs ++ gs)) ≡ switch_after t (slice_get (fs ++ gs) (length ts))
+    same = last-says s ts t (fs ++ gs) k
 
-pub says-one : (s : Setting) (ts : List TokenKind) (t : TokenKind) (fs gs : List Fate) → HaveFates s ts fs → HaveFates s (ts ++ t ∷ []) (fs ++ gs)
-    → switches_by (ts ++ t ∷ []) (fs ++ gs) ≡ switches_by ts fs ++ switch_after t (last_of (fs ++ gs)) ∷ []
-says-one s ts t fs gs h k = says-more s ts (t ∷ []) fs gs h ∙ ap (λ r. switches_by ts fs ++ r) (one-says s ts t fs gs h k)
+    few : take (suc (length ts)) (fs ++ gs) ≡ fs ++ gs
+    few =
+        let all : length (ts ++ t ∷ []) ≡ length (fs ++ gs) + length k.kept = all-counted s (ts ++ t ∷ []) (fs ++ gs) k in
+        let one : length (ts ++ t ∷ []) ≡ length ts + 1 = length-append ts (t ∷ []) in
+        take-all (suc (length ts)) (fs ++ gs) (omega (arith, all, one))
+
+    here : MaySayAfter s (ts ++ t ∷ []) (fs ++ gs) t (last_of (fs ++ gs)) m → MaySayAfter s (ts ++ t ∷ []) (take (suc (length ts)) (fs ++ gs)) t (slice_get (fs ++ gs) (length ts)) m
+    here (inl e) = inl (e ∙ same)
+    here (inr (none, foreign, data_is)) = inr (sym same ∙ none, subst (MayBeForeign s (symbols (ts ++ t ∷ []))) (sym few) foreign, data_is)
+
+    each : (j : ℕ) (u : TokenKind) (n : Option TextMode) → slice_get (t ∷ []) j ≡ Some u → slice_get (m ∷ []) j ≡ Some n
+        → MaySayAfter s (ts ++ t ∷ []) (take (suc (length ts + j)) (fs ++ gs)) u (slice_get (fs ++ gs) (length ts + j)) n
+    each zero u n is said =
+        let at : length ts ≡ length ts + 0 = omega arith in
+        let w = subst (λ x. MaySayAfter s (ts ++ t ∷ []) (take (suc x) (fs ++ gs)) t (slice_get (fs ++ gs) x) m) at (here may) in
+        subst (λ x. MaySayAfter s (ts ++ t ∷ []) (take (suc (length ts + 0)) (fs ++ gs)) x (slice_get (fs ++ gs) (length ts + 0)) n) (same-some t u is)
+        (subst (λ x. MaySayAfter s (ts ++ t ∷ []) (take (suc (length ts + 0)) (fs ++ gs)) t (slice_get (fs ++ gs) (length ts + 0)) x) (same-some m n said) w)
+    each (suc j) u n is said = some-none u (sym is ∙ get-none j)
+
+-- WITHOUT FOREIGN CONTENT
+
+all-by-fates : (ts : List TokenKind) (fs : List Fate) (ms : List (Option TextMode)) → length ms ≡ length ts
+    → ((i : ℕ) (t : TokenKind) (m : Option TextMode) → slice_get ts i ≡ Some t → slice_get ms i ≡ Some m → m ≡ switch_after t (slice_get fs i)) → ms ≡ switches_by ts fs
+all-by-fates [] fs [] n h = refl
+all-by-fates [] fs (m ∷ ms) n h = cc
+all-by-fates (t ∷ ts) fs [] n h = cc
+all-by-fates (t ∷ ts) [] (m ∷ ms) n h =
+    let shorter : suc (length ms) ≡ suc (length ts) = n in
+    let rest = all-by-fates ts [] ms (omega (arith, shorter)) (λ i u v is said. h (suc i) u v is said ∙ ap (switch_after u) (sym (get-none i))) in
+    ap (λ x. x ∷ ms) (h 0 t m refl refl) ∙ ap (λ xs. None ∷ xs) rest
+all-by-fates (t ∷ ts) (f ∷ fs) (m ∷ ms) n h =
+    let shorter : suc (length ms) ≡ suc (length ts) = n in
+    let rest = all-by-fates ts fs ms (omega (arith, shorter)) (λ i u v is said. h (suc i) u v is said) in
+    ap (λ x. x ∷ ms) (h 0 t m refl refl) ∙ ap (λ xs. switch_by t f ∷ xs) rest
+
+pub by-fates : (s : Setting) (ts : List TokenKind) (fs : List Fate) (ms : List (Option TextMode)) → AreSaid s ts fs ms → AreSaidByFates s ts fs ms
+by-fates s ts fs ms a = λ none. all-by-fates ts fs ms a.count (λ i t m is said. one none i t m (a.each i t m is said))
+  where
+    one : (MayBeForeign s (symbols ts) fs → ⊥) → (i : ℕ) (t : TokenKind) (m : Option TextMode) → MaySayAfter s ts (take (suc i) fs) t (slice_get fs i) m → m ≡ switch_after t (slice_get fs i)
+    one none i t m (inl e) = e
+    one none i t m (inr (silent, foreign, data_is)) = absurd (none (since-more s (symbols ts) (symbols ts) (take (suc i) fs) fs (λ k y e. e) (get-whole (suc i) fs) foreign))

@@ -13,12 +13,13 @@ use Rattle.html_tokens.specs.declared.tokenizer.TokenError.TheVariants as tokens
 use Rattle.html_arena.specs.declared.arena.Limits.{Limits}
 use Rattle.html_ledger.specs.declared.fate.Fate.{Fate}
 use Rattle.html_builder.specs.Handed.{HaveFates, Starts, foreign_tag}
-use Rattle.html_builder.specs.Switches.{switches_by}
 use Rattle.html_builder.specs.declared.error.BuildError.{BuildError}
 use Rattle.html_builder.specs.declared.error.BuildError.TheVariants as build
-use Rattle.html_modes.specs.declared.outcome.Foreign.{Foreign}
+use Rattle.html_modes.specs.declared.outcome.Foreign.{Foreign as Root}
 use Rattle.html_parser.specs.Kinds.{kinds}
+use Rattle.html_parser.specs.Said.{AreSaid}
 use Rattle.html_parser.specs.Start.{Start, most_input, text_start}
+use Rattle.html_parser.specs.declared.options.Foreign.TheVariants.{Refuse}
 use Rattle.html_parser.specs.declared.error.ParseError.{ParseError}
 use Rattle.html_parser.specs.declared.error.ParseError.TheVariants.{OutOfMemory, InputTooLong, ForeignContent, BadContext, Stopped, NodeBudget, HeldBudget, StepBudget}
 
@@ -50,14 +51,17 @@ pub record IsTokenAt (start : Start) (finished : Bool) (text : List ℕ) (at : �
   pub fates : List Fate
   pub token : Token
   pub fated : HaveFates start.setting (kinds before) fates
+  pub said : List (Option TextMode)
+  pub are_said : AreSaid start.setting (kinds before) fates said
   pub listed : (more : List ℕ) (switches : List (Option TextMode)) → MayFollow finished more
-      → (later : List Token) × (tokens_of (text ++ more) (switches_by (kinds before) fates ++ None ∷ switches) (text_start start) ≡ before ++ token ∷ later)
+      → (later : List Token) × (tokens_of (text ++ more) (said ++ None ∷ switches) (text_start start) ≡ before ++ token ∷ later)
   pub place : token.span.start ≡ at
 
--- The same, a start tag of foreign content.
-pub record IsForeignAt (start : Start) (finished : Bool) (text : List ℕ) (name : Foreign) (at : ℕ) : Type 0 where
+-- The same, a start tag of foreign content, where that is refused.
+pub record IsForeignAt (start : Start) (finished : Bool) (text : List ℕ) (name : Root) (at : ℕ) : Type 0 where
   pub token : IsTokenAt start finished text at
   pub foreign : Starts (foreign_tag name) token.token.kind
+  pub refused : start.foreign ≡ Refuse
 
 -- a text with which the text of the bytes begins, however they go on
 abbrev pub IsFront : List ℕ → List ℕ → Type 0
@@ -71,7 +75,7 @@ HasLimits start = (l : Limits) × (start.limits ≡ Some l)
 abbrev pub IsTokenOrEnd : Start → Bool → List ℕ → ℕ → Type 0
 IsTokenOrEnd start finished text at = IsTokenAt start finished text at ⊎ ((finished ≡ true) × (at ≡ length text))
 
--- Why a token of a text, which is whole or goes on, was refused: for want of memory, for foreign content, or for a limit, where there are
+-- Why a token of a text, which is whole or goes on, was refused: for want of memory, for foreign content that is refused, or for a limit, where there are
 -- limits.
 abbrev pub IsTokenCause : Start → Bool → List ℕ → ParseError → Type 0
 IsTokenCause start finished text OutOfMemory = Unit {0}

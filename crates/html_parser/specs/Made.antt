@@ -8,8 +8,8 @@ use Rattle.html_tokens.specs.Stream.{Run, tokens_of}
 use Rattle.html_tokens.specs.declared.tokenizer.Tokenizer.{Tokenizer}
 use Rattle.html_builder.specs.Builders.{BuilderState}
 use Rattle.html_builder.specs.Handed.{Handed, fates_of}
-use Rattle.html_builder.specs.Switches.{switches_by}
 use Rattle.html_parser.specs.Kinds.{kinds, starts_of}
+use Rattle.html_parser.specs.Said.{AreSaid}
 use Rattle.html_parser.specs.Parsed.{Headline}
 use Rattle.html_parser.specs.Staged.{AreFewSteps}
 use Rattle.html_parser.specs.Start.{Start, most_input, text_start}
@@ -23,7 +23,7 @@ pub record IsWhole (start : Start) (bytes : List ℕ) (run : Run) (d : Decoder) 
   pub decoded : Decodes (most_input start) true d bytes run.text
   pub tokenized : Tokenizes t run
   pub handed : Handed start.setting start.limits (kinds run.given) b
-  pub switched : run.switches ≡ switches_by (kinds run.given) (fates_of b)
+  pub said : AreSaid start.setting (kinds run.given) (fates_of b) run.switches
   pub starts_are : starts ≡ starts_of run.given
   pub all : tokens_of run.text run.switches run.start ≡ run.given
   pub few : AreFewSteps start.limits (steps_taken t) b.page.tree.steps

@@ -1,6 +1,6 @@
 -- Claimed.
 -- What parsing answers.
-use Rattle.std.specs.Prelude.{◌≡◌, ℕ, ◌≤◌, ◌+◌, ◌-◌, ◌*◌, ◌^◌, min, false, List, [], ◌∷◌, length, Some}
+use Rattle.std.specs.Prelude.{◌≡◌, ℕ, ◌≤◌, ◌+◌, ◌-◌, ◌*◌, ◌^◌, min, false, List, [], ◌∷◌, length, Option, Some}
 use Rattle.std.specs.List.{sum_by}
 use Rattle.std.specs.List.Sorted.{IsNonDecreasingBy}
 use Rattle.html_input.specs.Decode.{decode, code_points}
@@ -9,6 +9,7 @@ use Rattle.html_tokens.specs.Given.{IsTold}
 use Rattle.html_tokens.specs.Stream.{tokens_of}
 use Rattle.html_tokens.specs.declared.token.Token.{Token}
 use Rattle.html_tokens.specs.declared.faults.Fault.{Fault}
+use Rattle.html_tokens.specs.declared.token.TextMode.{TextMode}
 use Rattle.html_tokens.specs.declared.token.TextMode.TheVariants.{Data}
 use Rattle.html_arena.specs.declared.arena.Limits.{Limits}
 use Rattle.html_arena.specs.Budget.{AreWithin}
@@ -16,7 +17,6 @@ use Rattle.html_arena.specs.Forest.{Forest}
 use Rattle.html_arena.specs.Tree.{Tree as Nodes}
 use Rattle.html_arena.specs.Weight.{weight}
 use Rattle.html_ledger.specs.declared.fate.Fate.{Fate}
-use Rattle.html_builder.specs.Switches.{switches_by}
 use Rattle.html_builder.specs.Outcome.{IsOutcome, most_held}
 use Rattle.html_builder.specs.Plain.{HavePlainFates}
 use Rattle.html_ledger.specs.declared.setting.Setting.TheVariants.{Document}
@@ -29,6 +29,7 @@ use Rattle.html_page.specs.Serialised.{HasNames}
 use Rattle.html_page.specs.Shows.{Shows}
 use Rattle.html_parser.specs.Faults.{fault_list, places_of}
 use Rattle.html_parser.specs.Kinds.{kinds, starts_of}
+use Rattle.html_parser.specs.Said.{AreSaid, AreSaidByFates}
 use Rattle.html_parser.specs.Start.{Start, most_input, text_start}
 use Rattle.html_parser.specs.declared.faults.PageFault.{PageFault}
 use Rattle.html_parser.specs.declared.page.Page.{Page}
@@ -38,9 +39,12 @@ use Rattle.html_parser.specs.declared.page.Tree.{Tree}
 abbrev pub most_token_steps : ℕ → ℕ
 most_token_steps n = 8 * (n + 2) + (n + 2) * (n + 2)
 
--- The tokens are those of the text, read by the switches of their fates, and no others.
-abbrev pub AreTokensOf : Start → List ℕ → List Token → List Fate → Type 0
-AreTokensOf start text tokens fates = tokens ≡ tokens_of text (switches_by (kinds tokens) fates) (text_start start)
+-- The tokens are those of the text, read by what they say of the text after them, and no others.
+pub record AreTokensOf (start : Start) (text : List ℕ) (tokens : List Token) (fates : List Fate) : Type 0 where
+  pub said : List (Option TextMode)
+  pub are_said : AreSaid start.setting (kinds tokens) fates said
+  pub by_fates : AreSaidByFates start.setting (kinds tokens) fates said
+  pub are : tokens ≡ tokens_of text said (text_start start)
 
 -- a document, whose text is first read as data
 pub record IsDocument (start : Start) : Type 0 where
@@ -93,8 +97,8 @@ pub record Headline (start : Start) (bytes : List ℕ) (tokens : List Token) (fa
   pub faults : AreFaults tokens numbers errors
   pub ordered : IsNonDecreasingBy (λ f. f.place) errors
   pub few_errors : length errors ≤ 12 * (n + 2)
-  -- the tokenizer's errors and steps are those of one that was fed the text, read by these switches, and gave all its tokens
-  pub told : IsTold (text_start start) (decode bytes) (switches_by (kinds tokens) fates) faults.told steps_are.own
+  -- the tokenizer's errors and steps are those of one that was fed the text, read by what its tokens say, and gave all of them
+  pub told : IsTold (text_start start) (decode bytes) tokens_are.said faults.told steps_are.own
   -- of what the serializer writes: no element has an attribute with an empty name, and all that is held was counted
   pub names : HasNames t
   pub weighs : sum_by weight t.labels ≤ most_held n

@@ -9,21 +9,22 @@ use Rattle.html_tokens.specs.Stream.{IsPrompt, Run, tokens_of}
 use Rattle.html_tokens.specs.declared.token.TextMode.{TextMode}
 use Rattle.html_input.specs.declared.decoder.Decoder.{Decoder}
 use Rattle.html_builder.specs.Builders.{BuilderState}
-use Rattle.html_builder.specs.Handed.{Handed, fates_of, is_stopped as builder_stopped}
-use Rattle.html_builder.specs.Switches.{switches_by}
+use Rattle.html_builder.specs.Handed.{Handed, fates_of, is_stopped as builder_stopped, parses_foreign}
 use Rattle.html_parser.specs.Kinds.{kinds, starts_of}
-use Rattle.html_parser.specs.Start.{Start, most_input, text_start}
+use Rattle.html_parser.specs.Said.{AreSaid}
+use Rattle.html_parser.specs.Start.{Start, most_input, parses, text_start}
 use Rattle.html_parser.specs.declared.stages.Stages.{Stages}
 
 -- The stages after some bytes: the decoder has put out a text, of which the tokenizer was fed all and gave some tokens, which are those
--- that tree construction took, and for each of which the tokenizer was told what its fate says of the text after it.
+-- that tree construction took, and for each of which the tokenizer was told what it says of the text after it.
 pub record IsRun (start : Start) (finished : Bool) (p : Stages) (bytes : List ℕ) (run : Run) : Type 0 where
   pub begun : run.start ≡ text_start start
   pub ended : run.finished ≡ finished
   pub decoded : Decodes (most_input start) finished p.decoder bytes run.text
   pub tokenized : Tokenizes p.tokenizer run
   pub handed : Handed start.setting start.limits (kinds run.given) p.builder
-  pub switched : run.switches ≡ switches_by (kinds run.given) (fates_of p.builder)
+  pub said : AreSaid start.setting (kinds run.given) (fates_of p.builder) run.switches
+  pub foreign : parses_foreign p.builder ≡ parses start.foreign
   -- what is kept of the tokens
   pub starts : p.kept.starts ≡ starts_of run.given
   pub tokens : p.kept.keeps_tokens ≡ true → p.kept.tokens ≡ run.given
@@ -84,3 +85,4 @@ pub record IsBeginning (start : Start) (rows : List Row) (mode : TextMode) (deco
   pub handed : Handed start.setting start.limits [] builder
   pub fates : fates_of builder ≡ []
   pub building : builder_stopped builder ≡ false
+  pub foreign : parses_foreign builder ≡ parses start.foreign

@@ -1,6 +1,6 @@
 //! Why there is no page.
 
-use html_builder::{BuildError, Foreign};
+use html_builder::{BuildError, Foreign as ForeignRoot};
 use html_input::InputError;
 use html_tokens::TokenError;
 use std::alloc::{AllocError, AllocFailed};
@@ -15,10 +15,10 @@ pub enum ParseError {
     /// The input has more code points than the limit.
     #[error("input too long")]
     InputTooLong,
-    /// A start tag `svg` or `math` begins at `at`, where the rules of the body meet it.
+    /// A start tag `svg` or `math` begins at `at`, where the rules of the body meet it, and foreign content is refused.
     #[error("foreign content at {at}")]
-    ForeignContent { name: Foreign, at: u64 },
-    /// The name of a fragment's context is not one that an HTML element can have.
+    ForeignContent { name: ForeignRoot, at: u64 },
+    /// The name of a fragment's context is not one that an HTML element can have, nor, where foreign content is parsed, an element of that.
     #[error("bad context")]
     BadContext,
     /// The reader failed.

@@ -1,19 +1,25 @@
 //! Bytes in pieces to a page.
 
-ghost use Rattle.std.specs.Prelude.{◌≡◌, ◌↔◌, ◌++◌, ◌≤◌, ◌<◌, ◌^◌, ◌⊎◌, ℕ, List, [], None, Some, Err, IfErr, IfOk, OnErr, OnOk, length};
+ghost use Rattle.std.specs.Prelude.{◌≡◌, ◌↔◌, ◌++◌, ◌≤◌, ◌<◌, ◌^◌, ◌⊎◌, ℕ, List, [], None, Some, Err, false, true, IfErr, IfOk, OnErr, OnOk, length};
 ghost use Rattle.html_parser.specs.Causes.{IsCause, IsFeedCause};
 ghost use Rattle.html_parser.specs.Feeding.{AreHandedOn};
 ghost use Rattle.html_parser.specs.Parsed.{IsPageOf};
 ghost use Rattle.html_parser.specs.Staged.{KeepsTokens};
-ghost use Rattle.html_builder.specs.Contexts.{IsGood};
-ghost use Rattle.html_parser.specs.Start.{Start, document_start, fragment_start};
+ghost use Rattle.html_builder.specs.Contexts.{IsGood, setting_of};
+ghost use Rattle.html_builder.specs.Handed.{Handed, fates_of, is_stopped, parses_foreign};
+ghost use Rattle.html_input.specs.Fed.{Fed as Decodes};
+ghost use Rattle.html_ledger.specs.declared.setting.Setting.TheVariants.{Document};
+ghost use Rattle.html_parser.specs.Options.{HasGoodContext, IsBeginCause, is_context, start_of};
+ghost use Rattle.html_parser.specs.Making.{IsDocumentCause, IsFragmentCause};
+ghost use Rattle.html_parser.specs.Start.{Start, document_start, fragment_start, most_within, parses, setting_in};
 
 use crate::error::ParseError;
 use crate::feeder::Feeder;
+use crate::options::{Foreign, Options};
 use crate::page::Page;
 use crate::tree_parser::TreeParser;
 use html_arena::Limits;
-use html_builder::{Builder, Context};
+use html_builder::{BuildError, Builder, Context};
 use html_charref::EntityTable;
 use html_input::Decoder;
 use html_token_list::Tokens;
@@ -30,6 +36,31 @@ pub struct Parser<'a> {
 
 impl<'a> Parser<'a> {
     ghost use Rattle.html_parser.specs.Fed.{IsFed, IsStopped};
+
+    /// A parser as these options ask for.
+    ///
+    /// # Errors
+    ///
+    /// `BadContext` where the context is none that a fragment can have: where foreign content is refused no start tag can have its name, or the name is
+    /// `svg` or `math`; where it is parsed it isn't that of an element of foreign content either. `NodeBudget` and `HeldBudget` at 0 where not even the
+    /// first node is within the limits; `OutOfMemory`.
+    pub fn new(
+        alloc: Global,
+        table: &'a EntityTable,
+        options: &Options,
+    ) -> Result<Parser<'a>, ParseError>
+        ensures begun { IfOk result (λ p. IsFed (start_of table.entry.now options.now) p.feeder []) }
+        ensures keeps { IfOk result (λ p. KeepsTokens p.feeder.stages) }
+        ensures empty { IfOk result (λ p. p.feeder.stages.kept.tokens ≡ []) }
+        ensures good { OnOk result (HasGoodContext options.now) }
+        ensures cause { IfErr result (IsBeginCause options.now) }
+    {
+        let decoder = decoder_within(options.limits);
+        let builder = builder_for(alloc, options)?;
+        let mode = options.text_mode();
+        let feeder = Feeder::new(alloc, table, decoder, mode, builder)?;
+        Ok(Parser { feeder })
+    }
 
     /// A parser of a document.
     ///
@@ -129,7 +160,7 @@ impl<'a> Parser<'a> {
     /// # Errors
     ///
     /// `InputTooLong` where the code points so far pass the limit; `ForeignContent` for a start tag `svg` or `math` that the rules of the
-    /// body meet; `NodeBudget` and `HeldBudget` where a token would pass a limit; `OutOfMemory`. After a refusal each later call answers
+    /// body meet, where foreign content is refused; `NodeBudget` and `HeldBudget` where a token would pass a limit; `OutOfMemory`. After a refusal each later call answers
     /// `Stopped`.
     pub fn feed(&mut self, piece: &[u8]) -> Result<(), ParseError>
         ensures fed { OnOk result ((start : Start) (bytes : List ℕ) → IsFed start self.old.feeder bytes → IsFed start self.new.feeder (bytes ++ piece.now)) }
@@ -167,5 +198,80 @@ impl<'a> Parser<'a> {
         let Parser { mut feeder } = self;
         feeder.end()?;
         feeder.stages.into_page()
+    }
+}
+
+/// A decoder of at most as many code points as the limits allow, where there are any.
+fn decoder_within(limits: Option<Limits>) -> Decoder
+    ensures decodes { Decodes (most_within limits) false result [] [] }
+{
+    match limits {
+        None => Decoder::new(),
+        Some(limits) => Decoder::with_limit(limits.code_points),
+    }
+}
+
+/// Tree construction as these options ask for.
+fn builder_for(alloc: Global, options: &Options) -> Result<Builder, ParseError>
+    ensures handed { IfOk result (λ b. Handed (setting_in options.now.context) options.now.limits [] b) }
+    ensures fates { IfOk result (λ b. fates_of b ≡ []) }
+    ensures fresh { IfOk result (λ b. is_stopped b ≡ false) }
+    ensures parses { IfOk result (λ b. parses_foreign b ≡ parses options.now.foreign) }
+    ensures good { OnOk result (HasGoodContext options.now) }
+    ensures cause { IfErr result (IsBeginCause options.now) }
+{
+    match &options.context {
+        None => {
+            let builder = document_for(alloc, options.limits, options.foreign)?;
+            Ok(builder)
+        }
+        Some(context) => {
+            let builder = fragment_for(alloc, context, options.limits, options.foreign)?;
+            Ok(builder)
+        }
+    }
+}
+
+/// Tree construction of a document.
+fn document_for(
+    alloc: Global,
+    limits: Option<Limits>,
+    foreign: Foreign,
+) -> Result<Builder, BuildError>
+    ensures handed { IfOk result (λ b. Handed Document limits [] b) }
+    ensures fates { IfOk result (λ b. fates_of b ≡ []) }
+    ensures fresh { IfOk result (λ b. is_stopped b ≡ false) }
+    ensures parses { IfOk result (λ b. parses_foreign b ≡ parses foreign) }
+    ensures cause { IfErr result (IsDocumentCause limits) }
+{
+    match foreign {
+        Foreign::Parse => Builder::foreign_document(alloc, limits),
+        Foreign::Refuse => match limits {
+            None => Builder::document(alloc),
+            Some(limits) => Builder::document_within(alloc, limits),
+        },
+    }
+}
+
+/// Tree construction of a fragment in a context.
+fn fragment_for(
+    alloc: Global,
+    context: &Context,
+    limits: Option<Limits>,
+    foreign: Foreign,
+) -> Result<Builder, BuildError>
+    ensures handed { IfOk result (λ b. Handed (setting_of context.now) limits [] b) }
+    ensures fates { IfOk result (λ b. fates_of b ≡ []) }
+    ensures fresh { IfOk result (λ b. is_stopped b ≡ false) }
+    ensures parses { IfOk result (λ b. parses_foreign b ≡ parses foreign) }
+    ensures good { OnOk result (is_context foreign context.now.name ≡ true) }
+    ensures cause { IfErr result (IsFragmentCause foreign context.now.name limits) }
+{
+    match foreign {
+        Foreign::Parse => Builder::foreign_fragment(alloc, context, limits),
+        Foreign::Refuse => match limits {
+            None => Builder::fragment(alloc, context),
+            Some(limits) => Builder::fragment_within(alloc, context, limits),
+        },
     }
 }

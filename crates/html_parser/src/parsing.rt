@@ -9,9 +9,11 @@ ghost use Rattle.html_parser.specs.Causes.{IsCause};
 ghost use Rattle.html_parser.specs.Fed.{IsFed};
 ghost use Rattle.html_parser.specs.Staged.{KeepsTokens};
 ghost use Rattle.html_parser.specs.Parsed.{IsPageOf, IsTreeOf};
-ghost use Rattle.html_parser.specs.Start.{Start, document_start, fragment_start};
+ghost use Rattle.html_parser.specs.Options.{HasGoodContext, IsBeginCause, start_of};
+ghost use Rattle.html_parser.specs.Start.{Start, document_start, fragment_start, most_within};
 
 use crate::error::ParseError;
+use crate::options::Options;
 use crate::page::{Page, Tree};
 use crate::parser::Parser;
 use html_arena::Limits;
@@ -58,6 +60,49 @@ pub fn parse_within(
     page_of(parser, bytes)
 }
 
+/// The page of an input, as these options ask for. An input of more code points than the limit is refused as too long, before all else but a bad
+/// context.
+///
+/// # Errors
+///
+/// Those of `Parser::new` and of `Parser::feed`.
+pub fn parse_with(
+    alloc: Global,
+    table: &EntityTable,
+    options: &Options,
+    bytes: &[u8],
+) -> Result<Page, ParseError>
+    ensures page { IfOk result (IsPageOf (start_of table.now options.now) bytes.now) }
+    ensures root { IfOk result (λ page. IsRoot page.arena page.root) }
+    ensures good { OnOk result (HasGoodContext options.now) }
+    ensures cause { IfErr result (λ e. IsCause (start_of table.now options.now) bytes.now e ⊎ IsBeginCause options.now e) }
+{
+    let parser = Parser::new(alloc, table, options)?;
+    check_length(bytes, most_code_points(options.limits))?;
+    page_of(parser, bytes)
+}
+
+/// The tree of an input, as these options ask for, without its ledger.
+///
+/// # Errors
+///
+/// Those of `parse_with`.
+pub fn parse_tree_with(
+    alloc: Global,
+    table: &EntityTable,
+    options: &Options,
+    bytes: &[u8],
+) -> Result<Tree, ParseError>
+    ensures tree { IfOk result (IsTreeOf (start_of table.now options.now) bytes.now) }
+    ensures root { IfOk result (λ tree. IsRoot tree.arena tree.root) }
+    ensures good { OnOk result (HasGoodContext options.now) }
+    ensures cause { IfErr result (λ e. IsCause (start_of table.now options.now) bytes.now e ⊎ IsBeginCause options.now e) }
+{
+    let parser = Parser::new(alloc, table, options)?;
+    check_length(bytes, most_code_points(options.limits))?;
+    tree_of(parser, bytes)
+}
+
 /// The page of a fragment in a context (13.4).
 ///
 /// # Errors
@@ -93,9 +138,7 @@ pub fn parse_tree(alloc: Global, table: &EntityTable, bytes: &[u8]) -> Result<Tr
 {
     check_length(bytes, LIMIT)?;
     let parser = Parser::document(alloc, table)?;
-    let mut parser = parser.without_ledger();
-    parser.feed(bytes)?;
-    parser.finish()
+    tree_of(parser, bytes)
 }
 
 /// The page of an input by a parser that was fed nothing.
@@ -106,6 +149,26 @@ fn page_of(parser: Parser<'_>, bytes: &[u8]) -> Result<Page, ParseError>
     let mut parser = parser;
     parser.feed(bytes)?;
     parser.finish()
+}
+
+/// The tree of an input by a parser that was fed nothing.
+fn tree_of(parser: Parser<'_>, bytes: &[u8]) -> Result<Tree, ParseError>
+    ensures tree { IfOk result (λ tree. (start : Start) → IsFed start parser.entry.feeder [] → IsTreeOf start bytes.now tree) }
+    ensures cause { IfErr result (λ e. (start : Start) → IsFed start parser.entry.feeder [] → IsCause start bytes.now e) }
+{
+    let mut parser = parser.without_ledger();
+    parser.feed(bytes)?;
+    parser.finish()
+}
+
+/// The most code points of an input within limits, if there are any.
+fn most_code_points(limits: Option<Limits>) -> u64
+    ensures value { result ≡ most_within limits }
+{
+    match limits {
+        None => LIMIT,
+        Some(limits) => limits.code_points.min(LIMIT),
+    }
 }
 
 /// Refuses an input of more code points than the limit. A code point takes at least one byte.

@@ -1,13 +1,15 @@
 //! A page from a reader.
 
-ghost use Rattle.std.specs.Prelude.{ℕ, [], List, None, IfErr, IfOk, OnOk};
+ghost use Rattle.std.specs.Prelude.{ℕ, ◌⊎◌, [], List, None, IfErr, IfOk, OnOk};
 ghost use Rattle.std.specs.Io.KnownBytes.{Consumes, IsAtEnd};
 ghost use Rattle.html_arena.specs.Walking.{IsRoot};
 ghost use Rattle.html_parser.specs.Parsed.{IsPageOf, IsTreeOf};
 ghost use Rattle.html_parser.specs.Reading.{IsPieceCause, IsReaderCause};
+ghost use Rattle.html_parser.specs.Options.{HasGoodContext, IsBeginCause, start_of};
 ghost use Rattle.html_parser.specs.Start.{Start, document_start};
 
 use crate::error::ParseError;
+use crate::options::Options;
 use crate::page::{Page, Tree};
 use crate::parser::Parser;
 use crate::tree_parser::TreeParser;
@@ -53,6 +55,55 @@ pub fn parse_tree_from<S: Source>(
     ensures cause { IfErr result (IsReaderCause (document_start table.now None) (S.remaining reader.old) (S.remaining reader.new) (S.failed reader.new)) }
 {
     let parser = Parser::document(alloc, table)?;
+    let mut parser = parser.without_ledger();
+    parser.feed_from(reader)?;
+    parser.finish()
+}
+
+/// The page of all that a reader has, as these options ask for. Any fault of the reader is `Read`, an interruption too.
+///
+/// # Errors
+///
+/// Those of `Parser::new`, before a byte is read; `Read` where the reader failed; those of `Parser::feed`.
+pub fn parse_from_with<S: Source>(
+    alloc: Global,
+    table: &EntityTable,
+    options: &Options,
+    reader: &mut S,
+) -> Result<Page, ParseError>
+    ensures page { IfOk result (λ page. (bytes : List ℕ) × Consumes (S.remaining reader.old) (S.remaining reader.new) bytes
+        × IsPageOf (start_of table.now options.now) bytes page) }
+    ensures root { IfOk result (λ page. IsRoot page.arena page.root) }
+    ensures end { OnOk result (IsAtEnd (S.remaining reader.new)) }
+    ensures good { OnOk result (HasGoodContext options.now) }
+    ensures cause { IfErr result (λ e. IsBeginCause options.now e
+        ⊎ IsReaderCause (start_of table.now options.now) (S.remaining reader.old) (S.remaining reader.new) (S.failed reader.new) e) }
+{
+    let mut parser = Parser::new(alloc, table, options)?;
+    parser.feed_from(reader)?;
+    parser.finish()
+}
+
+/// The tree of all that a reader has, as these options ask for, without its ledger. Any fault of the reader is `Read`, an interruption too.
+///
+/// # Errors
+///
+/// Those of `parse_from_with`.
+pub fn parse_tree_from_with<S: Source>(
+    alloc: Global,
+    table: &EntityTable,
+    options: &Options,
+    reader: &mut S,
+) -> Result<Tree, ParseError>
+    ensures tree { IfOk result (λ tree. (bytes : List ℕ) × Consumes (S.remaining reader.old) (S.remaining reader.new) bytes
+        × IsTreeOf (start_of table.now options.now) bytes tree) }
+    ensures root { IfOk result (λ tree. IsRoot tree.arena tree.root) }
+    ensures end { OnOk result (IsAtEnd (S.remaining reader.new)) }
+    ensures good { OnOk result (HasGoodContext options.now) }
+    ensures cause { IfErr result (λ e. IsBeginCause options.now e
+        ⊎ IsReaderCause (start_of table.now options.now) (S.remaining reader.old) (S.remaining reader.new) (S.failed reader.new) e) }
+{
+    let parser = Parser::new(alloc, table, options)?;
     let mut parser = parser.without_ledger();
     parser.feed_from(reader)?;
     parser.finish()

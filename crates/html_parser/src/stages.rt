@@ -2,13 +2,12 @@
 
 ghost use Rattle.std.specs.Prelude.{◌≡◌, ◌++◌, ◌∷◌, ◌≤◌, ◌<◌, ◌+◌, ◌-◌, ◌^◌, ◌⊎◌, ℕ, Bool, List, [], None, Option, Some, true, false, IfErr, IfOk, OnOk, length, min};
 ghost use Rattle.html_arena.specs.declared.arena.Limits.{Limits as LimitsType};
-ghost use Rattle.html_builder.specs.Handed.{AddsFates, Handed, HandsIn, IsBuildCause, fates_of, is_stopped as builder_stopped};
+ghost use Rattle.html_builder.specs.Handed.{AddsFates, Handed, HandsIn, IsBuildCause, IsForeignRefused, fates_of, is_stopped as builder_stopped, parses_foreign};
 ghost use Rattle.html_builder.specs.declared.error.BuildError.{BuildError as BuildErrorKind};
 ghost use Rattle.html_ledger.specs.declared.setting.Setting.{Setting};
 ghost use Rattle.html_tokens.specs.declared.token.TokenKind.{TokenKind};
-ghost use Rattle.html_builder.specs.Switches.{switch_after};
+ghost use Rattle.html_builder.specs.Saying.{said_in};
 ghost use Rattle.html_input.specs.Fed.{Fed as Decodes};
-ghost use Rattle.html_ledger.specs.Runs.{last_of};
 ghost use Rattle.html_tokens.specs.Given.{Awaits, Fed, fed_len, is_stopped as tokenizer_stopped, steps_taken};
 ghost use Rattle.html_tokens.specs.Stream.{Run, gave};
 ghost use Rattle.html_tokens.specs.declared.token.Token.{Token as TokenType};
@@ -238,7 +237,8 @@ impl<'a> Stages<'a> {
         let _ = &self.kept;
     }
 
-    /// Hands on the plain text that comes next, if any, unless the tokens are to be counted for one by one.
+    /// Hands on the plain text that comes next, if any, unless the tokens are to be counted for one by one, or are of foreign content: there a code point
+    /// may change how the text after it is read.
     fn hand_text(&mut self) -> Result<(), ParseError>
         ensures further { OnOk result ((start : Start) (finished : Bool) (bytes : List ℕ) (run : Run) → IsRun start finished self.old bytes run → IsFurther start finished self.new bytes run.text) }
         ensures same { OnOk result (length self.old.kept.starts ≤ length self.new.kept.starts) }
@@ -246,7 +246,7 @@ impl<'a> Stages<'a> {
         ensures keeps { self.new.kept.keeps_tokens ≡ self.old.kept.keeps_tokens }
         ensures count { OnOk result (fed_len self.new.tokenizer ≤ fed_len self.old.tokenizer) }
     {
-        if !self.counts_steps() {
+        if !self.counts_steps() && !self.builder.reads_foreign() {
             self.hand_run()?;
         }
         Ok(())
@@ -396,11 +396,12 @@ fn build(
 ) -> Result<Option<TextMode>, ParseError>
     ensures takes { OnOk result (HandsIn (token.now.kind ∷ []) builder.old builder.new) }
     ensures grows { OnOk result (AddsFates builder.old builder.new) }
-    ensures switch { IfOk result (λ m. m ≡ switch_after token.now.kind (last_of (fates_of builder.new))) }
+    ensures said { IfOk result (λ m. m ≡ said_in token.now.kind builder.new) }
+    ensures parses { OnOk result (parses_foreign builder.new ≡ parses_foreign builder.old) }
     ensures ok { OnOk result (builder_stopped builder.new ≡ false) }
     ensures in_time { OnOk result (is_over ≡ false) }
     ensures cause { IfErr result (λ e. ((e ≡ ParseError.StepBudget token.now.span.start) × (is_over ≡ true))
-        ⊎ ((b : BuildErrorKind) × (e ≡ build_cause b) × ((s : Setting) (l : Option LimitsType) (tokens : List TokenKind) → Handed s l tokens builder.old
+        ⊎ ((b : BuildErrorKind) × (e ≡ build_cause b) × IsForeignRefused builder.old b × ((s : Setting) (l : Option LimitsType) (tokens : List TokenKind) → Handed s l tokens builder.old
         → IsBuildCause s l tokens (fates_of builder.old) token.now.kind token.now.span.start b))) }
 {
     if is_over {

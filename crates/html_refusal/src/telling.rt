@@ -12,7 +12,7 @@ use crate::status::{FILE_FAULT, REFUSED};
 use html_charref::{EntityError, Key};
 use html_device::{DeviceFault, Sink};
 use html_output::{Piece, write_pieces};
-use html_parser::{Foreign, ParseError};
+use html_parser::{ForeignRoot, ParseError};
 use std::alloc::{AllocError, Global};
 
 /// The status with which the program ends for want of a page, and the line that tells why, with its end; no line where memory for it was refused.
@@ -70,7 +70,7 @@ fn line(alloc: Global, error: &ParseError, input: &str) -> Result<String, AllocE
 }
 
 /// The line of foreign content.
-fn line_of_foreign(alloc: Global, name: Foreign, at: u64) -> Result<String, AllocError>
+fn line_of_foreign(alloc: Global, name: ForeignRoot, at: u64) -> Result<String, AllocError>
     ensures { IfOk result (λ line. string_bytes line ≡ foreign_line name at) }
 {
     let name = foreign_name(name);
@@ -177,7 +177,7 @@ fn write_line<F: Sink>(error: &ParseError, input: &str, faults: &mut F) -> Resul
 }
 
 /// Writes the line of foreign content.
-fn write_foreign<F: Sink>(name: Foreign, at: u64, faults: &mut F) -> Result<(), DeviceFault>
+fn write_foreign<F: Sink>(name: ForeignRoot, at: u64, faults: &mut F) -> Result<(), DeviceFault>
     ensures ok { OnOk result (Appends (F.taken faults.old) (F.taken faults.new) (foreign_line name at)) }
     ensures err { OnErr result (AppendsFront (F.taken faults.old) (F.taken faults.new) (foreign_line name at)) }
     ensures fault { OnErr result ((F.failed faults.new ≡ true) ⊎ (F.stalled faults.new ≡ true)) }
@@ -212,11 +212,11 @@ fn write_budget<F: Sink>(budget: &str, at: u64, faults: &mut F) -> Result<(), De
     )
 }
 
-fn foreign_name(name: Foreign) -> &'static str
+fn foreign_name(name: ForeignRoot) -> &'static str
     ensures { result.now ≡ foreign_text name }
 {
     match name {
-        Foreign::Svg => "svg",
-        Foreign::Math => "math",
+        ForeignRoot::Svg => "svg",
+        ForeignRoot::Math => "math",
     }
 }

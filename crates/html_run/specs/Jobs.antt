@@ -7,7 +7,14 @@ use Rattle.html_charref.specs.declared.table.Row.{Row}
 use Rattle.html_arena.specs.declared.arena.Limits.{Limits}
 use Rattle.html_job.specs.declared.jobs.Job.{Job}
 use Rattle.html_parser.specs.Parsed.{IsTreeOf}
-use Rattle.html_parser.specs.Start.{Start, document_start, fragment_start}
+use Rattle.html_builder.specs.declared.context.Context.{Context}
+use Rattle.html_job.specs.declared.jobs.Foreign.{Foreign as Asked}
+use Rattle.html_job.specs.declared.jobs.Foreign.TheVariants as asked
+use Rattle.html_parser.specs.Options.{start_of}
+use Rattle.html_parser.specs.Start.{Start}
+use Rattle.html_parser.specs.declared.options.Foreign.{Foreign}
+use Rattle.html_parser.specs.declared.options.Foreign.TheVariants.{Refuse, Parse}
+use Rattle.html_parser.specs.declared.options.Options.{Options}
 use Rattle.html_parser.specs.declared.page.Tree.{Tree}
 use Rattle.html_print.specs.Printed.{IsPrinted}
 
@@ -24,13 +31,25 @@ limits_for job =
       steps = limit_or_most job.max_steps;
     }
 
--- a document, or a fragment in the context of a name, in no form and in no quirks mode
-abbrev pub start_in : Option (List ℕ) → List Row → Limits → Start
-start_in None rows limits = document_start rows (Some limits)
-start_in (Some name) rows limits = fragment_start rows (record { name = chars name; in_form = false; quirks = false }) (Some limits)
+-- the context of a name, in no form and in no quirks mode
+abbrev pub context_of : Option (List ℕ) → Option Context
+context_of None = None
+context_of (Some name) = Some (record { name = chars name; in_form = false; quirks = false })
+
+abbrev pub context_for : Job → Option Context
+context_for job = context_of (option_map (λ s. s.now) job.fragment)
+
+-- what is done with foreign content
+abbrev pub foreign_for : Asked → Foreign
+foreign_for asked.Refuse = Refuse
+foreign_for asked.Parse = Parse
+
+-- a document, or a fragment in the context that the job names, within its limits
+abbrev pub options_for : Job → Options
+options_for job = record { limits = Some (limits_for job); foreign = foreign_for job.foreign; context = context_for job }
 
 abbrev pub start_for : Job → List Row → Start
-start_for job rows = start_in (option_map (λ s. s.now) job.fragment) rows (limits_for job)
+start_for job rows = start_of rows (options_for job)
 
 -- the name of the file of the page, or `-`
 abbrev pub input_name : Job → List ℕ

@@ -1,30 +1,21 @@
 -- Claimed.
 -- Why a job was refused, and what was told of it.
-use Rattle.std.specs.Prelude.{◌≡◌, ◌⊎◌, ◌<◌, ℕ, Bool, true, false, List, Option, Err, Ok, MatchOption}
+use Rattle.std.specs.Prelude.{◌≡◌, ◌⊎◌, ℕ, Bool, true, false, List, Option, Err, Ok, MatchOption}
 use Rattle.std.specs.Borrow.{Bor}
-use Rattle.std.specs.Str.{chars}
-use Rattle.html_builder.specs.Contexts.{IsGood}
 use Rattle.html_charref.specs.Entities.{core_rows, entities_of}
 use Rattle.html_charref.specs.declared.read.EntityError.{EntityError}
 use Rattle.html_charref.specs.declared.read.EntityError.TheVariants.{OutOfMemory as TableOutOfMemory}
 use Rattle.html_charref.specs.declared.table.Row.{Row}
 use Rattle.html_job.specs.declared.jobs.Job.{Job}
+use Rattle.html_parser.specs.Options.{IsBeginCause}
 use Rattle.html_parser.specs.Reading.{IsReaderCause}
 use Rattle.html_parser.specs.declared.error.ParseError.{ParseError}
-use Rattle.html_parser.specs.declared.error.ParseError.TheVariants.{OutOfMemory, BadContext, Write, NodeBudget, HeldBudget}
-use Rattle.html_run.specs.Jobs.{limit_or_most, start_for}
-
--- Why no parser was made for a job: for want of memory, for the name of the context, or since not even the root is within the limits.
-abbrev pub IsBeginCause : Job → ParseError → Type 0
-IsBeginCause job OutOfMemory = Unit {0}
-IsBeginCause job BadContext = MatchOption job.fragment ⊥ (λ name. IsGood (record { name = chars name.now; in_form = false; quirks = false }) → ⊥)
-IsBeginCause job (NodeBudget at) = (at ≡ 0) × (limit_or_most job.max_nodes < 1)
-IsBeginCause job (HeldBudget at) = (at ≡ 0) × (limit_or_most job.max_held < 4)
-IsBeginCause job _ = ⊥
+use Rattle.html_parser.specs.declared.error.ParseError.TheVariants.{Write}
+use Rattle.html_run.specs.Jobs.{options_for, start_for}
 
 -- Why no page was had: no parser was made, or that of the reader and of what it gave.
 abbrev pub IsReadCause : Job → List Row → Option (List ℕ) → Option (List ℕ) → Bool → ParseError → Type 0
-IsReadCause job rows old new failed e = IsBeginCause job e ⊎ IsReaderCause (start_for job rows) old new failed e
+IsReadCause job rows old new failed e = IsBeginCause (options_for job) e ⊎ IsReaderCause (start_for job rows) old new failed e
 
 -- Why a job was not done: no page was had, memory was refused, or the writer failed or took no bytes.
 abbrev pub IsJobCause : Job → List Row → Option (List ℕ) → Option (List ℕ) → Bool → Bool → Bool → ParseError → Type 0

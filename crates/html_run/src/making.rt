@@ -5,12 +5,15 @@ ghost use Rattle.std.specs.Io.KnownBytes.{Consumes, IsAtEnd};
 ghost use Rattle.html_parser.specs.Fed.{IsFed};
 ghost use Rattle.html_parser.specs.Parsed.{IsPageOf, IsTreeOf};
 ghost use Rattle.html_parser.specs.Staged.{KeepsTokens};
-ghost use Rattle.html_run.specs.Jobs.{limits_for, start_for};
-ghost use Rattle.html_run.specs.Refused.{IsBeginCause, IsReadCause};
+ghost use Rattle.html_run.specs.Jobs.{context_for, foreign_for, limits_for, options_for, start_for};
+ghost use Rattle.html_parser.specs.Options.{IsBeginCause};
+ghost use Rattle.html_run.specs.Refused.{IsReadCause};
 
 use html_job::Job;
-use html_parser::{Context, EntityTable, Limits, Page, ParseError, Parser, Source, Str, Tree};
-use std::alloc::Global;
+use html_parser::{
+    Context, EntityTable, Foreign, Limits, Options, Page, ParseError, Parser, Source, Str, Tree,
+};
+use std::alloc::{AllocError, Global};
 
 /// The tree of all that a reader has, as the job asks for it.
 pub(crate) fn tree_for<R: Source>(
@@ -47,7 +50,7 @@ pub(crate) fn page_for<R: Source>(
     fed.and(parser.finish())
 }
 
-/// The parser for a job: of a document, or of a fragment in the context that the job names, within its limits.
+/// The parser for a job: of a document, or of a fragment in the context that the job names, within its limits, with what it asks for foreign content.
 fn parser_for<'a>(
     alloc: Global,
     job: &Job<'_>,
@@ -55,19 +58,44 @@ fn parser_for<'a>(
 ) -> Result<Parser<'a>, ParseError>
     ensures begun { IfOk result (λ p. IsFed (start_for job.now table.entry.now) p.feeder []) }
     ensures keeps { IfOk result (λ p. KeepsTokens p.feeder.stages) }
-    ensures cause { IfErr result (IsBeginCause job.now) }
+    ensures cause { IfErr result (IsBeginCause (options_for job.now)) }
 {
-    let limits = limits_of(job);
+    let options = options_of(alloc, job)?;
+    Parser::new(alloc, table, &options)
+}
+
+/// The options of a job.
+fn options_of(alloc: Global, job: &Job<'_>) -> Result<Options, AllocError>
+    ensures value { IfOk result (λ o. o ≡ options_for job.now) }
+{
+    Ok(Options {
+        limits: Some(limits_of(job)),
+        foreign: foreign_of(job.foreign),
+        context: context_of(alloc, job)?,
+    })
+}
+
+/// The context of a job's page, where it is a fragment: in no form, and in no quirks mode.
+fn context_of(alloc: Global, job: &Job<'_>) -> Result<Option<Context>, AllocError>
+    ensures value { IfOk result (λ c. c ≡ context_for job.now) }
+{
     match job.fragment {
-        None => Parser::document_within(alloc, table, limits),
-        Some(name) => {
-            let context = Context {
-                name: Str::of(alloc, name)?,
-                in_form: false,
-                quirks: false,
-            };
-            Parser::fragment_within(alloc, table, &context, limits)
-        }
+        None => Ok(None),
+        Some(name) => Ok(Some(Context {
+            name: Str::of(alloc, name)?,
+            in_form: false,
+            quirks: false,
+        })),
+    }
+}
+
+/// What a job asks to be done with foreign content.
+fn foreign_of(foreign: html_job::Foreign) -> Foreign
+    ensures value { result ≡ foreign_for foreign }
+{
+    match foreign {
+        html_job::Foreign::Refuse => Foreign::Refuse,
+        html_job::Foreign::Parse => Foreign::Parse,
     }
 }
 

@@ -47,8 +47,8 @@ enum SuiteFault {
 ///
 /// A file whose name ends in `.dat` has cases of trees: the input stands under a line `#data`, up to a line `#errors`, and
 /// the tree under a line `#document`, as the command `tree` prints it; between them a line `#document-fragment` is followed
-/// by the name of a context. A case is skipped where there is a line `#script-on`, its context is no HTML element, or its
-/// page has foreign content.
+/// by the name of a context. A case is skipped where there is a line `#script-on`; and, unless `foreign` asks for foreign content,
+/// where its context is no HTML element, or its page has foreign content.
 pub fn suite_file<W: Sink, F: Sink>(
     alloc: Global,
     name: &str,
@@ -159,7 +159,7 @@ fn run_cases<W: Sink>(
 {
     let mut counts = Counts::new();
     if has_end(name, ".dat") {
-        run_trees(alloc, name, bytes, table, &mut counts, writer)?;
+        run_trees(alloc, name, bytes, table, foreign, &mut counts, writer)?;
     } else if has_end(name, ".test") {
         run_tests(alloc, name, bytes, table, foreign, &mut counts, writer)?;
     } else {
@@ -218,6 +218,7 @@ fn run_trees<W: Sink>(
     name: &str,
     bytes: &[u8],
     table: &EntityTable,
+    foreign: ForeignCases,
     counts: &mut Counts,
     writer: &mut W,
 ) -> Result<(), SuiteFault>
@@ -227,7 +228,7 @@ fn run_trees<W: Sink>(
 {
     let cases = cases_of(alloc, bytes)?;
     'cases: for case in &cases {
-        let outcome = run_tree_case(alloc, case, table)?;
+        let outcome = run_tree_case(alloc, case, table, foreign)?;
         count(name, counts, outcome, writer)?;
     }
     Ok(())

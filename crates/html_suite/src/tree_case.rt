@@ -5,13 +5,14 @@ ghost use Rattle.html_arena.specs.Walking.{IsRoot};
 ghost use Rattle.html_parser.specs.Fed.{IsFed};
 ghost use Rattle.html_parser.specs.Start.{Start};
 
+use crate::case::ForeignCases;
 use crate::counts::Outcome;
 use crate::dat::TreeCase;
-use html_parser::{Context, EntityTable, ParseError, Parser, Str, Tree};
+use html_parser::{Context, EntityTable, Foreign, Options, ParseError, Parser, Str, Tree};
 use html_print::{OverWrite, PrintError, print_tree};
 use std::alloc::{AllocError, Global};
 
-/// Runs a case: whether the page has the tree that is wanted. A case is skipped that wants scripts, or foreign content.
+/// Runs a case: whether the page has the tree that is wanted. A case is skipped that wants scripts; one of foreign content where `foreign` says so.
 ///
 /// # Errors
 ///
@@ -20,16 +21,22 @@ pub(crate) fn run_tree_case(
     alloc: Global,
     case: &TreeCase<'_>,
     table: &EntityTable,
+    foreign: ForeignCases,
 ) -> Result<Outcome, AllocError> {
-    if case.is_script_on || has_foreign_context(case) {
+    if case.is_script_on || is_left_out(case, foreign) {
         return Ok(Outcome::Skipped);
     }
-    match tree_of(alloc, case, table) {
+    match tree_of(alloc, case, table, foreign) {
         Ok(tree) => compared(alloc, &tree, case.tree),
         Err(ParseError::ForeignContent { .. }) => Ok(Outcome::Skipped),
         Err(ParseError::OutOfMemory) => Err(AllocError),
         Err(_) => Ok(Outcome::Failed),
     }
+}
+
+/// Whether a case of a foreign context is skipped.
+fn is_left_out(case: &TreeCase<'_>, foreign: ForeignCases) -> bool {
+    matches!(foreign, ForeignCases::Skipped) && has_foreign_context(case)
 }
 
 /// Whether the context is no HTML element: it is `svg` or `math`, or has the name of a kind of content before its own.
@@ -43,35 +50,58 @@ fn has_foreign_context(case: &TreeCase<'_>) -> bool {
 }
 
 /// The tree of a case's input.
-fn tree_of(alloc: Global, case: &TreeCase<'_>, table: &EntityTable) -> Result<Tree, ParseError>
+fn tree_of(
+    alloc: Global,
+    case: &TreeCase<'_>,
+    table: &EntityTable,
+    foreign: ForeignCases,
+) -> Result<Tree, ParseError>
     ensures root { IfOk result (λ tree. IsRoot tree.arena tree.root) }
 {
-    let parser = parser_for(alloc, case, table)?;
+    let parser = parser_for(alloc, case, table, foreign)?;
     let mut parser = parser.without_ledger();
     let fed = parser.feed(case.input);
     fed.and(parser.finish())
 }
 
-/// The parser for a case. A context that is no text is none that an element can have.
+/// The parser for a case.
 fn parser_for<'a>(
     alloc: Global,
     case: &TreeCase<'_>,
     table: &'a EntityTable,
+    foreign: ForeignCases,
 ) -> Result<Parser<'a>, ParseError>
     ensures begun { IfOk result (λ p. (start : Start) × IsFed start p.feeder []) }
 {
+    let options = Options {
+        limits: None,
+        foreign: foreign_of(foreign),
+        context: context_of(alloc, case)?,
+    };
+    Parser::new(alloc, table, &options)
+}
+
+/// The context of a case, where it has one. A context that is no text is none that an element can have.
+fn context_of(alloc: Global, case: &TreeCase<'_>) -> Result<Option<Context>, ParseError> {
     let Some(name) = case.context else {
-        return Parser::document(alloc, table);
+        return Ok(None);
     };
     let Ok(name) = std::str::from_utf8(name) else {
         return Err(ParseError::BadContext);
     };
-    let context = Context {
+    Ok(Some(Context {
         name: Str::of(alloc, name)?,
         in_form: false,
         quirks: false,
-    };
-    Parser::fragment(alloc, table, &context)
+    }))
+}
+
+/// What is done with foreign content where its cases are run, or skipped.
+fn foreign_of(foreign: ForeignCases) -> Foreign {
+    match foreign {
+        ForeignCases::Skipped => Foreign::Refuse,
+        ForeignCases::Run => Foreign::Parse,
+    }
 }
 
 /// Whether a tree is printed so; the end of its last line is not part of what is wanted.

@@ -10,8 +10,9 @@ use anyhow::Result;
 use html_arena::{Arena, NodeId};
 use html_charref::EntityTable;
 use html_parser::{
-    OverRead, OverWrite, Page, ParseError, Parser, Profile, Tree, normalise, parse, parse_tree,
-    parse_tree_from, serialise,
+    Options, OverRead, OverWrite, Page, ParseError, Parser, Profile, Tree, normalise,
+    normalise_with, parse, parse_tree, parse_tree_from, parse_tree_from_with, parse_tree_with,
+    serialise,
 };
 use std::alloc::{AllocError, Global};
 
@@ -24,6 +25,10 @@ enum Way {
     Reader,
     /// A reader, of which a parser takes all.
     FedReader,
+    /// A slice, with options.
+    SliceWith,
+    /// A reader, with options.
+    ReaderWith,
 }
 
 /// What a call makes another page of than a parser that is fed the whole of it, of which this text comes, if one does.
@@ -37,7 +42,12 @@ pub(crate) fn other_call(
     if !gives(alloc, table, Reading::Call, ask, bytes, whole)? {
         return Ok(Some("in one call"));
     }
-    if ask.context.is_some() || ask.limits.is_some() {
+    if !gives(alloc, table, Reading::With, ask, bytes, whole)?
+        || !gives(alloc, table, Reading::ReaderWith, ask, bytes, whole)?
+    {
+        return Ok(Some("with options"));
+    }
+    if ask.context.is_some() || ask.limits.is_some() || ask.foreign {
         return Ok(None);
     }
     if !gives(alloc, table, Reading::Reader, ask, bytes, whole)?
@@ -58,7 +68,9 @@ fn are_same_trees(alloc: Global, table: &EntityTable, bytes: &[u8]) -> Result<bo
     Ok(
         is_tree_by(alloc, table, Way::Slice, bytes, page.as_str())?
             && is_tree_by(alloc, table, Way::Reader, bytes, page.as_str())?
-            && is_tree_by(alloc, table, Way::FedReader, bytes, page.as_str())?,
+            && is_tree_by(alloc, table, Way::FedReader, bytes, page.as_str())?
+            && is_tree_by(alloc, table, Way::SliceWith, bytes, page.as_str())?
+            && is_tree_by(alloc, table, Way::ReaderWith, bytes, page.as_str())?,
     )
 }
 
@@ -107,6 +119,8 @@ fn tree_by(alloc: Global, table: &EntityTable, way: Way, bytes: &[u8]) -> Result
     match way {
         Way::Slice => parse_tree(alloc, table, bytes),
         Way::Reader => parse_tree_from(alloc, table, &mut reader),
+        Way::SliceWith => parse_tree_with(alloc, table, &Options::new(), bytes),
+        Way::ReaderWith => parse_tree_from_with(alloc, table, &Options::new(), &mut reader),
         Way::FedReader => {
             let parser = Parser::document(alloc, table)?;
             let mut parser = parser.without_ledger();
@@ -156,7 +170,8 @@ fn is_html(
 ) -> Result<bool, ParseError> {
     let page = page_html(alloc, table, profile, bytes)?;
     let tree = tree_html(alloc, table, profile, bytes)?;
-    Ok(page.as_slice() == wanted && tree.as_slice() == wanted)
+    let other = normalised_with(alloc, table, profile, bytes)?;
+    Ok(page.as_slice() == wanted && tree.as_slice() == wanted && other.as_slice() == wanted)
 }
 
 fn normalised(
@@ -168,6 +183,19 @@ fn normalised(
     let mut reader = OverRead::new(bytes);
     let mut writer = OverWrite::new(Vec::new(alloc));
     normalise(alloc, table, profile, &mut reader, &mut writer)?;
+    Ok(writer.into_inner())
+}
+
+fn normalised_with(
+    alloc: Global,
+    table: &EntityTable,
+    profile: Profile,
+    bytes: &[u8],
+) -> Result<Vec<u8>, ParseError> {
+    let mut reader = OverRead::new(bytes);
+    let mut writer = OverWrite::new(Vec::new(alloc));
+    let options = Options::default();
+    normalise_with(alloc, table, &options, profile, &mut reader, &mut writer)?;
     Ok(writer.into_inner())
 }
 

@@ -2,8 +2,8 @@
 
 use html_charref::{EntityTable, Str};
 use html_parser::{
-    Context, Limits, OverRead, Page, ParseError, Parser, parse, parse_fragment, parse_from,
-    parse_within,
+    Context, Foreign, Limits, Options, OverRead, Page, ParseError, Parser, parse, parse_fragment,
+    parse_from, parse_from_with, parse_with, parse_within,
 };
 use std::alloc::{AllocError, Global};
 
@@ -24,6 +24,10 @@ pub(crate) enum Reading {
     Call,
     /// By the call that takes a reader.
     Reader,
+    /// By the call that takes all of it, and options.
+    With,
+    /// By the call that takes a reader, and options.
+    ReaderWith,
 }
 
 /// What is asked for besides the input.
@@ -33,6 +37,8 @@ pub(crate) struct Ask<'a> {
     pub context: Option<&'a str>,
     pub in_form: bool,
     pub quirks: bool,
+    /// Whether foreign content is parsed, and not refused.
+    pub foreign: bool,
     pub limits: Option<Limits>,
 }
 
@@ -43,6 +49,7 @@ impl<'a> Ask<'a> {
             context,
             in_form: false,
             quirks: false,
+            foreign: false,
             limits: None,
         }
     }
@@ -60,6 +67,11 @@ pub(crate) fn page_of(
         Reading::Call => called(alloc, table, ask, bytes),
         Reading::Reader => parse_from(alloc, table, &mut OverRead::new(bytes)),
         Reading::Fed => fed_from(alloc, table, bytes),
+        Reading::With => parse_with(alloc, table, &options_of(alloc, ask)?, bytes),
+        Reading::ReaderWith => {
+            let options = options_of(alloc, ask)?;
+            parse_from_with(alloc, table, &options, &mut OverRead::new(bytes))
+        }
         _ => fed_page(alloc, table, reading, ask, bytes),
     }
 }
@@ -71,6 +83,9 @@ fn called(
     ask: Ask<'_>,
     bytes: &[u8],
 ) -> Result<Page, ParseError> {
+    if ask.foreign {
+        return parse_with(alloc, table, &options_of(alloc, ask)?, bytes);
+    }
     match (ask.context, ask.limits) {
         (None, None) => parse(alloc, table, bytes),
         (None, Some(limits)) => parse_within(alloc, table, limits, bytes),
@@ -150,6 +165,9 @@ fn parser_of<'a>(
     table: &'a EntityTable,
     ask: Ask<'_>,
 ) -> Result<Parser<'a>, ParseError> {
+    if ask.foreign {
+        return Parser::new(alloc, table, &options_of(alloc, ask)?);
+    }
     let Some(name) = ask.context else {
         return match ask.limits {
             Some(limits) => Parser::document_within(alloc, table, limits),
@@ -161,6 +179,23 @@ fn parser_of<'a>(
         Some(limits) => Parser::fragment_within(alloc, table, &context, limits),
         None => Parser::fragment(alloc, table, &context),
     }
+}
+
+/// The options as asked.
+fn options_of(alloc: Global, ask: Ask<'_>) -> Result<Options, AllocError> {
+    let context = match ask.context {
+        Some(name) => Some(context_of(alloc, ask, name)?),
+        None => None,
+    };
+    Ok(Options {
+        limits: ask.limits,
+        foreign: if ask.foreign {
+            Foreign::Parse
+        } else {
+            Foreign::Refuse
+        },
+        context,
+    })
 }
 
 /// The context of a fragment, as asked.

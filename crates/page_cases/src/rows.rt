@@ -180,6 +180,7 @@ fn ask_of<'a>(words: &str, context: Option<&'a str>) -> Result<Ask<'a>> {
             None => match word {
                 "in_form" => ask.in_form = true,
                 "quirks" => ask.quirks = true,
+                "foreign" => ask.foreign = true,
                 "" | "audit" | "html" => {}
                 _ => bail!("no such word"),
             },

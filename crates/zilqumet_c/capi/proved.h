@@ -9,7 +9,7 @@
 /* Any of the handles. */
 typedef struct proved_slot { void *held; } proved_slot;
 
-typedef struct proved_limits { uint64_t nodes, held, code_points, steps; } proved_limits;
+typedef struct proved_limits { uint64_t nodes, held, code_points, steps, foreign; } proved_limits;
 
 void proved_free(proved_slot *handle);
 uint32_t proved_entities_read(const uint8_t *json, size_t len, proved_slot *entities);

@@ -4,13 +4,13 @@
 /* The structs as the crate lays them out (#[repr(C)] in src/). */
 _Static_assert(sizeof(void *) == 8 && sizeof(size_t) == 8, "64 bits");
 _Static_assert(sizeof(zq_page) == 8 && sizeof(zq_parser) == 8 && sizeof(zq_entities) == 8 && sizeof(zq_buffer) == 8, "handles");
-_Static_assert(sizeof(proved_slot) == 8 && sizeof(proved_limits) == 32, "what is handed on");
+_Static_assert(sizeof(proved_slot) == 8 && sizeof(proved_limits) == 40, "what is handed on");
 _Static_assert(sizeof(zq_span) == 16 && offsetof(zq_span, len) == 8, "spans");
 _Static_assert(sizeof(zq_counts) == 48 && offsetof(zq_counts, errors) == 40, "counts");
 _Static_assert(sizeof(zq_row) == 80 && offsetof(zq_row, attrs) == 32 && offsetof(zq_row, name) == 40 && offsetof(zq_row, kind) == 72, "rows");
 _Static_assert(sizeof(zq_texts) == 24 && offsetof(zq_texts, ends) == 8 && offsetof(zq_texts, count) == 16, "texts");
 
-#define KNOWN_FLAGS (ZQ_IN_FORM | ZQ_QUIRKS)
+#define KNOWN_FLAGS (ZQ_IN_FORM | ZQ_QUIRKS | ZQ_FOREIGN)
 
 const char *zq_version(void) { return ZQ_VERSION; }
 
@@ -52,7 +52,7 @@ static uint32_t read_options(const zq_options *options, proved_limits *limits, u
 {
     static const zq_options defaults = ZQ_DEFAULTS;
     const zq_options *set = options != NULL ? options : &defaults;
-    *limits = (proved_limits){ set->max_nodes, set->max_held, set->max_input, set->max_steps };
+    *limits = (proved_limits){ set->max_nodes, set->max_held, set->max_input, set->max_steps, (set->flags & ZQ_FOREIGN) != 0 };
     *flags = set->flags;
     return (set->flags & ~KNOWN_FLAGS) == 0 ? ZQ_OK : ZQ_BAD_FLAGS;
 }

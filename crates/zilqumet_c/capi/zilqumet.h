@@ -93,6 +93,10 @@ typedef struct zq_options {
 #define ZQ_IN_FORM 1u
 #define ZQ_QUIRKS 2u
 
+/* SVG and MathML are parsed; without this flag they are refused, as ZQ_FOREIGN_SVG and ZQ_FOREIGN_MATH. Their elements have names of their own kind,
+ * "svg path" and "math mi", which contexts may have too, and attributes as "xlink href"; the serializer writes the names of the page. */
+#define ZQ_FOREIGN 4u
+
 /* What a page counts: code points of the input, nodes, code points that the nodes hold, steps, tokens, parse errors. held and steps stop at
  * UINT64_MAX. */
 typedef struct zq_counts {

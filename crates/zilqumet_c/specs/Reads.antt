@@ -1,6 +1,6 @@
 -- Claimed.
 -- What is read of a handle.
-use Rattle.std.specs.Prelude.{◌≡◌, ℕ, ◌+◌, Bool, true, false, ◌<◌, List, Option, None, Some, length, IfSome, MatchOption, slice_get}
+use Rattle.std.specs.Prelude.{◌≡◌, ℕ, ◌+◌, ◌==◌, Bool, true, false, if◌then◌else◌, ◌<◌, List, Option, None, Some, length, IfSome, MatchOption, slice_get}
 use Rattle.std.specs.Str.{chars, encode_utf8_all}
 use Rattle.html_arena.specs.Data.{attrs_in, contents_in, host_in, kind_in, name_in, text_in}
 use Rattle.html_arena.specs.Siblings.{after, before, first_of, last_of}
@@ -13,6 +13,10 @@ use Rattle.html_charref.specs.declared.table.Row.{Row}
 use Rattle.html_page.specs.Serialised.{html_below}
 use Rattle.html_page.specs.declared.profile.Profile.{Profile}
 use Rattle.html_page.specs.declared.profile.Profile.TheVariants.{One, Two}
+use Rattle.html_builder.specs.declared.context.Context.{Context}
+use Rattle.html_parser.specs.declared.options.Foreign.{Foreign}
+use Rattle.html_parser.specs.declared.options.Foreign.TheVariants.{Refuse, Parse}
+use Rattle.html_parser.specs.declared.options.Options.{Options}
 use Rattle.html_parser.specs.declared.page.Tree.{Tree}
 use Rattle.zilqumet_c.specs.declared.held.Held.{Held}
 use Rattle.zilqumet_c.specs.declared.held.Held.TheVariants.{Page, Entities, Parser, Buffer, Texts}
@@ -23,6 +27,14 @@ use Rattle.zilqumet_c.specs.declared.rows.ZqRow.{ZqRow}
 
 abbrev pub limits_in : ZqLimits → Limits
 limits_in l = record { nodes = l.nodes; held = l.held; code_points = l.code_points; steps = l.steps }
+
+-- what is done with foreign content
+abbrev pub foreign_in : ℕ → Foreign
+foreign_in n = if n == 0 then Refuse else Parse
+
+-- what is asked of parsing, of a document, or of a fragment in a context
+abbrev pub options_in : ZqLimits → Option Context → Options
+options_in l context = record { limits = Some (limits_in l); foreign = foreign_in l.foreign; context = context }
 
 -- the tree of a page
 abbrev pub tree_in : Option Held → Option Tree

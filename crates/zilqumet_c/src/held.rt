@@ -2,7 +2,7 @@
 
 ghost use Rattle.html_arena.specs.Walking.{IsRoot};
 
-use html_parser::{EntityTable, Limits, Tree};
+use html_parser::{EntityTable, Options, Tree};
 
 /// What a handle holds: a page, a table of references, an input that is not at its end, bytes, or texts.
 #[derive(Drop)]
@@ -32,5 +32,5 @@ pub struct Gathered {
 #[derive(Drop)]
 pub struct Pushed {
     pub bytes: Vec<u8>,
-    pub limits: Limits,
+    pub options: Options,
 }

@@ -1,16 +1,16 @@
 //! Numbers that cross to C.
 
-ghost use Rattle.std.specs.Prelude.{◌≡◌, Option, None, Some, MatchOption, length};
+ghost use Rattle.std.specs.Prelude.{◌≡◌, ◌-◌, ◌^◌, Option, None, Some, MatchOption, length, min};
 ghost use Rattle.html_arena.specs.declared.arena.Limits.{Limits};
-ghost use Rattle.zilqumet_c.specs.Reads.{limits_in, tree_in, IfPage};
+ghost use Rattle.zilqumet_c.specs.Reads.{foreign_in, limits_in, options_in, tree_in, IfPage};
 
 use crate::held::Held;
 use crate::slot::Slot;
 use crate::status::{BAD_HANDLE, OK};
-use html_parser::Limits;
+use html_parser::{Context, Foreign, Limits, Options};
 use std::alloc::Global;
 
-/// The limits that C sets.
+/// The limits that C sets, and whether foreign content is parsed (any number but 0) or refused.
 #[repr(C)]
 #[derive(Clone, Copy)]
 pub struct ZqLimits {
@@ -18,6 +18,7 @@ pub struct ZqLimits {
     pub held: u64,
     pub code_points: u64,
     pub steps: u64,
+    pub foreign: u64,
 }
 
 /// What a page counts. Held code points and steps stay at the greatest number of 64 bits.
@@ -32,8 +33,19 @@ pub struct ZqCounts {
     pub errors: u64,
 }
 
+/// What is asked of parsing, of a document, or of a fragment in a context.
+pub(crate) fn options_of(limits: &ZqLimits, context: Option<Context>) -> Options
+    ensures { result ≡ options_in limits.now context }
+{
+    Options {
+        limits: Some(limits_of(limits)),
+        foreign: foreign_of(limits.foreign),
+        context,
+    }
+}
+
 /// The limits.
-pub(crate) fn limits_of(limits: &ZqLimits) -> Limits
+fn limits_of(limits: &ZqLimits) -> Limits
     ensures { result ≡ limits_in limits.now }
 {
     Limits {
@@ -44,8 +56,21 @@ pub(crate) fn limits_of(limits: &ZqLimits) -> Limits
     }
 }
 
+/// What is done with foreign content.
+fn foreign_of(number: u64) -> Foreign
+    ensures { result ≡ foreign_in number }
+{
+    if number == 0 {
+        Foreign::Refuse
+    } else {
+        Foreign::Parse
+    }
+}
+
 /// A count in 64 bits.
-fn few(count: u128) -> u64 {
+fn few(count: u128) -> u64
+    ensures { result ≡ min count (2 ^ 64 - 1) }
+{
     u64::try_from(count).unwrap_or(u64::MAX)
 }
 
@@ -54,6 +79,7 @@ fn few(count: u128) -> u64 {
 pub extern "C" fn proved_counts_of(alloc: Global, page: &mut Slot, counts: &mut ZqCounts) -> u32
     ensures kept { page.new.value ≡ page.old.value }
     ensures told { IfPage page.old.value (λ t. (result ≡ 0) × (counts.new.code_points ≡ t.n) × (counts.new.nodes ≡ length t.arena.labels)
+        × (counts.new.held ≡ min t.arena.held (2 ^ 64 - 1)) × (counts.new.steps ≡ min t.steps (2 ^ 64 - 1))
         × (counts.new.tokens ≡ t.token_count) × (counts.new.errors ≡ length t.errors.items)) }
 {
     let held = page.take(alloc);
@@ -68,6 +94,7 @@ pub extern "C" fn proved_counts_of(alloc: Global, page: &mut Slot, counts: &mut 
 /// What a page counts.
 fn count(held: &Held, counts: &mut ZqCounts) -> u32
     ensures { IfPage (Some held.now) (λ t. (result ≡ 0) × (counts.new.code_points ≡ t.n) × (counts.new.nodes ≡ length t.arena.labels)
+        × (counts.new.held ≡ min t.arena.held (2 ^ 64 - 1)) × (counts.new.steps ≡ min t.steps (2 ^ 64 - 1))
         × (counts.new.tokens ≡ t.token_count) × (counts.new.errors ≡ length t.errors.items)) }
 {
     let Held::Page(page) = held else {

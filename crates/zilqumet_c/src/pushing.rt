@@ -3,13 +3,13 @@
 ghost use Rattle.std.specs.Prelude.{◌≡◌, ◌≢◌, ◌++◌, Option, None, Some, []};
 ghost use Rattle.zilqumet_c.specs.declared.held.Rooted.{Rooted};
 ghost use Rattle.html_parser.specs.Parsed.{IsTreeOf};
-ghost use Rattle.html_parser.specs.Start.{document_start};
-ghost use Rattle.zilqumet_c.specs.Reads.{IfParser, limits_in, rows_in};
-ghost use Rattle.zilqumet_c.specs.Causes.{IsDocumentCause, IsToldBy};
+ghost use Rattle.html_parser.specs.Options.{start_of};
+ghost use Rattle.zilqumet_c.specs.Reads.{IfParser, options_in, rows_in};
+ghost use Rattle.zilqumet_c.specs.Causes.{IsPageCause, IsToldBy};
 
 use crate::held::{Held, Pushed};
-use crate::numbers::{ZqLimits, limits_of};
-use crate::parsing::document;
+use crate::numbers::{ZqLimits, options_of};
+use crate::parsing::parsed_by;
 use crate::slot::Slot;
 use crate::status::{BAD_HANDLE, OK, OUT_OF_MEMORY, keep};
 use std::alloc::Global;
@@ -18,12 +18,12 @@ use std::mem::replace;
 /// A parser that was fed nothing.
 #[unsafe(no_mangle)]
 pub extern "C" fn proved_parser_new(alloc: Global, limits: &ZqLimits, parser: &mut Slot) -> u32
-    ensures { result ≡ 0 → IfParser parser.new.value (λ p. (p.bytes.items ≡ []) × (p.limits ≡ limits_in limits.now)) }
+    ensures { result ≡ 0 → IfParser parser.new.value (λ p. (p.bytes.items ≡ []) × (p.options ≡ options_in limits.now None)) }
 {
     let _old = parser.take(alloc);
     let pushed = Pushed {
         bytes: Vec::new(alloc),
-        limits: limits_of(limits),
+        options: options_of(limits, None),
     };
     match Box::new(alloc, Held::Parser(pushed)) {
         Ok(held) => {
@@ -37,7 +37,7 @@ pub extern "C" fn proved_parser_new(alloc: Global, limits: &ZqLimits, parser: &m
 /// Takes a piece of the input. Where it is refused the parser is as it was.
 #[unsafe(no_mangle)]
 pub extern "C" fn proved_parser_feed(alloc: Global, parser: &mut Slot, piece: &[u8]) -> u32
-    ensures fed { result ≡ 0 → IfParser parser.old.value (λ p. IfParser parser.new.value (λ q. (q.bytes.items ≡ p.bytes.items ++ piece.now) × (q.limits ≡ p.limits))) }
+    ensures fed { result ≡ 0 → IfParser parser.old.value (λ p. IfParser parser.new.value (λ q. (q.bytes.items ≡ p.bytes.items ++ piece.now) × (q.options ≡ p.options))) }
 {
     let Some(mut held) = parser.take(alloc) else {
         return BAD_HANDLE;
@@ -49,7 +49,7 @@ pub extern "C" fn proved_parser_feed(alloc: Global, parser: &mut Slot, piece: &[
 
 /// Adds a piece to an input.
 fn add(alloc: Global, held: &mut Held, piece: &[u8]) -> u32
-    ensures fed { result ≡ 0 → IfParser (Some held.old) (λ p. IfParser (Some held.new) (λ q. (q.bytes.items ≡ p.bytes.items ++ piece.now) × (q.limits ≡ p.limits))) }
+    ensures fed { result ≡ 0 → IfParser (Some held.old) (λ p. IfParser (Some held.new) (λ q. (q.bytes.items ≡ p.bytes.items ++ piece.now) × (q.options ≡ p.options))) }
 {
     match replace(held, Held::Buffer(Vec::new(alloc))) {
         Held::Parser(pushed) => {
@@ -80,9 +80,9 @@ pub extern "C" fn proved_parser_finish(
     ensures entities { entities.new.value ≡ entities.old.value }
     ensures empty { parser.new.value ≡ None }
     ensures parsed { result ≡ 0 → (r : Rooted) × (page.new.value ≡ Some (Held.Page r))
-        × IfParser parser.old.value (λ p. IsTreeOf (document_start (rows_in entities.old.value) (Some p.limits)) p.bytes.items r.tree) }
+        × IfParser parser.old.value (λ p. IsTreeOf (start_of (rows_in entities.old.value) p.options) p.bytes.items r.tree) }
     ensures refused { result ≢ 0 → page.new.value ≡ None }
-    ensures cause { result ≢ 0 → IfParser parser.old.value (λ p. IsToldBy (IsDocumentCause (rows_in entities.old.value) p.limits p.bytes.items) result at.new) }
+    ensures cause { result ≢ 0 → IfParser parser.old.value (λ p. IsToldBy (IsPageCause (rows_in entities.old.value) p.options p.bytes.items) result at.new) }
 {
     let _old = page.take(alloc);
     *at = 0;
@@ -93,7 +93,7 @@ pub extern "C" fn proved_parser_finish(
         return BAD_HANDLE;
     };
     let table = entities.take(alloc);
-    let parsed = document(alloc, &table, pushed.limits, pushed.bytes.as_slice());
+    let parsed = parsed_by(alloc, &table, &pushed.options, pushed.bytes.as_slice());
     entities.restore(alloc, table);
     keep(alloc, parsed, page, at)
 }

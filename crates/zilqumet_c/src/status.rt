@@ -5,7 +5,7 @@ ghost use Rattle.zilqumet_c.specs.Status.{status_of, place_of};
 
 use crate::held::{Held, Rooted};
 use crate::slot::Slot;
-use html_parser::{Foreign, ParseError};
+use html_parser::{ForeignRoot, ParseError};
 use std::alloc::Global;
 
 pub(crate) const OK: u32 = 0;
@@ -46,11 +46,11 @@ pub(crate) fn status_of(error: ParseError) -> u32
         ParseError::OutOfMemory => OUT_OF_MEMORY,
         ParseError::InputTooLong => INPUT_TOO_LONG,
         ParseError::ForeignContent {
-            name: Foreign::Svg,
+            name: ForeignRoot::Svg,
             ..
         } => FOREIGN_SVG,
         ParseError::ForeignContent {
-            name: Foreign::Math,
+            name: ForeignRoot::Math,
             ..
         } => FOREIGN_MATH,
         ParseError::BadContext => BAD_CONTEXT,

@@ -5,14 +5,14 @@ ghost use Rattle.std.specs.Str.{encode_utf8_all};
 ghost use Rattle.html_page.specs.Serialised.{html_below};
 ghost use Rattle.html_page.specs.declared.profile.Profile.{Profile};
 ghost use Rattle.html_parser.specs.Parsed.{IsTreeOf};
-ghost use Rattle.html_parser.specs.Start.{document_start};
+ghost use Rattle.html_parser.specs.Options.{start_of};
 ghost use Rattle.html_parser.specs.declared.page.Tree.{Tree};
-ghost use Rattle.zilqumet_c.specs.Reads.{IfBuffer, IfPage, limits_in, profile_of, rows_in, written};
-ghost use Rattle.zilqumet_c.specs.Causes.{IsDocumentCause, IsToldBy};
+ghost use Rattle.zilqumet_c.specs.Reads.{IfBuffer, IfPage, options_in, profile_of, rows_in, written};
+ghost use Rattle.zilqumet_c.specs.Causes.{IsPageCause, IsToldBy};
 
 use crate::held::{Held, Rooted};
-use crate::numbers::{ZqLimits, limits_of};
-use crate::parsing::document;
+use crate::numbers::{ZqLimits, options_of};
+use crate::parsing::parsed_by;
 use crate::slot::Slot;
 use crate::status::{BAD_HANDLE, OK, OUT_OF_MEMORY, place_of, status_of};
 use crate::text::{Text, text_of};
@@ -52,14 +52,15 @@ pub extern "C" fn proved_normalise(
     at: &mut u64,
 ) -> u32
     ensures entities { entities.new.value ≡ entities.old.value }
-    ensures text { result ≡ 0 → (t : Tree) × IsTreeOf (document_start (rows_in entities.old.value) (Some (limits_in limits.now))) bytes.now t
+    ensures text { result ≡ 0 → (t : Tree) × IsTreeOf (start_of (rows_in entities.old.value) (options_in limits.now None)) bytes.now t
         × IfBuffer buffer.new.value (λ b. b ≡ written (profile_of angles) t) }
-    ensures cause { result ≢ 0 → IsToldBy (IsDocumentCause (rows_in entities.old.value) (limits_in limits.now) bytes.now) result at.new }
+    ensures cause { result ≢ 0 → IsToldBy (IsPageCause (rows_in entities.old.value) (options_in limits.now None) bytes.now) result at.new }
 {
     let _old = buffer.take(alloc);
     *at = 0;
+    let options = options_of(limits, None);
     let held = entities.take(alloc);
-    let parsed = document(alloc, &held, limits_of(limits), bytes);
+    let parsed = parsed_by(alloc, &held, &options, bytes);
     entities.restore(alloc, held);
     match parsed {
         Ok(rooted) => write_tree(alloc, &rooted, angles, buffer),

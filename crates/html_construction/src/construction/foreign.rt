@@ -33,11 +33,33 @@ use html_tokens::TokenKind;
 use html_tree::Target;
 
 impl Construction {
+    /// From here on foreign content is parsed, and not refused.
+    pub fn parse_foreign(&mut self)
+        ensures rest { self.new ≡ record self.old { parses_foreign = true } }
+        ensures keeps { Keeps self.old self.new }
+    {
+        self.registers.parses_foreign = true;
+    }
+
+    /// Whether foreign content is parsed, or refused.
+    pub fn parses_foreign(&self) -> bool
+        ensures value { result ≡ self.now.parses_foreign }
+    {
+        self.registers.parses_foreign
+    }
+
+    /// Whether the first element alone is open, as at the beginning of a fragment.
+    pub fn is_root_alone(&self) -> bool
+        ensures value { result ≡ (length self.now.tree.stack == 1) }
+    {
+        self.tree.depth() == 1
+    }
+
     /// The tag of the adjusted current node (13.2.4.2): of a fragment of which the root alone is open it is the context; none where nothing is open.
     pub fn adjusted_tag(&self) -> Option<Tag>
         ensures tag { result ≡ adjusted_tag self.now }
     {
-        if self.tree.depth() == 1 {
+        if self.is_root_alone() {
             if let Some(context) = self.registers.context {
                 return Some(context);
             }

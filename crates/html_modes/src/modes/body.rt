@@ -1,5 +1,5 @@
 // The mode in body (13.2.6.4.7): what a token meets there, its text and its end.
-ghost use Rattle.std.specs.Prelude.{◌≡◌, ◌+◌, ◌*◌, ◌<◌, ◌≤◌, [], IfOk, IfSome, None, OnOk, IsTrue, false, length, take, IfErr};
+ghost use Rattle.std.specs.Prelude.{◌≡◌, ◌+◌, ◌*◌, ◌<◌, ◌≤◌, [], IfOk, IfSome, None, OnOk, IsTrue, false, length, take, true, IfErr};
 ghost use Rattle.html_ledger.specs.Symbols.{symbol_of};
 ghost use Rattle.html_ledger.specs.Flags.{is_free, may_text_run};
 ghost use Rattle.html_construction.specs.Budgets.{Refuses, RefusesAny};
@@ -11,19 +11,22 @@ ghost use Rattle.html_modes.specs.Begun.{TextStays};
 ghost use Rattle.html_modes.specs.Fitting.{Fits, Calls};
 ghost use Rattle.html_modes.specs.Plain.{IsPlainState, IsRunTurn, Turns, TurnsInBody};
 ghost use Rattle.html_modes.specs.Runs.{CountsRun};
-ghost use Rattle.html_modes.specs.Steps.{Falls, Grows, Steps, Worked, root_of};
+ghost use Rattle.html_modes.specs.Steps.{Falls, Grows, Steps, Worked, root_of, root_space};
 ghost use Rattle.html_tree.specs.Proper.{is_foreign_root};
+ghost use Rattle.html_modes.specs.Foreign.{IsRootMade};
+ghost use Rattle.html_modes.specs.declared.outcome.Outcome.TheVariants as outcome;
 ghost use Rattle.html_modes.specs.declared.outcome.Outcome.TheVariants.{Done};
 ghost use Rattle.html_modes.specs.RawText.{Opens};
 
 use crate::modes::body_end::{body_end, html_end};
 use crate::modes::body_start::body_start;
+use crate::modes::foreign::root_start;
 use crate::modes::initial::doctype;
 use crate::modes::template::template_eof;
 use crate::outcome::{Foreign, Outcome};
 use html_construction::{Construction, Mode, Refusal};
 use html_ledger::{Cause, Symbol, is_space};
-use html_names::Tag;
+use html_names::{Space, Tag};
 use html_tokens::TokenKind;
 
 /// The rules for the "in body" insertion mode (13.2.6.4.7).
@@ -40,6 +43,7 @@ pub(crate) fn in_body(
     requires free { IsTrue (is_free page.old.ledger.history symbol) }
     ensures fits { OnOk result (Fits page.new) }
     ensures takes { IfOk result (λ o. Steps o token.now page.old page.new) }
+    ensures parses { OnOk result (page.new.parses_foreign ≡ page.old.parses_foreign) }
     ensures falls { IfOk result (λ o. Falls o symbol page.old page.new) }
     ensures out { OnOk result (TextStays symbol page.old.mode page.new.mode) }
     ensures grows { IfOk result (λ o. Grows o page.old page.new) }
@@ -78,6 +82,7 @@ pub(crate) fn body_rules(
     requires free { IsTrue (is_free page.old.ledger.history symbol) }
     ensures fits { OnOk result (Fits page.new) }
     ensures takes { IfOk result (λ o. Steps o token.now page.old page.new) }
+    ensures parses { OnOk result (page.new.parses_foreign ≡ page.old.parses_foreign) }
     ensures falls { IfOk result (λ o. Falls o symbol page.old page.new) }
     ensures out { OnOk result (TextStays symbol page.old.mode page.new.mode) }
     ensures grows { IfOk result (λ o. Grows o page.old page.new) }
@@ -109,13 +114,14 @@ pub(crate) fn body_rules(
     Ok(Outcome::Done)
 }
 
-/// A start tag: that of the root of foreign content is refused.
+/// A start tag.
 #[tactic(auto, using(crate::proofs::Settled::body_rules, crate::proofs::RawText::open_rules))]
 fn any_start(page: &mut Construction, token: &TokenKind, tag: Tag) -> Result<Outcome, Refusal>
     requires symbol { symbol_of token.now ≡ Symbol.Start tag }
     requires calls { Calls page.old }
     ensures fits { OnOk result (Fits page.new) }
     ensures takes { IfOk result (λ o. Steps o token.now page.old page.new) }
+    ensures parses { OnOk result (page.new.parses_foreign ≡ page.old.parses_foreign) }
     ensures falls { IfOk result (λ o. Falls o (Symbol.Start tag) page.old page.new) }
     ensures grows { IfOk result (λ o. Grows o page.old page.new) }
     ensures works { IfOk result (λ o. Worked o token.now page.old page.new) }
@@ -123,13 +129,54 @@ fn any_start(page: &mut Construction, token: &TokenKind, tag: Tag) -> Result<Out
     ensures opens { IfOk result (λ o. Opens o (Symbol.Start tag) page.new) }
     ensures refuses { IfErr result (λ e. Refuses token.now e page.old page.new) }
 {
-    // A start tag whose tag name is "math", or "svg": foreign content is refused.
+    // A start tag whose tag name is "math", or "svg".
     if let Some(name) = foreign_root(tag) {
-        return Ok(Outcome::Foreign(name));
+        let outcome = any_root_start(page, token, tag, name)?;
+        return Ok(outcome);
     }
     // Any other start tag.
     body_start(page, token, tag)?;
     Ok(Outcome::Done)
+}
+
+/// The start tag of a root of foreign content, which is refused or parsed.
+#[tactic(auto, using(crate::proofs::Settled::body_rules, crate::proofs::RawText::open_rules, crate::proofs::Embedding::body_roots))]
+fn any_root_start(
+    page: &mut Construction,
+    token: &TokenKind,
+    tag: Tag,
+    name: Foreign,
+) -> Result<Outcome, Refusal>
+    requires symbol { symbol_of token.now ≡ Symbol.Start tag }
+    requires root { Symbol.Start tag ≡ root_of name }
+    requires calls { Calls page.old }
+    ensures fits { OnOk result (Fits page.new) }
+    ensures takes { IfOk result (λ o. Steps o token.now page.old page.new) }
+    ensures parses { OnOk result (page.new.parses_foreign ≡ page.old.parses_foreign) }
+    ensures falls { IfOk result (λ o. Falls o (Symbol.Start tag) page.old page.new) }
+    ensures grows { IfOk result (λ o. Grows o page.old page.new) }
+    ensures works { IfOk result (λ o. Worked o token.now page.old page.new) }
+    ensures plain { IfOk result (λ o. TurnsInBody o (Symbol.Start tag) token.now page.old page.new) }
+    ensures opens { IfOk result (λ o. Opens o (Symbol.Start tag) page.new) }
+    ensures refused { IfOk result (λ o. page.old.parses_foreign ≡ false → o ≡ outcome.Foreign name) }
+    ensures parsed { IfOk result (λ o. page.old.parses_foreign ≡ true → IsRootMade (root_space name) (Symbol.Start tag) token.now page.old page.new) }
+    ensures refuses { IfErr result (λ e. Refuses token.now e page.old page.new) }
+{
+    if !page.parses_foreign() {
+        return Ok(Outcome::Foreign(name));
+    }
+    root_start(page, token, tag, space_of(name))?;
+    Ok(Outcome::Done)
+}
+
+/// The namespace of a kind of foreign content.
+fn space_of(name: Foreign) -> Space
+    ensures { result ≡ root_space name }
+{
+    match name {
+        Foreign::Svg => Space::Svg,
+        Foreign::Math => Space::Math,
+    }
 }
 
 /// The kind of foreign content of which an element of this tag is the root.
@@ -153,6 +200,7 @@ fn body_eof(page: &mut Construction, token: &TokenKind) -> Result<Outcome, Refus
     requires calls { Calls page.old }
     ensures fits { OnOk result (Fits page.new) }
     ensures takes { IfOk result (λ o. Steps o token.now page.old page.new) }
+    ensures parses { OnOk result (page.new.parses_foreign ≡ page.old.parses_foreign) }
     ensures falls { IfOk result (λ o. Falls o (Symbol.Eof) page.old page.new) }
     ensures grows { IfOk result (λ o. Grows o page.old page.new) }
     ensures works { IfOk result (λ o. Worked o token.now page.old page.new) }

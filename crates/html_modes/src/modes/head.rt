@@ -45,6 +45,7 @@ pub(crate) fn in_head(
     requires free { IsTrue (is_free page.old.ledger.history symbol) }
     ensures fits { OnOk result (Fits page.new) }
     ensures takes { IfOk result (λ o. Steps o token.now page.old page.new) }
+    ensures parses { OnOk result (page.new.parses_foreign ≡ page.old.parses_foreign) }
     ensures falls { IfOk result (λ o. Falls o symbol page.old page.new) }
     ensures out { OnOk result (TextStays symbol page.old.mode page.new.mode) }
     ensures grows { IfOk result (λ o. Grows o page.old page.new) }
@@ -127,6 +128,7 @@ pub(crate) fn head_start(
     requires calls { Calls page.old }
     ensures fits { OnOk result (Fits page.new) }
     ensures takes { OnOk result (Takes token.now page.old page.new) }
+    ensures parses { OnOk result (page.new.parses_foreign ≡ page.old.parses_foreign) }
     ensures falls { OnOk result (Falls Done (Symbol.Start tag) page.old page.new) }
     ensures grows { OnOk result (Grows Done page.old page.new) }
     ensures works { OnOk result (Worked Done token.now page.old page.new) }
@@ -151,6 +153,7 @@ fn head_start_at(
     requires calls { Calls page.old }
     ensures fits { OnOk result (Fits page.new) }
     ensures takes { OnOk result (Takes token.now page.old page.new) }
+    ensures parses { OnOk result (page.new.parses_foreign ≡ page.old.parses_foreign) }
     ensures falls { OnOk result (Falls Done (Symbol.Start tag) page.old page.new) }
     ensures grows { OnOk result (Grows Done page.old page.new) }
     ensures works { OnOk result (Worked Done token.now page.old page.new) }
@@ -180,6 +183,7 @@ pub(crate) fn in_head_noscript(
     requires free { IsTrue (is_free page.old.ledger.history symbol) }
     ensures fits { OnOk result (Fits page.new) }
     ensures takes { IfOk result (λ o. Steps o token.now page.old page.new) }
+    ensures parses { OnOk result (page.new.parses_foreign ≡ page.old.parses_foreign) }
     ensures falls { IfOk result (λ o. Falls o symbol page.old page.new) }
     ensures out { OnOk result (TextStays symbol page.old.mode page.new.mode) }
     ensures grows { IfOk result (λ o. Grows o page.old page.new) }
@@ -256,6 +260,7 @@ pub(crate) fn after_head(
     requires free { IsTrue (is_free page.old.ledger.history symbol) }
     ensures fits { OnOk result (Fits page.new) }
     ensures takes { IfOk result (λ o. Steps o token.now page.old page.new) }
+    ensures parses { OnOk result (page.new.parses_foreign ≡ page.old.parses_foreign) }
     ensures falls { IfOk result (λ o. Falls o symbol page.old page.new) }
     ensures out { OnOk result (TextStays symbol page.old.mode page.new.mode) }
     ensures grows { IfOk result (λ o. Grows o page.old page.new) }

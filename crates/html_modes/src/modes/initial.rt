@@ -39,6 +39,7 @@ pub(crate) fn initial(
     requires free { IsTrue (is_free page.old.ledger.history symbol) }
     ensures fits { OnOk result (Fits page.new) }
     ensures takes { IfOk result (λ o. Steps o token.now page.old page.new) }
+    ensures parses { OnOk result (page.new.parses_foreign ≡ page.old.parses_foreign) }
     ensures falls { IfOk result (λ o. Falls o symbol page.old page.new) }
     ensures out { OnOk result (TextStays symbol page.old.mode page.new.mode) }
     ensures grows { IfOk result (λ o. Grows o page.old page.new) }
@@ -80,6 +81,7 @@ pub(crate) fn before_html(
     requires free { IsTrue (is_free page.old.ledger.history symbol) }
     ensures fits { OnOk result (Fits page.new) }
     ensures takes { IfOk result (λ o. Steps o token.now page.old page.new) }
+    ensures parses { OnOk result (page.new.parses_foreign ≡ page.old.parses_foreign) }
     ensures falls { IfOk result (λ o. Falls o symbol page.old page.new) }
     ensures out { OnOk result (TextStays symbol page.old.mode page.new.mode) }
     ensures grows { IfOk result (λ o. Grows o page.old page.new) }
@@ -124,6 +126,7 @@ pub(crate) fn before_head(
     requires free { IsTrue (is_free page.old.ledger.history symbol) }
     ensures fits { OnOk result (Fits page.new) }
     ensures takes { IfOk result (λ o. Steps o token.now page.old page.new) }
+    ensures parses { OnOk result (page.new.parses_foreign ≡ page.old.parses_foreign) }
     ensures falls { IfOk result (λ o. Falls o symbol page.old page.new) }
     ensures out { OnOk result (TextStays symbol page.old.mode page.new.mode) }
     ensures grows { IfOk result (λ o. Grows o page.old page.new) }

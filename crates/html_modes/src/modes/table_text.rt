@@ -30,10 +30,11 @@ pub(crate) fn in_table_text(
     requires fits { Fits page.old }
     ensures fits { OnOk result (Fits page.new) }
     ensures takes { IfOk result (λ o. Steps o token.now page.old page.new) }
+    ensures parses { OnOk result (page.new.parses_foreign ≡ page.old.parses_foreign) }
     ensures falls { IfOk result (λ o. Falls o symbol page.old page.new) }
     ensures out { OnOk result (TextStays symbol page.old.mode page.new.mode) }
     ensures spends { OnOk result (Spends 2 page.old page.new) }
-    ensures counts { IfOk result (λ o. Counted o token.now page.old page.new) }
+    ensures counts { IfOk result (λ o. Counted 24 o token.now page.old page.new) }
     ensures settles { IfOk result (λ o. Settles o symbol page.old page.new) }
     ensures opens { IfOk result (λ o. Opens o symbol page.new) }
     ensures refuses { IfErr result (λ e. Refuses token.now e page.old page.new) }
@@ -63,7 +64,7 @@ fn flush(page: &mut Construction) -> Result<(), Refusal>
     ensures keeps { OnOk result (Keeps page.old page.new) }
     ensures quiet { OnOk result (page.new.ledger.kept ≡ []) }
     ensures spends { OnOk result (Spends 0 page.old page.new) }
-    ensures counts { OnOk result (Counts 0 0 page.old page.new) }
+    ensures counts { OnOk result (Counts 24 0 0 page.old page.new) }
     ensures listed { OnOk result (length page.new.tree.list ≤ length page.new.ledger.fates) }
     ensures lighter { OnOk result (weight page.new.stack ≤ weight page.old.stack) }
     ensures opened { OnOk result (0 < length page.new.stack) }

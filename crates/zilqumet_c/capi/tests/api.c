@@ -104,8 +104,11 @@ static void test_parse(void)
     CHECK(zq_parse(NULL, &options, "<p>", 3, &page, &place) == ZQ_INPUT_TOO_LONG && place == 0);
     options.max_input = UINT64_MAX, options.max_steps = 1;
     CHECK(zq_parse(NULL, &options, "<p>", 3, &page, &place) == ZQ_STEP_BUDGET);
-    options.max_steps = UINT64_MAX, options.flags = 4;
+    options.max_steps = UINT64_MAX, options.flags = 8;
     CHECK(zq_parse(NULL, &options, "<p>", 3, &page, &place) == ZQ_BAD_FLAGS);
+    options.max_nodes = UINT64_MAX, options.flags = ZQ_FOREIGN;
+    CHECK(zq_parse(NULL, &options, "<svg viewbox=0><path/><p>x", 26, &page, &place) == ZQ_OK
+          && writes(&page, "<html><head></head><body><svg viewBox=\"0\"><path></path></svg><p>x</p></body></html>"));
     CHECK(zq_parse(NULL, NULL, NULL, 1, &page, &place) == ZQ_BAD_POINTER && zq_parse(NULL, NULL, "", 0, NULL, &place) == ZQ_BAD_POINTER);
     CHECK(zq_parse(NULL, NULL, "", SIZE_MAX, &page, &place) == ZQ_BAD_POINTER);
     CHECK(zq_parse((zq_entities *)&page, NULL, "", 0, &page, &place) == ZQ_BAD_HANDLE);
@@ -126,6 +129,9 @@ static void test_fragment(void)
     CHECK(zq_parse_fragment(NULL, NULL, "div", 3, "<p><table>", 10, &page, &place) == ZQ_OK && writes(&page, "<p></p><table></table>"));
     options.flags = ZQ_QUIRKS;
     CHECK(zq_parse_fragment(NULL, &options, "div", 3, "<p><table>", 10, &page, &place) == ZQ_OK && writes(&page, "<p><table></table></p>"));
+    options.max_nodes = UINT64_MAX, options.flags = ZQ_FOREIGN;
+    CHECK(zq_parse_fragment(NULL, &options, "svg path", 8, "<g/><p>x", 8, &page, &place) == ZQ_OK && writes(&page, "<g></g><p>x</p>"));
+    CHECK(zq_parse_fragment(NULL, NULL, "svg path", 8, "x", 1, &page, &place) == ZQ_BAD_CONTEXT && page.held == NULL);
     CHECK(zq_parse_fragment(NULL, NULL, "svg", 3, "x", 1, &page, &place) == ZQ_BAD_CONTEXT && page.held == NULL);
     CHECK(zq_parse_fragment(NULL, NULL, "Q", 1, "x", 1, &page, &place) == ZQ_BAD_CONTEXT);
     CHECK(zq_parse_fragment(NULL, NULL, "", 0, "x", 1, &page, &place) == ZQ_BAD_CONTEXT);

@@ -87,6 +87,13 @@ class Texts(unittest.TestCase):
         self.assertEqual(zilqumet.parse_fragment(b"<form>x", in_form=True).serialise(), "x")
         self.assertEqual(zilqumet.parse_fragment(b"<p><table>", quirks=True).serialise(), "<p><table></table></p>")
 
+    def test_foreign(self):
+        page = zilqumet.parse(b"<svg viewbox=0><path/><p>x", foreign=True)
+        self.assertEqual(page.serialise(), '<html><head></head><body><svg viewBox="0"><path></path></svg><p>x</p></body></html>')
+        self.assertIn(("element", "svg path"), shown(page))
+        self.assertEqual(zilqumet.parse_fragment(b"<g/><p>x", "svg path", foreign=True).serialise(), "<g></g><p>x</p>")
+        self.assertIn("<math><mi>x</mi></math>", zilqumet.normalise(b"<math><mi>x", foreign=True))
+
     def test_pieces(self):
         parser = zilqumet.Parser()
         for byte in "<p>é&eacute;<p>".encode():

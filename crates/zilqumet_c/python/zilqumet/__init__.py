@@ -35,7 +35,7 @@ Data = Union[bytes, bytearray, memoryview, str]
 _NONE = 2**64 - 1
 _KINDS = ("", "document", "contents", "element", "text", "comment", "doctype")
 _TEXT = 4
-_IN_FORM, _QUIRKS = 1, 2
+_IN_FORM, _QUIRKS, _FOREIGN = 1, 2, 4
 
 
 # THE LIBRARY
@@ -454,36 +454,45 @@ def _run(entities: Optional[Entities], function: Any, filled: Any, *arguments: A
     return filled
 
 
-def parse(data: Data, *, entities: Optional[Entities] = None, **limits: Optional[int]) -> Page:
-    """The page of a document in UTF-8 (a str is encoded). Limits, each None or a number: max_nodes, max_held (code points in names, texts and attributes),
-    max_input (code points) and max_steps."""
+def parse(data: Data, *, foreign: bool = False, entities: Optional[Entities] = None, **limits: Optional[int]) -> Page:
+    """The page of a document in UTF-8 (a str is encoded). Where foreign is true SVG and MathML are parsed, with names as "svg path"; else they are refused.
+    Limits, each None or a number: max_nodes, max_held (code points in names, texts and attributes), max_input (code points) and max_steps."""
     data = _data(data)
-    return _run(entities, _parse, Page(), _limits(limits), data, len(data))._read()
+    return _run(entities, _parse, Page(), _limits(limits, _FOREIGN * foreign), data, len(data))._read()
 
 
 def parse_fragment(
-    data: Data, context: str = "div", *, in_form: bool = False, quirks: bool = False, entities: Optional[Entities] = None, **limits: Optional[int]
+    data: Data,
+    context: str = "div",
+    *,
+    in_form: bool = False,
+    quirks: bool = False,
+    foreign: bool = False,
+    entities: Optional[Entities] = None,
+    **limits: Optional[int],
 ) -> Page:
-    """The page of a fragment, as innerHTML reads it, in the context of an element of this name. Its nodes are the children of the element html that is
-    the root."""
+    """The page of a fragment, as innerHTML reads it, in the context of an element of this name; where foreign is true it may be one as "svg path". Its nodes
+    are the children of the element html that is the root."""
     data, name = _data(data), context.encode()
-    options = _limits(limits, _IN_FORM * in_form | _QUIRKS * quirks)
+    options = _limits(limits, _IN_FORM * in_form | _QUIRKS * quirks | _FOREIGN * foreign)
     return _run(entities, _parse_fragment, Page(), options, name, len(name), data, len(data))._read()
 
 
-def normalise(data: Data, *, escape_angles: bool = False, entities: Optional[Entities] = None, **limits: Optional[int]) -> str:
+def normalise(
+    data: Data, *, escape_angles: bool = False, foreign: bool = False, entities: Optional[Entities] = None, **limits: Optional[int]
+) -> str:
     """The text of a document's tree, as the standard writes it."""
     data = _data(data)
-    return _run(entities, _normalise, _Buffer(), _limits(limits), data, len(data), escape_angles).text()
+    return _run(entities, _normalise, _Buffer(), _limits(limits, _FOREIGN * foreign), data, len(data), escape_angles).text()
 
 
 class Parser(_Owner):
     """A document in pieces: `feed` each, then `finish`. The pieces are kept, and parsed at the end."""
 
-    def __init__(self, *, entities: Optional[Entities] = None, **limits: Optional[int]) -> None:
+    def __init__(self, *, foreign: bool = False, entities: Optional[Entities] = None, **limits: Optional[int]) -> None:
         super().__init__()
         self._entities = entities
-        _check(_parser_new(_limits(limits), self._handle))
+        _check(_parser_new(_limits(limits, _FOREIGN * foreign), self._handle))
 
     def feed(self, piece: Data) -> None:
         data = _data(piece)

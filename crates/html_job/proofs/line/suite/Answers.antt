@@ -11,7 +11,8 @@ returns-clause-app c =
       local = ap (λ f. f.has_globals) c.about.ensures ∙ c.new.ensures.local;
     } in
     let entities = arg_added _ _ _ _ _ named c.in_ok-arg.ensures c.entities.ensures.local c.entities.ensures.rule in
-    IfOk-weaker c.arg-2.result _ _ (λ r h. (arg_added _ r _ _ _ entities h c.files.ensures.local c.files.ensures.rule).app) c.arg-2.ensures
+    let foreign = arg_added _ _ _ _ _ entities c.in_ok-arg-2.ensures c.foreign.ensures.local c.foreign.ensures.rule in
+    IfOk-weaker c.arg-3.result _ _ (λ r h. (arg_added _ r _ _ _ foreign h c.files.ensures.local c.files.ensures.rule).app) c.arg-3.ensures
 
 pub returns-clause-local : goal.returns-clause-local
 returns-clause-local c =
@@ -20,4 +21,5 @@ returns-clause-local c =
       local = ap (λ f. f.has_globals) c.about.ensures ∙ c.new.ensures.local;
     } in
     let entities = arg_added _ _ _ _ _ named c.in_ok-arg.ensures c.entities.ensures.local c.entities.ensures.rule in
-    IfOk-weaker c.arg-2.result _ _ (λ r h. (arg_added _ r _ _ _ entities h c.files.ensures.local c.files.ensures.rule).local) c.arg-2.ensures
+    let foreign = arg_added _ _ _ _ _ entities c.in_ok-arg-2.ensures c.foreign.ensures.local c.foreign.ensures.rule in
+    IfOk-weaker c.arg-3.result _ _ (λ r h. (arg_added _ r _ _ _ foreign h c.files.ensures.local c.files.ensures.rule).local) c.arg-3.ensures

@@ -1,4 +1,4 @@
-use Rattle.std.proofs.Common.{ap, arith, inl, inr, length, subst, ◌∙◌}
+use Rattle.std.proofs.Common.{◌≡◌, ap, arith, false, inl, inr, length, subst, sym, ◌∙◌}
 use Rattle.html_open.proofs.Keeps.{cases_bool}
 use Rattle.html_construction.specs.States.{State}
 use Rattle.html_modes.specs.Entering.{Enters}
@@ -6,6 +6,7 @@ use Rattle.html_modes.specs.Guards.{is_text}
 use Rattle.html_modes.specs.Steps.{Steps, Toils, compared}
 use Rattle.html_modes.proofs.Entering.{enters-done, enters-next}
 use Rattle.html_modes.proofs.Settled.{Entered, entered-next, toils-done}
+use Rattle.html_modes.proofs.Following.{follows-on, follows-once}
 use Rattle.html_modes.proofs.Plain.{IsAlike, alike-begun, alike-counted, alike-then, goes-not, goes-on, next-alike}
 use Rattle.html_modes.proofs.RawText.{adds-done, adds-not, ends-done, leaving-on, opens-settled}
 use Rattle.html_modes.specs.Begun.{TextStays, ignores_foreign}
@@ -20,6 +21,7 @@ steps-preserved c =
     c.in_ok-step.ensures.spends c.in_ok-step.ensures.counts c.in_ok-step.ensures.falls before in
     record {
       fits = c.in_ok-step.ensures.fits;
+      parses = c.in_ok-step.ensures.parses ∙ ap (λ (x : State). x.parses_foreign) c.count_steps.ensures.rest ∙ i.parses;
       keeps = λ h w. (subst (λ o. Steps o c.args.token.now c.count_steps.new.self c.step.new.page) c.in-Reprocess.is c.in_ok-step.ensures.takes) h (c.count_steps.ensures.keeps h (i.keeps h w));
       first = λ k w z. absurd (
           done-not c.in_ok-step.field-0
@@ -44,6 +46,11 @@ steps-preserved c =
           );
       ends = leaving-on c.in_ok-step.field-0 c.args.symbol c.args.token.now c.begin_call.new.self c.steps.page c.count_steps.new.self c.step.new.page c.in-Reprocess.is i.ends
           (alike-counted c.steps.page c.count_steps.new.self c.count_steps.ensures.rest c.count_steps.ensures.same) (λ h w. c.count_steps.ensures.keeps h (i.keeps h w)) c.count_steps.ensures.keeps c.in_ok-step.ensures.ends c.in_ok-step.ensures.takes;
+      foreign = λ g h. absurd (
+          follows-once c.in_ok-step.field-0 g c.args.symbol c.args.token.now c.begin_call.new.self c.count_steps.new.self c.step.new.page c.in-Reprocess.is
+          (alike-then c.begin_call.new.self c.steps.page c.count_steps.new.self (i.foreign g h) (alike-counted c.steps.page c.count_steps.new.self c.count_steps.ensures.rest c.count_steps.ensures.same))
+          c.in_ok-step.ensures.foreign h
+          );
       plain = λ h. absurd (
           goes-not c.in_ok-step.field-0 c.args.symbol c.args.token.now c.begin_call.new.self c.count_steps.new.self c.step.new.page c.in-Reprocess.is
           (alike-then c.begin_call.new.self c.steps.page c.count_steps.new.self (i.plain h) (alike-counted c.steps.page c.count_steps.new.self c.count_steps.ensures.rest c.count_steps.ensures.same))
@@ -117,7 +124,7 @@ returns-in-Foreign-clause-ignores c = λ w. elim (cases_bool (ignores_foreign c.
       done-foreign c.in_ok-step.field-0 c.in-Foreign.name
       (first-entry c.begin_call.new.self c.steps.page c.count_steps.new.self c.in_ok-step.field-0 c.args.symbol c.steps.invariant.first c.count_steps.ensures.rest (began-own c.args.page.now c.begin_call.new.self _ _ c.begin_call.ensures.rest) c.in_ok-step.ensures.ignores
       (ap (λ (x : State). ignores_foreign x.mode) c.begin_call.ensures.rest ∙ k) (founded-begun c.args.page.now c.begin_call.new.self _ _ c.begin_call.ensures.rest w)
-      (begins-root c.args.token.now c.args.symbol c.in_ok-step.field-0 c.in-Foreign.name _ c.requires.symbol c.in-Foreign.is (subst (λ o. Steps o c.args.token.now c.count_steps.new.self c.step.new.page) c.in-Foreign.is c.in_ok-step.ensures.takes)))
+      (begins-root c.args.token.now c.args.symbol c.in_ok-step.field-0 c.in-Foreign.name _ c.requires.symbol c.in-Foreign.is (subst (λ o. Steps o c.args.token.now c.count_steps.new.self c.step.new.page) c.in-Foreign.is c.in_ok-step.ensures.takes).0))
       c.in-Foreign.is
       )
   | inr k ↦ k
@@ -127,3 +134,26 @@ pub returns-in_err-step-clause-refuses : goal.returns-in_err-step-clause-refuses
 returns-in_err-step-clause-refuses c =
     begun-refuses c.from_residual.result c.args.token.now c.args.page.now c.begin_call.new.self c.step.new.page c.in_err-step.field-0.0 c.from_residual.ensures.1 c.begin_call.ensures.begins
     (λ h w. c.in_err-step.ensures.refuses h (c.count_steps.ensures.keeps h (c.steps.invariant.keeps h w)))
+
+pub returns-in-Foreign-clause-foreign : goal.returns-in-Foreign-clause-foreign
+returns-in-Foreign-clause-foreign c = sym c.requires.symbol ∙ (subst (λ o. Steps o c.args.token.now c.count_steps.new.self c.step.new.page) c.in-Foreign.is c.in_ok-step.ensures.takes).0
+
+pub returns-in-Foreign-clause-refused : goal.returns-in-Foreign-clause-refused
+returns-in-Foreign-clause-refused c =
+    let off : c.count_steps.new.self.parses_foreign ≡ false = (subst (λ o. Steps o c.args.token.now c.count_steps.new.self c.step.new.page) c.in-Foreign.is c.in_ok-step.ensures.takes).1 in
+    sym (ap (λ (x : State). x.parses_foreign) c.count_steps.ensures.rest ∙ c.steps.invariant.parses ∙ ap (λ (x : State). x.parses_foreign) c.begin_call.ensures.rest) ∙ off
+
+pub returns-in-Done-clause-parses : goal.returns-in-Done-clause-parses
+returns-in-Done-clause-parses c =
+    ap (λ (x : State). x.parses_foreign) c.settle.ensures.rest ∙ c.in_ok-step.ensures.parses ∙ ap (λ (x : State). x.parses_foreign) c.count_steps.ensures.rest ∙ c.steps.invariant.parses ∙ ap (λ (x : State). x.parses_foreign) c.begin_call.ensures.rest
+
+pub returns-in-Foreign-clause-parses : goal.returns-in-Foreign-clause-parses
+returns-in-Foreign-clause-parses c =
+    c.in_ok-step.ensures.parses ∙ ap (λ (x : State). x.parses_foreign) c.count_steps.ensures.rest ∙ c.steps.invariant.parses ∙ ap (λ (x : State). x.parses_foreign) c.begin_call.ensures.rest
+
+pub returns-in-Done-clause-embeds : goal.returns-in-Done-clause-embeds
+returns-in-Done-clause-embeds c = λ n.
+    follows-on c.in_ok-step.field-0 c.args.symbol c.args.token.now c.args.page.now c.begin_call.new.self c.count_steps.new.self c.step.new.page c.settle.new.page
+    (alike-begun c.args.page.now c.begin_call.new.self c.args.page.now.mode (length c.args.page.now.stack) (length c.args.page.now.tree.tree.labels) c.begin_call.ensures.rest)
+    (λ g h. alike-then c.begin_call.new.self c.steps.page c.count_steps.new.self (c.steps.invariant.foreign g h) (alike-counted c.steps.page c.count_steps.new.self c.count_steps.ensures.rest c.count_steps.ensures.same))
+    c.in_ok-step.ensures.foreign c.settle.ensures.rest

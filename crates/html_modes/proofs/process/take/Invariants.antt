@@ -10,6 +10,8 @@ use Rattle.html_modes.specs.Guards.{is_text}
 use Rattle.html_modes.specs.Plain.{IsNext}
 use Rattle.html_modes.specs.Ranks.{rank}
 use Rattle.html_modes.specs.Steps.{ClonesFew, allowance, fee_of, is_code_point, turn_of}
+use Rattle.html_names.specs.declared.tag.Tag.{Tag}
+use Rattle.html_modes.proofs.Following.{StaysIn}
 use Rattle.html_modes.proofs.Plain.{IsAlike}
 use Rattle.html_modes.proofs.RawText.{Leaving}
 use Rattle.html_modes.proofs.process.take.Given as goal
@@ -17,6 +19,7 @@ use Rattle.html_modes.proofs.process.take.Given as goal
 abbrev pub invariant-steps : goal.invariant-steps
 invariant-steps l = record {
   fits : Fits l.page;
+  parses : l.page.parses_foreign ≡ l.initial.page.parses_foreign;
   keeps : Keeps l.initial.page l.page;
   first : ignores_foreign l.initial.page.mode ≡ true → IsFounded l.initial.page → begins_foreign l.symbol ≡ true → l.page ≡ l.initial.page;
   out : TextStays l.symbol l.initial.page.mode l.page.mode;
@@ -32,6 +35,7 @@ invariant-steps l = record {
   fates : length l.initial.page.ledger.fates ≤ length l.page.ledger.fates;
   adds : is_text l.initial.page.mode ≡ true → is_code_point l.symbol ≡ true → IsAlike l.initial.page l.page;
   ends : is_text l.initial.page.mode ≡ true → is_code_point l.symbol ≡ false → Leaving l.token l.initial.page l.page;
+  foreign : (g : Tag) → StaysIn g l.symbol l.token l.initial.page → IsAlike l.initial.page l.page;
   plain : IsNext l.symbol l.token l.initial.page → IsAlike l.initial.page l.page;
   entered : l.entries + (weight l.page.stack + rank l.page.mode l.symbol) ≤ l.initial.entries + (weight l.initial.page.stack + rank l.initial.page.mode l.symbol);
   falls : weight l.page.stack + rank l.page.mode l.symbol ≤ weight l.initial.page.stack + rank l.initial.page.mode l.symbol;

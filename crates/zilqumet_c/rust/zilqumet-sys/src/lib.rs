@@ -52,6 +52,7 @@ pub const ZQ_BAD_ENTITIES: u32 = 14;
 
 pub const ZQ_IN_FORM: u32 = 1;
 pub const ZQ_QUIRKS: u32 = 2;
+pub const ZQ_FOREIGN: u32 = 4;
 
 pub const ZQ_DOCUMENT: u32 = 1;
 pub const ZQ_CONTENTS: u32 = 2;

@@ -196,6 +196,11 @@ impl Options {
         self.flag(sys::ZQ_QUIRKS, yes)
     }
 
+    /// SVG and MathML are parsed, with names as `svg path`, which contexts may have too; without it they are refused.
+    pub fn foreign(self, yes: bool) -> Options {
+        self.flag(sys::ZQ_FOREIGN, yes)
+    }
+
     fn flag(mut self, flag: u32, yes: bool) -> Options {
         self.raw.flags = if yes { self.raw.flags | flag } else { self.raw.flags & !flag };
         self

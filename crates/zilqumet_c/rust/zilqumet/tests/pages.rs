@@ -57,6 +57,8 @@ fn fragments() {
     let write = |options: Options, bytes: &[u8]| options.parse_fragment("div", bytes).unwrap().serialise().unwrap();
     assert_eq!(write(Options::new().in_form(true), b"<form>x"), "x");
     assert_eq!(write(Options::new().in_form(true).in_form(false), b"<form>x"), "<form>x</form>");
+    assert_eq!(write(Options::new().foreign(true), b"<svg><path/></svg>"), "<svg><path></path></svg>");
+    assert_eq!(Options::new().foreign(true).parse_fragment("svg path", b"<g/>x").unwrap().serialise().unwrap(), "<g></g>x");
     assert_eq!(write(Options::new().quirks(true), b"<p><table>"), "<p><table></table></p>");
     assert_eq!(parse_fragment("svg", b"x").err(), Some(Error::BadContext));
 }

@@ -4,6 +4,7 @@ use Rattle.html_construction.specs.Begun.{IsFounded}
 use Rattle.html_modes.specs.Begun.{ignores_foreign}
 use Rattle.html_modes.specs.Steps.{root_of}
 use Rattle.html_builder.specs.Handed.{fates_of}
+use Rattle.html_builder.proofs.Saying.{foreign-refused, refused-other, said-by, viewed-parses}
 use Rattle.html_builder.proofs.Handing.{cause-at, cause-foreign, foreign-outside, refusal-outside, told-at, viewed-gives, viewed-grown, viewed-token}
 use Rattle.html_builder.proofs.builder.Builder.process.Goals as goal
 
@@ -42,3 +43,19 @@ returns-in-Ok-Some-clause-foreign c = λ s l ts h.
 
 pub returns-in-Err-clause-foreign : goal.returns-in-Err-clause-foreign
 returns-in-Err-clause-foreign c = λ s l ts h. refusal-outside c.args.self.now.page.mode c.in-Err.refusal c.args.token.now.span.start _ c.at.ensures.value
+
+pub returns-in-Ok-None-clause-said : goal.returns-in-Ok-None-clause-said
+returns-in-Ok-None-clause-said c = said-by c.args.token.now.kind c.of-symbol.result c.mode_said.result c.take.new.page (sym c.of-symbol.ensures.value) c.mode_said.ensures.value
+
+pub returns-in-Ok-None-clause-parses : goal.returns-in-Ok-None-clause-parses
+returns-in-Ok-None-clause-parses c =
+    viewed-parses (record { page = c.self.inside.construction; entries = c.self.inside.entries; stopped = c.self.inside.stopped }) c.args.self.now (record { page = c.take.new.page; entries = c.take.new.entries; stopped = false }) c.self.view_is
+    c.in-Ok-None.ensures.parses
+
+pub returns-in-Ok-Some-clause-refused : goal.returns-in-Ok-Some-clause-refused
+returns-in-Ok-Some-clause-refused c =
+    foreign-refused (record { page = c.self.inside.construction; entries = c.self.inside.entries; stopped = c.self.inside.stopped }) c.args.self.now c.in-Ok-Some.name c.args.token.now.span.start _ c.self.view_is
+    (subst (λ f. IfSome f (λ name. c.self.inside.construction.parses_foreign ≡ false)) c.in-Ok-Some.field-0-is c.in-Ok-Some.ensures.refused) refl
+
+pub returns-in-Err-clause-refused : goal.returns-in-Err-clause-refused
+returns-in-Err-clause-refused c = refused-other c.args.self.now c.in-Err.refusal c.args.token.now.span.start _ c.at.ensures.value

@@ -1,6 +1,7 @@
 use Rattle.std.proofs.Common.{refl, take, false, arith}
 use Rattle.html_builder.specs.Handed.{fates_of}
 use Rattle.html_builder.proofs.Handing.{going-not, take-some, taken-enters, text-cause-at, text-told-at, viewed-added, viewed-enters, viewed-gives, viewed-run}
+use Rattle.html_builder.proofs.Saying.{viewed-parses}
 use Rattle.html_builder.proofs.builder.Builder.process_front.Goals as goal
 
 pub returns-then-self-clause-cause : goal.returns-then-self-clause-cause
@@ -30,3 +31,8 @@ returns-in-Ok-clause-gives c = viewed-gives (record { page = c.self.inside.const
 
 pub returns-in-Ok-clause-enters : goal.returns-in-Ok-clause-enters
 returns-in-Ok-clause-enters c = viewed-enters (record { page = c.self.inside.construction; entries = c.self.inside.entries; stopped = c.self.inside.stopped }) c.args.self.now (record { page = c.take_front.new.page; entries = c.take_front.new.entries; stopped = false }) c.self.view_is c.in-Ok.ensures.out
+
+pub returns-in-Ok-clause-parses : goal.returns-in-Ok-clause-parses
+returns-in-Ok-clause-parses c =
+    viewed-parses (record { page = c.self.inside.construction; entries = c.self.inside.entries; stopped = c.self.inside.stopped }) c.args.self.now (record { page = c.take_front.new.page; entries = c.take_front.new.entries; stopped = false }) c.self.view_is
+    c.in-Ok.ensures.parses

@@ -23,6 +23,7 @@ taking-preserved c =
       gives = gives-then (take c.taking.taken c.args.text.now) c.args.self.now c.taking.self c.process_front.new.self c.taking.invariant.takes c.taking.invariant.enters c.taking.invariant.gives c.in_ok-count.ensures.gives;
       enters = enters-then c.args.self.now c.taking.self c.process_front.new.self c.taking.invariant.enters c.in_ok-count.ensures.enters;
       stopped = c.in_ok-count.ensures.ok ∙ sym c.in_ok-count.ensures.ready ∙ c.taking.invariant.stopped;
+      parses = c.in_ok-count.ensures.parses ∙ c.taking.invariant.parses;
       ready = λ k. sym c.taking.invariant.stopped ∙ c.in_ok-count.ensures.ready;
       most = omega (arith, count, c.taking.invariant.most);
     }

@@ -1,6 +1,6 @@
 use Rattle.std.proofs.Common.{◌≡◌, ◌-◌, ◌<◌, ◌≤◌, false, length, take}
 use Rattle.html_construction.specs.Built.{chars_of}
-use Rattle.html_builder.specs.Handed.{AddsFates, EntersNone, GivesFates, HandsIn}
+use Rattle.html_builder.specs.Handed.{AddsFates, EntersNone, GivesFates, HandsIn, parses_foreign}
 use Rattle.html_builder.proofs.builder.Builder.process_text.Given as goal
 
 abbrev pub invariant-taking : goal.invariant-taking
@@ -10,6 +10,7 @@ invariant-taking l = record {
   gives : GivesFates l.initial.self l.self;
   enters : EntersNone l.initial.self l.self;
   stopped : l.self.stopped ≡ l.initial.self.stopped;
+  parses : parses_foreign l.self ≡ parses_foreign l.initial.self;
   ready : 0 < l.taken → l.initial.self.stopped ≡ false;
   most : l.taken ≤ length l.text;
 }

@@ -13,5 +13,5 @@ invariant-flushing l = record {
   quiet : l.page.ledger.kept ≡ [];
   listed : length l.page.tree.list ≤ length l.page.ledger.fates;
   spends : Spends 0 l.initial.page l.page;
-  counts : Counts 0 0 l.initial.page l.page;
+  counts : Counts 24 0 0 l.initial.page l.page;
 }

@@ -13,6 +13,7 @@ new-requires-2 c = record {
       handed = c.in_ok-builder.ensures.begun;
       fates = c.in_ok-builder.ensures.fates;
       building = c.in_ok-builder.ensures.fresh;
+      foreign = c.in_ok-builder.ensures.refuses;
     },
   );
 }
@@ -25,4 +26,5 @@ returns-clause-begun c = c.in_ok-feeder.ensures.begun (document_start c.args.tab
   handed = c.in_ok-builder.ensures.begun;
   fates = c.in_ok-builder.ensures.fates;
   building = c.in_ok-builder.ensures.fresh;
+  foreign = c.in_ok-builder.ensures.refuses;
 })

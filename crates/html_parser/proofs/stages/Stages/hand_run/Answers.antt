@@ -65,6 +65,7 @@ returns-clause-further c =
       keeps = c.push_run.ensures.keeps;
       running = c.in_ok-place.ensures.ok;
       building = c.in_ok-process_text.ensures.ok;
+      parses = c.in_ok-process_text.ensures.parses;
     })
     (c.counted.ensures.counted start.setting start.limits (kinds run.given) r.handed) r
 

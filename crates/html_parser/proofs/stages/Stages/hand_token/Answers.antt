@@ -1,13 +1,8 @@
-use Rattle.std.proofs.Common.{◌∙◌, ◌++◌, ◌∷◌, [], None, inl, refl, subst, sym}
-use Rattle.html_builder.specs.Handed.{fates_of}
-use Rattle.html_ledger.specs.Runs.{last_of}
-use Rattle.html_tokens.specs.Given.{Fed}
-use Rattle.html_tokens.specs.Stream.{gave}
+use Rattle.std.proofs.Common.{◌∙◌, ◌++◌, ◌∷◌, [], None, inl, refl}
 use Rattle.html_parser.specs.Kinds.{kinds}
-use Rattle.html_parser.specs.Saying.{MaySay}
 use Rattle.html_parser.proofs.Causing.{build_refused, build_spent}
 use Rattle.html_parser.proofs.Further.{one_further}
-use Rattle.html_parser.proofs.MaySaying.{may_say}
+use Rattle.html_parser.proofs.MaySaying.{may_say, may_tell}
 use Rattle.html_parser.proofs.Tokenizing.{not_stopped, one_either, same_run}
 use Rattle.html_parser.proofs.stages.Stages.hand_token.Goals as goal
 
@@ -31,7 +26,8 @@ returns-in_default-clause-none c =
           decoded = r.decoded;
           tokenized = (none run r.tokenized).0;
           handed = r.handed;
-          switched = r.switched;
+          said = r.said;
+          foreign = r.foreign;
           starts = r.starts;
           tokens = r.tokens;
           running = c.in_ok-token.ensures.ok;
@@ -69,12 +65,13 @@ returns-clause-further c =
     let token = c.in-Some.token in
     let given = rw c.in-Some.is at c.in_ok-token.ensures.given in
     let unsaid = rw c.in-Some.is at c.in_ok-token.ensures.unsaid in
-    let says = may_say token.kind (last_of (fates_of c.build.new.builder)) in
-    λ start finished bytes run r. one_further start finished bytes run c.args.self.now _ token
+    let says = may_say token.kind c.build.new.builder c.in-Ok.mode c.in-Ok.ensures.said in
+    λ start finished bytes run r. one_further start finished bytes run c.args.self.now _ token c.in-Ok.mode
     (record {
       decoder = refl;
-      given = λ run fed. subst (λ m. Fed c.tell.new.tokenizer (gave run token m)) c.in-Ok.ensures.switch
-          (c.tell.ensures.told run token (unsaid run fed) (given run fed) (subst (MaySay token.kind) (sym c.in-Ok.ensures.switch) says));
+      given = λ run fed. c.tell.ensures.told run token (unsaid run fed) (given run fed) says;
+      may = λ s ts. may_tell s ts token.kind c.build.new.builder c.in-Ok.mode c.in-Ok.ensures.said;
+      parses = c.in-Ok.ensures.parses;
       takes = c.in-Ok.ensures.takes;
       grows = c.in-Ok.ensures.grows;
       starts = c.in_ok-push.ensures.starts;
@@ -85,4 +82,18 @@ returns-clause-further c =
     })
     (c.counted.ensures.counted start.setting start.limits (kinds run.given) r.handed)
     (c.counted-2.ensures.counted start.setting start.limits (kinds run.given ++ token.kind ∷ [])
+    (c.in-Ok.ensures.takes start.setting start.limits (kinds run.given) r.handed))
+    (c.counted-2.ensures.foreign start.setting start.limits (kinds run.given ++ token.kind ∷ [])
     (c.in-Ok.ensures.takes start.setting start.limits (kinds run.given) r.handed)) r
+
+pub invariant_of-self-2 : goal.invariant_of-self-2
+invariant_of-self-2 c =
+    let token = c.in-Some.token in
+    let given = rw c.in-Some.is at c.in_ok-token.ensures.given in
+    let unsaid = rw c.in-Some.is at c.in_ok-token.ensures.unsaid in
+    let says = may_say token.kind c.build.new.builder c.in-Ok.mode c.in-Ok.ensures.said in
+    record {
+      tokenizing = one_either c.args.self.now.tokenizer c.tell.new.tokenizer c.args.self.now.kept.starts c.push.new.self.starts token c.in-Ok.mode
+          (not_stopped c.next.result _ _ c.in_ok-token.was c.next.ensures.stopped) c.args.self.now.tokenizing
+          (λ run fed. c.tell.ensures.told run token (unsaid run fed) (given run fed) says) c.push.ensures.either;
+    }

@@ -1,0 +1,44 @@
+use Rattle.std.proofs.Common.{[], inl, inr}
+use Rattle.std.proofs.lemmas.Result.{IfErr-weaker, IfOk-weaker, err_from_is_err_and}
+use Rattle.html_parser.specs.Options.{start_of}
+use Rattle.html_parser.proofs.Refusals.{end-cause, reader-cause}
+use Rattle.html_parser.proofs.Rewritten.{root-of}
+use Rattle.html_parser.proofs.reading.parse_tree_from_with.Goals as goal
+
+pub feed_from-requires : goal.feed_from-requires
+feed_from-requires g c = record {
+  new = (start_of c.args.table.now c.args.options.now, c.without_ledger-parser.ensures.fed (start_of c.args.table.now c.args.options.now) [] c.in_ok-parser.ensures.begun);
+}
+
+pub returns-in_err-feed_from-clause-cause : goal.returns-in_err-feed_from-clause-cause
+returns-in_err-feed_from-clause-cause g c =
+    let p = err_from_is_err_and c.from_residual-in_err-feed_from.result c.from_residual-in_err-feed_from.ensures.1 in
+    rw (p.1, p.2) (inr (reader-cause (start_of c.args.table.now c.args.options.now) _ _ _ c.in_err-feed_from.field-0.0
+    (c.in_err-feed_from.ensures.cause (start_of c.args.table.now c.args.options.now)
+    (c.without_ledger-parser.ensures.fed (start_of c.args.table.now c.args.options.now) [] c.in_ok-parser.ensures.begun))))
+
+pub returns-clause-tree : goal.returns-clause-tree
+returns-clause-tree g c =
+    let f = c.in_ok-feed_from.ensures.fed in
+    let k = f.2 (start_of c.args.table.now c.args.options.now) (c.without_ledger-parser.ensures.fed (start_of c.args.table.now c.args.options.now) [] c.in_ok-parser.ensures.begun) in
+    IfOk-weaker c.finish.result _ _ (λ tree is. (f.0, f.1, is (start_of c.args.table.now c.args.options.now) f.0 k)) c.finish.ensures.tree
+
+pub returns-clause-root : goal.returns-clause-root
+returns-clause-root g c =
+    let f = c.in_ok-feed_from.ensures.fed in
+    let k = f.2 (start_of c.args.table.now c.args.options.now) (c.without_ledger-parser.ensures.fed (start_of c.args.table.now c.args.options.now) [] c.in_ok-parser.ensures.begun) in
+    IfOk-weaker c.finish.result _ _
+    (λ tree is. root-of (start_of c.args.table.now c.args.options.now) f.0 tree (is (start_of c.args.table.now c.args.options.now) f.0 k)) c.finish.ensures.tree
+
+pub returns-clause-cause : goal.returns-clause-cause
+returns-clause-cause g c =
+    let f = c.in_ok-feed_from.ensures.fed in
+    let k = f.2 (start_of c.args.table.now c.args.options.now) (c.without_ledger-parser.ensures.fed (start_of c.args.table.now c.args.options.now) [] c.in_ok-parser.ensures.begun) in
+    IfErr-weaker c.finish.result _ _
+    (λ e cause. inr (end-cause (start_of c.args.table.now c.args.options.now) _ _ _ f.0 e f.1 c.in_ok-feed_from.ensures.end (cause (start_of c.args.table.now c.args.options.now) f.0 k)))
+    c.finish.ensures.cause
+
+pub returns-in_err-parser-clause-cause : goal.returns-in_err-parser-clause-cause
+returns-in_err-parser-clause-cause g c =
+    let p = err_from_is_err_and c.from_residual.result c.from_residual.ensures.1 in
+    rw (p.1, p.2) (inl c.in_err-parser.ensures.cause)
