@@ -4,7 +4,9 @@ ghost use Rattle.html_arena.specs.Budget.{AreWithin};
 ghost use Rattle.html_arena.specs.Forest.{Forest};
 ghost use Rattle.html_arena.specs.declared.arena.Limits.{Limits};
 ghost use Rattle.html_construction.specs.Begun.{IsFounded};
-ghost use Rattle.html_construction.specs.Built.{IsBuilt, chars_of, nothing_of, symbols};
+ghost use Rattle.std.specs.List.{list_all};
+ghost use Rattle.html_ledger.specs.Settings.{is_foreign_context};
+ghost use Rattle.html_construction.specs.Built.{IsBuilt, chars_of, is_native, nothing_of, symbols};
 ghost use Rattle.html_construction.specs.Copies.{implied_count, most_clones};
 ghost use Rattle.html_construction.specs.Modes.{is_reset};
 ghost use Rattle.html_construction.specs.Works.{reach_of};
@@ -392,6 +394,8 @@ impl Builder {
         ensures entries { (s : Setting) (l : Option Limits) (tokens : List TokenKind) → Handed s l tokens self → (n : ℕ) → CostAtMost n tokens → self.entries ≤ most_entries n }
         ensures plain { (l : Option Limits) (tokens : List TokenKind) → Handed Document l tokens self → (page : Forest Label) → IsPlainPage page
             → tokens ≡ page_kinds page → Shows result.0 (0 ∷ []) page }
+        ensures native { (s : Setting) (l : Option Limits) (tokens : List TokenKind) → Handed s l tokens self → parses_foreign self ≡ false
+            → is_foreign_context s ≡ false → list_all is_native result.1 ≡ true }
         ensures plain_fates { (l : Option Limits) (tokens : List TokenKind) → Handed Document l tokens self → (page : Forest Label) → IsPlainPage page
             → tokens ≡ page_kinds page → HavePlainFates tokens result.1 }
     {
