@@ -50,6 +50,8 @@ impl Output {
         ensures empty { OnOk result (held self.new ≡ []) }
         ensures err { OnErr result (AppendsFront (W.taken writer.old) (W.taken writer.new) (held self.old)) }
         ensures fault { OnErr result ((W.failed writer.new ≡ true) ⊎ (W.stalled writer.new ≡ true)) }
+        ensures failing { OnOk result (W.failed writer.new ≡ true → W.failed writer.old ≡ true) }
+        ensures stalling { OnOk result (W.stalled writer.new ≡ true → W.stalled writer.old ≡ true) }
     {
         write_all(writer, &self.bytes[..self.len])?;
         self.len = 0;
@@ -65,6 +67,8 @@ impl Output {
     pub fn put<W: Sink>(&mut self, writer: &mut W, bytes: &[u8]) -> Result<(), DeviceFault>
         ensures bytes { Puts (W.taken writer.old) (held self.old) (W.taken writer.new) (held self.new) result bytes.now }
         ensures fault { OnErr result ((W.failed writer.new ≡ true) ⊎ (W.stalled writer.new ≡ true)) }
+        ensures failing { OnOk result (W.failed writer.new ≡ true → W.failed writer.old ≡ true) }
+        ensures stalling { OnOk result (W.stalled writer.new ≡ true → W.stalled writer.old ≡ true) }
     {
         if bytes.len() <= BUFFER_SIZE - self.len {
             self.keep(bytes);

@@ -36,6 +36,8 @@ impl Output {
     ) -> Result<(), DeviceFault>
         ensures bytes { Puts (W.taken writer.old) (held self.old) (W.taken writer.new) (held self.new) result (pieces_bytes pieces.now) }
         ensures fault { OnErr result ((W.failed writer.new ≡ true) ⊎ (W.stalled writer.new ≡ true)) }
+        ensures failing { OnOk result (W.failed writer.new ≡ true → W.failed writer.old ≡ true) }
+        ensures stalling { OnOk result (W.stalled writer.new ≡ true → W.stalled writer.old ≡ true) }
     {
         'pieces: for piece in pieces {
             self.put_piece(writer, piece)?;
@@ -47,6 +49,8 @@ impl Output {
     fn put_piece<W: Sink>(&mut self, writer: &mut W, piece: &Piece<'_>) -> Result<(), DeviceFault>
         ensures bytes { Puts (W.taken writer.old) (held self.old) (W.taken writer.new) (held self.new) result (piece_bytes piece.now) }
         ensures fault { OnErr result ((W.failed writer.new ≡ true) ⊎ (W.stalled writer.new ≡ true)) }
+        ensures failing { OnOk result (W.failed writer.new ≡ true → W.failed writer.old ≡ true) }
+        ensures stalling { OnOk result (W.stalled writer.new ≡ true → W.stalled writer.old ≡ true) }
     {
         match piece {
             Piece::Text(text) => self.put(writer, text.as_bytes()),
@@ -59,6 +63,8 @@ impl Output {
     fn put_number<W: Sink>(&mut self, writer: &mut W, number: u128) -> Result<(), DeviceFault>
         ensures bytes { Puts (W.taken writer.old) (held self.old) (W.taken writer.new) (held self.new) result (decimal number) }
         ensures fault { OnErr result ((W.failed writer.new ≡ true) ⊎ (W.stalled writer.new ≡ true)) }
+        ensures failing { OnOk result (W.failed writer.new ≡ true → W.failed writer.old ≡ true) }
+        ensures stalling { OnOk result (W.stalled writer.new ≡ true → W.stalled writer.old ≡ true) }
     {
         let mut buffer = Buffer::new();
         self.put(writer, buffer.format(number).as_bytes())
@@ -68,6 +74,8 @@ impl Output {
     fn put_code<W: Sink>(&mut self, writer: &mut W, c: char) -> Result<(), DeviceFault>
         ensures bytes { Puts (W.taken writer.old) (held self.old) (W.taken writer.new) (held self.new) result (code_text c) }
         ensures fault { OnErr result ((W.failed writer.new ≡ true) ⊎ (W.stalled writer.new ≡ true)) }
+        ensures failing { OnOk result (W.failed writer.new ≡ true → W.failed writer.old ≡ true) }
+        ensures stalling { OnOk result (W.stalled writer.new ≡ true → W.stalled writer.old ≡ true) }
     {
         self.put(writer, &digits_of(c)[left_out(c)..])
     }
@@ -82,6 +90,8 @@ pub fn write_pieces<W: Sink>(writer: &mut W, pieces: &[Piece<'_>]) -> Result<(),
     ensures ok { OnOk result (Appends (W.taken writer.old) (W.taken writer.new) (pieces_bytes pieces.now)) }
     ensures err { OnErr result (AppendsFront (W.taken writer.old) (W.taken writer.new) (pieces_bytes pieces.now)) }
     ensures fault { OnErr result ((W.failed writer.new ≡ true) ⊎ (W.stalled writer.new ≡ true)) }
+    ensures failing { OnOk result (W.failed writer.new ≡ true → W.failed writer.old ≡ true) }
+    ensures stalling { OnOk result (W.stalled writer.new ≡ true → W.stalled writer.old ≡ true) }
 {
     let mut output = Output::new();
     output.put_pieces(writer, pieces)?;

@@ -1,6 +1,6 @@
 //! Texts and spaces on their way to a writer.
 
-ghost use Rattle.std.specs.Prelude.{◌≡◌, ◌⊎◌, ◌++◌, ◌≤◌, true, OnErr, replicate};
+ghost use Rattle.std.specs.Prelude.{◌≡◌, ◌⊎◌, ◌++◌, ◌≤◌, true, OnErr, OnOk, replicate};
 ghost use Rattle.html_output.specs.Putting.{Puts, held};
 
 use crate::output::Output;
@@ -31,6 +31,8 @@ impl Output {
     ) -> Result<(), DeviceFault>
         ensures bytes { Puts (W.taken writer.old) (held self.old) (W.taken writer.new) (held self.new) result (before.now ++ (text.now ++ after.now)) }
         ensures fault { OnErr result ((W.failed writer.new ≡ true) ⊎ (W.stalled writer.new ≡ true)) }
+        ensures failing { OnOk result (W.failed writer.new ≡ true → W.failed writer.old ≡ true) }
+        ensures stalling { OnOk result (W.stalled writer.new ≡ true → W.stalled writer.old ≡ true) }
     {
         self.put(writer, before.as_bytes())?;
         self.put(writer, text.as_bytes())?;
@@ -41,6 +43,8 @@ impl Output {
     pub fn put_spaces<W: Sink>(&mut self, writer: &mut W, count: u128) -> Result<(), DeviceFault>
         ensures bytes { Puts (W.taken writer.old) (held self.old) (W.taken writer.new) (held self.new) result (replicate count 32) }
         ensures fault { OnErr result ((W.failed writer.new ≡ true) ⊎ (W.stalled writer.new ≡ true)) }
+        ensures failing { OnOk result (W.failed writer.new ≡ true → W.failed writer.old ≡ true) }
+        ensures stalling { OnOk result (W.stalled writer.new ≡ true → W.stalled writer.old ≡ true) }
     {
         let mut left = count;
         'spaces: while left > 0 {

@@ -35,6 +35,8 @@ fn put_attribute<W: Sink>(
 ) -> Result<(), DeviceFault>
     ensures bytes { Puts (W.taken writer.old) (held output.old) (W.taken writer.new) (held output.new) result (encode_utf8_all (attribute profile false attr.now)) }
     ensures fault { OnErr result ((W.failed writer.new ≡ true) ⊎ (W.stalled writer.new ≡ true)) }
+    ensures failing { OnOk result (W.failed writer.new ≡ true → W.failed writer.old ≡ true) }
+    ensures stalling { OnOk result (W.stalled writer.new ≡ true → W.stalled writer.old ≡ true) }
 {
     output.put_between(writer, " ", attr.name.as_str(), "=\"")?;
     put_escaped(output, writer, Escape::Value(profile), attr.value.as_str())?;
@@ -49,6 +51,8 @@ fn put_qualified<W: Sink>(
 ) -> Result<(), DeviceFault>
     ensures bytes { Puts (W.taken writer.old) (held output.old) (W.taken writer.new) (held output.new) result (encode_utf8_all (qualified (chars name.now))) }
     ensures fault { OnErr result ((W.failed writer.new ≡ true) ⊎ (W.stalled writer.new ≡ true)) }
+    ensures failing { OnOk result (W.failed writer.new ≡ true → W.failed writer.old ≡ true) }
+    ensures stalling { OnOk result (W.stalled writer.new ≡ true → W.stalled writer.old ≡ true) }
 {
     match name.split_once(' ') {
         Some((prefix, local)) => output.put_between(writer, prefix, ":", local),
@@ -64,6 +68,8 @@ fn put_foreign_name<W: Sink>(
 ) -> Result<(), DeviceFault>
     ensures bytes { Puts (W.taken writer.old) (held output.old) (W.taken writer.new) (held output.new) result (codes " " ++ (encode_utf8_all (qualified name.now) ++ codes "=\"")) }
     ensures fault { OnErr result ((W.failed writer.new ≡ true) ⊎ (W.stalled writer.new ≡ true)) }
+    ensures failing { OnOk result (W.failed writer.new ≡ true → W.failed writer.old ≡ true) }
+    ensures stalling { OnOk result (W.stalled writer.new ≡ true → W.stalled writer.old ≡ true) }
 {
     output.put(writer, b" ")?;
     put_qualified(output, writer, name.as_str())?;
@@ -79,6 +85,8 @@ fn put_foreign_attribute<W: Sink>(
 ) -> Result<(), DeviceFault>
     ensures bytes { Puts (W.taken writer.old) (held output.old) (W.taken writer.new) (held output.new) result (encode_utf8_all (attribute profile true attr.now)) }
     ensures fault { OnErr result ((W.failed writer.new ≡ true) ⊎ (W.stalled writer.new ≡ true)) }
+    ensures failing { OnOk result (W.failed writer.new ≡ true → W.failed writer.old ≡ true) }
+    ensures stalling { OnOk result (W.stalled writer.new ≡ true → W.stalled writer.old ≡ true) }
 {
     put_foreign_name(output, writer, &attr.name)?;
     put_escaped(output, writer, Escape::Value(profile), attr.value.as_str())?;
@@ -97,6 +105,8 @@ fn put_foreign_tag<W: Sink>(
     requires foreign { is_foreign_name name.now ≡ true }
     ensures bytes { Puts (W.taken writer.old) (held output.old) (W.taken writer.new) (held output.new) result (encode_utf8_all (start_tag profile name.now attrs.now)) }
     ensures fault { OnErr result ((W.failed writer.new ≡ true) ⊎ (W.stalled writer.new ≡ true)) }
+    ensures failing { OnOk result (W.failed writer.new ≡ true → W.failed writer.old ≡ true) }
+    ensures stalling { OnOk result (W.stalled writer.new ≡ true → W.stalled writer.old ≡ true) }
 {
     output.put_between(writer, "<", local_name(name.as_str()), "")?;
     for attr in attrs {
@@ -116,6 +126,8 @@ fn put_html_tag<W: Sink>(
     requires html { is_foreign_name name.now ≡ false }
     ensures bytes { Puts (W.taken writer.old) (held output.old) (W.taken writer.new) (held output.new) result (encode_utf8_all (start_tag profile name.now attrs.now)) }
     ensures fault { OnErr result ((W.failed writer.new ≡ true) ⊎ (W.stalled writer.new ≡ true)) }
+    ensures failing { OnOk result (W.failed writer.new ≡ true → W.failed writer.old ≡ true) }
+    ensures stalling { OnOk result (W.stalled writer.new ≡ true → W.stalled writer.old ≡ true) }
 {
     output.put_between(writer, "<", name.as_str(), "")?;
     for attr in attrs {
@@ -134,6 +146,8 @@ fn put_start_tag<W: Sink>(
     requires tagged { element.now.tag ≡ tag_of element.now.name }
     ensures bytes { Puts (W.taken writer.old) (held output.old) (W.taken writer.new) (held output.new) result (encode_utf8_all (start_tag profile element.now.name element.now.attrs)) }
     ensures fault { OnErr result ((W.failed writer.new ≡ true) ⊎ (W.stalled writer.new ≡ true)) }
+    ensures failing { OnOk result (W.failed writer.new ≡ true → W.failed writer.old ≡ true) }
+    ensures stalling { OnOk result (W.stalled writer.new ≡ true → W.stalled writer.old ≡ true) }
 {
     if element.tag.is_foreign() {
         return put_foreign_tag(
@@ -164,6 +178,8 @@ fn put_opening<W: Sink>(
     requires tagged { tag_in node.now ≡ tag_of (name_in node.now) }
     ensures bytes { Puts (W.taken writer.old) (held output.old) (W.taken writer.new) (held output.new) result (encode_utf8_all (opening profile raw (label_for node.now))) }
     ensures fault { OnErr result ((W.failed writer.new ≡ true) ⊎ (W.stalled writer.new ≡ true)) }
+    ensures failing { OnOk result (W.failed writer.new ≡ true → W.failed writer.old ≡ true) }
+    ensures stalling { OnOk result (W.stalled writer.new ≡ true → W.stalled writer.old ≡ true) }
 {
     match node {
         NodeData::Document | NodeData::Contents { .. } => Ok(()),
@@ -194,6 +210,8 @@ fn put_closing<W: Sink>(
     requires tagged { tag_in node.now ≡ tag_of (name_in node.now) }
     ensures bytes { Puts (W.taken writer.old) (held output.old) (W.taken writer.new) (held output.new) result (encode_utf8_all (closing (label_for node.now))) }
     ensures fault { OnErr result ((W.failed writer.new ≡ true) ⊎ (W.stalled writer.new ≡ true)) }
+    ensures failing { OnOk result (W.failed writer.new ≡ true → W.failed writer.old ≡ true) }
+    ensures stalling { OnOk result (W.stalled writer.new ≡ true → W.stalled writer.old ≡ true) }
 {
     match node {
         NodeData::Element(element) => put_end_tag(output, writer, element),
@@ -211,6 +229,8 @@ fn put_foreign_end<W: Sink>(
     requires foreign { is_foreign_name name.now ≡ true }
     ensures bytes { Puts (W.taken writer.old) (held output.old) (W.taken writer.new) (held output.new) result (encode_utf8_all (end_tag name.now)) }
     ensures fault { OnErr result ((W.failed writer.new ≡ true) ⊎ (W.stalled writer.new ≡ true)) }
+    ensures failing { OnOk result (W.failed writer.new ≡ true → W.failed writer.old ≡ true) }
+    ensures stalling { OnOk result (W.stalled writer.new ≡ true → W.stalled writer.old ≡ true) }
 {
     output.put_between(writer, "</", local_name(name.as_str()), ">")
 }
@@ -224,6 +244,8 @@ fn put_end_tag<W: Sink>(
     requires tagged { element.now.tag ≡ tag_of element.now.name }
     ensures bytes { Puts (W.taken writer.old) (held output.old) (W.taken writer.new) (held output.new) result (encode_utf8_all (closing (Label.element element.now.name element.now.attrs))) }
     ensures fault { OnErr result ((W.failed writer.new ≡ true) ⊎ (W.stalled writer.new ≡ true)) }
+    ensures failing { OnOk result (W.failed writer.new ≡ true → W.failed writer.old ≡ true) }
+    ensures stalling { OnOk result (W.stalled writer.new ≡ true → W.stalled writer.old ≡ true) }
 {
     if element.tag.is_void() {
         return Ok(());
@@ -256,6 +278,8 @@ fn put_event<W: Sink>(
     requires { node_in event < length arena.now.labels }
     ensures bytes { Puts (W.taken writer.old) (held output.old) (W.taken writer.new) (held output.new) result (encode_utf8_all (event_text profile arena.now event)) }
     ensures fault { OnErr result ((W.failed writer.new ≡ true) ⊎ (W.stalled writer.new ≡ true)) }
+    ensures failing { OnOk result (W.failed writer.new ≡ true → W.failed writer.old ≡ true) }
+    ensures stalling { OnOk result (W.stalled writer.new ≡ true → W.stalled writer.old ≡ true) }
 {
     arena.forest();
     match event {
@@ -278,6 +302,8 @@ fn put_below<W: Sink>(
     requires { IsRoot arena.now root }
     ensures bytes { Puts (W.taken writer.old) (held output.old) (W.taken writer.new) (held output.new) result (encode_utf8_all (html_below profile arena.now root)) }
     ensures fault { OnErr result ((W.failed writer.new ≡ true) ⊎ (W.stalled writer.new ≡ true)) }
+    ensures failing { OnOk result (W.failed writer.new ≡ true → W.failed writer.old ≡ true) }
+    ensures stalling { OnOk result (W.stalled writer.new ≡ true → W.stalled writer.old ≡ true) }
 {
     arena.forest();
     let mut walk = Walk::new(arena, Show::Written, root);
@@ -298,6 +324,8 @@ fn write_below<W: Sink>(
     ensures ok { OnOk result (Appends (W.taken writer.old) (W.taken writer.new) (encode_utf8_all (html_below profile arena.now root))) }
     ensures err { OnErr result (AppendsFront (W.taken writer.old) (W.taken writer.new) (encode_utf8_all (html_below profile arena.now root))) }
     ensures fault { OnErr result ((W.failed writer.new ≡ true) ⊎ (W.stalled writer.new ≡ true)) }
+    ensures failing { OnOk result (W.failed writer.new ≡ true → W.failed writer.old ≡ true) }
+    ensures stalling { OnOk result (W.stalled writer.new ≡ true → W.stalled writer.old ≡ true) }
 {
     let mut output = Output::new();
     put_below(&mut output, writer, profile, arena, root)?;
@@ -335,8 +363,10 @@ pub fn serialise_tree<W: Sink>(
     // A front of it was written.
     ensures err { OnErr result (AppendsFront (W.taken writer.old) (W.taken writer.new) (encode_utf8_all (html_below profile arena.now root))) }
 
-    // It is the writer that failed, or took no bytes.
+    // It is the writer that failed, or took no bytes; and a writer that does so is told.
     ensures fault { OnErr result ((W.failed writer.new ≡ true) ⊎ (W.stalled writer.new ≡ true)) }
+    ensures failing { OnOk result (W.failed writer.new ≡ true → W.failed writer.old ≡ true) }
+    ensures stalling { OnOk result (W.stalled writer.new ≡ true → W.stalled writer.old ≡ true) }
 
     // The text is that of the one forest that stands below the root, and no longer than this.
     ensures shows { Shows arena.now (kids Show.All arena.now root) (forest_below arena.now root) }

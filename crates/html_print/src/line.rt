@@ -1,6 +1,6 @@
 //! One line.
 
-ghost use Rattle.std.specs.Prelude.{◌≡◌, ◌⊎◌, ◌<◌, ◌^◌, true, OnErr};
+ghost use Rattle.std.specs.Prelude.{◌≡◌, ◌⊎◌, ◌<◌, ◌^◌, true, OnErr, OnOk};
 ghost use Rattle.std.specs.List.{flat_map};
 ghost use Rattle.html_output.specs.Putting.{Puts, held};
 ghost use Rattle.html_print.specs.Lines.{line};
@@ -18,6 +18,8 @@ pub(crate) fn put_line<W: Sink>(
     requires low { depth < 2 ^ 100 }
     ensures bytes { Puts (W.taken writer.old) (held output.old) (W.taken writer.new) (held output.new) result (line depth (flat_map (λ s. s.now) texts.now)) }
     ensures fault { OnErr result ((W.failed writer.new ≡ true) ⊎ (W.stalled writer.new ≡ true)) }
+    ensures failing { OnOk result (W.failed writer.new ≡ true → W.failed writer.old ≡ true) }
+    ensures stalling { OnOk result (W.stalled writer.new ≡ true → W.stalled writer.old ≡ true) }
 {
     output.put(writer, b"| ")?;
     output.put_spaces(writer, 2 * depth)?;
@@ -33,6 +35,8 @@ fn put_texts<W: Sink>(
 ) -> Result<(), DeviceFault>
     ensures bytes { Puts (W.taken writer.old) (held output.old) (W.taken writer.new) (held output.new) result (flat_map (λ s. s.now) texts.now) }
     ensures fault { OnErr result ((W.failed writer.new ≡ true) ⊎ (W.stalled writer.new ≡ true)) }
+    ensures failing { OnOk result (W.failed writer.new ≡ true → W.failed writer.old ≡ true) }
+    ensures stalling { OnOk result (W.stalled writer.new ≡ true → W.stalled writer.old ≡ true) }
 {
     'texts: for text in texts {
         output.put(writer, text.as_bytes())?;

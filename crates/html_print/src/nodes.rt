@@ -1,6 +1,6 @@
 //! The lines of one node.
 
-ghost use Rattle.std.specs.Prelude.{◌≡◌, ◌⊎◌, ◌↔◌, ◌<◌, ◌≤◌, ◌+◌, ◌^◌, ℕ, true, false, cond, codes, [], IsTrue, OnErr, length};
+ghost use Rattle.std.specs.Prelude.{◌≡◌, ◌⊎◌, ◌↔◌, ◌<◌, ◌≤◌, ◌+◌, ◌^◌, ℕ, true, false, cond, codes, [], IsTrue, OnErr, OnOk, length};
 ghost use Rattle.std.specs.Str.{encode_utf8_all};
 ghost use Rattle.std.specs.Vec.{vec_capacity};
 ghost use Rattle.html_arena.specs.Data.{attrs_in};
@@ -34,6 +34,8 @@ pub(crate) fn put_node<'a, W: Sink>(
     ensures bytes { (l : Label) × IsOrdered (label_at arena.now node) l
         × Puts (W.taken writer.old) (held output.old) (W.taken writer.new) (held output.new) result (encode_utf8_all (lines_at depth l)) }
     ensures fault { OnErr result ((W.failed writer.new ≡ true) ⊎ (W.stalled writer.new ≡ true)) }
+    ensures failing { OnOk result (W.failed writer.new ≡ true → W.failed writer.old ≡ true) }
+    ensures stalling { OnOk result (W.stalled writer.new ≡ true → W.stalled writer.old ≡ true) }
     ensures capacity { vec_capacity ordered.old ≤ vec_capacity ordered.new }
 {
     let foreign = is_foreign(arena, node);
@@ -62,6 +64,8 @@ fn put_own<W: Sink>(
     requires low { depth < 2 ^ 100 }
     ensures bytes { Puts (W.taken writer.old) (held output.old) (W.taken writer.new) (held output.new) result (encode_utf8_all (line depth (shown (label_for node.now)))) }
     ensures fault { OnErr result ((W.failed writer.new ≡ true) ⊎ (W.stalled writer.new ≡ true)) }
+    ensures failing { OnOk result (W.failed writer.new ≡ true → W.failed writer.old ≡ true) }
+    ensures stalling { OnOk result (W.stalled writer.new ≡ true → W.stalled writer.old ≡ true) }
 {
     match node {
         NodeData::Document => put_line(output, writer, depth, &[]),
@@ -98,6 +102,8 @@ fn put_doctype<W: Sink>(
     ensures bytes { Puts (W.taken writer.old) (held output.old) (W.taken writer.new) (held output.new) result
         (encode_utf8_all (line depth (shown (Label.doctype name.now public.now system.now)))) }
     ensures fault { OnErr result ((W.failed writer.new ≡ true) ⊎ (W.stalled writer.new ≡ true)) }
+    ensures failing { OnOk result (W.failed writer.new ≡ true → W.failed writer.old ≡ true) }
+    ensures stalling { OnOk result (W.stalled writer.new ≡ true → W.stalled writer.old ≡ true) }
 {
     let name = or_empty(name);
     if are_empty(public, system) {
@@ -154,6 +160,8 @@ fn put_contents<W: Sink>(
     ensures bytes { Puts (W.taken writer.old) (held output.old) (W.taken writer.new) (held output.new) result
         (encode_utf8_all (cond (has_contents (label_at arena.now node)) (line depth (codes "content")) [])) }
     ensures fault { OnErr result ((W.failed writer.new ≡ true) ⊎ (W.stalled writer.new ≡ true)) }
+    ensures failing { OnOk result (W.failed writer.new ≡ true → W.failed writer.old ≡ true) }
+    ensures stalling { OnOk result (W.stalled writer.new ≡ true → W.stalled writer.old ≡ true) }
 {
     arena.forest();
     match arena.contents(node) {

@@ -1,6 +1,6 @@
 //! Trees as lines.
 
-ghost use Rattle.std.specs.Prelude.{◌≡◌, ◌⊎◌, ◌≤◌, ℕ, true, OnOk, OnErr, IfErr, length};
+ghost use Rattle.std.specs.Prelude.{◌≡◌, ◌⊎◌, ◌≤◌, ℕ, true, false, Err, OnOk, OnErr, IfErr, length};
 ghost use Rattle.std.specs.Io.KnownBytes.{Appends};
 ghost use Rattle.std.specs.Str.{encode_utf8_all};
 ghost use Rattle.std.specs.Vec.{vec_capacity};
@@ -49,6 +49,10 @@ pub fn print_tree<W: Sink>(
     // It is the writer that failed, or took no bytes.
     ensures fault { IfErr result (λ e. e ≡ PrintError.Write → (W.failed writer.new ≡ true) ⊎ (W.stalled writer.new ≡ true)) }
 
+    // A writer that fails, or takes no bytes, is told.
+    ensures failing { W.failed writer.old ≡ false → W.failed writer.new ≡ true → result ≡ Err PrintError.Write }
+    ensures stalling { W.stalled writer.old ≡ false → W.stalled writer.new ≡ true → result ≡ Err PrintError.Write }
+
     // The text is that of the one forest that stands below the root.
     ensures shows { Shows arena.now (kids Show.All arena.now root) (forest_below arena.now root) }
     ensures only { (f : Forest Label) → Shows arena.now (kids Show.All arena.now root) f → f ≡ forest_below arena.now root }
@@ -81,6 +85,8 @@ fn write_lines<'a, W: Sink>(
     ensures ok { OnOk result (IsPrinted arena.now root (λ text. Appends (W.taken writer.old) (W.taken writer.new) (encode_utf8_all text))) }
     ensures err { OnErr result (IsPrinted arena.now root (λ text. AppendsFront (W.taken writer.old) (W.taken writer.new) (encode_utf8_all text))) }
     ensures fault { OnErr result ((W.failed writer.new ≡ true) ⊎ (W.stalled writer.new ≡ true)) }
+    ensures failing { OnOk result (W.failed writer.new ≡ true → W.failed writer.old ≡ true) }
+    ensures stalling { OnOk result (W.stalled writer.new ≡ true → W.stalled writer.old ≡ true) }
 {
     let mut output = Output::new();
     put_lines(&mut output, writer, ordered, arena, root)?;
@@ -99,6 +105,8 @@ fn put_lines<'a, W: Sink>(
     requires room { (x : ℕ) → length (attrs_in (label_of arena.now x)) ≤ vec_capacity ordered.old }
     ensures bytes { IsPrinted arena.now root (λ text. Puts (W.taken writer.old) (held output.old) (W.taken writer.new) (held output.new) result (encode_utf8_all text)) }
     ensures fault { OnErr result ((W.failed writer.new ≡ true) ⊎ (W.stalled writer.new ≡ true)) }
+    ensures failing { OnOk result (W.failed writer.new ≡ true → W.failed writer.old ≡ true) }
+    ensures stalling { OnOk result (W.stalled writer.new ≡ true → W.stalled writer.old ≡ true) }
 {
     let _count = arena.len();
     let mut depth: u128 = 0;

@@ -22,6 +22,8 @@ loop-at-init g c =
       within = omega arith;
       cut = n.0;
       put = Moves-is _ _ _ _ _ _ (ap (λ l. encode_utf8_all (flat_map (escaped c.args.escape) l)) (sym n.1)) (Moves-nil _ _);
+      failing = λ now. now;
+      stalling = λ now. now;
     }
 
 slice_at : (text bytes run : List ℕ) (start at o : ℕ) → bytes ≡ text → at ≡ o → take (o - start) (drop start text) ≡ run → take (at - start) (drop start bytes) ≡ run
@@ -72,6 +74,8 @@ loop-at-preserved-in-Some-replacement g c =
           ∙ sym (passed f c.args.text.now k.before k.run c.in-Some.c k.as_it_is)
           ∙ ap (λ l. encode_utf8_all (flat_map f l)) (sym n.1))
           (Moves-trans _ _ _ _ _ _ _ _ (Moves-trans _ _ _ _ _ _ _ _ c.loop-at.invariant.put c.in_ok-put.ensures.bytes) c.in_ok-put-2.ensures.bytes);
+      failing = λ now. c.loop-at.invariant.failing (c.in_ok-put.ensures.failing (c.in_ok-put-2.ensures.failing now));
+      stalling = λ now. c.loop-at.invariant.stalling (c.in_ok-put.ensures.stalling (c.in_ok-put-2.ensures.stalling now));
     }
 
 pub loop-at-preserved : goal.loop-at-preserved
@@ -86,6 +90,8 @@ loop-at-preserved g c =
       within = start_within f c.args.text.now _ _ _ n.0;
       cut = n.0;
       put = Moves-is _ _ _ _ _ _ (ap (λ l. encode_utf8_all (flat_map f l)) (sym n.1)) c.loop-at.invariant.put;
+      failing = c.loop-at.invariant.failing;
+      stalling = c.loop-at.invariant.stalling;
     }
 
 pub returns-clause-bytes : goal.returns-clause-bytes

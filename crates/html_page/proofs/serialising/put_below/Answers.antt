@@ -20,6 +20,8 @@ events-init g c = record {
       ∙ ap (texts c.args.profile c.args.arena.now) (sym c.new-walk.ensures.events);
   nodes = c.new-walk.ensures.nodes;
   put = Moves-nil _ _;
+  failing = λ now. now;
+  stalling = λ now. now;
 }
 
 pub events-preserved : goal.events-preserved
@@ -34,6 +36,8 @@ events-preserved g c =
       split = v.split ∙ ap (λ l. v.done ++ l) e ∙ sym (append_assoc v.done (event_text p t c.in-Some.event) (texts p t later));
       nodes = tail_of (length t.labels) c.in-Some.event later (subst (All (λ (e : Event). node_in e < length t.labels)) c.in-Some.ensures.steps v.nodes);
       put = Moves-is _ _ _ _ _ _ (sym (encodes-append v.done (event_text p t c.in-Some.event))) (Moves-trans _ _ _ _ _ _ _ _ v.put c.in_ok-put_event.ensures.bytes);
+      failing = λ now. v.failing (c.in_ok-put_event.ensures.failing now);
+      stalling = λ now. v.stalling (c.in_ok-put_event.ensures.stalling now);
     }
 
 pub returns-in_err-put_event-clause-bytes : goal.returns-in_err-put_event-clause-bytes

@@ -18,21 +18,29 @@ returns-in_err-put_between-clause-bytes g c =
 pub returns-in_err-put_foreign_attribute-clause-bytes : goal.returns-in_err-put_foreign_attribute-clause-bytes
 returns-in_err-put_foreign_attribute-clause-bytes g c =
     put_err _ _ _ _ _ _ c.from_residual-in_err-put_foreign_attribute.ensures.0
-    (front_after _ _ _ _ _ _ _ _ c.loop-attr.invariant c.in_err-put_foreign_attribute.ensures.bytes (encode_utf8_all (flat_map (attribute c.args.profile true) (drop (suc c.loop-attr.attr-index) c.args.attrs.now)) ++ codes ">")
+    (front_after _ _ _ _ _ _ _ _ c.loop-attr.invariant.put c.in_err-put_foreign_attribute.ensures.bytes (encode_utf8_all (flat_map (attribute c.args.profile true) (drop (suc c.loop-attr.attr-index) c.args.attrs.now)) ++ codes ">")
     (opened_at c.args.profile true c.args.name.now c.args.attrs.now c.requires.foreign c.loop-attr.attr-index c.attr-item.result c.loop-attr-test.true c.attr-item.is))
 
 pub loop-attr-preserved : goal.loop-attr-preserved
-loop-attr-preserved g c =
-    Moves-is _ _ _ _ _ _ (sym (opened_more c.args.profile true c.args.name.now c.args.attrs.now c.requires.foreign c.loop-attr.attr-index c.attr-item.result c.loop-attr-test.true c.attr-item.is))
-    (Moves-trans _ _ _ _ _ _ _ _ c.loop-attr.invariant c.in_ok-put_foreign_attribute.ensures.bytes)
+loop-attr-preserved g c = record {
+  put =
+      Moves-is _ _ _ _ _ _ (sym (opened_more c.args.profile true c.args.name.now c.args.attrs.now c.requires.foreign c.loop-attr.attr-index c.attr-item.result c.loop-attr-test.true c.attr-item.is))
+      (Moves-trans _ _ _ _ _ _ _ _ c.loop-attr.invariant.put c.in_ok-put_foreign_attribute.ensures.bytes);
+  failing = λ now. c.loop-attr.invariant.failing (c.in_ok-put_foreign_attribute.ensures.failing now);
+  stalling = λ now. c.loop-attr.invariant.stalling (c.in_ok-put_foreign_attribute.ensures.stalling now);
+}
 
 pub returns-clause-bytes : goal.returns-clause-bytes
 returns-clause-bytes g c =
-    put_after _ _ _ _ _ _ _ _ _ _ c.loop-attr.invariant c.put.ensures.bytes (opened_all c.args.profile true c.args.name.now c.args.attrs.now c.requires.foreign c.loop-attr.attr-index c.loop-attr-test.false)
+    put_after _ _ _ _ _ _ _ _ _ _ c.loop-attr.invariant.put c.put.ensures.bytes (opened_all c.args.profile true c.args.name.now c.args.attrs.now c.requires.foreign c.loop-attr.attr-index c.loop-attr-test.false)
 
 pub loop-attr-init : goal.loop-attr-init
-loop-attr-init g c =
-    Moves-is _ _ _ _ _ _
-    (ap (λ l. codes "<" ++ (l ++ [])) (local_bytes c.args.name.now c.as_str.result.now c.local_name.result.now c.local_name.utf8 c.as_str.ensures.code_points c.local_name.ensures.code_points)
-    ∙ sym (append-nil (codes "<" ++ (encode_utf8_all (local_name c.args.name.now) ++ []))))
-    c.in_ok-put_between.ensures.bytes
+loop-attr-init g c = record {
+  put =
+      Moves-is _ _ _ _ _ _
+      (ap (λ l. codes "<" ++ (l ++ [])) (local_bytes c.args.name.now c.as_str.result.now c.local_name.result.now c.local_name.utf8 c.as_str.ensures.code_points c.local_name.ensures.code_points)
+      ∙ sym (append-nil (codes "<" ++ (encode_utf8_all (local_name c.args.name.now) ++ []))))
+      c.in_ok-put_between.ensures.bytes;
+  failing = c.in_ok-put_between.ensures.failing;
+  stalling = c.in_ok-put_between.ensures.stalling;
+}

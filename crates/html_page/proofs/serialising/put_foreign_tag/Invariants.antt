@@ -1,4 +1,4 @@
-use Rattle.std.proofs.Common.{true, [], ◌++◌, take}
+use Rattle.std.proofs.Common.{◌≡◌, true, [], ◌++◌, take}
 use Rattle.std.specs.Prelude.{codes}
 use Rattle.std.specs.List.{flat_map}
 use Rattle.std.specs.Str.{encode_utf8_all}
@@ -7,8 +7,11 @@ use Rattle.html_page.specs.Html.{attribute}
 use Rattle.html_output.specs.Putting.{Moves, held}
 use Rattle.html_page.proofs.serialising.put_foreign_tag.Given as goal
 
--- the name and the attributes so far are put
+-- the name and the attributes so far are put; and the writer is no more at fault than at the start
 abbrev pub invariant-loop-attr : goal.invariant-loop-attr
-invariant-loop-attr g l =
-    Moves (g.W.Sink.taken l.fn.writer) (held l.fn.output) (g.W.Sink.taken l.writer) (held l.output)
-    ((codes "<" ++ (encode_utf8_all (local_name l.fn.name) ++ [])) ++ encode_utf8_all (flat_map (attribute l.profile true) (take l.attr-index l.attrs)))
+invariant-loop-attr g l = record {
+  put : Moves (g.W.Sink.taken l.fn.writer) (held l.fn.output) (g.W.Sink.taken l.writer) (held l.output)
+      ((codes "<" ++ (encode_utf8_all (local_name l.fn.name) ++ [])) ++ encode_utf8_all (flat_map (attribute l.profile true) (take l.attr-index l.attrs)));
+  failing : g.W.Sink.failed l.writer ≡ true → g.W.Sink.failed l.fn.writer ≡ true;
+  stalling : g.W.Sink.stalled l.writer ≡ true → g.W.Sink.stalled l.fn.writer ≡ true;
+}

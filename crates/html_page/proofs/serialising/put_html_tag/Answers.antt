@@ -16,14 +16,18 @@ returns-in_err-put_between-clause-bytes g c =
 pub returns-in_err-put_attribute-clause-bytes : goal.returns-in_err-put_attribute-clause-bytes
 returns-in_err-put_attribute-clause-bytes g c =
     put_err _ _ _ _ _ _ c.from_residual-in_err-put_attribute.ensures.0
-    (front_after _ _ _ _ _ _ _ _ c.loop-attr.invariant c.in_err-put_attribute.ensures.bytes (encode_utf8_all (flat_map (attribute c.args.profile false) (drop (suc c.loop-attr.attr-index) c.args.attrs.now)) ++ codes ">")
+    (front_after _ _ _ _ _ _ _ _ c.loop-attr.invariant.put c.in_err-put_attribute.ensures.bytes (encode_utf8_all (flat_map (attribute c.args.profile false) (drop (suc c.loop-attr.attr-index) c.args.attrs.now)) ++ codes ">")
     (opened_at c.args.profile false c.args.name.now c.args.attrs.now c.requires.html c.loop-attr.attr-index c.attr-item.result c.loop-attr-test.true c.attr-item.is))
 
 pub loop-attr-preserved : goal.loop-attr-preserved
-loop-attr-preserved g c =
-    Moves-is _ _ _ _ _ _ (sym (opened_more c.args.profile false c.args.name.now c.args.attrs.now c.requires.html c.loop-attr.attr-index c.attr-item.result c.loop-attr-test.true c.attr-item.is))
-    (Moves-trans _ _ _ _ _ _ _ _ c.loop-attr.invariant c.in_ok-put_attribute.ensures.bytes)
+loop-attr-preserved g c = record {
+  put =
+      Moves-is _ _ _ _ _ _ (sym (opened_more c.args.profile false c.args.name.now c.args.attrs.now c.requires.html c.loop-attr.attr-index c.attr-item.result c.loop-attr-test.true c.attr-item.is))
+      (Moves-trans _ _ _ _ _ _ _ _ c.loop-attr.invariant.put c.in_ok-put_attribute.ensures.bytes);
+  failing = λ now. c.loop-attr.invariant.failing (c.in_ok-put_attribute.ensures.failing now);
+  stalling = λ now. c.loop-attr.invariant.stalling (c.in_ok-put_attribute.ensures.stalling now);
+}
 
 pub returns-clause-bytes : goal.returns-clause-bytes
 returns-clause-bytes g c =
-    put_after _ _ _ _ _ _ _ _ _ _ c.loop-attr.invariant c.put.ensures.bytes (opened_all c.args.profile false c.args.name.now c.args.attrs.now c.requires.html c.loop-attr.attr-index c.loop-attr-test.false)
+    put_after _ _ _ _ _ _ _ _ _ _ c.loop-attr.invariant.put c.put.ensures.bytes (opened_all c.args.profile false c.args.name.now c.args.attrs.now c.requires.html c.loop-attr.attr-index c.loop-attr-test.false)

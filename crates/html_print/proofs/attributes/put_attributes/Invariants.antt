@@ -1,10 +1,13 @@
-use Rattle.std.proofs.Common.{take}
+use Rattle.std.proofs.Common.{◌≡◌, true, take}
 use Rattle.std.specs.List.{flat_map}
 use Rattle.html_output.specs.Putting.{Moves, held}
 use Rattle.html_print.proofs.Bytes.{attribute_line}
 use Rattle.html_print.proofs.attributes.put_attributes.Given as goal
 
--- the attributes so far are put
+-- the attributes so far are put; and the writer is no more at fault than at the start
 abbrev pub invariant-attrs : goal.invariant-attrs
-invariant-attrs g l =
-    Moves (g.W.Sink.taken l.fn.writer) (held l.fn.output) (g.W.Sink.taken l.writer) (held l.output) (flat_map (attribute_line l.depth l.foreign) (take l.attr-index l.attrs))
+invariant-attrs g l = record {
+  put : Moves (g.W.Sink.taken l.fn.writer) (held l.fn.output) (g.W.Sink.taken l.writer) (held l.output) (flat_map (attribute_line l.depth l.foreign) (take l.attr-index l.attrs));
+  failing : g.W.Sink.failed l.writer ≡ true → g.W.Sink.failed l.fn.writer ≡ true;
+  stalling : g.W.Sink.stalled l.writer ≡ true → g.W.Sink.stalled l.fn.writer ≡ true;
+}

@@ -24,6 +24,8 @@ events-init g c =
       small = subst (λ n. n < 2 ^ 64) c.len-count.ensures c.len-count.type_inv;
       room = c.requires.room;
       put = Moves-nil _ _;
+      failing = λ now. now;
+      stalling = λ now. now;
     }
 
 pub put_node-requires-clause-low : goal.put_node-requires-clause-low
@@ -54,6 +56,8 @@ events-preserved-in-Enter g c =
       small = v.small;
       room = λ y. (let a = v.room y in let b = c.in_ok-put_node-in-Enter.ensures.capacity in omega arith);
       put = Moves-is _ _ _ _ _ _ (sym (encodes-append v.done (lines_at d l))) (Moves-trans _ _ _ _ _ _ _ _ v.put moves);
+      failing = λ now. v.failing (c.in_ok-put_node-in-Enter.ensures.failing now);
+      stalling = λ now. v.stalling (c.in_ok-put_node-in-Enter.ensures.stalling now);
     }
 
 pub events-preserved : goal.events-preserved
@@ -73,6 +77,8 @@ events-preserved g c =
       small = v.small;
       room = v.room;
       put = v.put;
+      failing = v.failing;
+      stalling = v.stalling;
     }
 
 pub returns-in_err-put_node-in-Enter-clause-bytes : goal.returns-in_err-put_node-in-Enter-clause-bytes

@@ -1,4 +1,4 @@
-use Rattle.std.proofs.Common.{◌<◌, ◌≤◌, ◌*◌, ◌^◌, ℕ, List, ◌++◌, length}
+use Rattle.std.proofs.Common.{◌≡◌, true, ◌<◌, ◌≤◌, ◌*◌, ◌^◌, ℕ, List, ◌++◌, length}
 use Rattle.std.specs.List.{All}
 use Rattle.std.specs.Str.{encode_utf8_all}
 use Rattle.std.specs.Vec.{vec_capacity}
@@ -12,7 +12,7 @@ use Rattle.html_output.specs.Putting.{Moves, held}
 use Rattle.html_print.proofs.Walks.{Low, Texts}
 use Rattle.html_print.proofs.printing.put_lines.Given as goal
 
--- the texts of the events so far are put, and with any text of the others they are one of all
+-- the texts of the events so far are put, and with any text of the others they are one of all; and the writer is no more at fault than at the start
 abbrev pub invariant-events : goal.invariant-events
 invariant-events g l = record {
   done : List ℕ;
@@ -22,6 +22,8 @@ invariant-events g l = record {
   small : length l.arena.labels < 2 ^ 64;
   room : (x : ℕ) → length (attrs_in (label_of l.arena x)) ≤ vec_capacity l.ordered;
   put : Moves (g.W.Sink.taken l.fn.writer) (held l.fn.output) (g.W.Sink.taken l.writer) (held l.output) (encode_utf8_all done);
+  failing : g.W.Sink.failed l.writer ≡ true → g.W.Sink.failed l.fn.writer ≡ true;
+  stalling : g.W.Sink.stalled l.writer ≡ true → g.W.Sink.stalled l.fn.writer ≡ true;
 }
 
 abbrev pub decreases-events : goal.decreases-events

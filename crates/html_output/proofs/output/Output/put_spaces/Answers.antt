@@ -21,4 +21,6 @@ spaces-preserved g c =
       done = v.done + now;
       split = omega arith;
       put = Moves-is _ _ _ _ _ _ (ap (λ l. blanks v.done ++ l) c.spaces-in-spaces.ensures ∙ sym (blanks_more v.done now)) (Moves-trans _ _ _ _ _ _ _ _ v.put c.in_ok-put.ensures.bytes);
+      failing = λ now. v.failing (c.in_ok-put.ensures.failing now);
+      stalling = λ now. v.stalling (c.in_ok-put.ensures.stalling now);
     }
