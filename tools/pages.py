@@ -77,6 +77,8 @@ def worked_pages():
         options = [it for word in ("nodes", "held", "input", "steps") if word in words for it in (f"--max-{word}", words[word])]
         if "context" in words:
             options += ["--fragment", unescaped(words["context"])]
+        if "encoding" in words:
+            options += ["--context-encoding", unescaped(words["encoding"])]
         if "foreign" in words:
             options += ["--foreign", "parse"]
         rows.append((options, unescaped(page).encode()))

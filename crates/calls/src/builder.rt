@@ -34,6 +34,7 @@ fn context(alloc: Global, name: &str) -> Result<Context, BuildError> {
         name: named(alloc, name)?,
         in_form: false,
         quirks: false,
+        encoding: None,
     })
 }
 

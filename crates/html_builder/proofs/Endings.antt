@@ -33,13 +33,15 @@ use Rattle.html_ledger.specs.Symbols.{symbol_of, chars_of as symbol_chars}
 use Rattle.html_ledger.specs.Entries.{Fed}
 use Rattle.html_ledger.specs.Fated.{Fated}
 use Rattle.html_ledger.specs.Errors.{AreErrors}
-use Rattle.html_construction.specs.Built.{Handed as Given, IsBuilt, IsRooted as IsRootedTree, chars_of, symbols}
+use Rattle.html_construction.specs.Built.{Handed as Given, IsBuilt, IsRooted as IsRootedTree, chars_of, is_native, symbols}
+use Rattle.std.specs.List.{list_all}
+use Rattle.html_ledger.specs.Settings.{is_foreign_context}
 use Rattle.html_construction.specs.Accounts.{AreMade, AreTexts}
 use Rattle.html_construction.specs.Origins.{AreOrigins, HasRoot, IsRootLabel}
 use Rattle.html_construction.specs.States.{State}
 use Rattle.html_modes.specs.Steps.{allowance}
 use Rattle.html_builder.specs.Builders.{BuilderState}
-use Rattle.html_builder.specs.Handed.{CostAtMost, EndsAtEof, Handed, HaveFates, fates_of, given, own_total}
+use Rattle.html_builder.specs.Handed.{CostAtMost, EndsAtEof, Handed, HaveFates, fates_of, given, own_total, parses_foreign}
 use Rattle.html_builder.specs.Outcome.{AreVoidsEmpty, HasNoForeignRoot, IsBounded, IsOutcome, IsRooted, most_entries, most_held, most_nodes, most_tree_steps}
 use Rattle.html_construction.specs.Standing.{IsStanding}
 use Rattle.html_names.specs.Sets.{is_void}
@@ -311,6 +313,10 @@ outcome s l ts b t fs es h e q w d p f g seats =
 -- the limits to which it was built are kept
 pub within : (s : Setting) (l : Option Limits) (ts : List TokenKind) (b : BuilderState) (t : Tree) → Handed s l ts b → bare t ≡ b.page.tree.tree → IsWithin t → AreWithin l (length t.labels) t.held
 within s l ts b t h e w = subst (λ o. AreWithin o (length t.labels) t.held) (ap (λ (u : Tree). u.limits) e ∙ h.built.limits) w
+
+-- where foreign content is refused, no element of it was made
+pub native : (s : Setting) (l : Option Limits) (ts : List TokenKind) (b : BuilderState) → Handed s l ts b → parses_foreign b ≡ false → is_foreign_context s ≡ false → list_all is_native (fates_of b) ≡ true
+native s l ts b h p f = h.built.refusing p f
 
 pub ruleset finish_rules = (outcome, bounded)
 

@@ -85,6 +85,7 @@ over h us a b e w = record {
   origins = w.origins;
   made = w.made;
   texts = w.texts;
+  refusing = w.refusing;
   since = w.since;
   call = subst (λ o. IsInCall o b) (sym e) tt;
 }

@@ -1,11 +1,14 @@
 -- Claimed.
 -- The context of a fragment, and which names it may have (13.4).
-use Rattle.std.specs.Prelude.{ℕ, ◌≡◌, ◌==◌, Bool, true, false, not, ◌||◌, ◌&&◌, nat_lt, List, [], ◌∷◌, unwrap_or, if◌then◌else◌}
+use Rattle.std.specs.Prelude.{ℕ, ◌≡◌, ◌==◌, Bool, true, false, not, ◌||◌, ◌&&◌, nat_lt, List, [], ◌∷◌, Option, Some, None, cond, unwrap_or, if◌then◌else◌}
 use Rattle.std.specs.List.{list_all}
 use Rattle.std.specs.Str.{bytes_eq}
 use Rattle.html_names.specs.declared.foreign.Space.{Space}
-use Rattle.html_names.specs.Foreign.{adjusted_name, is_foreign, local_name, lowered, space_of}
+use Rattle.html_names.specs.Foreign.{adjusted_name, is_foreign, is_html_encoding, local_name, lowered, space_of}
+use Rattle.html_names.specs.declared.tag.Tag.{Tag}
+use Rattle.html_names.specs.declared.tag.Tag.TheVariants as tag
 use Rattle.html_names.specs.Names.{tag_of}
+use Rattle.html_names.specs.Tags.{is_same}
 use Rattle.html_tokens.specs.declared.token.TextMode.{TextMode}
 use Rattle.html_tokens.specs.declared.token.TextMode.TheVariants.{Foreign}
 use Rattle.html_ledger.specs.declared.setting.Setting.{Setting}
@@ -60,9 +63,19 @@ is_good_anywhere name = is_good name || is_good_foreign name
 abbrev pub IsGoodAnywhere : Context → Type 0
 IsGoodAnywhere c = is_good_anywhere c.name ≡ true
 
+-- an attribute encoding of this value says that an annotation-xml holds HTML (13.2.6)
+abbrev pub holds_html : Option (List ℕ) → Bool
+holds_html None = false
+holds_html (Some value) = is_html_encoding value
+
+-- The tag by which tree construction knows it: that of its name. An annotation-xml that holds HTML is an HTML integration point (13.2.6); it is known by the tag
+-- of such a point, svg desc, since of that context nothing else is asked.
+abbrev pub context_tag : Context → Tag
+context_tag c = cond (is_same (tag_of c.name) tag.MathAnnotationXml && holds_html c.encoding) tag.SvgDesc (tag_of c.name)
+
 -- what the ledger is to know of it
 abbrev pub setting_of : Context → Setting
-setting_of c = Fragment (tag_of c.name) c.in_form
+setting_of c = Fragment (context_tag c) c.in_form
 
 -- how the text of a fragment in it is read
 abbrev pub text_mode_of : Context → TextMode

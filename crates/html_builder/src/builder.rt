@@ -4,7 +4,9 @@ ghost use Rattle.html_arena.specs.Budget.{AreWithin};
 ghost use Rattle.html_arena.specs.Forest.{Forest};
 ghost use Rattle.html_arena.specs.declared.arena.Limits.{Limits};
 ghost use Rattle.html_construction.specs.Begun.{IsFounded};
-ghost use Rattle.html_construction.specs.Built.{IsBuilt, chars_of, nothing_of, symbols};
+ghost use Rattle.std.specs.List.{list_all};
+ghost use Rattle.html_ledger.specs.Settings.{is_foreign_context};
+ghost use Rattle.html_construction.specs.Built.{IsBuilt, chars_of, is_native, nothing_of, symbols};
 ghost use Rattle.html_construction.specs.Copies.{implied_count, most_clones};
 ghost use Rattle.html_construction.specs.Modes.{is_reset};
 ghost use Rattle.html_construction.specs.Works.{reach_of};
@@ -14,13 +16,12 @@ ghost use Rattle.html_tree.specs.States.{document_state};
 ghost use Rattle.html_ledger.specs.MayDrop.{MayBeForeign};
 ghost use Rattle.html_ledger.specs.declared.setting.Setting.{Setting};
 ghost use Rattle.html_ledger.specs.declared.setting.Setting.TheVariants.{Document};
-ghost use Rattle.html_names.specs.Names.{tag_of};
 ghost use Rattle.html_tokens.specs.declared.token.TokenKind.{TokenKind};
 ghost use Rattle.html_page.specs.Label.{Label};
 ghost use Rattle.html_page.specs.PageTokens.{page_kinds};
 ghost use Rattle.html_page.specs.Plain.{IsPlainPage};
 ghost use Rattle.html_page.specs.Shows.{Shows};
-ghost use Rattle.html_builder.specs.Contexts.{IsGood, IsGoodAnywhere, setting_of};
+ghost use Rattle.html_builder.specs.Contexts.{IsGood, IsGoodAnywhere, context_tag, setting_of};
 ghost use Rattle.html_builder.specs.Errors.{IsTextTold, IsTold};
 ghost use Rattle.html_builder.specs.Handed.{AddsFates, AreSo, CostAtMost, EndsAtEof, EntersNone, GivesFates, Handed, HandsIn, HaveFates, IsBuildCause, IsForeignOutside, IsForeignRefused, IsTextCause, fates_of, is_stopped, parses_foreign, reads_foreign};
 ghost use Rattle.html_builder.specs.Outcome.{IsBounded, IsOutcome, most_entries};
@@ -116,7 +117,7 @@ impl Builder {
     #[tactic(auto, using(crate::proofs::Handing::begin_rules))]
     pub fn fragment(alloc: Global, context: &Context) -> Result<Builder, BuildError>
         ensures begun { IfOk result (λ b. Handed (setting_of context.now) None [] b) }
-        ensures context { IfOk result (λ b. b.page.context ≡ Some (tag_of context.now.name)) }
+        ensures context { IfOk result (λ b. b.page.context ≡ Some (context_tag context.now)) }
         ensures quirks { IfOk result (λ b. b.page.quirks ≡ context.now.quirks) }
         ensures fates { IfOk result (λ b. fates_of b ≡ []) }
         ensures fresh { IfOk result (λ b. is_stopped b ≡ false) }
@@ -148,7 +149,7 @@ impl Builder {
         limits: Limits,
     ) -> Result<Builder, BuildError>
         ensures begun { IfOk result (λ b. Handed (setting_of context.now) (Some limits) [] b) }
-        ensures context { IfOk result (λ b. b.page.context ≡ Some (tag_of context.now.name)) }
+        ensures context { IfOk result (λ b. b.page.context ≡ Some (context_tag context.now)) }
         ensures quirks { IfOk result (λ b. b.page.quirks ≡ context.now.quirks) }
         ensures fates { IfOk result (λ b. fates_of b ≡ []) }
         ensures fresh { IfOk result (λ b. is_stopped b ≡ false) }
@@ -209,7 +210,7 @@ impl Builder {
         limits: Option<Limits>,
     ) -> Result<Builder, BuildError>
         ensures begun { IfOk result (λ b. Handed (setting_of context.now) limits [] b) }
-        ensures context { IfOk result (λ b. b.page.context ≡ Some (tag_of context.now.name)) }
+        ensures context { IfOk result (λ b. b.page.context ≡ Some (context_tag context.now)) }
         ensures quirks { IfOk result (λ b. b.page.quirks ≡ context.now.quirks) }
         ensures fates { IfOk result (λ b. fates_of b ≡ []) }
         ensures fresh { IfOk result (λ b. is_stopped b ≡ false) }
@@ -393,6 +394,8 @@ impl Builder {
         ensures entries { (s : Setting) (l : Option Limits) (tokens : List TokenKind) → Handed s l tokens self → (n : ℕ) → CostAtMost n tokens → self.entries ≤ most_entries n }
         ensures plain { (l : Option Limits) (tokens : List TokenKind) → Handed Document l tokens self → (page : Forest Label) → IsPlainPage page
             → tokens ≡ page_kinds page → Shows result.0 (0 ∷ []) page }
+        ensures native { (s : Setting) (l : Option Limits) (tokens : List TokenKind) → Handed s l tokens self → parses_foreign self ≡ false
+            → is_foreign_context s ≡ false → list_all is_native result.1 ≡ true }
         ensures plain_fates { (l : Option Limits) (tokens : List TokenKind) → Handed Document l tokens self → (page : Forest Label) → IsPlainPage page
             → tokens ≡ page_kinds page → HavePlainFates tokens result.1 }
     {
@@ -433,7 +436,7 @@ fn begun_fragment(
     ensures reset { IfOk result (λ b. is_reset b.mode ≡ true) }
     ensures founded { IfOk result (λ b. IsFounded b) }
     ensures stack { IfOk result (λ b. b.stack ≡ tag.Html ∷ []) }
-    ensures context { IfOk result (λ b. b.context ≡ Some (tag_of context.now.name)) }
+    ensures context { IfOk result (λ b. b.context ≡ Some (context_tag context.now)) }
     ensures quirks { IfOk result (λ b. b.quirks ≡ context.now.quirks) }
     ensures quiet { IfOk result (λ b. b.ledger.kept ≡ []) }
     ensures listed { IfOk result (λ b. b.tree.list ≡ []) }

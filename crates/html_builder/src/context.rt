@@ -8,7 +8,7 @@ ghost use Rattle.html_builder.specs.Contexts.{begins_name, ends_name, is_good_lo
 
 use crate::switches::text_mode_of;
 use html_charref::Str;
-use html_names::{Space, Tag, adjusted_name, local_name};
+use html_names::{Space, Tag, adjusted_name, is_html_encoding, local_name};
 use html_tokens::TextMode;
 use std::alloc::{AllocError, Global};
 
@@ -21,25 +21,50 @@ pub struct Context {
     pub in_form: bool,
     /// Whether its document is in quirks mode.
     pub quirks: bool,
+    /// The value of its attribute `encoding`, if it has one. In any case, `text/html` and `application/xhtml+xml` make a `math annotation-xml` an HTML
+    /// integration point (13.2.6); of no other element it is asked.
+    pub encoding: Option<Str>,
 }
 
 impl Context {
     ghost use Rattle.std.specs.Prelude.{◌≡◌, IfOk};
     ghost use Rattle.html_names.specs.Names.{tag_of};
-    ghost use Rattle.html_builder.specs.Contexts.{is_good, is_good_anywhere, is_good_foreign, text_mode_of};
+    ghost use Rattle.html_builder.specs.Contexts.{context_tag, holds_html, is_good, is_good_anywhere, is_good_foreign, text_mode_of};
+
+    /// The tag by which tree construction knows it.
+    pub(crate) fn tag(&self) -> Tag
+        ensures value { result ≡ context_tag self.now }
+    {
+        let named = self.named();
+        if named.is(Tag::MathAnnotationXml) && self.holds_html() {
+            Tag::SvgDesc
+        } else {
+            named
+        }
+    }
 
     /// The tag of the name.
-    pub(crate) fn tag(&self) -> Tag
+    fn named(&self) -> Tag
         ensures value { result ≡ tag_of self.now.name }
     {
         Tag::of(self.name.as_str())
+    }
+
+    /// Whether its attribute says that it holds HTML.
+    fn holds_html(&self) -> bool
+        ensures value { result ≡ holds_html self.now.encoding }
+    {
+        match &self.encoding {
+            Some(value) => is_html_encoding(value.as_str()),
+            None => false,
+        }
     }
 
     /// Whether a start tag can have the name, and the name is not that of foreign content.
     pub(crate) fn is_good(&self) -> bool
         ensures value { result ≡ is_good self.now.name }
     {
-        is_tag_name(self.name.as_str()) && !matches!(self.tag(), Tag::Svg | Tag::Math)
+        is_tag_name(self.name.as_str()) && !matches!(self.named(), Tag::Svg | Tag::Math)
     }
 
     /// Whether the name is good where foreign content is parsed: as one of HTML, or as one of foreign content.
@@ -61,7 +86,7 @@ impl Context {
     fn is_good_foreign(&self, alloc: Global) -> Result<bool, AllocError>
         ensures value { IfOk result (λ b. b ≡ is_good_foreign self.now.name) }
     {
-        let tag = self.tag();
+        let tag = self.named();
         if !tag.is_foreign() {
             return Ok(false);
         }
@@ -73,7 +98,7 @@ impl Context {
     pub fn text_mode(&self) -> TextMode
         ensures value { result ≡ text_mode_of self.now }
     {
-        let tag = self.tag();
+        let tag = self.named();
         if tag.is_foreign() {
             return TextMode::Foreign;
         }

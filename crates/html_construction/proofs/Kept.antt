@@ -4,7 +4,7 @@ use Rattle.std.specs.Bool.{IsTrue}
 use Rattle.std.proofs.lemmas.Bool.{cond-false, false≢true}
 use Rattle.std.proofs.lemmas.List.{append-nil}
 use Rattle.std.proofs.lemmas.List.Folds.{list_all-append}
-use Rattle.std.proofs.Common.{ℕ, zero, suc, ◌==◌, ◌&&◌, not, take, append_assoc, ◌≡◌, ◌+◌, ◌<◌, ◌≤◌, Bool, true, false, List, [], ◌∷◌, ◌++◌, length, map, refl, sym, ap, subst, ◌∙◌, arith, Option, None, Some, ◌≢◌, replicate}
+use Rattle.std.proofs.Common.{ℕ, zero, suc, ◌==◌, ◌&&◌, not, take, append_assoc, ◌≡◌, ◌+◌, ◌<◌, ◌≤◌, Bool, true, false, List, [], ◌∷◌, ◌++◌, length, map, refl, sym, ap, subst, ◌∙◌, arith, Option, None, Some, ◌≢◌, replicate, ◌⊎◌, inl, inr, ◌||◌, slice_get, unwrap_or}
 use Rattle.html_names.specs.declared.tag.Tag.{Tag}
 use Rattle.html_names.specs.declared.foreign.Space.{Space}
 use Rattle.html_names.specs.Foreign.{is_html_space}
@@ -29,6 +29,11 @@ use Rattle.html_ledger.specs.declared.fate.Cause.{Cause}
 use Rattle.html_ledger.specs.declared.fate.Fate.{Fate}
 use Rattle.html_ledger.specs.Flags.{is_free_run, is_not_null, may_text_run}
 use Rattle.html_ledger.specs.declared.symbol.Symbol.{Symbol}
+use Rattle.html_ledger.specs.declared.symbol.Symbol.TheVariants as symbol
+use Rattle.html_ledger.specs.declared.setting.Setting.{Setting}
+use Rattle.html_ledger.specs.Fates.{is_foreign}
+use Rattle.html_ledger.specs.MayDrop.{Since, any_token, embeds}
+use Rattle.html_ledger.specs.Settings.{is_foreign_context}
 use Rattle.html_ledger.specs.Symbols.{symbol_of, chars_of as symbol_chars}
 use Rattle.html_ledger.specs.Entries.{Entries, Fed, Releases as LedgerReleases, Takes as LedgerTakes, TakesRun as LedgerTakesRun, given, given_run, number_of}
 use Rattle.html_construction.specs.Calls.{HasFate, IsTree, implied_of, listed_at}
@@ -40,7 +45,7 @@ use Rattle.html_construction.specs.Origins.{HasRoot, is_made_alone}
 use Rattle.html_construction.proofs.Beginning.{document-root, document-rooted, document-standing, document-told, fragment-limits, fragment-root, fragment-rooted, fragment-standing, fragment-told}
 use Rattle.html_tree.proofs.Texted.{new-limits}
 use Rattle.html_construction.specs.Begun.{Begun, IsInCall, drops_in, gives_in}
-use Rattle.html_construction.specs.Built.{Begins, BeginsWith, Handed, IsBuilt, IsRooted, nothing_of, Keeps, Releases, Takes, TakesRun, chars_of, in_call, since_tree, symbols, with_tokens}
+use Rattle.html_construction.specs.Built.{Begins, BeginsWith, Handed, IsBuilt, IsRefusing, IsRooted, is_native, nothing_of, Keeps, Releases, Takes, TakesRun, chars_of, in_call, since_tree, symbols, with_tokens}
 use Rattle.html_construction.specs.Modes.{is_reset}
 use Rattle.html_construction.specs.UnderWay.{IsUnderWay}
 use Rattle.html_construction.specs.Weights.{group_weight, weight, weight_of}
@@ -101,29 +106,39 @@ adds-made n g y f h = record { more = f ∷ []; fates_are = ap (λ (x : Entries)
 longer : (fs gs hs ks : List Fate) → ks ≡ gs ++ hs → BeginsWith fs gs → BeginsWith fs ks
 longer fs gs hs ks e b = (b.0 ++ hs, e ∙ ap (λ xs. xs ++ hs) b.1 ∙ append_assoc fs b.0 hs)
 
--- fates are only added, which tokens may have in a call that began in this mode
-pub record Gives (m : Mode) (a b : Entries) : Type 0 where
+-- the mode in which the call began, and whether foreign content is parsed: neither changes in a call of the tree or of the ledger
+pub record Stay : Type 0 where
+  pub began : Mode
+  pub parses : Bool
+
+abbrev pub stay_of : State → Stay
+stay_of a = record { began = a.began; parses = a.parses_foreign }
+
+-- fates are only added, which tokens may have in a call that began in this mode; and none is of foreign content, or that was made before, is the context
+-- or is parsed
+pub record Gives (m : Stay) (a b : Entries) : Type 0 where
   pub more : List Fate
   pub fates_are : b.fates ≡ a.fates ++ more
-  pub given : list_all (gives_in m) more ≡ true
+  pub given : list_all (gives_in m.began) more ≡ true
+  pub native : (list_all is_native more ≡ true) ⊎ ((m.parses || a.history.foreign) ≡ true)
 
-pub gives-none : (m : Mode) (a b : Entries) → b.fates ≡ a.fates → Gives m a b
-gives-none m a b e = record { more = []; fates_are = e ∙ sym (append-nil a.fates); given = refl }
+pub gives-none : (m : Stay) (a b : Entries) → b.fates ≡ a.fates → Gives m a b
+gives-none m a b e = record { more = []; fates_are = e ∙ sym (append-nil a.fates); given = refl; native = inl refl }
 
-pub gives : (m : Mode) (a b : Entries) (fs : List Fate) → b.fates ≡ a.fates ++ fs → list_all (gives_in m) fs ≡ true → Gives m a b
-gives m a b fs e g = record { more = fs; fates_are = e; given = g }
+pub gives : (m : Stay) (a b : Entries) (f : Fate) → b.fates ≡ a.fates ++ f ∷ [] → list_all (gives_in m.began) (f ∷ []) ≡ true → list_all is_native (f ∷ []) ≡ true → Gives m a b
+gives m a b f e g n = record { more = f ∷ []; fates_are = e; given = g; native = inl n }
 
-pub gives-text : (m : Mode) (a b : Entries) (d : ℕ) → b.fates ≡ a.fates ++ Text d ∷ [] → Gives m a b
-gives-text m a b d e = record { more = Text d ∷ []; fates_are = e; given = refl }
+pub gives-text : (m : Stay) (a b : Entries) (d : ℕ) → b.fates ≡ a.fates ++ Text d ∷ [] → Gives m a b
+gives-text m a b d e = record { more = Text d ∷ []; fates_are = e; given = refl; native = inl refl }
 
-pub gives-merged : (m : Mode) (a b : Entries) → b.fates ≡ a.fates ++ Merged ∷ [] → Gives m a b
-gives-merged m a b e = record { more = Merged ∷ []; fates_are = e; given = refl }
+pub gives-merged : (m : Stay) (a b : Entries) → b.fates ≡ a.fates ++ Merged ∷ [] → Gives m a b
+gives-merged m a b e = record { more = Merged ∷ []; fates_are = e; given = refl; native = inl refl }
 
-pub gives-foreign : (m : Mode) (n g : State) (y : Symbol) (d : ℕ) → HasFate y (Foreign d) n g → Gives m n.ledger g.ledger
-gives-foreign m n g y d h = record { more = Foreign d ∷ []; fates_are = ap (λ (x : Entries). x.fates) h.ledger_is; given = refl }
+pub gives-foreign : (n g : State) (y : Symbol) (d : ℕ) → HasFate y (Foreign d) n g → IsTrue (n.parses_foreign || n.ledger.history.foreign) → Gives (stay_of n) n.ledger g.ledger
+gives-foreign n g y d h a = record { more = Foreign d ∷ []; fates_are = ap (λ (x : Entries). x.fates) h.ledger_is; given = refl; native = inr a }
 
-pub gives-made : (m : Mode) (n g : State) (y : Symbol) (d : ℕ) → HasFate y (Made d) n g → Gives m n.ledger g.ledger
-gives-made m n g y d h = record { more = Made d ∷ []; fates_are = ap (λ (x : Entries). x.fates) h.ledger_is; given = refl }
+pub gives-made : (m : Stay) (n g : State) (y : Symbol) (d : ℕ) → HasFate y (Made d) n g → Gives m n.ledger g.ledger
+gives-made m n g y d h = record { more = Made d ∷ []; fates_are = ap (λ (x : Entries). x.fates) h.ledger_is; given = refl; native = inl refl }
 
 pub gives-dropped : (v n : State) (c : Cause) → v ≡ n → IsTrue (drops_in c n.began) → list_all (gives_in v.began) (Dropped c ∷ []) ≡ true
 gives-dropped v n c e g = and (drops_in c v.began) true (ap (λ (x : State). drops_in c x.began) e ∙ g) refl
@@ -142,6 +157,68 @@ call-more (Some c) v z more e g b u = record {
   given = list_all-append (gives_in c.mode) u.later more ∙ and (list_all (gives_in c.mode) u.later) (list_all (gives_in c.mode) more) u.given (subst (λ m. list_all (gives_in m) more ≡ true) u.began g);
 }
 
+-- where foreign content is refused, no element of it is made
+refusing-same : (s : Setting) (v z : State) → z.ledger.fates ≡ v.ledger.fates → stay_of z ≡ stay_of v → IsRefusing s v → IsRefusing s z
+refusing-same s v z e b u = λ p f. ap (λ fs. list_all is_native fs) e ∙ u (sym (ap (λ (y : Stay). y.parses) b) ∙ p) f
+
+native-at : (fs : List Fate) (i : ℕ) (f : Fate) → list_all is_native fs ≡ true → slice_get fs i ≡ Some f → is_native f ≡ true
+native-at [] i f n e = absurd (let q : None ≡ Some f = e in cc)
+native-at (g ∷ fs) zero f n e = subst (λ x. is_native x ≡ true) (ap (λ o. unwrap_or o g) e) (both (is_native g) (list_all is_native fs) n).0
+native-at (g ∷ fs) (suc i) f n e = native-at fs i f (both (is_native g) (list_all is_native fs) n).1 e
+
+embeds-foreign : (y : Symbol) (f : Fate) → embeds y f ≡ true → is_foreign f ≡ true
+embeds-foreign (Start t) f e = e
+embeds-foreign (symbol.End t) f e = absurd (false≢true e)
+embeds-foreign (Char c) f e = absurd (false≢true e)
+embeds-foreign Comment f e = absurd (false≢true e)
+embeds-foreign Doctype f e = absurd (false≢true e)
+embeds-foreign Eof f e = absurd (false≢true e)
+
+none-embedded : (ts : List Symbol) (fs : List Fate) → list_all is_native fs ≡ true → Since embeds any_token ts fs → ⊥
+none-embedded ts fs n w =
+    let p : is_foreign w.fate ≡ true = embeds-foreign w.token w.fate w.is_such in
+    let q : not (is_foreign w.fate) ≡ true = native-at fs w.at w.fate n w.fate_is in
+    false≢true (sym (ap not p) ∙ q)
+
+-- where no element of it was made and it is not the context, the history says so
+no-foreign : (s : Setting) (l : Entries) (ys : List Symbol) → Fed s l ys → is_foreign_context s ≡ false → list_all is_native l.fates ≡ true → l.history.foreign ≡ true → ⊥
+no-foreign s l ys d f n h = elim (d.settled.known.foreign.0 h) [
+  | inl w ↦ none-embedded d.front l.fates n w
+  | inr c ↦ false≢true (sym f ∙ c)
+]
+
+refusing-more : (s : Setting) (ys : List Symbol) (v z : State) → Gives (stay_of v) v.ledger z.ledger → stay_of z ≡ stay_of v → Fed s v.ledger ys → IsRefusing s v → IsRefusing s z
+refusing-more s ys v z g b d u = λ p f.
+    let q : v.parses_foreign ≡ false = sym (ap (λ (y : Stay). y.parses) b) ∙ p in
+    let n : list_all is_native v.ledger.fates ≡ true = u q f in
+    elim g.native [
+      | inl m ↦ ap (λ fs. list_all is_native fs) g.fates_are ∙ list_all-append is_native v.ledger.fates g.more ∙ and (list_all is_native v.ledger.fates) (list_all is_native g.more) n m
+      | inr a ↦ absurd (no-foreign s v.ledger ys d f n (or-right v.parses_foreign v.ledger.history.foreign a q))
+    ]
+  where
+    or-right : (x y : Bool) → (x || y) ≡ true → x ≡ false → y ≡ true
+    or-right true y e h = absurd (false≢true (sym h))
+    or-right false y e h = e
+
+-- foreign content is parsed from here on
+pub parsing : (v n z : State) → v ≡ n → z ≡ record v { parses_foreign = true } → Keeps n z
+parsing v n z e p = λ h w.
+    let u : IsBuilt h v = subst (λ x. IsBuilt h x) (sym e) w in
+    subst (λ x. IsBuilt h x) (sym p) (record {
+      fed = u.fed;
+      known = u.known;
+      rooted = u.rooted;
+      standing = u.standing;
+      limits = u.limits;
+      root = u.root;
+      origins = u.origins;
+      made = u.made;
+      texts = u.texts;
+      refusing = λ q f. absurd (false≢true (sym q));
+      since = u.since;
+      call = call-same h.call v (record v { parses_foreign = true }) refl refl u.call;
+    })
+
 -- a call begins
 pub begins : (v n z : State) (d k : ℕ) → v ≡ n → z ≡ record v { began = v.mode; depth = d; nodes = k } → Begins n z
 begins v n z d k e f = λ h w. subst (λ x. IsBuilt (in_call h n) x) (sym (f ∙ ap (λ (x : State). record x { began = x.mode; depth = d; nodes = k }) e)) (record {
@@ -154,6 +231,7 @@ begins v n z d k e f = λ h w. subst (λ x. IsBuilt (in_call h n) x) (sym (f ∙
   origins = w.origins;
   made = w.made;
   texts = w.texts;
+  refusing = w.refusing;
   since = w.since;
   call = record { began = refl; later = []; fates_are = sym (append-nil n.ledger.fates); given = refl };
 })
@@ -170,6 +248,7 @@ begun-document l k a e d = record {
   origins = told.origins;
   made = told.made;
   texts = told.texts;
+  refusing = λ p f. ap (λ fs. list_all is_native fs) (fed-none _ a.ledger d);
   since = tt;
   call = tt;
 }
@@ -189,6 +268,7 @@ begun-fragment g f l k a e d = record {
   origins = told.origins;
   made = told.made;
   texts = told.texts;
+  refusing = λ p f. ap (λ fs. list_all is_native fs) (fed-none _ a.ledger d);
   since = tt;
   call = tt;
 }
@@ -261,8 +341,12 @@ all-texts : (m : Mode) (d n : ℕ) → list_all (gives_in m) (replicate n (Text 
 all-texts m d zero = refl
 all-texts m d (suc n) = all-texts m d n
 
-pub gives-run : (m : Mode) (a b : Entries) (cs : List ℕ) (d : ℕ) → b ≡ given_run a cs (Text d) → Gives m a b
-gives-run m a b cs d e = record { more = replicate (length cs) (Text d); fates_are = ap (λ (x : Entries). x.fates) e ∙ run-given a cs (Text d); given = all-texts m d (length cs) }
+native-texts : (d n : ℕ) → list_all is_native (replicate n (Text d)) ≡ true
+native-texts d zero = refl
+native-texts d (suc n) = native-texts d n
+
+pub gives-run : (m : Stay) (a b : Entries) (cs : List ℕ) (d : ℕ) → b ≡ given_run a cs (Text d) → Gives m a b
+gives-run m a b cs d e = record { more = replicate (length cs) (Text d); fates_are = ap (λ (x : Entries). x.fates) e ∙ run-given a cs (Text d); given = all-texts m.began d (length cs); native = inl (native-texts d (length cs)) }
 
 some-run : (cs : List ℕ) → 0 < length cs → cs ≢ []
 some-run [] h e = absurd (omega arith)
@@ -377,7 +461,7 @@ made-doctype b t x y z k m s e f g i ts l =
     (subst (λ d. IsNext false (label_for b (new.Doctype (name_id t) (public_id t) d m)) (ts ++ t ∷ []) m) (sym g) (next-doctype b ts t m l s))))
 
 -- the tree changed, and the ledger did not
-pub kept : (v n z : State) → v ≡ n → z.ledger ≡ v.ledger → z.began ≡ v.began → TreeKeeps v.tree z.tree → HasCloned v.tree z.tree → Keeps n z
+pub kept : (v n z : State) → v ≡ n → z.ledger ≡ v.ledger → stay_of z ≡ stay_of v → TreeKeeps v.tree z.tree → HasCloned v.tree z.tree → Keeps n z
 kept v n z e f b k c = λ h w.
     let u : IsBuilt h v = subst (λ x. IsBuilt h x) (sym e) w in record {
       fed = subst (λ l. Fed h.setting l (symbols h.tokens)) (sym f) u.fed;
@@ -389,15 +473,16 @@ kept v n z e f b k c = λ h w.
       origins = (all h u).origins;
       made = (all h u).made;
       texts = (all h u).texts;
+      refusing = refusing-same h.setting v z (ap (λ (l : Entries). l.fates) f) b u.refusing;
       since = since-keeps h.earlier v.tree z.tree k u.since;
-      call = call-same h.call v z (ap (λ (l : Entries). l.fates) f) b u.call;
+      call = call-same h.call v z (ap (λ (l : Entries). l.fates) f) (ap (λ (y : Stay). y.began) b) u.call;
     }
   where
     all : (h : Handed) → IsBuilt h v → Told h.tokens z.ledger.fates z.tree.tree.labels
     all h u = subst (λ (l : Entries). Told h.tokens l.fates z.tree.tree.labels) (sym f) (told-clones h.tokens v.ledger.fates v.tree z.tree c (told-built h v u))
 
 -- an element that no token asked for was made
-pub implied : (v n z : State) (at : Place) (g : Tag) → v ≡ n → z.ledger ≡ v.ledger → z.began ≡ v.began → TreeKeeps v.tree z.tree → z.tree.tree ≡ with_new v.tree.tree at (implied_of g) → is_made_alone g ≡ true → Keeps n z
+pub implied : (v n z : State) (at : Place) (g : Tag) → v ≡ n → z.ledger ≡ v.ledger → stay_of z ≡ stay_of v → TreeKeeps v.tree z.tree → z.tree.tree ≡ with_new v.tree.tree at (implied_of g) → is_made_alone g ≡ true → Keeps n z
 implied v n z at g e f b k q a = λ h w.
     let u : IsBuilt h v = subst (λ x. IsBuilt h x) (sym e) w in record {
       fed = subst (λ l. Fed h.setting l (symbols h.tokens)) (sym f) u.fed;
@@ -409,8 +494,9 @@ implied v n z at g e f b k q a = λ h w.
       origins = (all h u).origins;
       made = (all h u).made;
       texts = (all h u).texts;
+      refusing = refusing-same h.setting v z (ap (λ (l : Entries). l.fates) f) b u.refusing;
       since = since-keeps h.earlier v.tree z.tree k u.since;
-      call = call-same h.call v z (ap (λ (l : Entries). l.fates) f) b u.call;
+      call = call-same h.call v z (ap (λ (l : Entries). l.fates) f) (ap (λ (y : Stay). y.began) b) u.call;
     }
   where
     all : (h : Handed) → IsBuilt h v → Told h.tokens z.ledger.fates z.tree.tree.labels
@@ -429,12 +515,13 @@ built-since h a w = record {
   origins = w.origins;
   made = w.made;
   texts = w.texts;
+  refusing = w.refusing;
   since = Since-same a.tree;
   call = w.call;
 }
 
 -- the ledger took a token, and the tree may have changed
-pub taken : (v n z : State) (t : TokenKind) (y : Symbol) → v ≡ n → symbol_of t ≡ y → LedgerTakes y v.ledger z.ledger → Gives v.began v.ledger z.ledger → TreeKeeps v.tree z.tree → z.tree.tree.limits ≡ v.tree.tree.limits → Tells (t ∷ []) v z → z.began ≡ v.began → Takes t n z
+pub taken : (v n z : State) (t : TokenKind) (y : Symbol) → v ≡ n → symbol_of t ≡ y → LedgerTakes y v.ledger z.ledger → Gives (stay_of v) v.ledger z.ledger → TreeKeeps v.tree z.tree → z.tree.tree.limits ≡ v.tree.tree.limits → Tells (t ∷ []) v z → stay_of z ≡ stay_of v → Takes t n z
 unfolding with_tokens
 taken v n z t y e f g m k l x b = λ h w.
     let u : IsBuilt h v = subst (λ x. IsBuilt h x) (sym e) w in record {
@@ -447,12 +534,13 @@ taken v n z t y e f g m k l x b = λ h w.
       origins = (x.told h u.fed (told-built h v u)).origins;
       made = (x.told h u.fed (told-built h v u)).made;
       texts = (x.told h u.fed (told-built h v u)).texts;
+      refusing = refusing-more h.setting (symbols h.tokens) v z m b u.fed u.refusing;
       since = since-keeps h.earlier v.tree z.tree k u.since;
-      call = call-more h.call v z m.more m.fates_are m.given b u.call;
+      call = call-more h.call v z m.more m.fates_are m.given (ap (λ (y : Stay). y.began) b) u.call;
     }
 
 -- the ledger took code points
-pub taken-run : (v n z : State) (cs : List ℕ) → v ≡ n → LedgerTakesRun cs v.ledger z.ledger → Gives v.began v.ledger z.ledger → TreeKeeps v.tree z.tree → z.tree.tree.limits ≡ v.tree.tree.limits → Tells (chars_of cs) v z → z.began ≡ v.began → TakesRun cs n z
+pub taken-run : (v n z : State) (cs : List ℕ) → v ≡ n → LedgerTakesRun cs v.ledger z.ledger → Gives (stay_of v) v.ledger z.ledger → TreeKeeps v.tree z.tree → z.tree.tree.limits ≡ v.tree.tree.limits → Tells (chars_of cs) v z → stay_of z ≡ stay_of v → TakesRun cs n z
 unfolding with_tokens
 taken-run v n z cs e g m k l x b = λ h w.
     let u : IsBuilt h v = subst (λ x. IsBuilt h x) (sym e) w in record {
@@ -465,8 +553,9 @@ taken-run v n z cs e g m k l x b = λ h w.
       origins = (x.told h u.fed (told-built h v u)).origins;
       made = (x.told h u.fed (told-built h v u)).made;
       texts = (x.told h u.fed (told-built h v u)).texts;
+      refusing = refusing-more h.setting (symbols h.tokens) v z m b u.fed u.refusing;
       since = since-keeps h.earlier v.tree z.tree k u.since;
-      call = call-more h.call v z m.more m.fates_are m.given b u.call;
+      call = call-more h.call v z m.more m.fates_are m.given (ap (λ (y : Stay). y.began) b) u.call;
     }
 
 -- the tree is as it was
@@ -491,24 +580,24 @@ pub stack-is : (v n : State) → v ≡ n → v.stack ≡ n.stack
 stack-is v n e = ap (λ (x : State). x.stack) e
 
 -- the ledger took a token first, and then the tree changed
-pub taken-made : (v g n z : State) (t : TokenKind) (y : Symbol) → v ≡ g → g ≡ record n { ledger = g.ledger } → z.ledger ≡ v.ledger → z.began ≡ v.began → symbol_of t ≡ y → LedgerTakes y n.ledger g.ledger → Gives n.began n.ledger g.ledger → TreeKeeps v.tree z.tree → (at : Place) (d : NewNode) → z.tree.tree ≡ with_new v.tree.tree at d → Tells (t ∷ []) n z → Takes t n z
+pub taken-made : (v g n z : State) (t : TokenKind) (y : Symbol) → v ≡ g → g ≡ record n { ledger = g.ledger } → z.ledger ≡ v.ledger → stay_of z ≡ stay_of v → symbol_of t ≡ y → LedgerTakes y n.ledger g.ledger → Gives (stay_of n) n.ledger g.ledger → TreeKeeps v.tree z.tree → (at : Place) (d : NewNode) → z.tree.tree ≡ with_new v.tree.tree at d → Tells (t ∷ []) n z → Takes t n z
 taken-made v g n z t y e r p b f k q j at d l x =
     taken n n z t y refl f
     (subst (λ m. LedgerTakes y n.ledger m) (sym (p ∙ ap (λ (x : State). x.ledger) e)) k)
-    (subst (λ m. Gives n.began n.ledger m) (sym (p ∙ ap (λ (x : State). x.ledger) e)) q)
+    (subst (λ m. Gives (stay_of n) n.ledger m) (sym (p ∙ ap (λ (x : State). x.ledger) e)) q)
     (subst (λ x. TreeKeeps x z.tree) (ap (λ (x : State). x.tree) e ∙ ap (λ (x : State). x.tree) r) j)
     (ap (λ (t : Nodes). t.limits) l ∙ new-limits v.tree.tree at d ∙ ap (λ (x : State). x.tree.tree.limits) e ∙ ap (λ (x : State). x.tree.tree.limits) r)
-    x (b ∙ ap (λ (x : State). x.began) e ∙ ap (λ (x : State). x.began) r)
+    x (b ∙ ap stay_of e ∙ ap stay_of r)
 
 -- the same, where the node was put into another tree of the same limits
-pub taken-moved : (v g n z : State) (t : TokenKind) (y : Symbol) → v ≡ g → g ≡ record n { ledger = g.ledger } → z.ledger ≡ v.ledger → z.began ≡ v.began → symbol_of t ≡ y → LedgerTakes y n.ledger g.ledger → Gives n.began n.ledger g.ledger → TreeKeeps v.tree z.tree → z.tree.tree.limits ≡ v.tree.tree.limits → Tells (t ∷ []) n z → Takes t n z
+pub taken-moved : (v g n z : State) (t : TokenKind) (y : Symbol) → v ≡ g → g ≡ record n { ledger = g.ledger } → z.ledger ≡ v.ledger → stay_of z ≡ stay_of v → symbol_of t ≡ y → LedgerTakes y n.ledger g.ledger → Gives (stay_of n) n.ledger g.ledger → TreeKeeps v.tree z.tree → z.tree.tree.limits ≡ v.tree.tree.limits → Tells (t ∷ []) n z → Takes t n z
 taken-moved v g n z t y e r p b f k q j l x =
     taken n n z t y refl f
     (subst (λ m. LedgerTakes y n.ledger m) (sym (p ∙ ap (λ (x : State). x.ledger) e)) k)
-    (subst (λ m. Gives n.began n.ledger m) (sym (p ∙ ap (λ (x : State). x.ledger) e)) q)
+    (subst (λ m. Gives (stay_of n) n.ledger m) (sym (p ∙ ap (λ (x : State). x.ledger) e)) q)
     (subst (λ x. TreeKeeps x z.tree) (ap (λ (x : State). x.tree) e ∙ ap (λ (x : State). x.tree) r) j)
     (l ∙ ap (λ (x : State). x.tree.tree.limits) e ∙ ap (λ (x : State). x.tree.tree.limits) r)
-    x (b ∙ ap (λ (x : State). x.began) e ∙ ap (λ (x : State). x.began) r)
+    x (b ∙ ap stay_of e ∙ ap stay_of r)
 
 -- formatting elements were opened anew
 formatting-weighs : (ts : List Tag) → list_all is_formatting ts ≡ true → weight ts ≡ 0
@@ -567,7 +656,7 @@ split-symbols [] (y ∷ ys) cs e = absurd cc
 split-symbols (t ∷ ts) (y ∷ ys) cs e = let p = split-symbols ts ys cs (ap rest e) in
     (t ∷ p.0, ap (λ z. z ∷ symbols p.0) (ap first e) ∙ ap (λ zs. y ∷ zs) p.1, ap (λ us. t ∷ us) p.2)
 
-pub released : (v n z : State) (cs : List ℕ) → v ≡ n → z.began ≡ v.began → LedgerReleases cs v.ledger z.ledger → z.ledger.fates ≡ v.ledger.fates → z.tree ≡ v.tree → Releases cs n z
+pub released : (v n z : State) (cs : List ℕ) → v ≡ n → stay_of z ≡ stay_of v → LedgerReleases cs v.ledger z.ledger → z.ledger.fates ≡ v.ledger.fates → z.tree ≡ v.tree → Releases cs n z
 unfolding with_tokens
 released v n z cs e i r m k = λ h w.
     let u : IsBuilt h v = subst (λ x. IsBuilt h x) (sym e) w in
@@ -594,7 +683,8 @@ released v n z cs e i r m k = λ h w.
           made = y.made;
           texts = y.texts;
           since = u.since;
-          call = call-same h.call v (record z { tree = v.tree }) m i u.call;
+          refusing = refusing-same h.setting v (record z { tree = v.tree }) m i u.refusing;
+          call = call-same h.call v (record z { tree = v.tree }) m (ap (λ (y : Stay). y.began) i) u.call;
         }
 
 -- a front of code points that may become text in one go

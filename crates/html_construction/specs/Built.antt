@@ -1,6 +1,7 @@
 -- Claimed.
 -- Tokens against what was built of them.
-use Rattle.std.specs.Prelude.{◌≡◌, ℕ, ◌<◌, ◌⊎◌, List, [], ◌∷◌, ◌++◌, length, Option, Some, None, Bool, false}
+use Rattle.std.specs.Prelude.{◌≡◌, ℕ, ◌<◌, ◌⊎◌, List, [], ◌∷◌, ◌++◌, length, Option, Some, None, Bool, true, false, not}
+use Rattle.std.specs.List.{list_all}
 use Rattle.html_arena.specs.declared.arena.Limits.{Limits}
 use Rattle.html_arena.specs.Tree.{host_at, parent_of}
 use Rattle.html_tokens.specs.declared.token.TokenKind.{TokenKind}
@@ -12,7 +13,8 @@ use Rattle.html_ledger.specs.declared.symbol.Symbol.{Symbol}
 use Rattle.html_ledger.specs.Symbols.{symbol_of}
 use Rattle.html_ledger.specs.declared.fate.Fate.{Fate}
 use Rattle.html_ledger.specs.Entries.{Fed}
-use Rattle.html_ledger.specs.Fates.{is_made}
+use Rattle.html_ledger.specs.Fates.{is_foreign, is_made}
+use Rattle.html_ledger.specs.Settings.{is_foreign_context}
 use Rattle.html_ledger.specs.Runs.{last_of}
 use Rattle.html_construction.specs.Accounts.{AreMade, AreTexts}
 use Rattle.html_construction.specs.Begun.{Begun, IsInCall}
@@ -71,6 +73,14 @@ abbrev pub IsSince : Option Tree → Tree → Type 0
 IsSince None t = Unit {0}
 IsSince (Some e) t = Since e t
 
+-- no element of foreign content was made of the token
+abbrev pub is_native : Fate → Bool
+is_native f = not (is_foreign f)
+
+-- Where foreign content is refused, and is not the context, no element of it was made of a token (13.2.6.5).
+abbrev pub IsRefusing : Setting → State → Type 0
+IsRefusing s a = a.parses_foreign ≡ false → is_foreign_context s ≡ false → list_all is_native a.ledger.fates ≡ true
+
 -- The tree and the ledger are what was built of what was handed in; fates that were known are as they were, what was closed in an earlier tree
 -- that is known is closed, and in a call that is known each token got a fate that it may have there.
 pub record IsBuilt (h : Handed) (a : State) : Type 0 where
@@ -83,6 +93,7 @@ pub record IsBuilt (h : Handed) (a : State) : Type 0 where
   pub origins : AreOrigins h.tokens a.ledger.fates a.tree.tree.labels
   pub made : AreMade a.ledger.fates a.tree.tree.labels
   pub texts : AreTexts (symbols h.tokens) a.ledger.fates a.tree.tree.labels
+  pub refusing : IsRefusing h.setting a
   pub since : IsSince h.earlier a.tree
   pub call : IsInCall h.call a
 

@@ -19,8 +19,8 @@ files_rule = record (new_rule (codes "FILE")) { action = Some Append; required =
 -- a command on one page
 abbrev pub page_app : Text → App
 page_app name =
-    with_rule (with_rule (with_rule (with_rule (with_rule (with_rule (with_rule (with_rule (new_app name) (option_rule (codes "entities"))) (option_rule (codes "fragment")))
-    (option_rule (codes "foreign"))) (option_rule (codes "max-nodes"))) (option_rule (codes "max-held"))) (option_rule (codes "max-input"))) (option_rule (codes "max-steps"))) input_rule
+    with_rule (with_rule (with_rule (with_rule (with_rule (with_rule (with_rule (with_rule (with_rule (new_app name) (option_rule (codes "entities"))) (option_rule (codes "fragment")))
+    (option_rule (codes "context-encoding"))) (option_rule (codes "foreign"))) (option_rule (codes "max-nodes"))) (option_rule (codes "max-held"))) (option_rule (codes "max-input"))) (option_rule (codes "max-steps"))) input_rule
 
 -- the command that writes a page as HTML
 abbrev pub normalise_app : App

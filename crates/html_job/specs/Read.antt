@@ -49,6 +49,7 @@ pub record Reads (job : Job) (rows : List Row) : Type 0 where
   pub entities : option_map (λ s. s.now) job.entities ≡ first_of (codes "entities") rows
   pub input : option_map (λ s. s.now) job.input ≡ first_of (codes "INPUT") rows
   pub fragment : option_map (λ s. s.now) job.fragment ≡ first_of (codes "fragment") rows
+  pub context_encoding : option_map (λ s. s.now) job.context_encoding ≡ first_of (codes "context-encoding") rows
   pub foreign : foreign_text job.foreign ≡ unwrap_or (first_of (codes "foreign") rows) (codes "refuse")
   pub max_nodes : IsNumber job.max_nodes (first_of (codes "max-nodes") rows)
   pub max_held : IsNumber job.max_held (first_of (codes "max-held") rows)

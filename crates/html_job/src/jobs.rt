@@ -46,6 +46,8 @@ pub struct Job<'a> {
     pub entities: Option<&'a str>,
     /// The name of the context, where the page is a fragment.
     pub fragment: Option<&'a str>,
+    /// The value of the context's attribute `encoding`, if it has one.
+    pub context_encoding: Option<&'a str>,
     /// What is done with foreign content; `Refuse` where the words do not say.
     pub foreign: Foreign,
     /// The most nodes that a page may have.

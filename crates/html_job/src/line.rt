@@ -64,6 +64,19 @@ fn fragment<'a>(alloc: Global) -> Arg<'a>
     )
 }
 
+/// The value of the context's attribute `encoding`.
+fn context_encoding<'a>(alloc: Global) -> Arg<'a>
+    ensures rule { rule_of result ≡ option_rule (codes "context-encoding") }
+    ensures local { result.global ≡ false }
+{
+    text_option(
+        alloc,
+        "context-encoding",
+        "VALUE",
+        "The attribute encoding of a fragment's context, where that is a math annotation-xml",
+    )
+}
+
 /// What is done with foreign content.
 fn foreign<'a>(alloc: Global) -> Arg<'a>
     ensures rule { rule_of result ≡ option_rule (codes "foreign") }
@@ -138,6 +151,7 @@ fn page_command<'a>(alloc: Global, name: &'a str, about: &'a str) -> Result<Comm
         .about(about)
         .arg(entities(alloc))?
         .arg(fragment(alloc))?
+        .arg(context_encoding(alloc))?
         .arg(foreign(alloc))?
         .arg(max_nodes(alloc))?
         .arg(max_held(alloc))?

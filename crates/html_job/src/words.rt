@@ -73,6 +73,7 @@ fn job_of<'a>(
         command,
         entities: text(matches, "entities"),
         fragment: text(matches, "fragment"),
+        context_encoding: text(matches, "context-encoding"),
         foreign,
         max_nodes,
         max_held,

@@ -143,6 +143,13 @@ either-true false b e = e
 pub may-around : (a : State) (g t : Tag) → foreign_tag a ≡ Some g → IsTrue (may_embed a.ledger.history (Start t))
 may-around a g t e = either-true (is_foreign_root t) a.ledger.history.foreign (history-foreign a g e)
 
+-- foreign content was made, is the context, or is parsed
+pub asked-around : (a : State) (g : Tag) → foreign_tag a ≡ Some g → IsTrue (a.parses_foreign || a.ledger.history.foreign)
+asked-around a g e = either-true a.parses_foreign a.ledger.history.foreign (history-foreign a g e)
+
+pub asked-parsed : (a : State) → a.parses_foreign ≡ true → IsTrue (a.parses_foreign || a.ledger.history.foreign)
+asked-parsed a e = rw e refl
+
 pub may-root : (a : State) (name : Root) (t : Tag) → Start t ≡ root_of name → IsTrue (may_embed a.ledger.history (Start t))
 may-root a root.Svg t e = let k : t ≡ tag.Svg = (let z = e in cc) in subst (λ x. IsTrue (may_embed a.ledger.history (Start x))) (sym k) refl
 may-root a root.Math t e = let k : t ≡ tag.Math = (let z = e in cc) in subst (λ x. IsTrue (may_embed a.ledger.history (Start x))) (sym k) refl
@@ -232,9 +239,9 @@ opens-root o name t b e = opens-not o (Start t) b (by name t e)
     by root.Svg u e = let k : u ≡ tag.Svg = (let z = e in cc) in ap holds_text_alone k
     by root.Math u e = let k : u ≡ tag.Math = (let z = e in cc) in ap holds_text_alone k
 
-pub ruleset body_roots = (turns-root, opens-root, outside-root, may-root)
+pub ruleset body_roots = (turns-root, opens-root, outside-root, may-root, asked-parsed)
 
-pub ruleset stay_rules = (history-foreign, around-outside, may-around, any-refused)
+pub ruleset stay_rules = (history-foreign, around-outside, may-around, asked-around, any-refused)
 
 pub ruleset around_rules = (around-none, around-some, around-strict, around-not)
 

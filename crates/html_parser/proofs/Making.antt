@@ -29,8 +29,10 @@ use Rattle.html_tokens.specs.declared.token.Token.{Token}
 use Rattle.html_tokens.specs.declared.token.TokenKind.{TokenKind}
 use Rattle.html_tokens.specs.declared.tokenizer.Tokenizer.{Tokenizer}
 use Rattle.html_builder.specs.Builders.{BuilderState}
-use Rattle.html_builder.specs.Handed.{CostAtMost, EndsAtEof, Handed, fates_of}
-use Rattle.html_construction.specs.Built.{symbols}
+use Rattle.html_builder.specs.Handed.{CostAtMost, EndsAtEof, Handed, fates_of, parses_foreign}
+use Rattle.html_construction.specs.Built.{is_native, symbols}
+use Rattle.html_ledger.specs.Settings.{is_foreign_context}
+use Rattle.std.specs.List.{list_all}
 use Rattle.html_builder.specs.Outcome.{IsBounded, IsOutcome, most_tree_steps}
 use Rattle.html_builder.specs.Plain.{HavePlainFates}
 use Rattle.html_parser.proofs.Plain.{text-kinds}
@@ -42,7 +44,7 @@ use Rattle.html_parser.proofs.Switching.{by-fates}
 use Rattle.html_ledger.specs.Fated.{Fated}
 use Rattle.html_parser.specs.Parsed.{Headline, IsTreeOf, most_token_steps}
 use Rattle.html_parser.specs.Staged.{IsEnded}
-use Rattle.html_parser.specs.Start.{Start, most_input, text_start}
+use Rattle.html_parser.specs.Start.{Start, most_input, parses, text_start}
 use Rattle.html_parser.specs.declared.faults.PageFault.{PageFault}
 use Rattle.html_parser.specs.declared.page.Tree.{Tree as TreeType}
 use Rattle.html_parser.specs.declared.stages.Stages.{Stages}
@@ -94,6 +96,7 @@ pub record Ended (d : Decoder) (t : Tokenizer) (b : BuilderState) (starts : List
   pub fates_are : fates ≡ fates_of b
   pub outcome : (s : Setting) (l : Option Limits) (tokens : List TokenKind) → Handed s l tokens b → EndsAtEof tokens → IsOutcome s tokens fates numbers arena
   pub plain : (l : Option Limits) (tokens : List TokenKind) → Handed Document l tokens b → (page : Forest Label) → IsPlainPage page → tokens ≡ page_kinds page → Shows arena (0 ∷ []) page
+  pub native : (s : Setting) (l : Option Limits) (tokens : List TokenKind) → Handed s l tokens b → parses_foreign b ≡ false → is_foreign_context s ≡ false → list_all is_native fates ≡ true
   pub plain_fates : (l : Option Limits) (tokens : List TokenKind) → Handed Document l tokens b → (page : Forest Label) → IsPlainPage page → tokens ≡ page_kinds page → HavePlainFates tokens fates
   pub within : (s : Setting) (l : Option Limits) (tokens : List TokenKind) → Handed s l tokens b → AreWithin l (length arena.labels) arena.held
   pub own_is : own ≡ steps_taken t
@@ -188,6 +191,7 @@ made start bytes run d t b starts told numbers fates arena errors n own steps e 
           (subst (λ s. Fated s (symbols (kinds run.given)) fates) document.setting_is outcome.fated) (subst (λ s. AreSaid s (kinds run.given) fates run.switches) document.setting_is said)
           (tokens ∙ ap (λ m. tokens_after start.rows 0 m None 0 (decode bytes) run.switches) document.mode_is) in
           (e.plain start.limits (kinds run.given) handed page h same, e.plain_fates start.limits (kinds run.given) handed page h same);
+      native = λ refused. e.native start.setting start.limits (kinds run.given) w.handed (w.foreign ∙ ap parses refused);
       numbers = numbers;
       outcome = outcome;
       root_is = refl;
@@ -233,6 +237,7 @@ whole start p bytes e = record {
   tokenized = e.is_run.tokenized;
   handed = e.is_run.handed;
   said = e.is_run.said;
+  foreign = e.is_run.foreign;
   starts_are = e.is_run.starts;
   all = e.all;
   few = e.few;

@@ -7,12 +7,12 @@ use Rattle.html_tokens.specs.Given.{Fed as Tokenizes, steps_taken}
 use Rattle.html_tokens.specs.Stream.{Run, tokens_of}
 use Rattle.html_tokens.specs.declared.tokenizer.Tokenizer.{Tokenizer}
 use Rattle.html_builder.specs.Builders.{BuilderState}
-use Rattle.html_builder.specs.Handed.{Handed, fates_of}
+use Rattle.html_builder.specs.Handed.{Handed, fates_of, parses_foreign}
 use Rattle.html_parser.specs.Kinds.{kinds, starts_of}
 use Rattle.html_parser.specs.Said.{AreSaid}
 use Rattle.html_parser.specs.Parsed.{Headline}
 use Rattle.html_parser.specs.Staged.{AreFewSteps}
-use Rattle.html_parser.specs.Start.{Start, most_input, text_start}
+use Rattle.html_parser.specs.Start.{Start, most_input, parses, text_start}
 use Rattle.html_parser.specs.declared.made.Made.{Made}
 
 -- The stages after the end of an input of these bytes: the decoder has put out its text, of which the tokenizer has given all tokens, and
@@ -24,6 +24,7 @@ pub record IsWhole (start : Start) (bytes : List ℕ) (run : Run) (d : Decoder) 
   pub tokenized : Tokenizes t run
   pub handed : Handed start.setting start.limits (kinds run.given) b
   pub said : AreSaid start.setting (kinds run.given) (fates_of b) run.switches
+  pub foreign : parses_foreign b ≡ parses start.foreign
   pub starts_are : starts ≡ starts_of run.given
   pub all : tokens_of run.text run.switches run.start ≡ run.given
   pub few : AreFewSteps start.limits (steps_taken t) b.page.tree.steps

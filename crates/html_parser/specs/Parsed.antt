@@ -1,7 +1,7 @@
 -- Claimed.
 -- What parsing answers.
-use Rattle.std.specs.Prelude.{◌≡◌, ℕ, ◌≤◌, ◌+◌, ◌-◌, ◌*◌, ◌^◌, min, false, List, [], ◌∷◌, length, Option, Some}
-use Rattle.std.specs.List.{sum_by}
+use Rattle.std.specs.Prelude.{◌≡◌, ℕ, ◌≤◌, ◌+◌, ◌-◌, ◌*◌, ◌^◌, min, true, false, List, [], ◌∷◌, length, Option, Some}
+use Rattle.std.specs.List.{list_all, sum_by}
 use Rattle.std.specs.List.Sorted.{IsNonDecreasingBy}
 use Rattle.html_input.specs.Decode.{decode, code_points}
 use Rattle.html_tokens.specs.Cost.{AreCosted}
@@ -17,6 +17,8 @@ use Rattle.html_arena.specs.Forest.{Forest}
 use Rattle.html_arena.specs.Tree.{Tree as Nodes}
 use Rattle.html_arena.specs.Weight.{weight}
 use Rattle.html_ledger.specs.declared.fate.Fate.{Fate}
+use Rattle.html_ledger.specs.Settings.{is_foreign_context}
+use Rattle.html_construction.specs.Built.{is_native}
 use Rattle.html_builder.specs.Outcome.{IsOutcome, most_held}
 use Rattle.html_builder.specs.Plain.{HavePlainFates}
 use Rattle.html_ledger.specs.declared.setting.Setting.TheVariants.{Document}
@@ -32,6 +34,7 @@ use Rattle.html_parser.specs.Kinds.{kinds, starts_of}
 use Rattle.html_parser.specs.Said.{AreSaid, AreSaidByFates}
 use Rattle.html_parser.specs.Start.{Start, most_input, text_start}
 use Rattle.html_parser.specs.declared.faults.PageFault.{PageFault}
+use Rattle.html_parser.specs.declared.options.Foreign.TheVariants.{Refuse}
 use Rattle.html_parser.specs.declared.page.Page.{Page}
 use Rattle.html_parser.specs.declared.page.Tree.{Tree}
 
@@ -83,6 +86,8 @@ pub record Headline (start : Start) (bytes : List ℕ) (tokens : List Token) (fa
   -- but the end tags and the end of the page made a node or is text
   pub plain : IsDocument start → HasCore start.rows → (p : Profile) (page : Forest Label) → IsPlainPage page → html_of p false page ≡ decode bytes
       → Shows t (root ∷ []) page × HavePlainFates (kinds tokens) fates
+  -- where foreign content is refused, and is not the context, no element of it was made of a token
+  pub native : start.foreign ≡ Refuse → is_foreign_context start.setting ≡ false → list_all is_native fates ≡ true
   -- how large it is
   pub nodes : length t.labels ≤ 2 * ((n + 32) * (n + 32))
   pub held : t.held ≤ 34 * ((n + 2) * (n + 2))

@@ -31,13 +31,17 @@ limits_for job =
       steps = limit_or_most job.max_steps;
     }
 
--- the context of a name, in no form and in no quirks mode
-abbrev pub context_of : Option (List ℕ) → Option Context
-context_of None = None
-context_of (Some name) = Some (record { name = chars name; in_form = false; quirks = false })
+-- the context of a name, in no form and in no quirks mode, whose attribute encoding has this value, if it has that attribute
+abbrev pub context_of : Option (List ℕ) → Option (List ℕ) → Option Context
+context_of None encoding = None
+context_of (Some name) encoding = Some (record { name = chars name; in_form = false; quirks = false; encoding = encoding })
+
+-- the value of that attribute
+abbrev pub encoding_for : Job → Option (List ℕ)
+encoding_for job = option_map (λ s. chars s.now) job.context_encoding
 
 abbrev pub context_for : Job → Option Context
-context_for job = context_of (option_map (λ s. s.now) job.fragment)
+context_for job = context_of (option_map (λ s. s.now) job.fragment) (encoding_for job)
 
 -- what is done with foreign content
 abbrev pub foreign_for : Asked → Foreign

@@ -5,7 +5,7 @@ ghost use Rattle.std.specs.Io.KnownBytes.{Consumes, IsAtEnd};
 ghost use Rattle.html_parser.specs.Fed.{IsFed};
 ghost use Rattle.html_parser.specs.Parsed.{IsPageOf, IsTreeOf};
 ghost use Rattle.html_parser.specs.Staged.{KeepsTokens};
-ghost use Rattle.html_run.specs.Jobs.{context_for, foreign_for, limits_for, options_for, start_for};
+ghost use Rattle.html_run.specs.Jobs.{context_for, encoding_for, foreign_for, limits_for, options_for, start_for};
 ghost use Rattle.html_parser.specs.Options.{IsBeginCause};
 ghost use Rattle.html_run.specs.Refused.{IsReadCause};
 
@@ -85,7 +85,18 @@ fn context_of(alloc: Global, job: &Job<'_>) -> Result<Option<Context>, AllocErro
             name: Str::of(alloc, name)?,
             in_form: false,
             quirks: false,
+            encoding: encoding_of(alloc, job)?,
         })),
+    }
+}
+
+/// The value of the attribute `encoding` of a job's context, if it has one.
+fn encoding_of(alloc: Global, job: &Job<'_>) -> Result<Option<Str>, AllocError>
+    ensures value { IfOk result (λ e. e ≡ encoding_for job.now) }
+{
+    match job.context_encoding {
+        None => Ok(None),
+        Some(value) => Ok(Some(Str::of(alloc, value)?)),
     }
 }
 

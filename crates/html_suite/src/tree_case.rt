@@ -93,6 +93,7 @@ fn context_of(alloc: Global, case: &TreeCase<'_>) -> Result<Option<Context>, Par
         name: Str::of(alloc, name)?,
         in_form: false,
         quirks: false,
+        encoding: None,
     }))
 }
 

@@ -5,7 +5,7 @@
 //! limit of its own steps, and refused within one less.
 //!
 //! The first line is a table of named character references, as JSON. A row is `NAME|WORDS|PAGE`. Words are `audit`, `html`, `context=NAME`,
-//! `in_form`, `quirks`, `foreign` (foreign content is parsed), and limits: `nodes=N`, `held=N`, `input=N`, `steps=N`. In a page and in the name of a context `␊`, `␍`, `␀` and `␠` stand for what they show.
+//! `encoding=VALUE` (of the context), `in_form`, `quirks`, `foreign` (foreign content is parsed), and limits: `nodes=N`, `held=N`, `input=N`, `steps=N`. In a page and in the name of a context `␊`, `␍`, `␀` and `␠` stand for what they show.
 #![tactic(auto)]
 
 mod audit;

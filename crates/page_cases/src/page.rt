@@ -35,6 +35,8 @@ pub(crate) enum Reading {
 pub(crate) struct Ask<'a> {
     /// The name of the context, of a fragment.
     pub context: Option<&'a str>,
+    /// The value of its attribute `encoding`, if it has one.
+    pub encoding: Option<&'a str>,
     pub in_form: bool,
     pub quirks: bool,
     /// Whether foreign content is parsed, and not refused.
@@ -47,6 +49,7 @@ impl<'a> Ask<'a> {
     pub(crate) fn of(context: Option<&'a str>) -> Ask<'a> {
         Ask {
             context,
+            encoding: None,
             in_form: false,
             quirks: false,
             foreign: false,
@@ -204,5 +207,14 @@ pub(crate) fn context_of(alloc: Global, ask: Ask<'_>, name: &str) -> Result<Cont
         name: Str::of(alloc, name)?,
         in_form: ask.in_form,
         quirks: ask.quirks,
+        encoding: encoding_of(alloc, ask)?,
     })
+}
+
+/// The value of the attribute `encoding` of the context, as asked.
+fn encoding_of(alloc: Global, ask: Ask<'_>) -> Result<Option<Str>, AllocError> {
+    match ask.encoding {
+        Some(value) => Ok(Some(Str::of(alloc, value)?)),
+        None => Ok(None),
+    }
 }

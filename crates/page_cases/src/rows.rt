@@ -42,8 +42,8 @@ fn print_row(
     input: &str,
 ) -> Result<()> {
     let input = unescaped(rt.alloc(), input)?;
-    let context = unescaped(rt.alloc(), context_in(words).unwrap_or(""))?;
-    let has_context = context_in(words).is_some();
+    let context = unescaped(rt.alloc(), value_in(words, "context=").unwrap_or(""))?;
+    let has_context = value_in(words, "context=").is_some();
     let context = if has_context {
         Some(context.as_str())
     } else {
@@ -160,22 +160,23 @@ fn print_html_in(
     Ok(())
 }
 
-/// The name of the context among the words of a row.
-fn context_in(words: &str) -> Option<&str> {
+/// What stands behind this among the words of a row.
+fn value_in<'a>(words: &'a str, name: &str) -> Option<&'a str> {
     for word in words.split(' ') {
-        if let Some(name) = word.strip_prefix("context=") {
-            return Some(name);
+        if let Some(value) = word.strip_prefix(name) {
+            return Some(value);
         }
     }
     None
 }
 
 /// What the words between the name of a row and its page ask for.
-fn ask_of<'a>(words: &str, context: Option<&'a str>) -> Result<Ask<'a>> {
+fn ask_of<'a>(words: &'a str, context: Option<&'a str>) -> Result<Ask<'a>> {
     let mut ask = Ask::of(context);
+    ask.encoding = value_in(words, "encoding=");
     for word in words.split(' ') {
         match word.split_once('=') {
-            Some(("context", _)) => {}
+            Some(("context" | "encoding", _)) => {}
             Some((name, number)) => ask.limits = Some(limit(name, number)?),
             None => match word {
                 "in_form" => ask.in_form = true,

@@ -31,7 +31,7 @@ Tag: {TAG}
 def main():
     library, folder = map(Path, sys.argv[1:])
     about = f"zilqumet-{VERSION}.dist-info"
-    files = {f"zilqumet/{name}": (SOURCE / name).read_bytes() for name in ("__init__.py", "py.typed")}
+    files = {f"zilqumet/{name}": (SOURCE / name).read_bytes() for name in ("__init__.py", "__main__.py", "batch.py", "py.typed")}
     files[f"zilqumet/{library.name}"] = library.read_bytes()
     files |= {f"{about}/METADATA": METADATA.encode(), f"{about}/WHEEL": WHEEL.encode()}
     sums = {name: base64.urlsafe_b64encode(hashlib.sha256(data).digest()).rstrip(b"=").decode() for name, data in files.items()}

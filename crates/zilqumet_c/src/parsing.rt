@@ -57,11 +57,11 @@ pub extern "C" fn proved_parse_fragment(
 ) -> u32
     ensures entities { entities.new.value ≡ entities.old.value }
     ensures parsed { result ≡ 0 → (r : Rooted) × (c : Context) × (page.new.value ≡ Some (Held.Page r))
-        × (c.name ≡ chars context.now) × (c.in_form ≡ in_form) × (c.quirks ≡ quirks)
+        × (c.name ≡ chars context.now) × (c.in_form ≡ in_form) × (c.quirks ≡ quirks) × (c.encoding ≡ None)
         × IsTreeOf (start_of (rows_in entities.old.value) (options_in limits.now (Some c))) bytes.now r.tree }
     ensures empty { result ≢ 0 → page.new.value ≡ None }
     ensures cause { result ≢ 0 → ((result ≡ 5) × (IsUtf8 context.now → ⊥)) ⊎ (result ≡ 1) ⊎ ((c : Context) × (c.name ≡ chars context.now)
-        × (c.in_form ≡ in_form) × (c.quirks ≡ quirks) × IsToldBy (IsPageCause (rows_in entities.old.value) (options_in limits.now (Some c)) bytes.now) result at.new) }
+        × (c.in_form ≡ in_form) × (c.quirks ≡ quirks) × (c.encoding ≡ None) × IsToldBy (IsPageCause (rows_in entities.old.value) (options_in limits.now (Some c)) bytes.now) result at.new) }
 {
     let _old = page.take(alloc);
     *at = 0;
@@ -75,6 +75,7 @@ pub extern "C" fn proved_parse_fragment(
         name,
         in_form,
         quirks,
+        encoding: None,
     };
     let options = options_of(limits, Some(context));
     let held = entities.take(alloc);

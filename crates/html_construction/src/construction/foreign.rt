@@ -98,6 +98,7 @@ impl Construction {
         requires symbol { symbol_of token.now ≡ Start tag }
         requires outside { is_html_space space ≡ false }
         requires may { IsTrue (may_embed self.old.ledger.history (Start tag)) }
+        requires asked { IsTrue (self.old.parses_foreign || self.old.ledger.history.foreign) }
         requires opened { 0 < length self.old.stack }
         requires quiet { self.old.ledger.kept ≡ [] }
         ensures rest { OnOk result (self.new ≡ record self.old { tree = self.new.tree; ledger = self.new.ledger; stack = tag_of (foreign_name space (tag_name token.now)) ∷ self.old.stack }) }
@@ -124,6 +125,7 @@ impl Construction {
         requires symbol { symbol_of token.now ≡ Start tag }
         requires outside { is_html_space space ≡ false }
         requires may { IsTrue (may_embed self.old.ledger.history (Start tag)) }
+        requires asked { IsTrue (self.old.parses_foreign || self.old.ledger.history.foreign) }
         requires opened { 0 < length self.old.stack }
         requires quiet { self.old.ledger.kept ≡ [] }
         ensures rest { OnOk result (self.new ≡ record self.old { tree = self.new.tree; ledger = self.new.ledger }) }
@@ -151,6 +153,7 @@ impl Construction {
         requires symbol { symbol_of token.now ≡ Start tag }
         requires outside { is_html_space space ≡ false }
         requires may { IsTrue (may_embed self.old.ledger.history (Start tag)) }
+        requires asked { IsTrue (self.old.parses_foreign || self.old.ledger.history.foreign) }
         requires opened { 0 < length self.old.stack }
         requires quiet { self.old.ledger.kept ≡ [] }
         ensures rest { OnOk result (self.new ≡ record self.old { tree = self.new.tree; ledger = self.new.ledger; stack = tag_of (foreign_name space (tag_name token.now)) ∷ self.old.stack }) }
@@ -181,6 +184,7 @@ impl Construction {
         requires symbol { symbol_of token.now ≡ Start tag }
         requires outside { is_html_space space ≡ false }
         requires may { IsTrue (may_embed self.old.ledger.history (Start tag)) }
+        requires asked { IsTrue (self.old.parses_foreign || self.old.ledger.history.foreign) }
         requires opened { 0 < length self.old.stack }
         requires quiet { self.old.ledger.kept ≡ [] }
         ensures rest { OnOk result (self.new ≡ record self.old { tree = self.new.tree; ledger = self.new.ledger }) }

@@ -247,6 +247,7 @@ pub(crate) fn root_start(
     requires symbol { symbol_of token.now ≡ Symbol.Start tag }
     requires outside { is_html_space space ≡ false }
     requires may { IsTrue (may_embed page.old.ledger.history (Symbol.Start tag)) }
+    requires asked { IsTrue (page.old.parses_foreign || page.old.ledger.history.foreign) }
     requires calls { Calls page.old }
     ensures fits { OnOk result (Fits page.new) }
     ensures takes { OnOk result (Takes token.now page.old page.new) }
@@ -268,6 +269,7 @@ fn embed(page: &mut Construction, token: &TokenKind, tag: Tag, space: Space) -> 
     requires symbol { symbol_of token.now ≡ Symbol.Start tag }
     requires outside { is_html_space space ≡ false }
     requires may { IsTrue (may_embed page.old.ledger.history (Symbol.Start tag)) }
+    requires asked { IsTrue (page.old.parses_foreign || page.old.ledger.history.foreign) }
     requires opened { 0 < length page.old.stack }
     requires quiet { page.old.ledger.kept ≡ [] }
     ensures rest { OnOk result (page.new ≡ record page.old { tree = page.new.tree; ledger = page.new.ledger; stack = page.new.stack }) }

@@ -26,7 +26,7 @@ from typing import Any, Iterator, NamedTuple, Optional, Union
 
 __all__ = [
     "BadContext", "BadEntities", "Counts", "Entities", "ForeignContent", "HeldBudget", "InputTooLong", "Node", "NodeBudget", "Page", "ParseError", "Parser",
-    "Refused", "StepBudget", "library_version", "normalise", "parse", "parse_fragment",
+    "Refused", "StepBudget", "library_version", "normalise", "parse", "parse_counts", "parse_fragment",
 ]
 __version__ = "0.1.0"
 
@@ -122,8 +122,9 @@ def library_version() -> str:
 
 
 class Refused(ValueError):
-    """Why there is no page. `place` counts the code points of the text before what was refused, or is None."""
+    """Why there is no page: `cause` says it in words. `place` counts the code points of the text before what was refused, or is None."""
 
+    cause: str = ""
     place: Optional[int] = None
 
 
@@ -166,17 +167,17 @@ def _check(status: int, place: int = 0) -> None:
     """Raises what a status stands for."""
     if status == 0:
         return
-    text = f"zilqumet: {_strerror(status).decode()}"
+    words = _strerror(status).decode()
+    text = f"zilqumet: {words}"
     if status == _OUT_OF_MEMORY:
         raise MemoryError(text)
     cause = _CAUSES.get(status)
     if cause is None:
         raise RuntimeError(text)
-    if issubclass(cause, _PLACED):
-        refused = cause(f"{text} at {place}")
-        refused.place = place
-        raise refused
-    raise cause(text)
+    is_placed = issubclass(cause, _PLACED)
+    refused = cause(f"{text} at {place}" if is_placed else text)
+    refused.cause, refused.place = words, place if is_placed else None
+    raise refused
 
 
 class _Owner:
@@ -459,6 +460,15 @@ def parse(data: Data, *, foreign: bool = False, entities: Optional[Entities] = N
     Limits, each None or a number: max_nodes, max_held (code points in names, texts and attributes), max_input (code points) and max_steps."""
     data = _data(data)
     return _run(entities, _parse, Page(), _limits(limits, _FOREIGN * foreign), data, len(data))._read()
+
+
+def parse_counts(
+    data: Data, *, normalise: bool = False, foreign: bool = False, entities: Optional[Entities] = None, **limits: Optional[int]
+) -> tuple[Counts, Optional[str]]:
+    """What the page of a document counts, and where normalise is true its text: `parse` without a look at the nodes."""
+    data = _data(data)
+    page = _run(entities, _parse, Page(), _limits(limits, _FOREIGN * foreign), data, len(data))
+    return page.counts, page.serialise() if normalise else None
 
 
 def parse_fragment(

@@ -12,12 +12,13 @@ returns-clause-app c =
     } in
     let entities = arg_added _ _ _ _ _ named c.in_ok-arg.ensures c.entities.ensures.local c.entities.ensures.rule in
     let fragment = arg_added _ _ _ _ _ entities c.in_ok-arg-2.ensures c.fragment.ensures.local c.fragment.ensures.rule in
-    let foreign = arg_added _ _ _ _ _ fragment c.in_ok-arg-3.ensures c.foreign.ensures.local c.foreign.ensures.rule in
-    let max_nodes = arg_added _ _ _ _ _ foreign c.in_ok-arg-4.ensures c.max_nodes.ensures.local c.max_nodes.ensures.rule in
-    let max_held = arg_added _ _ _ _ _ max_nodes c.in_ok-arg-5.ensures c.max_held.ensures.local c.max_held.ensures.rule in
-    let max_input = arg_added _ _ _ _ _ max_held c.in_ok-arg-6.ensures c.max_input.ensures.local c.max_input.ensures.rule in
-    let max_steps = arg_added _ _ _ _ _ max_input c.in_ok-arg-7.ensures c.max_steps.ensures.local c.max_steps.ensures.rule in
-    IfOk-weaker c.arg-8.result _ _ (λ r h. (arg_added _ r _ _ _ max_steps h c.input.ensures.local c.input.ensures.rule).app) c.arg-8.ensures
+    let encoding = arg_added _ _ _ _ _ fragment c.in_ok-arg-3.ensures c.context_encoding.ensures.local c.context_encoding.ensures.rule in
+    let foreign = arg_added _ _ _ _ _ encoding c.in_ok-arg-4.ensures c.foreign.ensures.local c.foreign.ensures.rule in
+    let max_nodes = arg_added _ _ _ _ _ foreign c.in_ok-arg-5.ensures c.max_nodes.ensures.local c.max_nodes.ensures.rule in
+    let max_held = arg_added _ _ _ _ _ max_nodes c.in_ok-arg-6.ensures c.max_held.ensures.local c.max_held.ensures.rule in
+    let max_input = arg_added _ _ _ _ _ max_held c.in_ok-arg-7.ensures c.max_input.ensures.local c.max_input.ensures.rule in
+    let max_steps = arg_added _ _ _ _ _ max_input c.in_ok-arg-8.ensures c.max_steps.ensures.local c.max_steps.ensures.rule in
+    IfOk-weaker c.arg-9.result _ _ (λ r h. (arg_added _ r _ _ _ max_steps h c.input.ensures.local c.input.ensures.rule).app) c.arg-9.ensures
 
 pub returns-clause-local : goal.returns-clause-local
 returns-clause-local c =
@@ -27,9 +28,10 @@ returns-clause-local c =
     } in
     let entities = arg_added _ _ _ _ _ named c.in_ok-arg.ensures c.entities.ensures.local c.entities.ensures.rule in
     let fragment = arg_added _ _ _ _ _ entities c.in_ok-arg-2.ensures c.fragment.ensures.local c.fragment.ensures.rule in
-    let foreign = arg_added _ _ _ _ _ fragment c.in_ok-arg-3.ensures c.foreign.ensures.local c.foreign.ensures.rule in
-    let max_nodes = arg_added _ _ _ _ _ foreign c.in_ok-arg-4.ensures c.max_nodes.ensures.local c.max_nodes.ensures.rule in
-    let max_held = arg_added _ _ _ _ _ max_nodes c.in_ok-arg-5.ensures c.max_held.ensures.local c.max_held.ensures.rule in
-    let max_input = arg_added _ _ _ _ _ max_held c.in_ok-arg-6.ensures c.max_input.ensures.local c.max_input.ensures.rule in
-    let max_steps = arg_added _ _ _ _ _ max_input c.in_ok-arg-7.ensures c.max_steps.ensures.local c.max_steps.ensures.rule in
-    IfOk-weaker c.arg-8.result _ _ (λ r h. (arg_added _ r _ _ _ max_steps h c.input.ensures.local c.input.ensures.rule).local) c.arg-8.ensures
+    let encoding = arg_added _ _ _ _ _ fragment c.in_ok-arg-3.ensures c.context_encoding.ensures.local c.context_encoding.ensures.rule in
+    let foreign = arg_added _ _ _ _ _ encoding c.in_ok-arg-4.ensures c.foreign.ensures.local c.foreign.ensures.rule in
+    let max_nodes = arg_added _ _ _ _ _ foreign c.in_ok-arg-5.ensures c.max_nodes.ensures.local c.max_nodes.ensures.rule in
+    let max_held = arg_added _ _ _ _ _ max_nodes c.in_ok-arg-6.ensures c.max_held.ensures.local c.max_held.ensures.rule in
+    let max_input = arg_added _ _ _ _ _ max_held c.in_ok-arg-7.ensures c.max_input.ensures.local c.max_input.ensures.rule in
+    let max_steps = arg_added _ _ _ _ _ max_input c.in_ok-arg-8.ensures c.max_steps.ensures.local c.max_steps.ensures.rule in
+    IfOk-weaker c.arg-9.result _ _ (λ r h. (arg_added _ r _ _ _ max_steps h c.input.ensures.local c.input.ensures.rule).local) c.arg-9.ensures

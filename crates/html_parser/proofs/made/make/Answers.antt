@@ -17,6 +17,7 @@ returns c =
           subst (λ ns. IsOutcome s tokens c.finish-arena.result.1 ns c.finish-arena.result.0) (sym c.as_slice.ensures.value)
           (c.finish-arena.ensures.outcome s l tokens h ends);
       plain = c.finish-arena.ensures.plain;
+      native = c.finish-arena.ensures.native;
       plain_fates = c.finish-arena.ensures.plain_fates;
       within = c.finish-arena.ensures.within;
       own_is = refl;

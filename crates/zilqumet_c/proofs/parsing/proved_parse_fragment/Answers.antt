@@ -1,4 +1,4 @@
-use Rattle.std.proofs.Common.{◌∙◌, Some, ap, inl, inr, refl, subst}
+use Rattle.std.proofs.Common.{◌∙◌, None, Some, ap, inl, inr, refl, subst}
 use Rattle.std.specs.Prelude.{IfErr, IfOk}
 use Rattle.std.specs.Str.{chars}
 use Rattle.html_builder.specs.declared.context.Context.{Context}
@@ -12,13 +12,14 @@ use Rattle.zilqumet_c.proofs.parsing.proved_parse_fragment.Goals as goal
 pub returns-clause-parsed : goal.returns-clause-parsed
 returns-clause-parsed c = λ is_ok.
     let k = c.keep.ensures.ok is_ok in
-    let around : Context = record { name = c.in-Ok-of.name; in_form = c.args.in_form; quirks = c.args.quirks } in
+    let around : Context = record { name = c.in-Ok-of.name; in_form = c.args.in_form; quirks = c.args.quirks; encoding = None } in
     let tree = subst (λ v. IfOk v (λ r. IsTreeOf (start_of (rows_in (unboxed c.take-held.result)) c.options_of-options.result) c.args.bytes.now r.tree)) k.1
     c.parsed_by-parsed.ensures.tree in (
       k.0,
       around,
       k.2,
       c.in-Ok-of.ensures ∙ ap (λ b. chars b) c.in-Ok.ensures.cases.0,
+      refl,
       refl,
       refl,
       subst (λ v. IsTreeOf (start_of (rows_in v) (options_in c.args.limits.now (Some around))) c.args.bytes.now k.0.tree) c.take-held.ensures.value
@@ -29,9 +30,9 @@ pub returns-clause-cause : goal.returns-clause-cause
 returns-clause-cause c = λ bad. elim (c.keep.ensures.cause bad) [
   | inl m ↦ inr (inl m)
   | inr t ↦
-      let around : Context = record { name = c.in-Ok-of.name; in_form = c.args.in_form; quirks = c.args.quirks } in
+      let around : Context = record { name = c.in-Ok-of.name; in_form = c.args.in_form; quirks = c.args.quirks; encoding = None } in
       let cause = subst (λ v. IfErr v (IsPageCause (rows_in (unboxed c.take-held.result)) c.options_of-options.result c.args.bytes.now)) t.1 c.parsed_by-parsed.ensures.cause in
       let of_rows = subst (λ v. IsPageCause (rows_in v) c.options_of-options.result c.args.bytes.now t.0) c.take-held.ensures.value cause in
       let of_limits = subst (λ l. IsPageCause (rows_in c.args.entities.now.value) l c.args.bytes.now t.0) c.options_of-options.ensures of_rows in
-      inr (inr (around, c.in-Ok-of.ensures ∙ ap (λ b. chars b) c.in-Ok.ensures.cases.0, refl, refl, inr (t.0, of_limits, t.2, t.3)))
+      inr (inr (around, c.in-Ok-of.ensures ∙ ap (λ b. chars b) c.in-Ok.ensures.cases.0, refl, refl, refl, inr (t.0, of_limits, t.2, t.3)))
 ]

@@ -1,8 +1,11 @@
-use Rattle.std.proofs.Common.{subst, sym}
+use Rattle.std.proofs.Common.{false, subst, sym, true, ◌≡◌}
+use Rattle.std.specs.List.{list_all}
+use Rattle.html_construction.specs.Built.{is_native}
 use Rattle.html_ledger.specs.declared.setting.Setting.TheVariants.{Document}
-use Rattle.html_builder.specs.Handed.{Handed}
+use Rattle.html_builder.specs.Builders.{BuilderState}
+use Rattle.html_builder.specs.Handed.{Handed, parses_foreign}
 use Rattle.html_builder.specs.Plain.{HavePlainFates}
-use Rattle.html_builder.proofs.Endings.{bounded, entries-most, outcome, within}
+use Rattle.html_builder.proofs.Endings.{bounded, entries-most, native, outcome, within}
 use Rattle.html_builder.proofs.Plainly.{page-fates, page-shown}
 use Rattle.html_builder.proofs.builder.Builder.finish.Goals as goal
 
@@ -29,6 +32,11 @@ pub returns-clause-plain_fates : goal.returns-clause-plain_fates
 returns-clause-plain_fates c = λ l ts h page p e.
     let k : Handed Document l ts (record { page = c.self.inside.construction; entries = c.self.inside.entries; stopped = c.self.inside.stopped }) = subst (λ b. Handed Document l ts b) (sym c.self.view_is) h in
     subst (HavePlainFates ts) (sym c.into_parts.ensures.fates) (page-fates ts c.self.inside.construction page p e k.plain)
+
+pub returns-clause-native : goal.returns-clause-native
+returns-clause-native c = λ s l ts h p f. subst (λ fs. list_all is_native fs ≡ true) (sym c.into_parts.ensures.fates)
+    (native s l ts (record { page = c.self.inside.construction; entries = c.self.inside.entries; stopped = c.self.inside.stopped }) (subst (λ b. Handed s l ts b) (sym c.self.view_is) h)
+    (subst (λ (b : BuilderState). parses_foreign b ≡ false) (sym c.self.view_is) p) f)
 
 pub returns-clause-within : goal.returns-clause-within
 returns-clause-within c = λ s l ts h.

@@ -7,7 +7,7 @@ use Rattle.html_construction.proofs.Working.{works-counted}
 use Rattle.html_construction.proofs.construction.Construction.end.Goals as goal
 
 pub returns-clause-takes : goal.returns-clause-takes
-returns-clause-takes c = taken _ c.args.self.now _ c.args.token.now c.args.symbol c.self.view_is c.requires.symbol c.in_ok-end.ensures.takes (gives _ _ _ _ (ap (λ (x : Entries). x.fates) c.in_ok-end.ensures.ended) refl) (unchanged _) refl (told-idle _ _ c.args.token.now Ended refl (ap (λ (x : State). x.ledger.kept) c.self.view_is ∙ c.requires.quiet) (ap (λ (x : Entries). x.fates) c.in_ok-end.ensures.ended) refl) refl
+returns-clause-takes c = taken _ c.args.self.now _ c.args.token.now c.args.symbol c.self.view_is c.requires.symbol c.in_ok-end.ensures.takes (gives _ _ _ _ (ap (λ (x : Entries). x.fates) c.in_ok-end.ensures.ended) refl refl) (unchanged _) refl (told-idle _ _ c.args.token.now Ended refl (ap (λ (x : State). x.ledger.kept) c.self.view_is ∙ c.requires.quiet) (ap (λ (x : Entries). x.fates) c.in_ok-end.ensures.ended) refl) refl
 
 pub returns-clause-works : goal.returns-clause-works
 returns-clause-works c = works-counted 0 c.args.self.now _ _ c.end.new.self c.self.view_is (unchanged _) (adds _ _ _ (ap (λ (x : Entries). x.fates) c.in_ok-end.ensures.ended)) (omega arith)

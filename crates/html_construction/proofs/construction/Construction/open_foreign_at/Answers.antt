@@ -25,7 +25,7 @@ pub invariant_of-self : goal.invariant_of-self
 invariant_of-self c = made-next _ _ c.args.self.now c.in_ok-number.number _ c.self.inside.registers.templates.items c.self.view_is c.in_ok-number.ensures.number c.in_ok-number.ensures.counted c.insert.ensures.tokens_most c.self.invariant.templates_fit
 
 pub returns-clause-takes : goal.returns-clause-takes
-returns-clause-takes c = taken-made _ _ c.args.self.now _ c.args.token.now (Start c.args.tag) c.self.view_is c.in_ok-number.ensures.rest refl refl c.requires.symbol c.in_ok-number.ensures.takes (gives-foreign _ _ _ _ _ c.in_ok-number.ensures.fate) c.in_ok-node.ensures.keeps (place_for c.self.inside.tree c.args.target) (new.Element c.in_ok-name.name c.in_ok-attrs.attrs (Token c.in_ok-number.number)) (ap (λ (x : Tree). x.tree) c.in_ok-node.ensures.exact) (told-foreign _ _ _ _ c.args.token.now (Start c.args.tag) (place_for c.self.inside.tree c.args.target) (new.Element c.in_ok-name.name c.in_ok-attrs.attrs (Token c.in_ok-number.number)) c.self.view_is c.in_ok-number.ensures.rest refl c.in_ok-number.ensures.fate c.requires.quiet (made-foreign c.self.inside.tree.tree c.args.token.now c.args.tag c.args.space c.in_ok-name.name c.in_ok-attrs.attrs c.in_ok-number.number _ c.requires.symbol c.requires.outside c.in_ok-name.ensures.name c.in_ok-attrs.ensures.attrs c.in_ok-number.ensures.number) (ap (λ (x : Tree). x.tree) c.in_ok-node.ensures.exact))
+returns-clause-takes c = taken-made _ _ c.args.self.now _ c.args.token.now (Start c.args.tag) c.self.view_is c.in_ok-number.ensures.rest refl refl c.requires.symbol c.in_ok-number.ensures.takes (gives-foreign _ _ _ _ c.in_ok-number.ensures.fate c.requires.asked) c.in_ok-node.ensures.keeps (place_for c.self.inside.tree c.args.target) (new.Element c.in_ok-name.name c.in_ok-attrs.attrs (Token c.in_ok-number.number)) (ap (λ (x : Tree). x.tree) c.in_ok-node.ensures.exact) (told-foreign _ _ _ _ c.args.token.now (Start c.args.tag) (place_for c.self.inside.tree c.args.target) (new.Element c.in_ok-name.name c.in_ok-attrs.attrs (Token c.in_ok-number.number)) c.self.view_is c.in_ok-number.ensures.rest refl c.in_ok-number.ensures.fate c.requires.quiet (made-foreign c.self.inside.tree.tree c.args.token.now c.args.tag c.args.space c.in_ok-name.name c.in_ok-attrs.attrs c.in_ok-number.number _ c.requires.symbol c.requires.outside c.in_ok-name.ensures.name c.in_ok-attrs.ensures.attrs c.in_ok-number.ensures.number) (ap (λ (x : Tree). x.tree) c.in_ok-node.ensures.exact))
 
 pub returns-clause-grown : goal.returns-clause-grown
 returns-clause-grown c =
