@@ -26,6 +26,8 @@ pub fn write_audit<W: Sink>(
     ensures ok { OnOk result (Appends (W.taken writer.old) (W.taken writer.new) (audit_lines tokens.now fates.now)) }
     ensures err { OnErr result (AppendsFront (W.taken writer.old) (W.taken writer.new) (audit_lines tokens.now fates.now)) }
     ensures fault { OnErr result ((W.failed writer.new ≡ true) ⊎ (W.stalled writer.new ≡ true)) }
+    ensures failing { OnOk result (W.failed writer.new ≡ true → W.failed writer.old ≡ true) }
+    ensures stalling { OnOk result (W.stalled writer.new ≡ true → W.stalled writer.old ≡ true) }
 {
     let mut output = Output::new();
     put_audit(&mut output, writer, tokens, fates)?;
@@ -41,6 +43,8 @@ fn put_audit<W: Sink>(
 ) -> Result<(), DeviceFault>
     ensures bytes { Puts (W.taken writer.old) (held output.old) (W.taken writer.new) (held output.new) result (audit_lines tokens.now fates.now) }
     ensures fault { OnErr result ((W.failed writer.new ≡ true) ⊎ (W.stalled writer.new ≡ true)) }
+    ensures failing { OnOk result (W.failed writer.new ≡ true → W.failed writer.old ≡ true) }
+    ensures stalling { OnOk result (W.stalled writer.new ≡ true → W.stalled writer.old ≡ true) }
 {
     let mut rest = fates.iter();
     'tokens: for token in tokens.iter() {
@@ -61,6 +65,8 @@ fn put_token<W: Sink>(
 ) -> Result<(), DeviceFault>
     ensures bytes { Puts (W.taken writer.old) (held output.old) (W.taken writer.new) (held output.new) result (audit_line (shown token.now) fate) }
     ensures fault { OnErr result ((W.failed writer.new ≡ true) ⊎ (W.stalled writer.new ≡ true)) }
+    ensures failing { OnOk result (W.failed writer.new ≡ true → W.failed writer.old ≡ true) }
+    ensures stalling { OnOk result (W.stalled writer.new ≡ true → W.stalled writer.old ≡ true) }
 {
     match token {
         TokenRef::Char { c, place } => put_line(
@@ -94,6 +100,8 @@ fn put_line<W: Sink>(
     ensures bytes { Puts (W.taken writer.old) (held output.old) (W.taken writer.new) (held output.new) result
         (decimal start ++ (codes " " ++ (decimal end ++ (codes " " ++ (pieces_bytes kind.now ++ (fate_text fate ++ codes "\n")))))) }
     ensures fault { OnErr result ((W.failed writer.new ≡ true) ⊎ (W.stalled writer.new ≡ true)) }
+    ensures failing { OnOk result (W.failed writer.new ≡ true → W.failed writer.old ≡ true) }
+    ensures stalling { OnOk result (W.stalled writer.new ≡ true → W.stalled writer.old ≡ true) }
 {
     output.put_pieces(
         writer,

@@ -20,6 +20,8 @@ pub fn write_counts<W: Sink>(tree: &Tree, writer: &mut W) -> Result<(), DeviceFa
     ensures ok { OnOk result (Appends (W.taken writer.old) (W.taken writer.new) (count_lines tree.now)) }
     ensures err { OnErr result (AppendsFront (W.taken writer.old) (W.taken writer.new) (count_lines tree.now)) }
     ensures fault { OnErr result ((W.failed writer.new ≡ true) ⊎ (W.stalled writer.new ≡ true)) }
+    ensures failing { OnOk result (W.failed writer.new ≡ true → W.failed writer.old ≡ true) }
+    ensures stalling { OnOk result (W.stalled writer.new ≡ true → W.stalled writer.old ≡ true) }
 {
     let nodes = tree.arena.len();
     let clones = clone_count(&tree.arena);

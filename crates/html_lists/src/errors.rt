@@ -20,6 +20,8 @@ pub fn write_errors<W: Sink>(errors: &[PageFault], writer: &mut W) -> Result<(),
     ensures ok { OnOk result (Appends (W.taken writer.old) (W.taken writer.new) (error_lines errors.now)) }
     ensures err { OnErr result (AppendsFront (W.taken writer.old) (W.taken writer.new) (error_lines errors.now)) }
     ensures fault { OnErr result ((W.failed writer.new ≡ true) ⊎ (W.stalled writer.new ≡ true)) }
+    ensures failing { OnOk result (W.failed writer.new ≡ true → W.failed writer.old ≡ true) }
+    ensures stalling { OnOk result (W.stalled writer.new ≡ true → W.stalled writer.old ≡ true) }
 {
     let mut output = Output::new();
     put_errors(&mut output, writer, errors)?;
@@ -34,6 +36,8 @@ fn put_errors<W: Sink>(
 ) -> Result<(), DeviceFault>
     ensures bytes { Puts (W.taken writer.old) (held output.old) (W.taken writer.new) (held output.new) result (error_lines errors.now) }
     ensures fault { OnErr result ((W.failed writer.new ≡ true) ⊎ (W.stalled writer.new ≡ true)) }
+    ensures failing { OnOk result (W.failed writer.new ≡ true → W.failed writer.old ≡ true) }
+    ensures stalling { OnOk result (W.stalled writer.new ≡ true → W.stalled writer.old ≡ true) }
 {
     'errors: for error in errors {
         put_error(output, writer, *error)?;
@@ -49,6 +53,8 @@ fn put_error<W: Sink>(
 ) -> Result<(), DeviceFault>
     ensures bytes { Puts (W.taken writer.old) (held output.old) (W.taken writer.new) (held output.new) result (error_line error) }
     ensures fault { OnErr result ((W.failed writer.new ≡ true) ⊎ (W.stalled writer.new ≡ true)) }
+    ensures failing { OnOk result (W.failed writer.new ≡ true → W.failed writer.old ≡ true) }
+    ensures stalling { OnOk result (W.stalled writer.new ≡ true → W.stalled writer.old ≡ true) }
 {
     let name = page_fault_name(error.name);
     output.put_pieces(

@@ -1,8 +1,8 @@
 -- Why tree construction refused, as said of the text.
-use Rattle.std.proofs.Common.{ℕ, suc, ◌+◌, ◌-◌, ◌<◌, ◌≤◌, ◌≡◌, ◌∙◌, arith, inl, inr, ◌⊎◌, true, false, Bool, Option, List, [], ◌∷◌, ◌++◌, length, take, replicate, None, refl, sym, ap, ap₂, subst, append_assoc}
+use Rattle.std.proofs.Common.{ℕ, suc, ◌+◌, ◌-◌, ◌<◌, ◌≤◌, ◌≡◌, ◌∙◌, arith, inl, inr, ◌⊎◌, true, false, Bool, Option, Some, List, [], ◌∷◌, ◌++◌, length, take, replicate, None, refl, sym, ap, ap₂, subst, append_assoc}
 use Rattle.std.proofs.lemmas.Bool.{true≢false}
 use Rattle.std.proofs.lemmas.List.{append-nil}
-use Rattle.html_tokens.specs.Given.{Fed}
+use Rattle.html_tokens.specs.Given.{Fed, steps_taken}
 use Rattle.html_tokens.specs.Input.{MayFollow}
 use Rattle.html_tokens.specs.Runs.{gave_all, plain_tokens}
 use Rattle.html_tokens.specs.Stream.{Run, gave, tokens_of}
@@ -11,13 +11,17 @@ use Rattle.html_tokens.specs.declared.tokenizer.Tokenizer.{Tokenizer}
 use Rattle.html_arena.specs.declared.arena.Limits.{Limits}
 use Rattle.html_ledger.specs.declared.setting.Setting.{Setting}
 use Rattle.html_tokens.specs.declared.token.TokenKind.{TokenKind}
+use Rattle.html_builder.specs.Errors.{IsTextTold, IsTold}
 use Rattle.html_builder.specs.Handed.{Handed, HaveFates, IsBuildCause, IsForeignRefused, IsTextCause, fates_of}
+use Rattle.html_builder.specs.Builders.{BuilderState}
 use Rattle.html_builder.specs.declared.error.BuildError.{BuildError}
 use Rattle.html_builder.specs.declared.error.BuildError.TheVariants as build
 use Rattle.html_construction.specs.Built.{chars_of}
-use Rattle.html_parser.specs.Causes.{IsTokenAt, IsTokenCause, build_cause}
+use Rattle.html_construction.specs.States.{State}
+use Rattle.html_parser.specs.Causes.{IsTokenAt, IsTokenCause, IsToldIn, build_cause}
 use Rattle.html_parser.specs.Kinds.{kinds}
-use Rattle.html_parser.specs.Staged.{AreTooManySteps, IsRun}
+use Rattle.html_parser.specs.Spent.{AreTooManySteps}
+use Rattle.html_parser.specs.Staged.{IsRun}
 use Rattle.html_parser.specs.Said.{AreSaid}
 use Rattle.html_parser.specs.Start.{Start, parses}
 use Rattle.html_parser.specs.declared.options.Foreign.{Foreign}
@@ -27,6 +31,7 @@ use Rattle.html_parser.specs.declared.error.ParseError.TheVariants.{StepBudget}
 use Rattle.html_parser.specs.declared.stages.Stages.{Stages}
 use Rattle.html_parser.proofs.Ends.{kinds-append}
 use Rattle.html_parser.proofs.Openings.{one_listed}
+use Rattle.html_parser.proofs.Refusals.{build-told}
 use Rattle.html_parser.proofs.Switching.{kept-more, says-text}
 use Rattle.html_parser.proofs.Taken.{kinds-plain}
 use Rattle.html_parser.proofs.Unsaid.{char-token, text_listed}
@@ -62,32 +67,67 @@ not-parsed : (f : Foreign) → parses f ≡ false → f ≡ Refuse
 not-parsed Refuse e = refl
 not-parsed Parse e = absurd (true≢false e)
 
-pub token_refused : (start : Start) (finished : Bool) (p : Stages) (bytes : List ℕ) (run : Run) (t : Tokenizer) (token : Token) (e : BuildError) → IsRun start finished p bytes run
+pub token_refused : (start : Start) (finished : Bool) (p : Stages) (bytes : List ℕ) (run : Run) (t : Tokenizer) (token : Token) (z : State) (e : BuildError) → IsRun start finished p bytes run
     → HaveFates start.setting (kinds run.given) (fates_of p.builder) → Fed t (gave run token None) → IsForeignRefused p.builder e
-    → IsBuildCause start.setting start.limits (kinds run.given) (fates_of p.builder) token.kind token.span.start e → IsTokenCause start finished run.text (build_cause e)
+    → IsBuildCause start.setting start.limits (kinds run.given) (fates_of p.builder) token.kind token.span.start e → IsTold start.limits token.kind z e
+    → IsTokenCause start finished run.text (build_cause e)
 unfolding one-at
-token_refused start finished p bytes run t token build.OutOfMemory r h f q c = tt
-token_refused start finished p bytes run t token (build.ForeignContent name at) r h f q (e, starts, has) =
+token_refused start finished p bytes run t token z build.OutOfMemory r h f q c told = tt
+token_refused start finished p bytes run t token z (build.ForeignContent name at) r h f q (e, starts, has) told =
     record { token = one-at start finished p bytes run t token at r h f (sym e); foreign = starts; refused = not-parsed start.foreign (sym r.foreign ∙ q) }
-token_refused start finished p bytes run t token (build.NodeBudget at) r h f q (e, set) = (one-at start finished p bytes run t token at r h f (sym e), set)
-token_refused start finished p bytes run t token (build.HeldBudget at) r h f q (e, set) = (one-at start finished p bytes run t token at r h f (sym e), set)
-token_refused start finished p bytes run t token build.BadContext r h f q c = absurd c
-token_refused start finished p bytes run t token build.Stopped r h f q c = absurd c
+token_refused start finished p bytes run t token z (build.NodeBudget at) r h f q (e, set) told =
+    (record { token = one-at start finished p bytes run t token at r h f (sym e); state = z; passed = told }, set)
+token_refused start finished p bytes run t token z (build.HeldBudget at) r h f q (e, set) told =
+    (record { token = one-at start finished p bytes run t token at r h f (sym e); state = z; passed = told }, set)
+token_refused start finished p bytes run t token z build.BadContext r h f q c told = absurd c
+token_refused start finished p bytes run t token z build.Stopped r h f q c told = absurd c
+
+-- Why a token was refused: more steps were counted before it than the limit, or tree construction refused it.
+abbrev pub IsRefusal : Bool → Token → BuilderState → State → ParseError → Type 0
+IsRefusal spent token old new e = ((e ≡ StepBudget token.span.start) × (spent ≡ true))
+    ⊎ ((x : BuildError) × (e ≡ build_cause x) × IsForeignRefused old x × ((s : Setting) (l : Option Limits) (tokens : List TokenKind) → Handed s l tokens old
+    → IsBuildCause s l tokens (fates_of old) token.kind token.span.start x) × ((s : Setting) (l : Option Limits) (tokens : List TokenKind) → Handed s l tokens old
+    → IsTold l token.kind new x))
 
 -- a token that was refused, or before which more steps were counted than the limit
-pub build_refused : (start : Start) (finished : Bool) (p : Stages) (bytes : List ℕ) (run : Run) (t : Tokenizer) (token : Token) (spent : Bool) (e : ParseError) (k n : ℕ)
+pub build_refused : (start : Start) (finished : Bool) (p : Stages) (bytes : List ℕ) (run : Run) (t : Tokenizer) (token : Token) (z : State) (spent : Bool) (e : ParseError)
     → IsRun start finished p bytes run → HaveFates start.setting (kinds run.given) (fates_of p.builder) → Fed t (gave run token None)
-    → (spent ≡ true → AreTooManySteps p.builder.page.tree.tree.limits k n)
-    → ((e ≡ StepBudget token.span.start) × (spent ≡ true)) ⊎ ((x : BuildError) × (e ≡ build_cause x) × IsForeignRefused p.builder x × ((s : Setting) (l : Option Limits) (tokens : List TokenKind) → Handed s l tokens p.builder
-    → IsBuildCause s l tokens (fates_of p.builder) token.kind token.span.start x))
+    → (spent ≡ true → AreTooManySteps p.builder.page.tree.tree.limits (steps_taken p.tokenizer) p.builder.page.tree.steps)
+    → IsRefusal spent token p.builder z e
     → IsTokenCause start finished run.text e
-build_refused start finished p bytes run t token spent e k n r h f limited (inl (is, over)) =
+unfolding one-at
+build_refused start finished p bytes run t token z spent e r h f limited (inl (is, over)) =
     let l = limited over in
+    let set : start.limits ≡ Some l.0 = sym r.handed.built.limits ∙ l.1 in
+    subst (IsTokenCause start finished run.text) (sym is) (
+      inl (record {
+        token = one-at start finished p bytes run t token token.span.start r h f refl;
+        spent = record {
+          tokenizer = p.tokenizer;
+          run = run;
+          fed = r.tokenized;
+          begun = r.begun;
+          rest = [];
+          front = sym (append-nil run.text);
+          given = refl;
+          builder = p.builder;
+          handed = r.handed;
+          spent = (l.0, set, l.2);
+        };
+      }),
+      (l.0, set),
+    )
+build_refused start finished p bytes run t token z spent e r h f limited (inr (x, is, refused, cause, told)) =
     subst (IsTokenCause start finished run.text) (sym is)
-    (inl (one-at start finished p bytes run t token token.span.start r h f refl), (l.0, sym r.handed.built.limits ∙ l.1))
-build_refused start finished p bytes run t token spent e k n r h f limited (inr (x, is, refused, cause)) =
-    subst (IsTokenCause start finished run.text) (sym is)
-    (token_refused start finished p bytes run t token x r h f refused (cause start.setting start.limits (kinds run.given) r.handed))
+    (token_refused start finished p bytes run t token z x r h f refused (cause start.setting start.limits (kinds run.given) r.handed)
+    (told start.setting start.limits (kinds run.given) r.handed))
+
+-- what a budget tells then of the state of tree construction
+pub refused_told : (start : Start) (finished : Bool) (p : Stages) (bytes : List ℕ) (run : Run) (token : Token) (z : State) (spent : Bool) (e : ParseError)
+    → IsRun start finished p bytes run → IsRefusal spent token p.builder z e → IsToldIn start.limits z e
+refused_told start finished p bytes run token z spent e r (inl (is, over)) = subst (IsToldIn start.limits z) (sym is) tt
+refused_told start finished p bytes run token z spent e r (inr (x, is, refused, cause, told)) =
+    subst (IsToldIn start.limits z) (sym is) (build-told start.limits token.kind z x (told start.setting start.limits (kinds run.given) r.handed))
 
 -- tree construction counts no steps against a limit
 never-spent : (x : BuildError) (at : ℕ) → build_cause x ≡ StepBudget at → ⊥
@@ -98,10 +138,10 @@ never-spent build.Stopped at e = absurd (let k = e in cc)
 never-spent (build.NodeBudget place) at e = absurd (let k = e in cc)
 never-spent (build.HeldBudget place) at e = absurd (let k = e in cc)
 
-pub build_spent : {C D : BuildError → Type 0} (spent : Bool) (e : ParseError) (at place k n : ℕ) (o : Option Limits) → (spent ≡ true → AreTooManySteps o k n)
-    → ((e ≡ StepBudget place) × (spent ≡ true)) ⊎ ((x : BuildError) × (e ≡ build_cause x) × C x × D x) → e ≡ StepBudget at → AreTooManySteps o k n
-build_spent spent e at place k n o limited (inl (is, over)) told = limited over
-build_spent spent e at place k n o limited (inr (x, is, c, d)) told = absurd (never-spent x at (sym is ∙ told))
+pub build_spent : (spent : Bool) (e : ParseError) (at k n : ℕ) (o : Option Limits) (token : Token) (b : BuilderState) (z : State) → (spent ≡ true → AreTooManySteps o k n)
+    → IsRefusal spent token b z e → e ≡ StepBudget at → AreTooManySteps o k n
+build_spent spent e at k n o token b z limited (inl (is, over)) told = limited over
+build_spent spent e at k n o token b z limited (inr (x, is, refused, cause, passed)) told = absurd (never-spent x at (sym is ∙ told))
 
 -- a code point of plain text that was given, and then refused
 char-at : (start : Start) (finished : Bool) (p : Stages) (bytes : List ℕ) (run : Run) (t : Tokenizer) (place : ℕ) (text : List ℕ) (at : ℕ) → IsRun start finished p bytes run
@@ -134,12 +174,16 @@ char-at start finished p bytes run t place text at r h f low high =
       place = omega (arith, low);
     }
 
-pub text_refused : (start : Start) (finished : Bool) (p : Stages) (bytes : List ℕ) (run : Run) (t : Tokenizer) (place : ℕ) (text : List ℕ) (e : BuildError) → IsRun start finished p bytes run
+pub text_refused : (start : Start) (finished : Bool) (p : Stages) (bytes : List ℕ) (run : Run) (t : Tokenizer) (place : ℕ) (text : List ℕ) (z : State) (e : BuildError) → IsRun start finished p bytes run
     → HaveFates start.setting (kinds run.given) (fates_of p.builder) → Fed t (gave_all run (plain_tokens place text))
-    → IsTextCause start.setting start.limits (kinds run.given) (fates_of p.builder) text place e → IsTokenCause start finished run.text (build_cause e)
-text_refused start finished p bytes run t place text build.OutOfMemory r h f c = tt
-text_refused start finished p bytes run t place text (build.NodeBudget at) r h f (low, high, set) = (char-at start finished p bytes run t place text at r h f low high, set)
-text_refused start finished p bytes run t place text (build.HeldBudget at) r h f (low, high, set) = (char-at start finished p bytes run t place text at r h f low high, set)
-text_refused start finished p bytes run t place text (build.ForeignContent name at) r h f c = absurd c
-text_refused start finished p bytes run t place text build.BadContext r h f c = absurd c
-text_refused start finished p bytes run t place text build.Stopped r h f c = absurd c
+    → IsTextCause start.setting start.limits (kinds run.given) (fates_of p.builder) text place e → IsTextTold start.limits z e → IsTokenCause start finished run.text (build_cause e)
+text_refused start finished p bytes run t place text z build.OutOfMemory r h f c told = tt
+text_refused start finished p bytes run t place text z (build.NodeBudget at) r h f (low, high, set) told =
+    let token = char-at start finished p bytes run t place text at r h f low high in
+    (record { token = token; state = z; passed = told token.token.kind }, set)
+text_refused start finished p bytes run t place text z (build.HeldBudget at) r h f (low, high, set) told =
+    let token = char-at start finished p bytes run t place text at r h f low high in
+    (record { token = token; state = z; passed = told token.token.kind }, set)
+text_refused start finished p bytes run t place text z (build.ForeignContent name at) r h f c told = absurd c
+text_refused start finished p bytes run t place text z build.BadContext r h f c told = absurd c
+text_refused start finished p bytes run t place text z build.Stopped r h f c told = absurd c

@@ -9,6 +9,7 @@ use Rattle.html_input.specs.declared.decoder.TheConstants.{LIMIT}
 use Rattle.html_input.proofs.Feeding.{Fed-Decodes, Fed-bounded}
 use Rattle.html_tokens.specs.Fed.{slack}
 use Rattle.html_tokens.specs.Stream.{IsLate, Run, last_name, tokens_of}
+use Rattle.html_tokens.specs.declared.token.Token.{Token}
 use Rattle.html_parser.specs.Causes.{IsCause, IsFeedCause}
 use Rattle.html_parser.specs.Feeding.{AreHandedOn}
 use Rattle.html_parser.specs.Staged.{AreStaged, HasRead, HasTaken, IsRun, KeepsTokens}
@@ -53,23 +54,29 @@ few_bytes start p bytes h =
     omega (arith, few, most)
 
 -- what was handed on of them
-pub prompt_of : (start : Start) (p : Stages) (bytes : List ℕ) → HasTaken start p bytes → KeepsTokens p → AreHandedOn start bytes p.kept.tokens
-prompt_of start p bytes h keeps =
+handed_of : (start : Start) (p : Stages) (bytes : List ℕ) (h : HasTaken start p bytes) → AreHandedOn start p.builder bytes h.handed.further.run.given
+handed_of start p bytes h =
     let run = h.handed.further.run in
     let r = h.handed.further.is_run in
     let prompt = h.handed.prompt in
-    let are = sym (r.tokens keeps) in
     record {
       pending = pending_of p.decoder;
       text = run.text;
       decodes = Fed-Decodes r.decoded;
+      handed = r.handed;
       switches = run.switches;
+      said = r.said;
       late = prompt.0;
-      list = subst (λ s. tokens_of run.text run.switches s ≡ p.kept.tokens ++ prompt.0) r.begun
-          (subst (λ g. tokens_of run.text run.switches run.start ≡ g ++ prompt.0) are prompt.1);
-      few = subst (λ s. AllByRecursion (IsLate (slack s.rows (last_name p.kept.tokens s.name)) (length run.text)) prompt.0) r.begun
-          (subst (λ g. AllByRecursion (IsLate (slack run.start.rows (last_name g run.start.name)) (length run.text)) prompt.0) are prompt.2);
+      list = subst (λ s. tokens_of run.text run.switches s ≡ run.given ++ prompt.0) r.begun prompt.1;
+      few = subst (λ s. AllByRecursion (IsLate (slack s.rows (last_name run.given s.name)) (length run.text)) prompt.0) r.begun prompt.2;
     }
+
+pub prompt_of : (start : Start) (p : Stages) (bytes : List ℕ) → HasTaken start p bytes → (tokens : List Token) × AreHandedOn start p.builder bytes tokens
+prompt_of start p bytes h = (h.handed.further.run.given, handed_of start p bytes h)
+
+-- and kept
+pub kept_of : (start : Start) (p : Stages) (bytes : List ℕ) → HasTaken start p bytes → KeepsTokens p → AreHandedOn start p.builder bytes p.kept.tokens
+kept_of start p bytes h keeps = subst (AreHandedOn start p.builder bytes) (sym (h.handed.further.is_run.tokens keeps)) (handed_of start p bytes h)
 
 same_error : (e f : ParseError) → ◌≡◌ {A = Result (Unit {0}) ParseError} (Err e) (Err f) → e ≡ f
 same_error e f h = cc

@@ -1,5 +1,5 @@
 -- The stages after a piece of the input.
-use Rattle.std.proofs.Common.{ℕ, ◌≡◌, ◌∙◌, ◌<◌, Bool, true, false, List, [], ◌++◌, length, Result, Ok, Err, inr, refl, sym, ap, subst, append_assoc, arith}
+use Rattle.std.proofs.Common.{ℕ, ◌≡◌, ◌∙◌, ◌<◌, Bool, true, false, Option, Some, List, [], ◌++◌, length, Result, Ok, Err, inl, inr, refl, sym, ap, subst, append_assoc, arith}
 use Rattle.std.specs.Prelude.{◌↔◌, ◌||◌}
 use Rattle.std.proofs.lemmas.List.{append-nil}
 use Rattle.html_input.proofs.Feeding.{Fed-all}
@@ -14,8 +14,11 @@ use Rattle.html_tokens.specs.declared.tokenizer.TokenError.{TokenError}
 use Rattle.html_tokens.specs.declared.tokenizer.TokenError.TheVariants as tokens
 use Rattle.html_tokens.specs.declared.tokenizer.Tokenizer.{Tokenizer}
 use Rattle.html_parser.specs.Causes.{IsCause, IsFeedCause, IsFront, IsTokenCause, input_cause, token_cause}
-use Rattle.html_parser.specs.Staged.{AreFewSteps, AreTooManySteps, HasRead, HasTaken, IsEnded, IsHandedOn, IsRun}
-use Rattle.html_parser.specs.Start.{Start, most_input}
+use Rattle.html_parser.specs.Spent.{AreFewSteps, AreTooManySteps}
+use Rattle.html_parser.specs.Staged.{HasRead, HasTaken, IsEnded, IsHandedOn, IsRun}
+use Rattle.html_builder.specs.Handed.{Handed}
+use Rattle.html_parser.specs.Kinds.{kinds}
+use Rattle.html_parser.specs.Start.{Start, most_input, text_start}
 use Rattle.html_parser.specs.Tokenizing.{IsTokenizing}
 use Rattle.html_parser.specs.declared.error.ParseError.{ParseError}
 use Rattle.html_parser.specs.declared.error.ParseError.TheVariants.{OutOfMemory, InputTooLong, ForeignContent, BadContext, Read, Write, Stopped, NodeBudget, HeldBudget, StepBudget}
@@ -219,15 +222,38 @@ end_cause start bytes text (HeldBudget at) is c = subst (λ t. IsTokenCause star
 end_cause start bytes text (StepBudget at) is c = subst (λ t. IsTokenCause start true t (StepBudget at)) is c
 
 -- more steps were counted at the end than the limit
-pub steps_refused : (start : Start) (p : Stages) (bytes text : List ℕ) (e : ParseError) (k n : ℕ) → IsHandedOn start true p bytes text
-    → ((limit : ℕ) (finished : Bool) (bytes text : List ℕ) → Decodes limit finished p.decoder bytes text → (e ≡ StepBudget (length text)) × AreTooManySteps p.builder.page.tree.tree.limits k n)
+pub steps_refused : (start : Start) (p : Stages) (bytes text : List ℕ) (e : ParseError) → IsHandedOn start true p bytes text
+    → ((limit : ℕ) (finished : Bool) (bytes text : List ℕ) → Decodes limit finished p.decoder bytes text
+    → (e ≡ StepBudget (length text)) × AreTooManySteps p.builder.page.tree.tree.limits (steps_taken p.tokenizer) p.builder.page.tree.steps)
     → IsCause start bytes e
-steps_refused start p bytes text e k n h cause =
-    let d = h.further.is_run.decoded in
-    let c = cause (most_input start) true bytes h.further.run.text d in
+steps_refused start p bytes text e h cause =
+    let run = h.further.run in
+    let r = h.further.is_run in
+    let c = cause (most_input start) true bytes run.text r.decoded in
+    let set : start.limits ≡ Some c.1.0 = sym r.handed.built.limits ∙ c.1.1 in
+    let all : run.given ≡ tokens_of run.text run.switches (text_start start)
+    = sym (subst (λ t. tokens_of t run.switches run.start ≡ run.given) (sym h.further.text_is) (h.all refl)) ∙ ap (tokens_of run.text run.switches) r.begun in
     subst (IsCause start bytes) (sym c.0)
-    (end_cause start bytes h.further.run.text (StepBudget (length h.further.run.text)) (Fed-all d).0
-    (inr (refl, refl), (c.1.0, sym h.further.is_run.handed.built.limits ∙ c.1.1)))
+    (end_cause start bytes run.text (StepBudget (length run.text)) (Fed-all r.decoded).0 (
+      inr (record {
+        whole = refl;
+        place = refl;
+        switches = run.switches;
+        spent = record {
+          tokenizer = p.tokenizer;
+          run = run;
+          fed = r.tokenized;
+          begun = r.begun;
+          rest = [];
+          front = sym (append-nil run.text);
+          given = all;
+          builder = p.builder;
+          handed = subst (λ ts. Handed start.setting start.limits (kinds ts) p.builder) all r.handed;
+          spent = (c.1.0, set, c.1.2);
+        };
+      }),
+      (c.1.0, set),
+    ))
 
 pub decoder_end_refused : (start : Start) (bytes : List ℕ) (e : InputError) → (e ≡ input.InputTooLong → most_input start < length (code_points bytes)) → (e ≡ input.Stopped → ⊥)
     → IsCause start bytes (input_cause e)

@@ -1,14 +1,27 @@
 -- Refusals of pieces, of what a reader has, and of whole inputs.
-use Rattle.std.proofs.Common.{inl, inr, ℕ, ◌≡◌, ◌<◌, length, ◌∙◌, ◌++◌, ◌∷◌, [], Bool, true, false, List, Option, None, refl, sym, ap, subst, append-nil, append_assoc}
+use Rattle.std.proofs.Common.{inl, inr, ℕ, ◌≡◌, ◌⊎◌, ◌<◌, length, ◌∙◌, ◌++◌, ◌∷◌, [], Bool, true, false, List, Option, None, refl, sym, ap, subst, append-nil, append_assoc}
 use Rattle.std.specs.Prelude.{Result, Ok, Err, OnOk}
 use Rattle.std.proofs.lemmas.Bool.{true≢false}
 use Rattle.std.specs.Io.KnownBytes.{Consumes, IsAtEnd}
 use Rattle.html_input.specs.Decode.{code_points, decode}
+use Rattle.html_input.specs.declared.error.InputError.{InputError}
+use Rattle.html_input.specs.declared.error.InputError.TheVariants as input
 use Rattle.html_tokens.specs.Stream.{tokens_of}
 use Rattle.html_tokens.specs.declared.token.Token.{Token}
+use Rattle.html_tokens.specs.declared.token.TokenKind.{TokenKind}
+use Rattle.html_tokens.specs.declared.tokenizer.TokenError.{TokenError}
+use Rattle.html_tokens.specs.declared.tokenizer.TokenError.TheVariants as tokens
+use Rattle.html_arena.specs.declared.arena.Limits.{Limits}
+use Rattle.html_arena.specs.declared.arena.ArenaError.{ArenaError}
+use Rattle.html_arena.specs.declared.arena.ArenaError.TheVariants as arena
+use Rattle.html_construction.specs.States.{State}
 use Rattle.html_modes.specs.declared.outcome.Foreign.{Foreign as Root}
-use Rattle.html_parser.specs.Causes.{IsCause, IsFeedCause, IsForeignAt, IsFront, IsTokenAt, IsTokenCause, IsTokenOrEnd}
+use Rattle.html_builder.specs.Errors.{IsTold}
+use Rattle.html_builder.specs.declared.error.BuildError.{BuildError}
+use Rattle.html_builder.specs.declared.error.BuildError.TheVariants as build
+use Rattle.html_parser.specs.Causes.{IsCause, IsFeedCause, IsForeignAt, IsFront, IsPassedAt, IsSpentAtEnd, IsSpentBefore, IsTokenAt, IsTokenCause, IsToldIn, build_cause, input_cause, token_cause}
 use Rattle.html_parser.specs.Reading.{IsPieceCause, IsReaderCause}
+use Rattle.html_parser.specs.Spent.{IsSpent}
 use Rattle.html_parser.specs.Start.{Start, most_input, text_start}
 use Rattle.html_parser.specs.declared.error.ParseError.{ParseError}
 use Rattle.html_parser.specs.declared.error.ParseError.TheVariants.{OutOfMemory, InputTooLong, ForeignContent, BadContext, Read, Write, Stopped, NodeBudget, HeldBudget, StepBudget}
@@ -80,21 +93,41 @@ foreign-whole : (start : Start) (text rest : List ℕ) (name : Root) (at : ℕ) 
 unfolding token-whole
 foreign-whole start text rest name at f = record { token = token-whole start text rest at f.token; foreign = f.foreign; refused = f.refused }
 
-token-or-end-whole : (start : Start) (text rest : List ℕ) (at : ℕ) → IsTokenOrEnd start false text at → IsTokenOrEnd start true (text ++ rest) at
-token-or-end-whole start text rest at (inl t) = inl (token-whole start text rest at t)
-token-or-end-whole start text rest at (inr e) = absurd (true≢false (sym e.0))
+passed-whole : (start : Start) (text rest : List ℕ) (limit : ArenaError) (at : ℕ) → IsPassedAt start false text limit at → IsPassedAt start true (text ++ rest) limit at
+unfolding token-whole
+passed-whole start text rest limit at p = record { token = token-whole start text rest at p.token; state = p.state; passed = p.passed }
+
+spent-longer : (start : Start) (text rest : List ℕ) (taken : List Token) → IsSpent start text taken → IsSpent start (text ++ rest) taken
+spent-longer start text rest taken s = record {
+  tokenizer = s.tokenizer;
+  run = s.run;
+  fed = s.fed;
+  begun = s.begun;
+  rest = s.rest ++ rest;
+  front = ap (λ t. t ++ rest) s.front ∙ append_assoc s.run.text s.rest rest;
+  given = s.given;
+  builder = s.builder;
+  handed = s.handed;
+  spent = s.spent;
+}
+
+spent-whole : (start : Start) (text rest : List ℕ) (at : ℕ) → IsSpentBefore start false text at ⊎ IsSpentAtEnd start false text at
+    → IsSpentBefore start true (text ++ rest) at ⊎ IsSpentAtEnd start true (text ++ rest) at
+unfolding token-whole
+spent-whole start text rest at (inl s) = inl (record { token = token-whole start text rest at s.token; spent = spent-longer start text rest s.token.before s.spent })
+spent-whole start text rest at (inr e) = absurd (true≢false (sym e.whole))
 
 pub cause-whole : (start : Start) (text rest : List ℕ) (e : ParseError) → IsTokenCause start false text e → IsTokenCause start true (text ++ rest) e
 cause-whole start text rest OutOfMemory h = tt
 cause-whole start text rest (ForeignContent n at) h = foreign-whole start text rest n at h
-cause-whole start text rest (NodeBudget at) h = (token-whole start text rest at h.0, h.1)
-cause-whole start text rest (HeldBudget at) h = (token-whole start text rest at h.0, h.1)
+cause-whole start text rest (NodeBudget at) h = (passed-whole start text rest arena.NodeBudget at h.0, h.1)
+cause-whole start text rest (HeldBudget at) h = (passed-whole start text rest arena.HeldBudget at h.0, h.1)
 cause-whole start text rest InputTooLong h = h
 cause-whole start text rest BadContext h = h
 cause-whole start text rest Read h = h
 cause-whole start text rest Write h = h
 cause-whole start text rest Stopped h = h
-cause-whole start text rest (StepBudget at) h = (token-or-end-whole start text rest at h.0, h.1)
+cause-whole start text rest (StepBudget at) h = (spent-whole start text rest at h.0, h.1)
 
 -- the text that was put out is a front of all
 of-front : (start : Start) (bytes : List ℕ) (e : ParseError) → (text : List ℕ) × IsFront bytes text × IsTokenCause start false text e → IsTokenCause start true (decode bytes) e
@@ -120,3 +153,22 @@ last-cause start bytes (StepBudget at) h = of-front start bytes (StepBudget at) 
 pub both_ok : {T E A B C : Type 0} (r : Result T E) → (A → B → C) → OnOk r A → OnOk r B → OnOk r C
 both_ok (Ok x) f a b = f a b
 both_ok (Err e) f a b = tt
+
+-- WHAT A BUDGET TELLS OF THE STATE OF TREE CONSTRUCTION
+
+pub input-told : (l : Option Limits) (a : State) (e : InputError) → IsToldIn l a (input_cause e)
+input-told l a input.OutOfMemory = tt
+input-told l a input.InputTooLong = tt
+input-told l a input.Stopped = tt
+
+pub token-told : (l : Option Limits) (a : State) (e : TokenError) → IsToldIn l a (token_cause e)
+token-told l a tokens.OutOfMemory = tt
+token-told l a tokens.Stopped = tt
+
+pub build-told : (l : Option Limits) (t : TokenKind) (a : State) (e : BuildError) → IsTold l t a e → IsToldIn l a (build_cause e)
+build-told l t a build.OutOfMemory h = tt
+build-told l t a (build.ForeignContent name at) h = tt
+build-told l t a build.BadContext h = tt
+build-told l t a build.Stopped h = tt
+build-told l t a (build.NodeBudget at) h = (t, h)
+build-told l t a (build.HeldBudget at) h = (t, h)

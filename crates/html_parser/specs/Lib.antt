@@ -9,6 +9,7 @@ pub mod Options
 pub mod Parsed
 pub mod Reading
 pub mod Said
+pub mod Spent
 pub mod Staged
 pub mod Start
 -- For this crate's own functions.

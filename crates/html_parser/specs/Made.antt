@@ -11,7 +11,7 @@ use Rattle.html_builder.specs.Handed.{Handed, fates_of, parses_foreign}
 use Rattle.html_parser.specs.Kinds.{kinds, starts_of}
 use Rattle.html_parser.specs.Said.{AreSaid}
 use Rattle.html_parser.specs.Parsed.{Headline}
-use Rattle.html_parser.specs.Staged.{AreFewSteps}
+use Rattle.html_parser.specs.Spent.{AreFewSteps}
 use Rattle.html_parser.specs.Start.{Start, most_input, parses, text_start}
 use Rattle.html_parser.specs.declared.made.Made.{Made}
 

@@ -1,7 +1,6 @@
--- Claimed, but for this crate's own functions: IsFurther, IsHandedOn, AreFewSteps, AreTooManySteps, IsEnded, AreStaged, HasTaken, IsBeginning.
+-- Claimed, but for this crate's own functions: IsFurther, IsHandedOn, IsEnded, AreStaged, HasTaken, IsBeginning.
 -- The stages of a parser, and the bytes that they were fed, however they were cut.
-use Rattle.std.specs.Prelude.{◌≡◌, ◌+◌, ◌-◌, ◌^◌, ◌<◌, ◌≤◌, ℕ, Bool, true, false, min, List, [], Option, Some}
-use Rattle.html_arena.specs.declared.arena.Limits.{Limits}
+use Rattle.std.specs.Prelude.{◌≡◌, ℕ, Bool, true, false, List, []}
 use Rattle.html_charref.specs.declared.table.Row.{Row}
 use Rattle.html_input.specs.Fed.{Fed as Decodes}
 use Rattle.html_tokens.specs.Given.{Fed as Tokenizes, is_stopped as tokenizer_stopped, steps_taken}
@@ -12,6 +11,7 @@ use Rattle.html_builder.specs.Builders.{BuilderState}
 use Rattle.html_builder.specs.Handed.{Handed, fates_of, is_stopped as builder_stopped, parses_foreign}
 use Rattle.html_parser.specs.Kinds.{kinds, starts_of}
 use Rattle.html_parser.specs.Said.{AreSaid}
+use Rattle.html_parser.specs.Spent.{AreFewSteps}
 use Rattle.html_parser.specs.Start.{Start, most_input, parses, text_start}
 use Rattle.html_parser.specs.declared.stages.Stages.{Stages}
 
@@ -42,14 +42,6 @@ pub record IsHandedOn (start : Start) (finished : Bool) (p : Stages) (bytes text
   pub further : IsFurther start finished p bytes text
   pub prompt : IsPrompt further.run
   pub all : finished ≡ true → tokens_of text further.run.switches further.run.start ≡ further.run.given
-
--- No more steps are counted than the limit, where there is one, as far as 128 bits count.
-abbrev pub AreFewSteps : Option Limits → ℕ → ℕ → Type 0
-AreFewSteps limits own others = (l : Limits) → limits ≡ Some l → min (own + others) (2 ^ 128 - 1) ≤ l.steps
-
--- More steps are counted than the limit.
-abbrev pub AreTooManySteps : Option Limits → ℕ → ℕ → Type 0
-AreTooManySteps limits own others = (l : Limits) × (limits ≡ Some l) × (l.steps < min (own + others) (2 ^ 128 - 1))
 
 -- The input was ended, and the tokenizer has given all.
 pub record IsEnded (start : Start) (p : Stages) (bytes : List ℕ) : Type 0 where

@@ -1,7 +1,8 @@
 //! A parser under way: the stages, until a piece is refused or the input is ended.
 
 ghost use Rattle.std.specs.Prelude.{◌≡◌, ◌↔◌, ◌++◌, ◌≤◌, ◌^◌, ℕ, List, [], true, false, Err, IfErr, IfOk, OnErr, OnOk, length};
-ghost use Rattle.html_parser.specs.Causes.{IsCause, IsFeedCause};
+ghost use Rattle.html_tokens.specs.declared.token.Token.{Token};
+ghost use Rattle.html_parser.specs.Causes.{IsCause, IsFeedCause, IsToldIn};
 ghost use Rattle.html_parser.specs.Feeding.{AreHandedOn};
 ghost use Rattle.html_parser.specs.Staged.{AreStaged, IsBeginning, IsEnded, KeepsTokens};
 ghost use Rattle.html_parser.specs.Start.{Start};
@@ -66,9 +67,12 @@ impl<'a> Feeder<'a> {
         ensures fed { OnOk result ((start : Start) (bytes : List ℕ) → IsFed start self.old bytes → IsFed start self.new (bytes ++ piece.now)) }
         ensures few { OnOk result ((start : Start) (bytes : List ℕ) → IsFed start self.old bytes → length (bytes ++ piece.now) ≤ 2 ^ 33) }
         ensures keeps { OnOk result (KeepsTokens self.old.stages → KeepsTokens self.new.stages) }
-        ensures prompt { OnOk result ((start : Start) (bytes : List ℕ) → IsFed start self.old bytes → KeepsTokens self.old.stages
-            → AreHandedOn start (bytes ++ piece.now) self.new.stages.kept.tokens) }
+        ensures prompt { OnOk result ((start : Start) (bytes : List ℕ) → IsFed start self.old bytes
+            → (tokens : List Token) × AreHandedOn start self.new.stages.builder (bytes ++ piece.now) tokens) }
+        ensures kept { OnOk result ((start : Start) (bytes : List ℕ) → IsFed start self.old bytes → KeepsTokens self.old.stages
+            → AreHandedOn start self.new.stages.builder (bytes ++ piece.now) self.new.stages.kept.tokens) }
         ensures cause { IfErr result (λ e. (start : Start) (bytes : List ℕ) → IsFed start self.old bytes → IsFeedCause start (bytes ++ piece.now) e) }
+        ensures told { IfErr result (λ e. (start : Start) (bytes : List ℕ) → IsFed start self.old bytes → IsToldIn start.limits self.new.stages.builder.page e) }
         ensures refused { OnErr result (IsStopped self.new) }
         ensures stopped { (result ≡ Err ParseError.Stopped) ↔ IsStopped self.old }
     {

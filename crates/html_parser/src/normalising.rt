@@ -1,6 +1,6 @@
 //! A page from a reader, written as HTML.
 
-ghost use Rattle.std.specs.Prelude.{◌≡◌, ◌⊎◌, None, OnOk, IfErr};
+ghost use Rattle.std.specs.Prelude.{◌≡◌, ◌⊎◌, None, Err, true, false, OnOk, IfErr};
 ghost use Rattle.std.specs.Io.KnownBytes.{Appends};
 ghost use Rattle.html_parser.specs.Normalised.{IsNormalised, IsNormaliseCause};
 ghost use Rattle.html_parser.specs.Options.{HasGoodContext, IsBeginCause, start_of};
@@ -34,6 +34,11 @@ pub fn normalise<S: Source, W: Sink>(
     // It is the writer, the reader or the input that was at fault.
     ensures cause { IfErr result (IsNormaliseCause (document_start table.now None) profile (S.remaining reader.old) (S.remaining reader.new) (S.failed reader.new)
         (W.taken writer.old) (W.taken writer.new) (W.failed writer.new) (W.stalled writer.new)) }
+
+    // A reader that fails is told, and a writer that fails or takes no bytes.
+    ensures read_failing { S.failed reader.old ≡ false → S.failed reader.new ≡ true → result ≡ Err ParseError.Read }
+    ensures write_failing { W.failed writer.old ≡ false → W.failed writer.new ≡ true → result ≡ Err ParseError.Write }
+    ensures write_stalling { W.stalled writer.old ≡ false → W.stalled writer.new ≡ true → result ≡ Err ParseError.Write }
 {
     match parse_tree_from(alloc, table, reader) {
         Ok(tree) => tree.serialise(profile, writer),
@@ -64,6 +69,11 @@ pub fn normalise_with<S: Source, W: Sink>(
     ensures cause { IfErr result (λ e. (IsBeginCause options.now e × (W.taken writer.new ≡ W.taken writer.old))
         ⊎ IsNormaliseCause (start_of table.now options.now) profile (S.remaining reader.old) (S.remaining reader.new) (S.failed reader.new)
         (W.taken writer.old) (W.taken writer.new) (W.failed writer.new) (W.stalled writer.new) e) }
+
+    // A reader that fails is told, and a writer that fails or takes no bytes.
+    ensures read_failing { S.failed reader.old ≡ false → S.failed reader.new ≡ true → result ≡ Err ParseError.Read }
+    ensures write_failing { W.failed writer.old ≡ false → W.failed writer.new ≡ true → result ≡ Err ParseError.Write }
+    ensures write_stalling { W.stalled writer.old ≡ false → W.stalled writer.new ≡ true → result ≡ Err ParseError.Write }
 {
     match parse_tree_from_with(alloc, table, options, reader) {
         Ok(page) => page.serialise(profile, writer),

@@ -1,6 +1,6 @@
 //! What parsing gives.
 
-ghost use Rattle.std.specs.Prelude.{◌≡◌, ◌⊎◌, ◌≤◌, true, length, OnOk, OnErr, IfErr};
+ghost use Rattle.std.specs.Prelude.{◌≡◌, ◌⊎◌, ◌≤◌, true, false, Err, length, OnOk, OnErr, IfErr};
 ghost use Rattle.std.specs.Io.KnownBytes.{Appends};
 ghost use Rattle.std.specs.Str.{encode_utf8_all};
 ghost use Rattle.html_arena.specs.Below.{kids};
@@ -68,9 +68,11 @@ pub fn serialise<W: Sink>(page: &Page, profile: Profile, writer: &mut W) -> Resu
     ensures ok { OnOk result (Appends (W.taken writer.old) (W.taken writer.new) (encode_utf8_all (html_below profile page.now.arena page.now.root))) }
     ensures err { OnErr result (AppendsFront (W.taken writer.old) (W.taken writer.new) (encode_utf8_all (html_below profile page.now.arena page.now.root))) }
 
-    // It is the writer that failed, or took no bytes.
+    // It is the writer that failed, or took no bytes; and a writer that does so is told.
     ensures cause { IfErr result (λ e. e ≡ ParseError.Write) }
     ensures fault { OnErr result ((W.failed writer.new ≡ true) ⊎ (W.stalled writer.new ≡ true)) }
+    ensures failing { W.failed writer.old ≡ false → W.failed writer.new ≡ true → result ≡ Err ParseError.Write }
+    ensures stalling { W.stalled writer.old ≡ false → W.stalled writer.new ≡ true → result ≡ Err ParseError.Write }
 
     // The text is that of the one forest that stands below the root, and no longer than this.
     ensures shows { Shows page.now.arena (kids All page.now.arena page.now.root) (forest_below page.now.arena page.now.root) }
@@ -96,9 +98,11 @@ impl Tree {
         ensures ok { OnOk result (Appends (W.taken writer.old) (W.taken writer.new) (encode_utf8_all (html_below profile self.now.arena self.now.root))) }
         ensures err { OnErr result (AppendsFront (W.taken writer.old) (W.taken writer.new) (encode_utf8_all (html_below profile self.now.arena self.now.root))) }
 
-        // It is the writer that failed, or took no bytes.
+        // It is the writer that failed, or took no bytes; and a writer that does so is told.
         ensures cause { IfErr result (λ e. e ≡ ParseError.Write) }
         ensures fault { OnErr result ((W.failed writer.new ≡ true) ⊎ (W.stalled writer.new ≡ true)) }
+        ensures failing { W.failed writer.old ≡ false → W.failed writer.new ≡ true → result ≡ Err ParseError.Write }
+        ensures stalling { W.stalled writer.old ≡ false → W.stalled writer.new ≡ true → result ≡ Err ParseError.Write }
 
         // The text is that of the one forest that stands below the root, and no longer than this.
         ensures shows { Shows self.now.arena (kids All self.now.arena self.now.root) (forest_below self.now.arena self.now.root) }

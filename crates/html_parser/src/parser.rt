@@ -1,7 +1,7 @@
 //! Bytes in pieces to a page.
 
 ghost use Rattle.std.specs.Prelude.{◌≡◌, ◌↔◌, ◌++◌, ◌≤◌, ◌<◌, ◌^◌, ◌⊎◌, ℕ, List, [], None, Some, Err, false, true, IfErr, IfOk, OnErr, OnOk, length};
-ghost use Rattle.html_parser.specs.Causes.{IsCause, IsFeedCause};
+ghost use Rattle.html_parser.specs.Causes.{IsCause, IsFeedCause, IsToldIn};
 ghost use Rattle.html_parser.specs.Feeding.{AreHandedOn};
 ghost use Rattle.html_parser.specs.Parsed.{IsPageOf};
 ghost use Rattle.html_parser.specs.Staged.{KeepsTokens};
@@ -167,10 +167,11 @@ impl<'a> Parser<'a> {
         ensures few { OnOk result ((start : Start) (bytes : List ℕ) → IsFed start self.old.feeder bytes → length (bytes ++ piece.now) ≤ 2 ^ 33) }
         ensures keeps { OnOk result (KeepsTokens self.old.feeder.stages → KeepsTokens self.new.feeder.stages) }
 
-        // At most three bytes are undecoded, and each token that ends far enough before the end of the decoded text is among the tokens.
+        // At most three bytes are undecoded, and each token that ends far enough before the end of the decoded text was handed to tree construction and is among the tokens.
         ensures prompt { OnOk result ((start : Start) (bytes : List ℕ) → IsFed start self.old.feeder bytes → KeepsTokens self.old.feeder.stages
-            → AreHandedOn start (bytes ++ piece.now) self.new.feeder.stages.kept.tokens) }
+            → AreHandedOn start self.new.feeder.stages.builder (bytes ++ piece.now) self.new.feeder.stages.kept.tokens) }
         ensures cause { IfErr result (λ e. (start : Start) (bytes : List ℕ) → IsFed start self.old.feeder bytes → IsFeedCause start (bytes ++ piece.now) e) }
+        ensures told { IfErr result (λ e. (start : Start) (bytes : List ℕ) → IsFed start self.old.feeder bytes → IsToldIn start.limits self.new.feeder.stages.builder.page e) }
         ensures refused { OnErr result (IsStopped self.new.feeder) }
         ensures stopped { (result ≡ Err ParseError.Stopped) ↔ IsStopped self.old.feeder }
     {

@@ -1,6 +1,6 @@
 //! A page from a reader.
 
-ghost use Rattle.std.specs.Prelude.{ℕ, ◌⊎◌, [], List, None, IfErr, IfOk, OnOk};
+ghost use Rattle.std.specs.Prelude.{ℕ, ◌≡◌, ◌⊎◌, [], List, None, Err, true, false, IfErr, IfOk, OnOk};
 ghost use Rattle.std.specs.Io.KnownBytes.{Consumes, IsAtEnd};
 ghost use Rattle.html_arena.specs.Walking.{IsRoot};
 ghost use Rattle.html_parser.specs.Parsed.{IsPageOf, IsTreeOf};
@@ -32,6 +32,8 @@ pub fn parse_from<S: Source>(
     ensures root { IfOk result (λ page. IsRoot page.arena page.root) }
     ensures end { OnOk result (IsAtEnd (S.remaining reader.new)) }
     ensures cause { IfErr result (IsReaderCause (document_start table.now None) (S.remaining reader.old) (S.remaining reader.new) (S.failed reader.new)) }
+    // A reader that fails is told, whatever comes after.
+    ensures failing { S.failed reader.old ≡ false → S.failed reader.new ≡ true → result ≡ Err ParseError.Read }
 {
     let mut parser = Parser::document(alloc, table)?;
     parser.feed_from(reader)?;
@@ -53,6 +55,8 @@ pub fn parse_tree_from<S: Source>(
     ensures root { IfOk result (λ tree. IsRoot tree.arena tree.root) }
     ensures end { OnOk result (IsAtEnd (S.remaining reader.new)) }
     ensures cause { IfErr result (IsReaderCause (document_start table.now None) (S.remaining reader.old) (S.remaining reader.new) (S.failed reader.new)) }
+    // A reader that fails is told, whatever comes after.
+    ensures failing { S.failed reader.old ≡ false → S.failed reader.new ≡ true → result ≡ Err ParseError.Read }
 {
     let parser = Parser::document(alloc, table)?;
     let mut parser = parser.without_ledger();
@@ -78,6 +82,8 @@ pub fn parse_from_with<S: Source>(
     ensures good { OnOk result (HasGoodContext options.now) }
     ensures cause { IfErr result (λ e. IsBeginCause options.now e
         ⊎ IsReaderCause (start_of table.now options.now) (S.remaining reader.old) (S.remaining reader.new) (S.failed reader.new) e) }
+    // A reader that fails is told, whatever comes after.
+    ensures failing { S.failed reader.old ≡ false → S.failed reader.new ≡ true → result ≡ Err ParseError.Read }
 {
     let mut parser = Parser::new(alloc, table, options)?;
     parser.feed_from(reader)?;
@@ -102,6 +108,8 @@ pub fn parse_tree_from_with<S: Source>(
     ensures good { OnOk result (HasGoodContext options.now) }
     ensures cause { IfErr result (λ e. IsBeginCause options.now e
         ⊎ IsReaderCause (start_of table.now options.now) (S.remaining reader.old) (S.remaining reader.new) (S.failed reader.new) e) }
+    // A reader that fails is told, whatever comes after.
+    ensures failing { S.failed reader.old ≡ false → S.failed reader.new ≡ true → result ≡ Err ParseError.Read }
 {
     let parser = Parser::new(alloc, table, options)?;
     let mut parser = parser.without_ledger();
@@ -124,6 +132,7 @@ impl Parser<'_> {
         ensures end { OnOk result (IsAtEnd (S.remaining reader.new)) }
         ensures cause { IfErr result (λ e. (start : Start) → IsKeeping start self.old.feeder []
             → IsPieceCause start (S.remaining reader.old) (S.remaining reader.new) (S.failed reader.new) e) }
+        ensures failing { S.failed reader.new ≡ true → result ≡ Err ParseError.Read }
     {
         match feed_all(reader, self) {
             Ok(()) => Ok(()),
@@ -148,6 +157,7 @@ impl TreeParser<'_> {
         ensures end { OnOk result (IsAtEnd (S.remaining reader.new)) }
         ensures cause { IfErr result (λ e. (start : Start) → IsFed start self.old.feeder []
             → IsPieceCause start (S.remaining reader.old) (S.remaining reader.new) (S.failed reader.new) e) }
+        ensures failing { S.failed reader.new ≡ true → result ≡ Err ParseError.Read }
     {
         match feed_all(reader, self) {
             Ok(()) => Ok(()),

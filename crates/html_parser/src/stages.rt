@@ -2,6 +2,7 @@
 
 ghost use Rattle.std.specs.Prelude.{◌≡◌, ◌++◌, ◌∷◌, ◌≤◌, ◌<◌, ◌+◌, ◌-◌, ◌^◌, ◌⊎◌, ℕ, Bool, List, [], None, Option, Some, true, false, IfErr, IfOk, OnOk, length, min};
 ghost use Rattle.html_arena.specs.declared.arena.Limits.{Limits as LimitsType};
+ghost use Rattle.html_builder.specs.Errors.{IsTold};
 ghost use Rattle.html_builder.specs.Handed.{AddsFates, Handed, HandsIn, IsBuildCause, IsForeignRefused, fates_of, is_stopped as builder_stopped, parses_foreign};
 ghost use Rattle.html_builder.specs.declared.error.BuildError.{BuildError as BuildErrorKind};
 ghost use Rattle.html_ledger.specs.declared.setting.Setting.{Setting};
@@ -11,7 +12,7 @@ ghost use Rattle.html_input.specs.Fed.{Fed as Decodes};
 ghost use Rattle.html_tokens.specs.Given.{Awaits, Fed, fed_len, is_stopped as tokenizer_stopped, steps_taken};
 ghost use Rattle.html_tokens.specs.Stream.{Run, gave};
 ghost use Rattle.html_tokens.specs.declared.token.Token.{Token as TokenType};
-ghost use Rattle.html_parser.specs.Causes.{IsCause, IsFeedCause, IsTokenCause, build_cause};
+ghost use Rattle.html_parser.specs.Causes.{IsCause, IsFeedCause, IsTokenCause, IsToldIn, build_cause};
 ghost use Rattle.html_parser.specs.Parsed.{IsPageOf, IsTreeOf};
 ghost use Rattle.html_parser.specs.Start.{Start};
 ghost use Rattle.html_parser.specs.Saying.{MaySay};
@@ -57,7 +58,8 @@ pub(crate) struct Stages<'a> {
 }
 
 impl<'a> Stages<'a> {
-    ghost use Rattle.html_parser.specs.Staged.{AreFewSteps, AreTooManySteps, HasRead, HasTaken, IsBeginning, IsEnded, IsFurther, IsHandedOn, IsRun, KeepsTokens};
+    ghost use Rattle.html_parser.specs.Spent.{AreFewSteps, AreTooManySteps, counts_steps};
+    ghost use Rattle.html_parser.specs.Staged.{HasRead, HasTaken, IsBeginning, IsEnded, IsFurther, IsHandedOn, IsRun, KeepsTokens};
 
     /// Stages that were fed nothing. The text begins to be read in this mode.
     pub(crate) fn new(
@@ -113,6 +115,7 @@ impl<'a> Stages<'a> {
     pub(crate) fn take(&mut self, piece: &[u8]) -> Result<(), ParseError>
         ensures taken { OnOk result ((start : Start) (bytes : List ℕ) (run : Run) → IsRun start false self.old bytes run → HasTaken start self.new (bytes ++ piece.now)) }
         ensures cause { IfErr result (λ e. (start : Start) (bytes : List ℕ) (run : Run) → IsRun start false self.old bytes run → IsFeedCause start (bytes ++ piece.now) e) }
+        ensures told { IfErr result (λ e. (start : Start) (bytes : List ℕ) (run : Run) → IsRun start false self.old bytes run → IsToldIn start.limits self.new.builder.page e) }
         ensures keeps { self.new.kept.keeps_tokens ≡ self.old.kept.keeps_tokens }
     {
         let mut rest = piece;
@@ -129,6 +132,7 @@ impl<'a> Stages<'a> {
     fn take_bit(&mut self, piece: &[u8]) -> Result<(), ParseError>
         ensures taken { OnOk result ((start : Start) (bytes : List ℕ) (run : Run) → IsRun start false self.old bytes run → HasTaken start self.new (bytes ++ piece.now)) }
         ensures cause { IfErr result (λ e. (start : Start) (bytes : List ℕ) (run : Run) → IsRun start false self.old bytes run → IsFeedCause start (bytes ++ piece.now) e) }
+        ensures told { IfErr result (λ e. (start : Start) (bytes : List ℕ) (run : Run) → IsRun start false self.old bytes run → IsToldIn start.limits self.new.builder.page e) }
         ensures keeps { self.new.kept.keeps_tokens ≡ self.old.kept.keeps_tokens }
     {
         self.text.clear();
@@ -180,7 +184,9 @@ impl<'a> Stages<'a> {
     }
 
     /// Whether there is a limit on steps that the tokens are to be counted for, one by one.
-    fn counts_steps(&self) -> bool {
+    fn counts_steps(&self) -> bool
+        ensures value { result ≡ counts_steps self.now.builder.page.tree.tree.limits }
+    {
         match self.builder.limits() {
             None => false,
             Some(limits) => limits.steps < u64::MAX,
@@ -204,6 +210,7 @@ impl<'a> Stages<'a> {
     fn hand_on(&mut self) -> Result<(), ParseError>
         ensures handed { OnOk result ((start : Start) (finished : Bool) (bytes : List ℕ) (run : Run) → IsRun start finished self.old bytes run → IsHandedOn start finished self.new bytes run.text) }
         ensures cause { IfErr result (λ e. (start : Start) (finished : Bool) (bytes : List ℕ) (run : Run) → IsRun start finished self.old bytes run → IsTokenCause start finished run.text e) }
+        ensures told { IfErr result (λ e. (start : Start) (finished : Bool) (bytes : List ℕ) (run : Run) → IsRun start finished self.old bytes run → IsToldIn start.limits self.new.builder.page e) }
         ensures keeps { self.new.kept.keeps_tokens ≡ self.old.kept.keeps_tokens }
     {
         'tokens: loop {
@@ -221,6 +228,7 @@ impl<'a> Stages<'a> {
         ensures more { IfOk result (λ some. some ≡ true → length self.old.kept.starts < length self.new.kept.starts) }
         ensures none { IfOk result (λ some. some ≡ false → (start : Start) (finished : Bool) (bytes : List ℕ) (run : Run) → IsRun start finished self.old bytes run → IsHandedOn start finished self.new bytes run.text) }
         ensures cause { IfErr result (λ e. (start : Start) (finished : Bool) (bytes : List ℕ) (run : Run) → IsRun start finished self.old bytes run → IsTokenCause start finished run.text e) }
+        ensures told { IfErr result (λ e. (start : Start) (finished : Bool) (bytes : List ℕ) (run : Run) → IsRun start finished self.old bytes run → IsToldIn start.limits self.new.builder.page e) }
         ensures keeps { self.new.kept.keeps_tokens ≡ self.old.kept.keeps_tokens }
         ensures running { OnOk result (tokenizer_stopped self.new.tokenizer ≡ false) }
         ensures count { OnOk result (fed_len self.new.tokenizer ≤ fed_len self.old.tokenizer) }
@@ -243,8 +251,10 @@ impl<'a> Stages<'a> {
         ensures further { OnOk result ((start : Start) (finished : Bool) (bytes : List ℕ) (run : Run) → IsRun start finished self.old bytes run → IsFurther start finished self.new bytes run.text) }
         ensures same { OnOk result (length self.old.kept.starts ≤ length self.new.kept.starts) }
         ensures cause { IfErr result (λ e. (start : Start) (finished : Bool) (bytes : List ℕ) (run : Run) → IsRun start finished self.old bytes run → IsTokenCause start finished run.text e) }
+        ensures told { IfErr result (λ e. (start : Start) (finished : Bool) (bytes : List ℕ) (run : Run) → IsRun start finished self.old bytes run → IsToldIn start.limits self.new.builder.page e) }
         ensures keeps { self.new.kept.keeps_tokens ≡ self.old.kept.keeps_tokens }
         ensures count { OnOk result (fed_len self.new.tokenizer ≤ fed_len self.old.tokenizer) }
+        ensures one_by_one { counts_steps self.old.builder.page.tree.tree.limits ≡ true → self.new ≡ self.old }
     {
         if !self.counts_steps() && !self.builder.reads_foreign() {
             self.hand_run()?;
@@ -257,9 +267,12 @@ impl<'a> Stages<'a> {
         ensures further { OnOk result ((start : Start) (finished : Bool) (bytes : List ℕ) (run : Run) → IsRun start finished self.old bytes run → IsFurther start finished self.new bytes run.text) }
         ensures same { OnOk result (length self.old.kept.starts ≤ length self.new.kept.starts) }
         ensures cause { IfErr result (λ e. (start : Start) (finished : Bool) (bytes : List ℕ) (run : Run) → IsRun start finished self.old bytes run → IsTokenCause start finished run.text e) }
+        ensures told { IfErr result (λ e. (start : Start) (finished : Bool) (bytes : List ℕ) (run : Run) → IsRun start finished self.old bytes run → IsToldIn start.limits self.new.builder.page e) }
         ensures keeps { self.new.kept.keeps_tokens ≡ self.old.kept.keeps_tokens }
         ensures running { OnOk result (tokenizer_stopped self.new.tokenizer ≡ false) }
         ensures count { OnOk result (fed_len self.new.tokenizer ≤ fed_len self.old.tokenizer) }
+        ensures noted { OnOk result ((self.new.kept.starts ≡ self.old.kept.starts)
+            ⊎ (self.new.is_past ≡ false → AreFewSteps self.new.builder.page.tree.tree.limits (steps_taken self.new.tokenizer) self.new.builder.page.tree.steps)) }
     {
         self.run.clear();
         self.builder.counted();
@@ -268,6 +281,8 @@ impl<'a> Stages<'a> {
         };
         self.builder.process_text(self.run.as_slice(), place)?;
         self.kept.push_run(self.run.as_slice(), place)?;
+        let is_past = self.is_spent();
+        self.is_past = is_past;
         Ok(())
     }
 
@@ -282,6 +297,7 @@ impl<'a> Stages<'a> {
             → self.new.is_past ≡ false → AreFewSteps self.new.builder.page.tree.tree.limits (steps_taken self.new.tokenizer) self.new.builder.page.tree.steps) }
         ensures spent { IfErr result (λ e. (at : ℕ) → e ≡ ParseError.StepBudget at → AreTooManySteps self.old.builder.page.tree.tree.limits (steps_taken self.old.tokenizer) self.old.builder.page.tree.steps) }
         ensures cause { IfErr result (λ e. (start : Start) (finished : Bool) (bytes : List ℕ) (run : Run) → IsRun start finished self.old bytes run → IsTokenCause start finished run.text e) }
+        ensures told { IfErr result (λ e. (start : Start) (finished : Bool) (bytes : List ℕ) (run : Run) → IsRun start finished self.old bytes run → IsToldIn start.limits self.new.builder.page e) }
         ensures keeps { self.new.kept.keeps_tokens ≡ self.old.kept.keeps_tokens }
         ensures running { OnOk result (tokenizer_stopped self.new.tokenizer ≡ false) }
         ensures count { OnOk result (fed_len self.new.tokenizer ≤ fed_len self.old.tokenizer) }
@@ -402,7 +418,8 @@ fn build(
     ensures in_time { OnOk result (is_over ≡ false) }
     ensures cause { IfErr result (λ e. ((e ≡ ParseError.StepBudget token.now.span.start) × (is_over ≡ true))
         ⊎ ((b : BuildErrorKind) × (e ≡ build_cause b) × IsForeignRefused builder.old b × ((s : Setting) (l : Option LimitsType) (tokens : List TokenKind) → Handed s l tokens builder.old
-        → IsBuildCause s l tokens (fates_of builder.old) token.now.kind token.now.span.start b))) }
+        → IsBuildCause s l tokens (fates_of builder.old) token.now.kind token.now.span.start b) × ((s : Setting) (l : Option LimitsType) (tokens : List TokenKind) → Handed s l tokens builder.old
+        → IsTold l token.now.kind builder.new.page b))) }
 {
     if is_over {
         return Err(ParseError::StepBudget {

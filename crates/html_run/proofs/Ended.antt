@@ -1,4 +1,5 @@
 -- Where a parser was fed and ended, also where it was refused what it was fed: the first refusal is told.
+use Rattle.std.proofs.Common.{◌≡◌}
 use Rattle.std.specs.Prelude.{Result, Ok, Err, OnOk, IfOk, IfErr}
 use Rattle.std.specs.Result.{result_and}
 use Rattle.html_parser.specs.declared.error.ParseError.{ParseError}
@@ -16,3 +17,8 @@ pub ended-on : {T : Type 0} (fed : Result (Unit {0}) ParseError) (end : Result T
 ended-on (Ok u) (Ok x) Q q = q
 ended-on (Ok u) (Err e) Q q = tt
 ended-on (Err e) end Q q = tt
+
+-- the refusal of what it was fed is the one that is told
+pub ended-as : {T : Type 0} (fed : Result (Unit {0}) ParseError) (end : Result T ParseError) (e : ParseError) → fed ≡ Err e → result_and fed end ≡ Err e
+ended-as (Ok u) end e is = absurd (let k = is in cc)
+ended-as (Err x) end e is = (let k = is in cc)

@@ -1,6 +1,6 @@
 //! The parser that a job asks for.
 
-ghost use Rattle.std.specs.Prelude.{◌≡◌, ℕ, [], List, IfErr, IfOk, OnOk};
+ghost use Rattle.std.specs.Prelude.{◌≡◌, ℕ, [], List, true, false, Err, IfErr, IfOk, OnOk};
 ghost use Rattle.std.specs.Io.KnownBytes.{Consumes, IsAtEnd};
 ghost use Rattle.html_parser.specs.Fed.{IsFed};
 ghost use Rattle.html_parser.specs.Parsed.{IsPageOf, IsTreeOf};
@@ -26,6 +26,7 @@ pub(crate) fn tree_for<R: Source>(
         × IsTreeOf (start_for job.now table.now) bytes tree) }
     ensures end { OnOk result (IsAtEnd (R.remaining reader.new)) }
     ensures cause { IfErr result (IsReadCause job.now table.now (R.remaining reader.old) (R.remaining reader.new) (R.failed reader.new)) }
+    ensures failing { R.failed reader.old ≡ false → R.failed reader.new ≡ true → result ≡ Err ParseError.Read }
 {
     let parser = parser_for(alloc, job, table)?;
     let mut parser = parser.without_ledger();
@@ -44,6 +45,7 @@ pub(crate) fn page_for<R: Source>(
         × IsPageOf (start_for job.now table.now) bytes page) }
     ensures end { OnOk result (IsAtEnd (R.remaining reader.new)) }
     ensures cause { IfErr result (IsReadCause job.now table.now (R.remaining reader.old) (R.remaining reader.new) (R.failed reader.new)) }
+    ensures failing { R.failed reader.old ≡ false → R.failed reader.new ≡ true → result ≡ Err ParseError.Read }
 {
     let mut parser = parser_for(alloc, job, table)?;
     let fed = parser.feed_from(reader);

@@ -1,6 +1,6 @@
 //! One job, over any reader and writers.
 
-ghost use Rattle.std.specs.Prelude.{◌≡◌, ◌≢◌, ◌<◌, ◌⊎◌, List, IfOk, IfErr, OnOk};
+ghost use Rattle.std.specs.Prelude.{◌≡◌, ◌≢◌, ◌<◌, ◌⊎◌, List, true, false, Err, IfOk, IfErr, OnOk};
 ghost use Rattle.std.specs.Io.KnownBytes.{Appends};
 ghost use Rattle.html_charref.specs.declared.table.Row.{Row};
 ghost use Rattle.html_device.specs.Device.{AppendsFront};
@@ -48,6 +48,11 @@ pub fn run<R: Source, W: Sink, F: Sink>(
         × IsJobCause job.now rows (R.remaining reader.old) (R.remaining reader.new) (R.failed reader.new) (W.failed writer.new) (W.stalled writer.new) e × (result ≡ status_of e)
         × IsTold (F.taken faults.old) (F.taken faults.new) (F.failed faults.new) (F.stalled faults.new) (line_of e (input_name job.now))) }
     ensures status { result < 4 }
+
+    // A reader that fails is told, and a writer that fails or takes no bytes.
+    ensures read_failing { R.failed reader.old ≡ false → R.failed reader.new ≡ true → result ≡ FILE_FAULT }
+    ensures write_failing { W.failed writer.old ≡ false → W.failed writer.new ≡ true → result ≡ FILE_FAULT }
+    ensures write_stalling { W.stalled writer.old ≡ false → W.stalled writer.new ≡ true → result ≡ FILE_FAULT }
 {
     let table = match table_of(alloc, entities) {
         Ok(table) => table,
@@ -82,6 +87,9 @@ fn answer<R: Source, W: Sink>(
         ⊎ ((e ≡ ParseError.Write) × IsAnswer job.now.command job.now.profile (start_for job.now table.now)
         (AppendsFront (W.taken writer.old) (W.taken writer.new)) (R.remaining reader.old) (R.remaining reader.new))) }
     ensures cause { IfErr result (IsJobCause job.now table.now (R.remaining reader.old) (R.remaining reader.new) (R.failed reader.new) (W.failed writer.new) (W.stalled writer.new)) }
+    ensures read_failing { R.failed reader.old ≡ false → R.failed reader.new ≡ true → result ≡ Err ParseError.Read }
+    ensures write_failing { W.failed writer.old ≡ false → W.failed writer.new ≡ true → result ≡ Err ParseError.Write }
+    ensures write_stalling { W.stalled writer.old ≡ false → W.stalled writer.new ≡ true → result ≡ Err ParseError.Write }
 {
     if matches!(job.command, Command::Audit) {
         return answer_audit(alloc, job, table, reader, writer);
@@ -109,6 +117,9 @@ fn answer_audit<R: Source, W: Sink>(
     ensures failed { IfErr result (λ e. (W.taken writer.new ≡ W.taken writer.old)
         ⊎ ((e ≡ ParseError.Write) × IsAudited (start_for job.now table.now) (AppendsFront (W.taken writer.old) (W.taken writer.new)) (R.remaining reader.old) (R.remaining reader.new))) }
     ensures cause { IfErr result (IsJobCause job.now table.now (R.remaining reader.old) (R.remaining reader.new) (R.failed reader.new) (W.failed writer.new) (W.stalled writer.new)) }
+    ensures read_failing { R.failed reader.old ≡ false → R.failed reader.new ≡ true → result ≡ Err ParseError.Read }
+    ensures write_failing { W.failed writer.old ≡ false → W.failed writer.new ≡ true → result ≡ Err ParseError.Write }
+    ensures write_stalling { W.stalled writer.old ≡ false → W.stalled writer.new ≡ true → result ≡ Err ParseError.Write }
 {
     let page = page_for(alloc, job, table, reader)?;
     list_audit(&page, writer)

@@ -1,6 +1,6 @@
 //! What a command writes, whose faults are told as those of parsing.
 
-ghost use Rattle.std.specs.Prelude.{◌≡◌, ◌⊎◌, true, IfErr, OnErr, OnOk};
+ghost use Rattle.std.specs.Prelude.{◌≡◌, ◌⊎◌, true, false, Err, IfErr, OnErr, OnOk};
 ghost use Rattle.std.specs.Io.KnownBytes.{Appends};
 ghost use Rattle.std.specs.Str.{encode_utf8_all};
 ghost use Rattle.html_arena.specs.Walking.{IsRoot};
@@ -22,6 +22,8 @@ pub(crate) fn print<W: Sink>(alloc: Global, tree: &Tree, writer: &mut W) -> Resu
     ensures err { IfErr result (λ e. (W.taken writer.new ≡ W.taken writer.old)
         ⊎ ((e ≡ ParseError.Write) × IsPrinted tree.now.arena tree.now.root (λ text. AppendsFront (W.taken writer.old) (W.taken writer.new) (encode_utf8_all text)))) }
     ensures cause { IfErr result (λ e. (e ≡ ParseError.OutOfMemory) ⊎ ((e ≡ ParseError.Write) × ((W.failed writer.new ≡ true) ⊎ (W.stalled writer.new ≡ true)))) }
+    ensures failing { W.failed writer.old ≡ false → W.failed writer.new ≡ true → result ≡ Err ParseError.Write }
+    ensures stalling { W.stalled writer.old ≡ false → W.stalled writer.new ≡ true → result ≡ Err ParseError.Write }
 {
     match print_tree(alloc, &tree.arena, tree.root, writer) {
         Ok(()) => Ok(()),
@@ -36,6 +38,8 @@ pub(crate) fn list_errors<W: Sink>(tree: &Tree, writer: &mut W) -> Result<(), Pa
     ensures err { OnErr result (AppendsFront (W.taken writer.old) (W.taken writer.new) (error_lines tree.now.errors.items)) }
     ensures cause { IfErr result (λ e. e ≡ ParseError.Write) }
     ensures fault { OnErr result ((W.failed writer.new ≡ true) ⊎ (W.stalled writer.new ≡ true)) }
+    ensures failing { W.failed writer.old ≡ false → W.failed writer.new ≡ true → result ≡ Err ParseError.Write }
+    ensures stalling { W.stalled writer.old ≡ false → W.stalled writer.new ≡ true → result ≡ Err ParseError.Write }
 {
     match write_errors(tree.errors.as_slice(), writer) {
         Ok(()) => Ok(()),
@@ -49,6 +53,8 @@ pub(crate) fn list_counts<W: Sink>(tree: &Tree, writer: &mut W) -> Result<(), Pa
     ensures err { OnErr result (AppendsFront (W.taken writer.old) (W.taken writer.new) (count_lines tree.now)) }
     ensures cause { IfErr result (λ e. e ≡ ParseError.Write) }
     ensures fault { OnErr result ((W.failed writer.new ≡ true) ⊎ (W.stalled writer.new ≡ true)) }
+    ensures failing { W.failed writer.old ≡ false → W.failed writer.new ≡ true → result ≡ Err ParseError.Write }
+    ensures stalling { W.stalled writer.old ≡ false → W.stalled writer.new ≡ true → result ≡ Err ParseError.Write }
 {
     match write_counts(tree, writer) {
         Ok(()) => Ok(()),
@@ -62,6 +68,8 @@ pub(crate) fn list_audit<W: Sink>(page: &Page, writer: &mut W) -> Result<(), Par
     ensures err { OnErr result (AppendsFront (W.taken writer.old) (W.taken writer.new) (audit_lines page.now.tokens page.now.fates)) }
     ensures cause { IfErr result (λ e. e ≡ ParseError.Write) }
     ensures fault { OnErr result ((W.failed writer.new ≡ true) ⊎ (W.stalled writer.new ≡ true)) }
+    ensures failing { W.failed writer.old ≡ false → W.failed writer.new ≡ true → result ≡ Err ParseError.Write }
+    ensures stalling { W.stalled writer.old ≡ false → W.stalled writer.new ≡ true → result ≡ Err ParseError.Write }
 {
     match write_audit(&page.tokens, &page.fates, writer) {
         Ok(()) => Ok(()),

@@ -10,6 +10,8 @@ tokens-init g c = record {
   done = [];
   so_far = rw (c.into_iter-token-iterator.ensures.into_iter_gives, c.iter-token-items.ensures.value, c.iter-rest.ensures.value) refl;
   put = Moves-nil _ _;
+  failing = λ now. now;
+  stalling = λ now. now;
 }
 
 pub tokens-preserved : goal.tokens-preserved
@@ -22,6 +24,8 @@ tokens-preserved g c =
           more_lines _ v.done c.tokens.token-iterator c.next.new.self c.tokens.rest c.next-in-tokens.new.self (shown c.in-Some.token) c.in-Some-next.fate v.so_far c.in-Some.ensures.steps c.in-Some-next.ensures.steps
           ∙ sym (append_assoc v.done line (audit_lines c.next.new.self c.next-in-tokens.new.self));
       put = Moves-trans _ _ _ _ _ _ _ _ v.put c.in_ok-put_token.ensures.bytes;
+      failing = λ now. v.failing (c.in_ok-put_token.ensures.failing now);
+      stalling = λ now. v.stalling (c.in_ok-put_token.ensures.stalling now);
     }
 
 pub returns-in_err-put_token-clause-bytes : goal.returns-in_err-put_token-clause-bytes

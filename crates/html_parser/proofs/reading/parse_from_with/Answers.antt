@@ -1,6 +1,7 @@
-use Rattle.std.proofs.Common.{inl, inr}
+use Rattle.std.proofs.Common.{inl, inr, ◌≡◌, ◌∙◌, Err, ap}
 use Rattle.std.proofs.lemmas.Result.{IfErr-weaker, IfOk-weaker, err_from_is_err_and}
 use Rattle.html_parser.specs.Options.{start_of}
+use Rattle.html_parser.specs.declared.error.ParseError.TheVariants.{Read}
 use Rattle.html_parser.proofs.Refusals.{end-cause, reader-cause}
 use Rattle.html_parser.proofs.Rewritten.{page-root}
 use Rattle.html_parser.proofs.reading.parse_from_with.Goals as goal
@@ -41,3 +42,9 @@ pub returns-in_err-parser-clause-cause : goal.returns-in_err-parser-clause-cause
 returns-in_err-parser-clause-cause g c =
     let p = err_from_is_err_and c.from_residual.result c.from_residual.ensures.1 in
     rw (p.1, p.2) (inl c.in_err-parser.ensures.cause)
+
+pub returns-in_err-feed_from-clause-failing : goal.returns-in_err-feed_from-clause-failing
+returns-in_err-feed_from-clause-failing g c = λ was now.
+    let p = err_from_is_err_and c.from_residual-in_err-feed_from.result c.from_residual-in_err-feed_from.ensures.1 in
+    let is : c.in_err-feed_from.field-0.0 ≡ Read = (let told = c.feed_from.ensures.failing now in let refused = c.in_err-feed_from.was in cc) in
+    p.1 ∙ ap Err (p.2 ∙ is)

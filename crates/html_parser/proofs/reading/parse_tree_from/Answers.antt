@@ -1,6 +1,7 @@
-use Rattle.std.proofs.Common.{[], None}
+use Rattle.std.proofs.Common.{[], None, ◌≡◌, ◌∙◌, Err, ap}
 use Rattle.std.proofs.lemmas.Result.{IfErr-weaker, IfOk-weaker, err_from_is_err_and}
 use Rattle.html_parser.specs.Start.{document_start}
+use Rattle.html_parser.specs.declared.error.ParseError.TheVariants.{Read}
 use Rattle.html_parser.proofs.Refusals.{end-cause, reader-cause}
 use Rattle.html_parser.proofs.Rewritten.{root-of}
 use Rattle.html_parser.proofs.reading.parse_tree_from.Goals as goal
@@ -37,3 +38,9 @@ returns-clause-cause g c =
     IfErr-weaker c.finish.result _ _
     (λ e cause. end-cause (document_start c.args.table.now None) _ _ _ f.0 e f.1 c.in_ok-feed_from.ensures.end (cause (document_start c.args.table.now None) f.0 k))
     c.finish.ensures.cause
+
+pub returns-in_err-feed_from-clause-failing : goal.returns-in_err-feed_from-clause-failing
+returns-in_err-feed_from-clause-failing g c = λ was now.
+    let p = err_from_is_err_and c.from_residual-in_err-feed_from.result c.from_residual-in_err-feed_from.ensures.1 in
+    let is : c.in_err-feed_from.field-0.0 ≡ Read = (let told = c.feed_from.ensures.failing now in let refused = c.in_err-feed_from.was in cc) in
+    p.1 ∙ ap Err (p.2 ∙ is)

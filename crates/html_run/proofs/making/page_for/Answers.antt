@@ -1,7 +1,8 @@
 use Rattle.std.proofs.lemmas.Result.{IfErr-weaker, IfOk-weaker}
 use Rattle.html_run.specs.Jobs.{start_for}
+use Rattle.html_parser.specs.declared.error.ParseError.TheVariants.{Read}
 use Rattle.html_run.proofs.Causes.{end-read, piece-read}
-use Rattle.html_run.proofs.Ended.{ended-err, ended-ok, ended-on}
+use Rattle.html_run.proofs.Ended.{ended-as, ended-err, ended-ok, ended-on}
 use Rattle.html_run.proofs.making.page_for.Goals as goal
 
 pub returns-clause-page : goal.returns-clause-page
@@ -23,3 +24,6 @@ returns-clause-cause g c =
     c.feed_from-fed.ensures.fed c.feed_from-fed.ensures.end (λ f end.
     let k = f.2 start (record { fed = c.in_ok-parser.ensures.begun; keeps = c.in_ok-parser.ensures.keeps }) in
     IfErr-weaker c.finish.result _ _ (λ e cause. end-read c.args.job.now c.args.table.now _ _ _ e f.0 f.1 end (cause start f.0 k.fed)) c.finish.ensures.cause))
+
+pub returns-clause-failing : goal.returns-clause-failing
+returns-clause-failing g c = rw (c.and.ensures) (λ was now. ended-as c.feed_from-fed.result c.finish.result Read (c.feed_from-fed.ensures.failing now))

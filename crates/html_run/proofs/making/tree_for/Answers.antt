@@ -1,8 +1,9 @@
 use Rattle.std.proofs.Common.{[]}
 use Rattle.std.proofs.lemmas.Result.{IfErr-weaker, IfOk-weaker}
 use Rattle.html_run.specs.Jobs.{start_for}
+use Rattle.html_parser.specs.declared.error.ParseError.TheVariants.{Read}
 use Rattle.html_run.proofs.Causes.{end-read, piece-read}
-use Rattle.html_run.proofs.Ended.{ended-err, ended-ok, ended-on}
+use Rattle.html_run.proofs.Ended.{ended-as, ended-err, ended-ok, ended-on}
 use Rattle.html_run.proofs.making.tree_for.Goals as goal
 
 pub feed_from-fed-requires : goal.feed_from-fed-requires
@@ -29,3 +30,6 @@ returns-clause-cause g c =
     c.feed_from-fed.ensures.fed c.feed_from-fed.ensures.end (λ f end.
     let k = f.2 start (c.without_ledger-parser.ensures.fed start [] c.in_ok-parser.ensures.begun) in
     IfErr-weaker c.finish.result _ _ (λ e cause. end-read c.args.job.now c.args.table.now _ _ _ e f.0 f.1 end (cause start f.0 k)) c.finish.ensures.cause))
+
+pub returns-clause-failing : goal.returns-clause-failing
+returns-clause-failing g c = rw (c.and.ensures) (λ was now. ended-as c.feed_from-fed.result c.finish.result Read (c.feed_from-fed.ensures.failing now))

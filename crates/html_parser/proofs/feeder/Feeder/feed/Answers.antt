@@ -1,6 +1,6 @@
 use Rattle.std.proofs.Common.{◌++◌, ◌∙◌, ap, false, refl}
 use Rattle.std.proofs.lemmas.Result.{err_from_is_err_and}
-use Rattle.html_parser.proofs.Feeding.{feed_goes, few_bytes, never_stopped, prompt_of, staged_more, staged_same}
+use Rattle.html_parser.proofs.Feeding.{feed_goes, few_bytes, kept_of, never_stopped, prompt_of, staged_more, staged_same}
 use Rattle.html_parser.proofs.Feeds.{read_of}
 use Rattle.html_parser.proofs.feeder.Feeder.feed.Goals as goal
 
@@ -8,6 +8,11 @@ pub returns-in_err-take-clause-cause : goal.returns-in_err-take-clause-cause
 returns-in_err-take-clause-cause c =
     let p = err_from_is_err_and c.from_residual.result c.from_residual.ensures.1 in
     rw (p.1, p.2) (λ start bytes f. c.in_err-take.ensures.cause start bytes f.read.run (c.expect.ensures.runs start false bytes f.read.run f.read.is_run))
+
+pub returns-in_err-take-clause-told : goal.returns-in_err-take-clause-told
+returns-in_err-take-clause-told c =
+    let p = err_from_is_err_and c.from_residual.result c.from_residual.ensures.1 in
+    rw (p.1, p.2) (λ start bytes f. c.in_err-take.ensures.told start bytes f.read.run (c.expect.ensures.runs start false bytes f.read.run f.read.is_run))
 
 pub returns-in_err-take-clause-stopped : goal.returns-in_err-take-clause-stopped
 returns-in_err-take-clause-stopped c =
@@ -36,5 +41,9 @@ returns-clause-few c = λ start bytes f.
     (read_of start c.take.new.self (bytes ++ c.args.piece.now) (c.in_ok-take.ensures.taken start bytes f.read.run (c.expect.ensures.runs start false bytes f.read.run f.read.is_run)))
 
 pub returns-clause-prompt : goal.returns-clause-prompt
-returns-clause-prompt c = λ start bytes f keeps.
-    prompt_of start c.take.new.self (bytes ++ c.args.piece.now) (c.in_ok-take.ensures.taken start bytes f.read.run (c.expect.ensures.runs start false bytes f.read.run f.read.is_run)) (c.take.ensures.keeps ∙ (ap (λ k. k.keeps_tokens) c.expect.ensures.kept ∙ keeps))
+returns-clause-prompt c = λ start bytes f.
+    prompt_of start c.take.new.self (bytes ++ c.args.piece.now) (c.in_ok-take.ensures.taken start bytes f.read.run (c.expect.ensures.runs start false bytes f.read.run f.read.is_run))
+
+pub returns-clause-kept : goal.returns-clause-kept
+returns-clause-kept c = λ start bytes f keeps.
+    kept_of start c.take.new.self (bytes ++ c.args.piece.now) (c.in_ok-take.ensures.taken start bytes f.read.run (c.expect.ensures.runs start false bytes f.read.run f.read.is_run)) (c.take.ensures.keeps ∙ (ap (λ k. k.keeps_tokens) c.expect.ensures.kept ∙ keeps))

@@ -45,7 +45,7 @@ returns-in_err-hand_on-clause-cause c =
 pub returns-in_err-check_steps-clause-cause : goal.returns-in_err-check_steps-clause-cause
 returns-in_err-check_steps-clause-cause c =
     let p = err_from_is_err_and c.from_residual-in_err-check_steps.result c.from_residual-in_err-check_steps.ensures.1 in
-    rw (p.1, p.2) (λ start bytes run r. steps_refused start c.hand_on.new.self bytes (run.text ++ c.as_slice.result.now) c.in_err-check_steps.field-0.0 _ _
+    rw (p.1, p.2) (λ start bytes run r. steps_refused start c.hand_on.new.self bytes (run.text ++ c.as_slice.result.now) c.in_err-check_steps.field-0.0
     (c.in_ok-hand_on.ensures.handed start true bytes (ended (fed run c.as_slice.result.now))
     (end_run start bytes c.as_slice.result.now run c.args.self.now _ (record {
       decodes = λ limit bytes before d. subst (λ t. Decodes limit true c.finish.new.self bytes (before ++ t))

@@ -9,6 +9,13 @@ returns-in_err-some-clause-cause c =
     rw (p.1, p.2) (λ start finished bytes run r. cause_of start finished c.hand_text.new.self bytes run.text _
     (c.in_ok-hand_text.ensures.further start finished bytes run r) (c.in_err-some.ensures.cause start finished bytes))
 
+pub returns-in_err-some-clause-told : goal.returns-in_err-some-clause-told
+returns-in_err-some-clause-told c =
+    let p = err_from_is_err_and c.from_residual-in_err-some.result c.from_residual-in_err-some.ensures.1 in
+    rw (p.1, p.2) (λ start finished bytes run r.
+    let f = c.in_ok-hand_text.ensures.further start finished bytes run r in
+    c.in_err-some.ensures.told start finished bytes f.run f.is_run)
+
 pub returns-clause-further : goal.returns-clause-further
 returns-clause-further c = λ start finished bytes run r. further_on start finished c.hand_text.new.self _ bytes run.text
     (c.in_ok-hand_text.ensures.further start finished bytes run r) (c.in_ok-some.ensures.further start finished bytes)

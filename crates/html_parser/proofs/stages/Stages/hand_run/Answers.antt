@@ -4,7 +4,9 @@ use Rattle.html_builder.specs.Handed.{HandsIn, IsTextCause, fates_of}
 use Rattle.html_construction.specs.Built.{chars_of}
 use Rattle.html_parser.specs.Kinds.{kinds}
 use Rattle.html_parser.proofs.Causing.{text_refused}
+use Rattle.html_tokens.specs.declared.token.TokenKind.TheVariants as kind
 use Rattle.html_parser.proofs.Further.{text_further}
+use Rattle.html_parser.proofs.Refusals.{build-told}
 use Rattle.html_parser.proofs.Taken.{same_starts}
 use Rattle.html_parser.specs.Kinds.{starts_of}
 use Rattle.html_tokens.specs.Given.{plain_next}
@@ -31,11 +33,18 @@ pub returns-in_err-process_text-clause-cause : goal.returns-in_err-process_text-
 returns-in_err-process_text-clause-cause c =
     let p = err_from_is_err_and c.from_residual-in_err-process_text.result c.from_residual-in_err-process_text.ensures.1 in
     rw (p.1, p.2) (λ start finished bytes run r. text_refused start finished c.args.self.now bytes run c.next_run.new.self c.in-Some.place
-    (plain_next c.args.self.now.tokenizer) c.in_err-process_text.field-0.0 r (c.counted.ensures.counted start.setting start.limits (kinds run.given) r.handed)
+    (plain_next c.args.self.now.tokenizer) c.process_text.new.self.page c.in_err-process_text.field-0.0 r (c.counted.ensures.counted start.setting start.limits (kinds run.given) r.handed)
     ((rw c.in-Some.is at c.in_ok-place.ensures.given) run r.tokenized)
     (subst (λ t. IsTextCause start.setting start.limits (kinds run.given) (fates_of c.args.self.now.builder) t c.in-Some.place c.in_err-process_text.field-0.0)
     (c.as_slice.ensures.value ∙ c.in_ok-place.ensures.text ∙ ap (λ xs. xs ++ plain_next c.args.self.now.tokenizer) c.clear.ensures.items)
-    (c.in_err-process_text.ensures.cause start.setting start.limits (kinds run.given) r.handed)))
+    (c.in_err-process_text.ensures.cause start.setting start.limits (kinds run.given) r.handed))
+    (c.in_err-process_text.ensures.told start.setting start.limits (kinds run.given) r.handed))
+
+pub returns-in_err-process_text-clause-told : goal.returns-in_err-process_text-clause-told
+returns-in_err-process_text-clause-told c =
+    let p = err_from_is_err_and c.from_residual-in_err-process_text.result c.from_residual-in_err-process_text.ensures.1 in
+    rw (p.1, p.2) (λ start finished bytes run r. build-told start.limits kind.Eof c.process_text.new.self.page c.in_err-process_text.field-0.0
+    (c.in_err-process_text.ensures.told start.setting start.limits (kinds run.given) r.handed kind.Eof))
 
 pub invariant_of-self-2 : goal.invariant_of-self-2
 invariant_of-self-2 c = record {

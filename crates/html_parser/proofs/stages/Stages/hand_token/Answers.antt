@@ -1,6 +1,6 @@
 use Rattle.std.proofs.Common.{◌∙◌, ◌++◌, ◌∷◌, [], None, inl, refl}
 use Rattle.html_parser.specs.Kinds.{kinds}
-use Rattle.html_parser.proofs.Causing.{build_refused, build_spent}
+use Rattle.html_parser.proofs.Causing.{build_refused, build_spent, refused_told}
 use Rattle.html_parser.proofs.Further.{one_further}
 use Rattle.html_parser.proofs.MaySaying.{may_say, may_tell}
 use Rattle.html_parser.proofs.Tokenizing.{not_stopped, one_either, same_run}
@@ -48,14 +48,18 @@ invariant_of-self-in-Err-1 c = record {
 
 pub returns-in-Err-clause-cause : goal.returns-in-Err-clause-cause
 returns-in-Err-clause-cause c =
-    (λ start finished bytes run r. build_refused start finished c.args.self.now bytes run c.next.new.self c.in-Some.token
-    c.is_over-is_over.result c.in-Err.cause _ _ r (c.counted.ensures.counted start.setting start.limits (kinds run.given) r.handed)
+    (λ start finished bytes run r. build_refused start finished c.args.self.now bytes run c.next.new.self c.in-Some.token c.build.new.builder.page
+    c.is_over-is_over.result c.in-Err.cause r (c.counted.ensures.counted start.setting start.limits (kinds run.given) r.handed)
     ((rw c.in-Some.is at c.in_ok-token.ensures.unsaid) run r.tokenized)
     c.is_over-is_over.ensures.spent c.in-Err.ensures.cause)
 
+pub returns-in-Err-clause-told : goal.returns-in-Err-clause-told
+returns-in-Err-clause-told c = λ start finished bytes run r.
+    refused_told start finished c.args.self.now bytes run c.in-Some.token c.build.new.builder.page c.is_over-is_over.result c.in-Err.cause r c.in-Err.ensures.cause
+
 pub returns-in-Err-clause-spent : goal.returns-in-Err-clause-spent
 returns-in-Err-clause-spent c =
-    (λ at told. build_spent c.is_over-is_over.result c.in-Err.cause at c.in-Some.token.span.start _ _ _ c.is_over-is_over.ensures.spent c.in-Err.ensures.cause told)
+    (λ at told. build_spent c.is_over-is_over.result c.in-Err.cause at _ _ _ c.in-Some.token c.args.self.now.builder c.build.new.builder.page c.is_over-is_over.ensures.spent c.in-Err.ensures.cause told)
 
 pub returns-clause-in_time : goal.returns-clause-in_time
 returns-clause-in_time c = λ some. c.is_over-is_over.ensures.past c.in-Ok.ensures.in_time

@@ -15,6 +15,13 @@ returns-in_err-take_bit-clause-cause c =
     rw (p.1, p.2) (bit_refused c.args.self.now c.bits.self c.args.piece.now c.bits.rest.now c.split_at.result.0.now c.split_at.result.1.now
     c.in_err-take_bit.field-0.0 c.bits.invariant whole c.in_err-take_bit.ensures.cause)
 
+pub returns-in_err-take_bit-clause-told : goal.returns-in_err-take_bit-clause-told
+returns-in_err-take_bit-clause-told c =
+    let p = err_from_is_err_and c.from_residual.result c.from_residual.ensures.1 in
+    rw (p.1, p.2) (λ start bytes run r.
+    let h = c.bits.invariant.reads start bytes run r in
+    c.in_err-take_bit.ensures.told start (bytes ++ c.bits.invariant.front) h.run h.is_run)
+
 pub returns-in_err-take_bit-clause-keeps : goal.returns-in_err-take_bit-clause-keeps
 returns-in_err-take_bit-clause-keeps c = c.take_bit.ensures.keeps ∙ c.bits.invariant.keeps
 
@@ -29,6 +36,13 @@ returns-in_err-take_bit-2-clause-cause c =
     let p = err_from_is_err_and c.from_residual-in_err-take_bit-2.result c.from_residual-in_err-take_bit-2.ensures.1 in
     rw (p.1, p.2) (bit_refused c.args.self.now c.bits.self c.args.piece.now c.bits.rest.now c.bits.rest.now []
     c.in_err-take_bit-2.field-0.0 c.bits.invariant (sym (append-nil c.bits.rest.now)) c.in_err-take_bit-2.ensures.cause)
+
+pub returns-in_err-take_bit-2-clause-told : goal.returns-in_err-take_bit-2-clause-told
+returns-in_err-take_bit-2-clause-told c =
+    let p = err_from_is_err_and c.from_residual-in_err-take_bit-2.result c.from_residual-in_err-take_bit-2.ensures.1 in
+    rw (p.1, p.2) (λ start bytes run r.
+    let h = c.bits.invariant.reads start bytes run r in
+    c.in_err-take_bit-2.ensures.told start (bytes ++ c.bits.invariant.front) h.run h.is_run)
 
 pub returns-in_err-take_bit-2-clause-keeps : goal.returns-in_err-take_bit-2-clause-keeps
 returns-in_err-take_bit-2-clause-keeps c = c.take_bit-2.ensures.keeps ∙ c.bits.invariant.keeps
