@@ -15,7 +15,7 @@ use Rattle.html_arena.specs.Merge.{merged}
 use Rattle.html_arena.specs.Laws.{IsGrown, IsLinked, IsMoved, IsRelabelled, IsUnlinked}
 use Rattle.html_arena.specs.Marks.{has_mark, no_marks}
 use Rattle.html_arena.specs.Siblings.{has, put_before}
-use Rattle.html_arena.specs.Tree.{Tree, WellFormed, Climbs, added, added_template, ancestors, ancestors_within, appended, children_of, detached, inserted, label_of, moved, parent_of, texted, texted_run, with_merged}
+use Rattle.html_arena.specs.Tree.{Tree, WellFormed, Climbs, added, added_template, ancestors, ancestors_within, appended, children_of, detached, inserted, label_of, moved, parent_of, texted, texted_run, with_merged, with_replaced}
 use Rattle.html_arena.proofs.Labels.{formatting-element}
 use Rattle.html_arena.proofs.Made.{get_or-default_push}
 use Rattle.html_arena.proofs.Siblings.{cases_bool, cases_eqb, eqb-apart, eqb-self, has-tail}
@@ -305,6 +305,9 @@ run_laws t x run b = relabel_laws t (texted_run t x run) x (with_run (label_of t
 
 pub merged_laws : (t : Tree) (x : ℕ) (later : List Attr) → x < length t.labels → IsRelabelled t (with_merged t x later) x (with_attrs (label_of t x) (merged (attrs_in (label_of t x)) later))
 merged_laws t x later b = relabel_laws t (with_merged t x later) x (with_attrs (label_of t x) (merged (attrs_in (label_of t x)) later)) b refl refl refl refl
+
+pub replaced_laws : (t : Tree) (x : ℕ) (attrs : List Attr) → x < length t.labels → IsRelabelled t (with_replaced t x attrs) x (with_attrs (label_of t x) attrs)
+replaced_laws t x attrs b = relabel_laws t (with_replaced t x attrs) x (with_attrs (label_of t x) attrs) b refl refl refl refl
 
 pub with_char-text : (d : NodeData) (c : ℕ) → IsText d → IsText (with_char d c)
 with_char-text (Text s) c i = tt

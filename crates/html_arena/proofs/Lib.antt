@@ -14,6 +14,7 @@ pub mod Neighbours
 pub mod Once
 pub mod Refusals
 pub mod Relabel
+pub mod Replacing
 pub mod Runs
 pub mod Shape
 pub mod Shown

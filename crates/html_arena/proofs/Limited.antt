@@ -5,7 +5,7 @@ use Rattle.html_arena.specs.declared.arena.Limits.{Limits}
 use Rattle.html_arena.specs.declared.data.NodeData.{NodeData}
 use Rattle.html_arena.specs.declared.links.Links.{Links}
 use Rattle.html_arena.specs.declared.marks.Marks.{Marks}
-use Rattle.html_arena.specs.Budget.{AreWithin, budget, budget_of}
+use Rattle.html_arena.specs.Budget.{AreWithin, budget, budget_of, held_budget}
 use Rattle.html_arena.specs.Tree.{Tree, more}
 use Rattle.html_arena.specs.Whole.{tree_of}
 
@@ -28,6 +28,16 @@ within_by (Some m) n h e =
     record {
       few_nodes = λ l i. subst (λ (k : Limits). n ≤ k.nodes) (some-is l m i) (not-less n m.nodes p.0);
       few_held = λ l i. subst (λ (k : Limits). h ≤ k.held) (some-is l m i) (not-less h m.held q.0);
+    }
+
+-- as many nodes, which hold what the limits have room for
+pub within_held : (o : Option Limits) (n h h' : ℕ) → AreWithin o n h → held_budget o h' ≡ Ok tt → AreWithin o n h'
+within_held None n h h' w e = record { few_nodes = w.few_nodes; few_held = λ l q. absurd cc }
+within_held (Some m) n h h' w e =
+    let q = passed (nat_lt m.held h') _ _ tt e in
+    record {
+      few_nodes = w.few_nodes;
+      few_held = λ l i. subst (λ (k : Limits). h' ≤ k.held) (some-is l m i) (not-less h' m.held q.0);
     }
 
 -- nothing is within all limits

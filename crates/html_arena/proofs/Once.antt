@@ -11,7 +11,7 @@ use Rattle.html_arena.specs.Forest.Forest.{empty, tree}
 use Rattle.html_arena.specs.Siblings.{has, Distinct}
 use Rattle.html_arena.specs.Steps.{events, events_then, step, node_in, Remain}
 use Rattle.html_arena.specs.Tree.{Tree, WellFormed}
-use Rattle.html_arena.specs.Walking.{IsRoot}
+use Rattle.html_arena.specs.Walking.{IsPlaced}
 use Rattle.html_arena.proofs.Events.{steps_from-is, remain_all}
 use Rattle.html_arena.proofs.Siblings.{cases_bool, cases_eqb}
 
@@ -73,15 +73,15 @@ module _ (s : Show) (t : Tree) (r : ℕ) where
       All-cons (λ (e : Event). node_in e < length t.labels) f es
       (subst (λ (v : Event). node_in v < length t.labels) (sym a.0) a.2) (all_inside (step s t e) es a.3)
 
-module _ (s : Show) (t : Tree) (r : ℕ) (w : WellFormed t) (o : IsRoot t r) where
+module _ (s : Show) (t : Tree) (r : ℕ) (w : WellFormed t) (o : IsPlaced t r) where
   forest_enters : enters (events (below s t r)) ≡ labels (below s t r)
   forest_enters = enters_then (below s t r) [] ∙ append-nil (labels (below s t r))
 
   pub forest_once : Distinct (labels (below s t r))
-  forest_once = subst Distinct forest_enters (entered_once s t r _ _ (remain_all s t w r o.alone o.no_host))
+  forest_once = subst Distinct forest_enters (entered_once s t r _ _ (remain_all s t w r o.ups o.rises o.no_host))
 
   pub forest_inside : (x : ℕ) → has x (labels (below s t r)) ≡ true → x < length t.labels
-  forest_inside x h = entered_inside s t r _ _ (remain_all s t w r o.alone o.no_host) x (ap (has x) forest_enters ∙ h)
+  forest_inside x h = entered_inside s t r _ _ (remain_all s t w r o.ups o.rises o.no_host) x (ap (has x) forest_enters ∙ h)
 
   pub events_inside : All (λ (e : Event). node_in e < length t.labels) (events (below s t r))
-  events_inside = all_inside s t r _ _ (remain_all s t w r o.alone o.no_host)
+  events_inside = all_inside s t r _ _ (remain_all s t w r o.ups o.rises o.no_host)

@@ -1,5 +1,5 @@
 -- A text with one more code point, and an element with more attributes.
-use Rattle.std.proofs.Common.{◌≡◌, ℕ, ◌+◌, ◌-◌, ◌^◌, min, ◌<◌, List, length, set, Option, sym, ◌∙◌, ap, subst, arith}
+use Rattle.std.proofs.Common.{◌≡◌, ℕ, ◌+◌, ◌-◌, ◌^◌, min, ◌<◌, List, length, set, Option, Ok, sym, ◌∙◌, ap, subst, arith}
 use Rattle.std.proofs.lemmas.List.{length-append, length-set, length_push}
 use Rattle.std.proofs.lemmas.List.Sums.{sum_by-set}
 use Rattle.std.specs.List.{sum_by}
@@ -9,12 +9,13 @@ use Rattle.html_arena.specs.declared.marks.Marks.{Marks}
 use Rattle.html_arena.specs.declared.arena.Limits.{Limits}
 use Rattle.html_arena.specs.declared.data.NodeData.{NodeData}
 use Rattle.html_arena.specs.declared.data.NodeData.TheVariants.{Document, Contents, Element, Text, Comment, Doctype}
-use Rattle.html_arena.specs.Budget.{AreWithin}
+use Rattle.html_arena.specs.Budget.{AreWithin, held_budget}
 use Rattle.html_arena.specs.Data.{IsElement, IsText, attrs_in, contents_in, host_in, label_in, name_in, tag_in, with_attrs, with_char, with_run}
 use Rattle.html_arena.specs.Merge.{lacking, merged}
 use Rattle.html_arena.specs.Tree.{more}
 use Rattle.html_arena.specs.Weight.{attrs_weight, capped, weight}
 use Rattle.html_arena.specs.Whole.{IsArena}
+use Rattle.html_arena.proofs.Limited.{within_held}
 use Rattle.html_arena.proofs.Labels.{relabelled, with_attrs-same, with_char-same, with_run-same}
 use Rattle.html_arena.proofs.Merging.{sum-append}
 
@@ -86,3 +87,22 @@ module _ (ls : List Links) (ds : List NodeData) (ms : List Marks) (h : ℕ) (o :
   merged_arena x h' later new b t ed eh room =
       weighed x h' (attrs_weight (lacking (attrs_in (label_in ds x)) later)) new (with_attrs (label_in ds x) (merged (attrs_in (label_in ds x)) later)) b ed
       (weight-merged (label_in ds x) later t) eh (with_attrs-same (label_in ds x) (merged (attrs_in (label_in ds x)) later)) room
+
+  pub replaced_arena : (x h' : ℕ) (attrs : List Attr) (new : List NodeData) → x < length ds → new ≡ set ds x (with_attrs (label_in ds x) attrs)
+      → h' ≡ capped (sum_by weight (set ds x (with_attrs (label_in ds x) attrs))) → held_budget o h' ≡ Ok tt → IsArena ls new ms h' o
+  replaced_arena x h' attrs new b ed eh room =
+      let z = with_attrs (label_in ds x) attrs in
+      let n = length-set ds x z in
+      let same = with_attrs-same (label_in ds x) attrs in
+      let whole : IsArena ls (set ds x z) ms h' o = record {
+        whole = record {
+          same_length = a.whole.same_length ∙ sym n;
+          held_is = eh;
+          shape = a.whole.shape;
+          acyclic = a.whole.acyclic;
+        };
+        labelled = relabelled ls ds ms a.labelled x z b same.0 same.1 same.2 same.3;
+        within = subst (λ m. AreWithin o m h') (sym n) (within_held o (length ds) h h' a.within room);
+        few = a.few;
+      } in
+      subst (λ (v : List NodeData). IsArena ls v ms h' o) (sym ed) whole

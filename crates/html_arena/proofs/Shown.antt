@@ -8,7 +8,8 @@ use Rattle.html_arena.specs.Forest.{Forest}
 use Rattle.html_arena.specs.Forest.Forest.{empty, tree}
 use Rattle.html_arena.specs.Data.{contents_in, host_in}
 use Rattle.html_arena.specs.Below.{kids, hides, above, above_of, or_self, row, levels_below, below, IsForestAt}
-use Rattle.html_arena.proofs.Upward.{Upward, Upward-length}
+use Rattle.html_arena.specs.Walking.{Upward}
+use Rattle.html_arena.proofs.Upward.{Upward-length}
 
 pub cases_option : (o : Option ℕ) → (o ≡ None) ⊎ ((x : ℕ) × (o ≡ Some x))
 cases_option None = inl refl
@@ -115,6 +116,6 @@ module _ (s : Show) (t : Tree) (w : WellFormed t) where
       let i = kid p x n h in
       levels_are k x (p ∷ us) i.plain (i.up, a) (omega arith))
 
-  -- below a node that nothing is above stands what its forest says
-  pub below_is : (r : ℕ) → Plain r → parent_of t r ≡ None → IsForestAt s t (kids s t r) (below s t r)
-  below_is r n a = levels_are (length t.labels) r [] n (ap (above_of t) a) (omega arith)
+  -- below a node above which the nodes come to an end stands what its forest says
+  pub below_is : (r : ℕ) (us : List ℕ) → Plain r → Upward (above t) r us → IsForestAt s t (kids s t r) (below s t r)
+  below_is r us n a = levels_are (length t.labels) r us n a (omega arith)

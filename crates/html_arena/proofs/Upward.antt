@@ -1,13 +1,9 @@
 -- Following a link upwards, as a function of the node's number: one way up, no node twice on it.
 use Rattle.std.proofs.Common.{◌≡◌, ℕ, ◌<◌, true, false, eqb, List, [], ◌∷◌, length, Option, Some, None, inl, inr, refl, sym, ◌∙◌, ap, subst, arith}
 use Rattle.html_arena.specs.Siblings.{has, Distinct}
+use Rattle.html_arena.specs.Walking.{Upward}
 use Rattle.html_arena.proofs.Siblings.{cases_eqb, cases_bool}
 use Rattle.html_arena.proofs.Kids.{length-le_below}
-
--- the nodes above x, the nearest first, up to one with none above it
-abbrev pub Upward : (ℕ → Option ℕ) → ℕ → List ℕ → Type 0
-Upward up x [] = up x ≡ None
-Upward up x (u ∷ us) = (up x ≡ Some u) × Upward up u us
 
 pub Upward-same : (up : ℕ → Option ℕ) (x : ℕ) (us vs : List ℕ) → Upward up x us → Upward up x vs → us ≡ vs
 Upward-same up x [] [] a b = refl
@@ -28,7 +24,7 @@ part_of up x y (u ∷ us) a h = elim (cases_eqb y u) [
       (r.0, r.1, omega arith)
 ]
 
-not_above_itself : (up : ℕ → Option ℕ) (x : ℕ) (us : List ℕ) → Upward up x us → has x us ≡ false
+pub not_above_itself : (up : ℕ → Option ℕ) (x : ℕ) (us : List ℕ) → Upward up x us → has x us ≡ false
 not_above_itself up x us a = elim (cases_bool (has x us)) [
   | inl e ↦ absurd (let r = part_of up x x us a e in let s = ap length (Upward-same up x us r.0 a r.1) in omega arith)
   | inr e ↦ e

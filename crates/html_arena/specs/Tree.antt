@@ -1,6 +1,7 @@
 -- Claimed, but for this crate's own functions: reparented, InPart.
 -- What callers see of an arena: a node tree of the DOM (4.2), as its nodes and, for each, its parent and the list of its children.
 use Rattle.std.specs.Prelude.{◌≡◌, ℕ, zero, suc, ◌+◌, ◌*◌, ◌<◌, Bool, true, min, ◌^◌, ◌-◌, List, [], ◌∷◌, ◌++◌, length, Option, Some, None, slice_index_or, slice_set}
+use Rattle.std.specs.List.{sum_by}
 use Rattle.html_names.specs.declared.tag.Tag.{Tag}
 use Rattle.html_names.specs.Tags.{is_same}
 use Rattle.html_names.specs.Names.{tag_of}
@@ -15,7 +16,7 @@ use Rattle.html_arena.specs.Marks.{no_marks, has_mark, with_mark}
 use Rattle.html_arena.specs.Merge.{lacking, merged}
 use Rattle.html_arena.specs.Siblings.{has, Distinct, put_before, without}
 use Rattle.html_arena.specs.Templates.{Templates}
-use Rattle.html_arena.specs.Weight.{attrs_weight, capped}
+use Rattle.html_arena.specs.Weight.{attrs_weight, capped, weight}
 
 -- each column has one entry a node, at the node's number
 pub record Tree : Type 0 where
@@ -160,6 +161,15 @@ with_merged t x later =
       labels = slice_set t.labels x (with_attrs (label_of t x) (merged (attrs_in (label_of t x)) later));
       held = more t.held (capped (attrs_weight (lacking (attrs_in (label_of t x)) later)));
       steps = more t.steps (length (attrs_in (label_of t x)) * length later);
+    }
+
+-- an element has these attributes in place of its own, and what all nodes hold is counted anew
+abbrev pub with_replaced : Tree → ℕ → List Attr → Tree
+with_replaced t x attrs =
+    record t {
+      labels = slice_set t.labels x (with_attrs (label_of t x) attrs);
+      held = capped (sum_by weight (slice_set t.labels x (with_attrs (label_of t x) attrs)));
+      steps = more t.steps 1;
     }
 
 -- a mark is set or cleared, which is no step

@@ -12,6 +12,7 @@ use std::alloc::{AllocError, Global};
 use std::marker::Model;
 use thiserror::Error;
 
+mod editing;
 mod filling;
 mod linking;
 mod making;

@@ -1,5 +1,6 @@
 // What a node is, apart from its links.
 ghost use Rattle.std.specs.Prelude.{◌≡◌, ◌+◌, ◌<◌, [], OnOk, OnErr, IfOk, length, slice_set};
+ghost use Rattle.std.specs.List.{sum_by};
 ghost use Rattle.std.specs.Str.{chars};
 ghost use Rattle.html_names.specs.Sets.{is_formatting};
 ghost use Rattle.html_arena.specs.Data.{IsText, IsElement, attrs_in, cloned, contents_in, host_in, is_clone_in, is_linkable, kind_in, label_in, name_in, origin_in, tag_in, text_in, with_attrs, with_char, with_run};
@@ -222,6 +223,27 @@ pub(crate) fn held_of(node: &NodeData) -> u128
             name.saturating_add(public).saturating_add(system)
         }
     }
+}
+
+/// The code points that a node holds where it has these attributes; one that is no element has none.
+pub(crate) fn held_with_attrs(node: &NodeData, attrs: &[Attr]) -> u128
+    ensures { result ≡ capped (weight (with_attrs node.now attrs.now)) }
+{
+    match node {
+        NodeData::Element(element) => element_held(&element.name, attrs),
+        other => held_of(other),
+    }
+}
+
+/// The code points that nodes hold, as if they shared none.
+pub(crate) fn all_held(nodes: &[NodeData]) -> u128
+    ensures { result ≡ capped (sum_by weight nodes.now) }
+{
+    let mut held: u128 = 0;
+    for node in nodes {
+        held = held.saturating_add(held_of(node));
+    }
+    held
 }
 
 /// The empty text.

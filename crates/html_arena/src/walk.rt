@@ -6,7 +6,7 @@ ghost use Rattle.html_arena.specs.Forest.{Forest, labels};
 ghost use Rattle.html_arena.specs.Siblings.{Distinct, has};
 ghost use Rattle.html_arena.specs.Steps.{events, is_end, node_in, step};
 ghost use Rattle.html_arena.specs.Tree.{label_of};
-ghost use Rattle.html_arena.specs.Walking.{IsRoot};
+ghost use Rattle.html_arena.specs.Walking.{IsPlaced, IsRoot};
 
 use crate::arena::Arena;
 use crate::links::NodeId;
@@ -123,7 +123,7 @@ impl<'a> Model for Walk<'a> {
 }
 
 impl<'a> Walk<'a> {
-    /// A walk through all that stands below `root`.
+    /// A walk through all that stands below `root`, which nothing is above.
     pub fn new(arena: &'a Arena, show: Show, root: NodeId) -> Walk<'a>
         requires { IsRoot arena.now root }
         ensures events { result ≡ events (below show arena.now root) }
@@ -133,12 +133,25 @@ impl<'a> Walk<'a> {
         ensures once { Distinct (labels (below show arena.now root)) }
         ensures inside { (x : ℕ) → has x (labels (below show arena.now root)) ≡ true → x < length arena.now.labels }
     {
+        Walk::at(arena, show, root)
+    }
+
+    /// A walk through all that stands below `node`, which may stand anywhere in a tree.
+    pub fn at(arena: &'a Arena, show: Show, node: NodeId) -> Walk<'a>
+        requires { IsPlaced arena.now node }
+        ensures events { result ≡ events (below show arena.now node) }
+        ensures forest { IsForestAt show arena.now (kids show arena.now node) (below show arena.now node) }
+        ensures only { (f : Forest ℕ) → IsForestAt show arena.now (kids show arena.now node) f → f ≡ below show arena.now node }
+        ensures nodes { All (λ e. node_in e < length arena.now.labels) result }
+        ensures once { Distinct (labels (below show arena.now node)) }
+        ensures inside { (x : ℕ) → has x (labels (below show arena.now node)) ≡ true → x < length arena.now.labels }
+    {
         arena.forest();
         Walk {
             arena,
             show,
-            root,
-            at: arena.step_from(show, Event::Enter(root)),
+            root: node,
+            at: arena.step_from(show, Event::Enter(node)),
         }
     }
 }

@@ -234,7 +234,7 @@ impl Arena {
     }
 
     /// Adds a node that stands alone, within the budget.
-    fn add(&mut self, node: NodeData) -> Result<NodeId, ArenaError>
+    pub(super) fn add(&mut self, node: NodeData) -> Result<NodeId, ArenaError>
         requires lone { IsLone node }
         ensures id { IfOk result (λ id. id ≡ length self.old.labels) }
         ensures within { OnOk result (budget self.old 1 (capped (weight node)) ≡ Ok tt) }
