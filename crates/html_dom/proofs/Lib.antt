@@ -1,0 +1,6 @@
+pub mod Apart
+pub mod Beside
+pub mod Climbing
+pub mod Letters
+pub mod Lifting
+pub mod Placed

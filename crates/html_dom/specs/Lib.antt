@@ -1,0 +1,8 @@
+-- Claimed.
+pub mod Attributes
+pub mod Edits
+pub mod Names
+pub mod Places
+pub mod Reads
+-- For this crate's own functions.
+pub mod Lifting
