@@ -32,6 +32,21 @@ pub(crate) fn is_exact(
     )
 }
 
+/// Whether the page of an input, if it has one, counts no more steps than are proved for its code points: 1024 (n + 32)³.
+pub(crate) fn is_bounded(alloc: Global, table: &EntityTable, ask: Ask<'_>, input: &[u8]) -> bool {
+    match page_of(alloc, table, Reading::Whole, ask, input) {
+        Ok(page) => page.steps <= most_steps(page.n),
+        Err(_) => true,
+    }
+}
+
+fn most_steps(n: u64) -> u128 {
+    let side = (n as u128).saturating_add(32);
+    side.saturating_mul(side)
+        .saturating_mul(side)
+        .saturating_mul(1024)
+}
+
 /// How many steps the page of an input counts, where it has one and no limits are set.
 fn steps_of(alloc: Global, table: &EntityTable, ask: Ask<'_>, input: &[u8]) -> Option<u64> {
     if ask.limits.is_some() {

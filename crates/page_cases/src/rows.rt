@@ -2,9 +2,10 @@
 
 use crate::audit::print_audit;
 use crate::brackets::print_brackets;
-use crate::budgets::is_exact;
+use crate::budgets::{is_bounded, is_exact};
 use crate::calls::{html_text, other_call, tokens_in_hand};
 use crate::cuts::{is_same_cut, odd_front, print_input};
+use crate::faults::are_told;
 use crate::page::{Ask, Reading, page_of};
 use anyhow::{Result, bail};
 use html_charref::EntityTable;
@@ -76,6 +77,12 @@ fn print_others(rt: &HostRuntime, table: &EntityTable, ask: Ask<'_>, input: &[u8
     print_other_cuts(rt, table, ask, input, whole.as_str())?;
     if !is_exact(rt.alloc(), table, ask, input, whole.as_str())? {
         println!(rt; "  another number of steps within a limit")?;
+    }
+    if !is_bounded(rt.alloc(), table, ask, input) {
+        println!(rt; "  more steps than are proved")?;
+    }
+    if !are_told(rt.alloc(), table, ask, input)? {
+        println!(rt; "  a reader or a writer that fails is not told, or one that does not is")?;
     }
     print_other_call(rt, table, ask, input, whole.as_str())
 }
