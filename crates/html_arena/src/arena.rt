@@ -49,6 +49,16 @@ pub struct Limits {
     pub steps: u64,
 }
 
+impl Limits {
+    /// Limits that no page passes.
+    pub const NONE: Limits = Limits {
+        nodes: u64::MAX,
+        held: u64::MAX,
+        code_points: u64::MAX,
+        steps: u64::MAX,
+    };
+}
+
 /// What the work on an arena has cost so far; it stays at the greatest number once there.
 #[derive(Clone, Copy, Debug, PartialEq, Eq)]
 pub struct Meter {

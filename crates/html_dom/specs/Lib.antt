@@ -1,4 +1,5 @@
 -- Claimed.
+pub mod Allowed
 pub mod Attributes
 pub mod Edits
 pub mod Names

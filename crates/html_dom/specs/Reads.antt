@@ -1,4 +1,4 @@
--- Claimed.
+-- Claimed, but for this crate's own functions: Yields.
 -- What is read of a node, whichever it is.
 use Rattle.std.specs.Prelude.{◌≡◌, ℕ, zero, suc, Bool, true, false, cond, ◌&&◌, nat_lt, List, [], ◌∷◌, ◌++◌, length, Option, Some, None}
 use Rattle.std.specs.Str.{bytes_eq}

@@ -1,24 +1,28 @@
 //! Nodes read and edited as callers of the DOM are used to. Each call takes any number of a node, and refuses what would break the tree.
 #![tactic(auto)]
 
+mod allowed;
 mod attrs;
 mod error;
 mod iterators;
 mod links;
 mod making;
 mod names;
+mod parts;
 mod places;
 mod reads;
 mod texts;
 mod unwraps;
 mod walks;
 
+pub use allowed::AllowList;
 pub use attrs::{remove_attr, replace_attrs, set_attr};
 pub use error::EditError;
 pub use iterators::{Ancestors, Children, Descendants, ElementsNamed};
 pub use links::{append, insert_before, remove};
 pub use making::{create_element, create_text};
 pub use names::{is_attr_name, is_element_name};
+pub use parts::{PartError, inner_html, outer_html};
 pub use places::{is_node, is_placed, would_cycle};
 pub use reads::{
     attr, element, first_child, get, last_child, name, next_sibling, parent, previous_sibling,

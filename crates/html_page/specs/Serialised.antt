@@ -1,4 +1,4 @@
--- Claimed, but for this crate's own functions: is_raw_below, event_text.
+-- Claimed, but for this crate's own functions: event_text.
 -- The text of all that stands below a root (HTML standard, 13.3, "Serializing HTML fragments"), and how long it is.
 use Rattle.std.specs.Prelude.{ℕ, ◌<◌, ◌+◌, ◌*◌, Bool, false, cond, List, [], length, Option, Some, None}
 use Rattle.std.specs.List.{AllByRecursion, sum_by}
@@ -9,6 +9,7 @@ use Rattle.html_arena.specs.declared.walk.Show.TheVariants.{All}
 use Rattle.html_arena.specs.Below.{above, below}
 use Rattle.html_arena.specs.Data.{attrs_in}
 use Rattle.html_arena.specs.Forest.{Forest, relabel}
+use Rattle.html_arena.specs.Forest.Forest.{empty, tree}
 use Rattle.html_arena.specs.Tree.{Tree, label_of}
 use Rattle.html_arena.specs.Weight.{weight}
 use Rattle.html_page.specs.declared.profile.Profile.{Profile}
@@ -28,6 +29,10 @@ html_below p t r = cond (is_void (label_at t r)) [] (html_of p (is_raw (label_at
 abbrev pub is_raw_below : Tree → Option ℕ → Bool
 is_raw_below t None = false
 is_raw_below t (Some p) = is_raw (label_at t p)
+
+-- the text of a node itself, with all that stands below it
+abbrev pub html_at : Profile → Tree → ℕ → List ℕ
+html_at p t x = html_of p (is_raw_below t (above t x)) (tree (label_at t x) (forest_below t x) empty)
 
 -- what is written where a walk enters or leaves a node
 abbrev pub event_text : Profile → Tree → Event → List ℕ

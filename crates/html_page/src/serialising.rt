@@ -9,7 +9,7 @@ ghost use Rattle.html_arena.specs.Data.{tag_in, name_in};
 ghost use Rattle.html_arena.specs.Forest.{Forest};
 ghost use Rattle.html_arena.specs.Steps.{node_in};
 ghost use Rattle.html_arena.specs.Tree.{label_of};
-ghost use Rattle.html_arena.specs.Walking.{IsRoot};
+ghost use Rattle.html_arena.specs.Walking.{IsPlaced, IsRoot};
 ghost use Rattle.html_names.specs.Names.{tag_of};
 ghost use Rattle.html_output.specs.Putting.{Puts, held};
 ghost use Rattle.html_page.specs.Html.{attribute, end_tag, is_foreign_name, qualified, start_tag, closing, opening};
@@ -268,7 +268,7 @@ fn is_raw_at(arena: &Arena, node: NodeId) -> bool
 }
 
 /// Puts what is written where a walk enters or leaves a node.
-fn put_event<W: Sink>(
+pub(crate) fn put_event<W: Sink>(
     output: &mut Output,
     writer: &mut W,
     profile: Profile,
@@ -291,36 +291,36 @@ fn put_event<W: Sink>(
     }
 }
 
-/// Puts all that stands below a root.
-fn put_below<W: Sink>(
+/// Puts all that stands below a node.
+pub(crate) fn put_below<W: Sink>(
     output: &mut Output,
     writer: &mut W,
     profile: Profile,
     arena: &Arena,
     root: NodeId,
 ) -> Result<(), DeviceFault>
-    requires { IsRoot arena.now root }
+    requires { IsPlaced arena.now root }
     ensures bytes { Puts (W.taken writer.old) (held output.old) (W.taken writer.new) (held output.new) result (encode_utf8_all (html_below profile arena.now root)) }
     ensures fault { OnErr result ((W.failed writer.new ≡ true) ⊎ (W.stalled writer.new ≡ true)) }
     ensures failing { OnOk result (W.failed writer.new ≡ true → W.failed writer.old ≡ true) }
     ensures stalling { OnOk result (W.stalled writer.new ≡ true → W.stalled writer.old ≡ true) }
 {
     arena.forest();
-    let mut walk = Walk::new(arena, Show::Written, root);
+    let mut walk = Walk::at(arena, Show::Written, root);
     'events: while let Some(event) = walk.next() {
         put_event(output, writer, profile, arena, event)?;
     }
     Ok(())
 }
 
-/// Writes all that stands below a root, and the last bytes that are kept.
-fn write_below<W: Sink>(
+/// Writes all that stands below a node, and the last bytes that are kept.
+pub(crate) fn write_below<W: Sink>(
     writer: &mut W,
     profile: Profile,
     arena: &Arena,
     root: NodeId,
 ) -> Result<(), DeviceFault>
-    requires { IsRoot arena.now root }
+    requires { IsPlaced arena.now root }
     ensures ok { OnOk result (Appends (W.taken writer.old) (W.taken writer.new) (encode_utf8_all (html_below profile arena.now root))) }
     ensures err { OnErr result (AppendsFront (W.taken writer.old) (W.taken writer.new) (encode_utf8_all (html_below profile arena.now root))) }
     ensures fault { OnErr result ((W.failed writer.new ≡ true) ⊎ (W.stalled writer.new ≡ true)) }
@@ -332,16 +332,16 @@ fn write_below<W: Sink>(
     output.flush(writer)
 }
 
-/// A law of every arena: what stands below a root is one forest, and its text is no longer than this.
-fn law_of(arena: &Arena, root: NodeId, profile: Profile)
-    requires { IsRoot arena.now root }
+/// A law of every arena: what stands below a node is one forest, and its text is no longer than this.
+pub(crate) fn law_of(arena: &Arena, root: NodeId, profile: Profile)
+    requires { IsPlaced arena.now root }
     ensures shows { Shows arena.now (kids Show.All arena.now root) (forest_below arena.now root) }
     ensures only { (f : Forest Label) → Shows arena.now (kids Show.All arena.now root) f → f ≡ forest_below arena.now root }
     ensures size { HasNames arena.now → length (html_below profile arena.now root) ≤ most_written arena.now }
 {
     let _profile = profile;
     arena.forest();
-    let _walk = Walk::new(arena, Show::All, root);
+    let _walk = Walk::at(arena, Show::All, root);
 }
 
 /// Writes the trees below a root, as text in UTF-8. It takes no memory, and goes through the nodes by their links.

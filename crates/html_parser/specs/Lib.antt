@@ -18,3 +18,16 @@ pub mod Making
 pub mod Saying
 pub mod Stretches
 pub mod Tokenizing
+-- Handed on to callers, of the crates below.
+pub use Rattle.html_arena.specs.Below
+pub use Rattle.html_arena.specs.Data
+pub use Rattle.html_arena.specs.Steps
+pub use Rattle.html_arena.specs.Tree
+pub use Rattle.html_arena.specs.Walking
+pub use Rattle.html_device.specs.Device
+pub use Rattle.html_dom.specs.Allowed
+pub use Rattle.html_dom.specs.Places
+pub use Rattle.html_dom.specs.Reads
+pub use Rattle.html_page.specs.Html
+pub use Rattle.html_page.specs.Serialised
+pub use Rattle.html_page.specs.Shows

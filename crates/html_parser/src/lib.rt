@@ -19,14 +19,24 @@ mod tree_parser;
 
 pub use error::ParseError;
 pub use faults::{PageFault, PageFaultName};
-pub use html_arena::{Arena, Event, Kind, Limits, NodeData, NodeId, Show, Walk};
-pub use html_builder::{Context, Foreign as ForeignRoot};
-pub use html_charref::{EntityError, EntityTable, Str};
+pub use html_arena::{
+    Arena, ArenaError, ElementData, Event, Kind, Limits, Meter, NewNode, NodeData, NodeId, Origin,
+    Show, Walk,
+};
+pub use html_builder::{BuildError, Builder, Context, Foreign as ForeignRoot, Mode};
+pub use html_charref::{EntityError, EntityTable, RefText, Row, Str, WideStr};
 pub use html_device::{DeviceFault, FailAt, OverRead, OverWrite, Sink, Source};
-pub use html_input::LIMIT;
+// Reads and edits of nodes: `dom::attr`, `dom::remove` and the like.
+pub use html_dom as dom;
+pub use html_input::{Decoder, InputError, LIMIT};
 pub use html_ledger::{Cause, Fate, Fates};
-pub use html_page::Profile;
+pub use html_names::{AttrSpace, Space, Tag};
+pub use html_page::{Profile, TokenList, TokenListError, serialise_tree, tokenize};
 pub use html_token_list::{TokenRef, Tokens};
+pub use html_tokens::{
+    Attr, Attrs, Fault, FaultName, OptionalStr, Span, TextMode, Token, TokenError, TokenKind,
+    Tokenizer,
+};
 pub use normalising::{normalise, normalise_with};
 pub use options::{Foreign, Options};
 pub use page::{Page, Tree, serialise};

@@ -85,6 +85,32 @@ pub fn serialise<W: Sink>(page: &Page, profile: Profile, writer: &mut W) -> Resu
     }
 }
 
+impl Page {
+    /// Writes the trees below the root, as `serialise` does.
+    ///
+    /// # Errors
+    ///
+    /// Those of `serialise`.
+    pub fn serialise<W: Sink>(&self, profile: Profile, writer: &mut W) -> Result<(), ParseError>
+        requires root { IsRoot self.now.arena self.now.root }
+
+        // All of the text was written, or a front of it.
+        ensures ok { OnOk result (Appends (W.taken writer.old) (W.taken writer.new) (encode_utf8_all (html_below profile self.now.arena self.now.root))) }
+        ensures err { OnErr result (AppendsFront (W.taken writer.old) (W.taken writer.new) (encode_utf8_all (html_below profile self.now.arena self.now.root))) }
+
+        // It is the writer that failed, or took no bytes.
+        ensures cause { IfErr result (λ e. e ≡ ParseError.Write) }
+        ensures fault { OnErr result ((W.failed writer.new ≡ true) ⊎ (W.stalled writer.new ≡ true)) }
+
+        // The text is that of the one forest that stands below the root, and no longer than this.
+        ensures shows { Shows self.now.arena (kids All self.now.arena self.now.root) (forest_below self.now.arena self.now.root) }
+        ensures only { (f : Forest Label) → Shows self.now.arena (kids All self.now.arena self.now.root) f → f ≡ forest_below self.now.arena self.now.root }
+        ensures size { HasNames self.now.arena → length (html_below profile self.now.arena self.now.root) ≤ most_written self.now.arena }
+    {
+        serialise(self, profile, writer)
+    }
+}
+
 impl Tree {
     /// Writes the trees below the root, as `serialise` does for a page.
     ///

@@ -16,9 +16,9 @@ pub events-init : goal.events-init
 events-init g c = record {
   done = [];
   split =
-      texts_all c.args.profile c.args.arena.now c.forest.ensures.well_formed c.args.root c.requires.no_host c.new-walk.ensures.forest
-      ∙ ap (texts c.args.profile c.args.arena.now) (sym c.new-walk.ensures.events);
-  nodes = c.new-walk.ensures.nodes;
+      texts_all c.args.profile c.args.arena.now c.forest.ensures.well_formed c.args.root c.requires.no_host c.at-walk.ensures.forest
+      ∙ ap (texts c.args.profile c.args.arena.now) (sym c.at-walk.ensures.events);
+  nodes = c.at-walk.ensures.nodes;
   put = Moves-nil _ _;
   failing = λ now. now;
   stalling = λ now. now;
