@@ -8,7 +8,7 @@ ghost use Rattle.html_arena.specs.Weight.{weight, attrs_weight, optional_weight,
 
 use crate::attributes::attrs_held;
 use crate::links::NodeId;
-use html_charref::{Str, WideStr};
+use html_charref::{PlainText, Str, WideStr};
 use html_names::Tag;
 use html_tokens::{Attr, Attrs, OptionalStr};
 use std::alloc::AllocError;
@@ -164,6 +164,31 @@ fn push_run_to_text(node: &mut NodeData, run: &[char]) -> Result<(), AllocError>
 {
     if let NodeData::Text { text } = node {
         text.push_run(run)?;
+    }
+    Ok(())
+}
+
+/// Adds a plain text to a text.
+pub(crate) fn push_plain(
+    nodes: &mut Vec<NodeData>,
+    node: NodeId,
+    more: &PlainText<'_>,
+) -> Result<(), AllocError>
+    requires node_in { node < length nodes.old.items }
+    requires is_text { IsText (label_in nodes.old.items node) }
+    ensures ok { OnOk result (nodes.new.items ≡ slice_set nodes.old.items node (with_run (label_in nodes.old.items node) more.now)) }
+    ensures err { OnErr result (nodes.new.items ≡ nodes.old.items) }
+{
+    push_plain_to_text(&mut nodes[node.index()], more)
+}
+
+fn push_plain_to_text(node: &mut NodeData, more: &PlainText<'_>) -> Result<(), AllocError>
+    requires { IsText node.old }
+    ensures ok { OnOk result (node.new ≡ with_run node.old more.now) }
+    ensures err { OnErr result (node.new ≡ node.old) }
+{
+    if let NodeData::Text { text } = node {
+        text.push_text(more.as_str())?;
     }
     Ok(())
 }

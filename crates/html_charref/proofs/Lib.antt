@@ -13,3 +13,4 @@ pub mod CoreLemmas
 pub mod Maximum
 pub mod FirstBad
 pub mod RangeLemmas
+pub mod PlainTexts

@@ -3,6 +3,7 @@
 
 mod key;
 mod number;
+mod plain;
 mod ranges;
 mod read;
 mod run;
@@ -14,6 +15,7 @@ mod wide;
 
 pub use key::Key;
 pub use number::{Base, RefFault, add_digit, numeric};
+pub use plain::{PlainText, plain_len, plain_start};
 pub use read::EntityError;
 pub use table::{EntityTable, RefText, Row};
 pub use text::Str;

@@ -210,3 +210,11 @@ fn push_bytes(text: &mut String, bytes: &[u8]) -> Result<(), AllocError>
 {
     text.push_str(unsafe { std::str::from_utf8_unchecked(bytes) })
 }
+
+/// Adds a text at the end, or leaves what is there as it was.
+pub(crate) fn append(text: &mut String, more: &str) -> Result<(), AllocError>
+    ensures ok { OnOk result (chars (string_bytes text.new) ≡ chars (string_bytes text.old) ++ chars more.now) }
+    ensures err { OnErr result (string_bytes text.new ≡ string_bytes text.old) }
+{
+    text.push_str(more)
+}

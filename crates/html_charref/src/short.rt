@@ -89,6 +89,20 @@ impl<const MOST: usize> Short<MOST> {
         Ok(text)
     }
 
+    /// Adds a text at the end, if there is room for it and it is ASCII: whether it was added.
+    pub(crate) fn push_text(&mut self, text: &str) -> bool
+        ensures yes { result ≡ true → self.new ≡ self.old ++ chars text.now }
+        ensures no { result ≡ false → self.new ≡ self.old }
+    {
+        let len = self.len as usize;
+        if text.len() > MOST - len || !text.is_ascii() {
+            return false;
+        }
+        copy_to(text.as_bytes(), &mut self.bytes, len);
+        self.len = (len + text.len()) as u8;
+        true
+    }
+
     /// Adds a run of code points at the end, if there is room for it and it is ASCII: whether it was added.
     pub(crate) fn push_run(&mut self, run: &[char]) -> bool
         ensures yes { result ≡ true → self.new ≡ self.old ++ run.now }
@@ -111,5 +125,16 @@ fn copy_front(bytes: &[u8], block: &mut [u8])
 {
     for index in 0..bytes.len() {
         block[index] = bytes[index];
+    }
+}
+
+/// Copies bytes to a place of a block.
+fn copy_to(bytes: &[u8], block: &mut [u8], at: usize)
+    requires room { at + length bytes.now ≤ length block.old }
+    ensures same_len { length block.new ≡ length block.old }
+    ensures copied { take (at + length bytes.now) block.new ≡ take at block.old ++ bytes.now }
+{
+    for index in 0..bytes.len() {
+        block[at + index] = bytes[index];
     }
 }

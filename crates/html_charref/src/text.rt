@@ -3,7 +3,7 @@ ghost use Rattle.std.specs.Prelude.{◌≡◌, ◌↔◌, ◌∷◌, [], ◌++�
 ghost use Rattle.std.specs.Str.{IsUtf8, chars, encode_utf8_all};
 ghost use Rattle.html_charref.specs.Texts.{IsLong, code_points};
 
-use crate::run::extend;
+use crate::run::{append, extend};
 use crate::short::Short;
 use std::alloc::{AllocError, Global};
 use std::fmt;
@@ -82,6 +82,19 @@ impl Str {
         Ok(())
     }
 
+    /// Adds a text at the end, or leaves what is there as it was.
+    pub fn push_text(&mut self, text: &str) -> Result<(), AllocError>
+        ensures ok { OnOk result (self.new ≡ self.old ++ chars text.now) }
+        ensures err { OnErr result (self.new ≡ self.old) }
+    {
+        if self.kept.push_short_text(text) {
+            return Ok(());
+        }
+        self.kept.lengthen(self.alloc, text.len())?;
+        self.kept.push_long_text(text)?;
+        Ok(())
+    }
+
     /// The number of code points.
     pub fn len(&self) -> usize
         ensures { result ≡ length self.now }
@@ -141,6 +154,29 @@ impl Kept {
             *self = Kept::Long(Box::new(alloc, text)?);
         }
         Ok(())
+    }
+
+    /// Adds a text at the end of a short one, if it stays short: whether it was added.
+    fn push_short_text(&mut self, text: &str) -> bool
+        ensures yes { result ≡ true → code_points self.new ≡ code_points self.old ++ chars text.now }
+        ensures no { result ≡ false → code_points self.new ≡ code_points self.old }
+    {
+        match self {
+            Kept::Short(short) => short.push_text(text),
+            Kept::Long(_) => false,
+        }
+    }
+
+    /// Adds a text at the end of a long one, or leaves it as it was.
+    fn push_long_text(&mut self, more: &str) -> Result<(), AllocError>
+        requires { IsLong self.old }
+        ensures ok { OnOk result (code_points self.new ≡ code_points self.old ++ chars more.now) }
+        ensures err { OnErr result (code_points self.new ≡ code_points self.old) }
+    {
+        match self {
+            Kept::Short(_) => Ok(()),
+            Kept::Long(text) => append(&mut **text, more),
+        }
     }
 
     /// Adds a run of code points at the end of a long text, or leaves it as it was.

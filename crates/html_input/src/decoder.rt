@@ -1,5 +1,5 @@
 //! The decoder: bytes in pieces to text.
-ghost use Rattle.std.specs.Prelude.{◌≡◌, ℕ, ◌+◌, ◌*◌, ◌<◌, ◌≤◌, List, [], ◌∷◌, ◌++◌, length, drop, min, false, true, OnOk, OnErr, IfOk, IfErr, Err, Bool, ◌↔◌, ◌≢◌, slice_index};
+ghost use Rattle.std.specs.Prelude.{◌≡◌, ℕ, ◌+◌, ◌*◌, ◌<◌, ◌≤◌, All, List, [], ◌∷◌, ◌++◌, chars, length, drop, min, false, true, OnOk, OnErr, IfOk, IfErr, Err, Bool, ◌↔◌, ◌≢◌, slice_index};
 ghost use Rattle.html_input.specs.Added.{added};
 ghost use Rattle.html_input.specs.Decode.{decode, code_points};
 ghost use Rattle.html_input.specs.WellFormed.{BeginsWith};
@@ -126,6 +126,21 @@ impl Decoder {
             self.is_stopped = true;
         }
         outcome
+    }
+
+    /// Takes a text of so many code points as the next piece, where it is its own text and the limit has room for it: whether it was taken. It is not
+    /// taken where unsettled bytes or a carriage return stand before it, at the start of the input, and after a refusal.
+    pub fn take_text(&mut self, text: &str, count: usize) -> bool
+        requires free { All (λ c. c ≢ 13) (chars text.now) }
+        requires counted { count ≡ length (chars text.now) }
+        ensures taken { result ≡ true → (limit : ℕ) (bytes before : List ℕ) → Fed limit false self.old bytes before
+            → Fed limit false self.new (bytes ++ text.now) (before ++ chars text.now) }
+        ensures left { result ≡ false → self.new ≡ self.old }
+    {
+        if self.is_stopped || !self.unsettled.is_empty() || !self.normaliser.is_inside() {
+            return false;
+        }
+        self.normaliser.add_text(count as u64)
     }
 
     /// Ends the input: bytes that are still unsettled are one U+FFFD, which may be one code point too many. Every later

@@ -1,5 +1,5 @@
 // What the tokens so far, or the context of a fragment, settle about the fates of later tokens.
-ghost use Rattle.std.specs.Prelude.{◌≡◌, ◌∷◌, [], ◌++◌, ◌&&◌, None};
+ghost use Rattle.std.specs.Prelude.{◌≡◌, chars, ◌∷◌, [], ◌++◌, ◌&&◌, None};
 ghost use Rattle.std.specs.List.{list_all};
 ghost use Rattle.html_ledger.specs.declared.fate.Fate.TheVariants.{Text};
 ghost use Rattle.html_ledger.specs.declared.symbol.Symbol.TheVariants.{Start};
@@ -14,6 +14,7 @@ use crate::bools::{both, either};
 use crate::fate::Fate;
 use crate::setting::Setting;
 use crate::symbol::{Symbol, is_space};
+use html_charref::PlainText;
 use html_names::Tag;
 
 /// What the tokens so far, or the context of a fragment, settle about the fates of later ones. "Made" is said of start tags alone.
@@ -72,6 +73,18 @@ impl History {
             awaits_doctype: stays(self.awaits_doctype, run),
             prolog: stays(self.prolog, run),
             ignore_line_feed: both(self.ignore_line_feed, run.is_empty()),
+            ..self
+        }
+    }
+
+    /// What is known after a plain text that became text.
+    pub fn after_plain(self, text: &PlainText<'_>) -> History
+        ensures value { (node : _) → result ≡ after_run self text.now (Text node) }
+    {
+        History {
+            awaits_doctype: stays_after(self.awaits_doctype, text),
+            prolog: stays_after(self.prolog, text),
+            ignore_line_feed: both(self.ignore_line_feed, text.is_empty()),
             ..self
         }
     }
@@ -155,6 +168,23 @@ fn are_spaces(run: &[char]) -> bool
     ensures value { result ≡ list_all is_space run.now }
 {
     run.iter().all(|c| is_space(*c))
+}
+
+/// The flag, if this is white space.
+fn stays_after(flag: bool, text: &PlainText<'_>) -> bool
+    ensures value { result ≡ (flag && list_all is_space text.now) }
+{
+    if flag {
+        is_space_text(text.as_str())
+    } else {
+        false
+    }
+}
+
+fn is_space_text(text: &str) -> bool
+    ensures value { result ≡ list_all is_space (chars text.now) }
+{
+    text.chars().all(|c| is_space(c))
 }
 
 /// A token before which a doctype may stand.

@@ -18,6 +18,7 @@ use crate::history::History;
 use crate::setting::Setting;
 use crate::symbol::Symbol;
 use html_arena::NodeId;
+use html_charref::PlainText;
 use std::alloc::{AllocError, Global};
 use std::marker::Model;
 
@@ -161,6 +162,21 @@ impl Ledger {
         let fate = Fate::Text(node);
         self.fates.push_run(&fate, run.len() as u64)?;
         self.history = self.history.after_text(run);
+        Ok(())
+    }
+
+    /// Gives the next tokens, those of a plain text that becomes this one, their fates in one go: the same as one by one.
+    pub fn give_plain(&mut self, text: &PlainText<'_>, node: NodeId) -> Result<(), AllocError>
+        requires may { IsTrue (may_text_run self.old.history text.now) }
+        requires quiet { self.old.kept ≡ [] }
+        ensures given { OnOk result (self.new ≡ given_run self.old text.now (Text node)) }
+        ensures refused { OnErr result (self.new ≡ self.old) }
+        ensures takes { OnOk result (TakesRun text.now self.old self.new) }
+        ensures quiet { OnOk result (self.new.kept ≡ []) }
+        ensures counted { OnOk result (number_of self.new ≡ number_of self.old + length text.now) }
+    {
+        self.fates.push_run(&Fate::Text(node), text.len() as u64)?;
+        self.history = self.history.after_plain(text);
         Ok(())
     }
 

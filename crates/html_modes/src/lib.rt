@@ -33,10 +33,12 @@
 mod guards;
 mod modes;
 mod outcome;
+mod plain_text;
 mod process;
 mod quirks;
 mod runs;
 
 pub use outcome::Foreign;
+pub use plain_text::take_plain_front;
 pub use process::take;
 pub use runs::take_front;

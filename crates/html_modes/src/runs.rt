@@ -64,7 +64,7 @@ pub fn take_front(
 
 /// Takes one code point. (None is the start tag of foreign content.)
 #[tactic(auto, using(crate::proofs::Settled::run_rules))]
-fn take_char(page: &mut Construction, c: char, entries: &mut u64) -> Result<(), Refusal>
+pub(crate) fn take_char(page: &mut Construction, c: char, entries: &mut u64) -> Result<(), Refusal>
     requires fits { Fits page.old }
     ensures fits { OnOk result (Fits page.new) }
     ensures takes { OnOk result (Accepts (TokenKind.Char c) page.old page.new) }

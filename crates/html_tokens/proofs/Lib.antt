@@ -22,3 +22,4 @@ pub mod WholeLemmas
 pub mod OrderLemmas
 pub mod ComparisonLemmas
 pub mod ScriptLemmas
+pub mod PlainLemmas

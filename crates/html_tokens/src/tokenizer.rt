@@ -9,7 +9,7 @@ ghost use Rattle.html_tokens.specs.Tokens.{token};
 use crate::faults::{Fault, Faults};
 use crate::machine::{Machine, token};
 use crate::token::{Name, TextMode, Token, TokenKind};
-use html_charref::EntityTable;
+use html_charref::{EntityTable, PlainText};
 use std::alloc::Global;
 use thiserror::Error;
 
@@ -214,6 +214,34 @@ impl<'a> Tokenizer<'a> {
                 Err(TokenError::OutOfMemory)
             }
         }
+    }
+
+    /// Takes the next piece of the text, which is plain, and gives its tokens at once, each a Char that stands for itself: the place where the first
+    /// begins. It is as `feed` and then as many calls of `next`. Nothing, and then nothing changed, where other text waits, where text is not read
+    /// outside of markup, or after a refusal or the end of the text.
+    #[tactic(auto, using(crate::proofs::StreamLemmas::unsaid, crate::proofs::StreamLemmas::said), unfolding(crate::specs::Given::Fed, crate::specs::Given::Awaits, crate::specs::Given::fed_len, crate::specs::Given::is_stopped, crate::specs::Given::is_finished))]
+    pub fn take_plain(&mut self, text: &PlainText<'_>) -> Option<u64>
+        ensures given { IfSome result (λ place. (run : Run) → Fed self.old run → Fed self.new (gave_all (fed run text.now) (plain_tokens place text.now))) }
+        ensures count { IfSome result (λ place. fed_len self.new ≡ fed_len self.old + length text.now) }
+        ensures none { IfNone result (self.new ≡ self.old) }
+        ensures stopped { is_stopped self.new ≡ is_stopped self.old }
+        ensures going { IfSome result (λ place. is_stopped self.new ≡ false) }
+        ensures finished { is_finished self.new ≡ is_finished self.old }
+    {
+        if self.failed
+            || self.machine.is_finished()
+            || !self.machine.is_idle()
+            || !self.faults.is_quiet()
+            || !self.machine.has_room(text.len())
+        {
+            return None;
+        }
+        Some(self.machine.pass_text(text))
+    }
+
+    /// Whether a plain text would be taken by `take_plain`, as far as places count.
+    pub fn takes_plain(&self) -> bool {
+        !self.failed && self.machine.is_idle() && self.faults.is_quiet()
     }
 
     /// Tells how the text after the token just given is read: after a start tag in any mode, after each token as data or as data in foreign

@@ -9,8 +9,9 @@ ghost use Rattle.html_arena.specs.Weight.{attrs_weight, capped};
 
 use super::{Arena, ArenaError};
 use crate::attributes::{lacking_held, merge};
-use crate::data::{label_at, push_char, push_run, set_attrs};
+use crate::data::{label_at, push_char, push_plain, push_run, set_attrs};
 use crate::links::NodeId;
+use html_charref::PlainText;
 use html_tokens::Attrs;
 
 impl Arena {
@@ -46,6 +47,26 @@ impl Arena {
     {
         self.counts();
         self.push_front(node, run)
+    }
+
+    /// Adds the longest front of a plain text that the limit on held code points takes to a text, and answers its length.
+    pub fn append_plain(&mut self, node: NodeId, text: &PlainText<'_>) -> Result<usize, ArenaError>
+        requires node_in { node < length self.old.labels }
+        requires is_text { IsText (label_of self.old node) }
+        ensures front { IfOk result (λ n. n ≤ length text.now) }
+        ensures within { IfOk result (λ n. 0 < n → budget self.old 0 n ≡ Ok tt) }
+        ensures longest { IfOk result (λ n. n < length text.now → budget self.new 0 1 ≡ Err ArenaError.HeldBudget) }
+        ensures added { IfOk result (λ n. self.new ≡ texted_run self.old node (take n text.now)) }
+        ensures one_by_one { IfOk result (λ n. self.new ≡ texted_each self.old node (take n text.now)) }
+        ensures relabelled { IfOk result (λ n. IsRelabelled self.old self.new node (with_run (label_of self.old node) (take n text.now))) }
+        ensures still_text { IsText (label_of self.new node) }
+        ensures refused { OnErr result (self.new ≡ self.old) }
+        ensures some { OnErr result (0 < length text.now) }
+        ensures cause { IfErr result (λ e. RefusedBy (budget self.old 0 1) e) }
+        ensures not_held { IfErr result (λ e. e ≢ ArenaError.HeldBudget) }
+    {
+        self.counts();
+        self.push_plain_front(node, text)
     }
 
     /// Gives an element those attributes of a later tag of its name whose names it lacks, after its own.
@@ -136,6 +157,42 @@ impl Arena {
         push_run(&mut self.nodes, node, run)?;
         self.held = self.held.saturating_add(run.len() as u128);
         self.steps = self.steps.saturating_add(run.len() as u128);
+        Ok(())
+    }
+
+    fn push_plain_front(&mut self, node: NodeId, text: &PlainText<'_>) -> Result<usize, ArenaError>
+        requires node_in { node < length self.old.labels }
+        requires is_text { IsText (label_of self.old node) }
+        ensures front { IfOk result (λ n. n ≤ length text.now) }
+        ensures within { IfOk result (λ n. 0 < n → budget self.old 0 n ≡ Ok tt) }
+        ensures longest { IfOk result (λ n. n < length text.now → budget self.old 0 (n + 1) ≡ Err ArenaError.HeldBudget) }
+        ensures added { IfOk result (λ n. self.new ≡ texted_run self.old node (take n text.now)) }
+        ensures refused { OnErr result (self.new ≡ self.old) }
+        ensures some { OnErr result (0 < length text.now) }
+        ensures cause { IfErr result (λ e. RefusedBy (budget self.old 0 1) e) }
+        ensures not_held { IfErr result (λ e. e ≢ ArenaError.HeldBudget) }
+    {
+        self.counts();
+        let taken = self.room_for_run(text.len())?;
+        if taken > 0 {
+            self.push_plain(node, &text.front(taken))?;
+        }
+        Ok(taken)
+    }
+
+    /// Adds a plain text to a text, for which the limits have room.
+    fn push_plain(&mut self, node: NodeId, text: &PlainText<'_>) -> Result<(), ArenaError>
+        requires node_in { node < length self.old.labels }
+        requires is_text { IsText (label_of self.old node) }
+        requires room { budget self.old 0 (length text.now) ≡ Ok tt }
+        ensures added { OnOk result (self.new ≡ texted_run self.old node text.now) }
+        ensures refused { OnErr result (self.new ≡ self.old) }
+        ensures cause { IfErr result (λ e. e ≡ ArenaError.OutOfMemory) }
+    {
+        push_plain(&mut self.nodes, node, text)?;
+        let count = text.len() as u128;
+        self.held = self.held.saturating_add(count);
+        self.steps = self.steps.saturating_add(count);
         Ok(())
     }
 

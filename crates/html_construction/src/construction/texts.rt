@@ -16,6 +16,7 @@ ghost use Rattle.html_construction.specs.Calls.{HasFate, IsTree};
 
 use super::Construction;
 use crate::refusal::Refusal;
+use html_charref::PlainText;
 use html_ledger::{Fate, Symbol};
 use html_tokens::TokenKind;
 
@@ -67,6 +68,30 @@ impl Construction {
         self.tree.laws();
         let (node, count) = self.tree.append_run(run, self.registers.fostering)?;
         self.ledger.give_run(&run[..count], node)?;
+        Ok(count)
+    }
+
+    /// Adds the longest front of a plain text, that the limit on held code points takes, to the text at the place for the current
+    /// node, which is their fate, and answers how many they are: at least one. No doctype may come any more.
+    pub fn insert_plain(&mut self, text: &PlainText<'_>) -> Result<usize, Refusal>
+        requires opened { 0 < length self.old.stack }
+        requires quiet { self.old.ledger.kept ≡ [] }
+        requires some { 0 < length text.now }
+        requires may { IsTrue (may_text_run self.old.ledger.history text.now) }
+        ensures rest { OnOk result (self.new ≡ record self.old { tree = self.new.tree; ledger = self.new.ledger }) }
+        ensures takes { IfOk result (λ n. TakesRun (take n text.now) self.old self.new) }
+        ensures quiet { OnOk result (self.new.ledger.kept ≡ []) }
+        ensures count { IfOk result (λ n. (0 < n) × (n ≤ length text.now)) }
+        ensures grown { IfOk result (λ n. Grown n 1 0 0 0 self.old self.new) }
+        ensures works { IfOk result (λ n. Works n 0 n self.old self.new) }
+        ensures counted { IfOk result (λ n. self.new.tree.steps ≡ more self.old.tree.steps (text_steps self.old.tree self.old.fostering n)) }
+        ensures exact { IfOk result (λ n. IsTree (record self.old.tree { tree = with_text self.old.tree self.old.fostering (take n text.now) }) self.new) }
+        ensures fate { IfOk result (λ n. self.new.ledger ≡ given_run self.old.ledger (take n text.now) (Text (text_node self.old.tree self.old.fostering))) }
+        ensures refuses { IfErr result (λ e. RefusesAny e self.old self.new) }
+    {
+        self.tree.laws();
+        let (node, count) = self.tree.append_plain(text, self.registers.fostering)?;
+        self.ledger.give_plain(&text.front(count), node)?;
         Ok(count)
     }
 }

@@ -24,6 +24,7 @@ use crate::modes::foreign::root_start;
 use crate::modes::initial::doctype;
 use crate::modes::template::template_eof;
 use crate::outcome::{Foreign, Outcome};
+use html_charref::PlainText;
 use html_construction::{Construction, Mode, Refusal};
 use html_ledger::{Cause, Symbol, is_space};
 use html_names::{Space, Tag};
@@ -271,7 +272,40 @@ pub(crate) fn body_run(page: &mut Construction, run: &[char]) -> Result<usize, R
     Ok(count)
 }
 
+/// A plain text: the front of it that the limit on held code points takes.
+pub(crate) fn body_plain(page: &mut Construction, text: &PlainText<'_>) -> Result<usize, Refusal>
+    requires opened { 0 < length page.old.stack }
+    requires quiet { page.old.ledger.kept ≡ [] }
+    requires listed { length page.old.tree.list ≤ length page.old.ledger.fates }
+    requires some { 0 < length text.now }
+    requires may { IsTrue (may_text_run page.old.ledger.history text.now) }
+    ensures rest { OnOk result (page.new ≡ record page.old { tree = page.new.tree; ledger = page.new.ledger; stack = page.new.stack; frameset_ok = page.new.frameset_ok }) }
+    ensures takes { IfOk result (λ n. TakesRun (take n text.now) page.old page.new) }
+    ensures quiet { OnOk result (page.new.ledger.kept ≡ []) }
+    ensures count { IfOk result (λ n. (0 < n) × (n ≤ length text.now)) }
+    ensures grown { IfOk result (λ n. Grown n (length page.old.ledger.fates + 1) 0 1 0 page.old page.new) }
+    ensures works { IfOk result (λ n. Works (n + 6) 1 (3 * n + 6) page.old page.new) }
+    ensures counted { IfOk result (λ n. CountsRun n page.old page.new) }
+    ensures lighter { OnOk result (weight page.new.stack ≤ weight page.old.stack) }
+    ensures opened { OnOk result (0 < length page.new.stack) }
+    ensures plain { IfOk result (λ n. IsPlainState page.old → page.old.mode ≡ Mode.InBody → IsRunTurn (take n text.now) page.old page.new) }
+    ensures refuses { IfErr result (λ e. RefusesAny e page.old page.new) }
+{
+    page.reconstruct()?;
+    let taken = page.insert_plain(text)?;
+    page.look_again(taken - 1);
+    if !is_space_text(text.front(taken).as_str()) {
+        page.frameset_off();
+    }
+    Ok(taken)
+}
+
 /// Whether all of these are white space.
 fn are_spaces(run: &[char]) -> bool {
     run.iter().all(|c| is_space(*c))
+}
+
+/// Whether this is white space.
+fn is_space_text(text: &str) -> bool {
+    text.chars().all(|c| is_space(c))
 }

@@ -1,18 +1,19 @@
 // Plain text, a code point or a run at a time.
-ghost use Rattle.std.specs.Prelude.{◌≡◌, ◌≤◌, ◌+◌, ◌^◌, ◌<◌, [], ◌++◌, length, MatchOption, cond, IfOk, OnErr, OnOk, IfSome, IfNone};
+ghost use Rattle.std.specs.Prelude.{◌≡◌, ◌≤◌, ◌+◌, ◌^◌, ◌<◌, [], ◌++◌, length, MatchOption, cond, false, true, IfOk, OnErr, OnOk, IfSome, IfNone};
 ghost use Rattle.html_tokens.specs.Fed.{Passes};
 ghost use Rattle.html_tokens.specs.Tokens.{token};
 ghost use Rattle.html_tokens.specs.Bounds.{IsBounded, IsWithin};
 ghost use Rattle.std.specs.Prelude.{take};
 ghost use Rattle.html_tokens.specs.Copied.{AllPass};
 ghost use Rattle.html_tokens.specs.Runs.{is_plain, is_text, plain_front, plain_tokens, gave_all};
-ghost use Rattle.html_tokens.specs.Stream.{Run, IsAt, gave, answered};
+ghost use Rattle.html_tokens.specs.Stream.{Run, IsAt, gave, answered, fed};
 ghost use Rattle.html_tokens.specs.declared.token.TextMode.{TextMode};
 ghost use Rattle.std.specs.Prelude.{Option};
 
 use super::{Machine, State};
 use crate::faults::Faults;
 use crate::token::{Region, TokenKind};
+use html_charref::PlainText;
 use std::alloc::AllocError;
 
 impl<'a> Machine<'a> {
@@ -130,5 +131,29 @@ impl<'a> Machine<'a> {
         out.extend_from_slice(&self.input.queue.unread()[..len])?;
         self.pass(len);
         Ok(len)
+    }
+
+    /// Whether all that was fed was read, and plain text may come next.
+    pub(crate) fn is_idle(&self) -> bool
+        ensures text { result ≡ true → is_text self.now.state ≡ true }
+        ensures empty { result ≡ true → self.now.input.queue.items ≡ [] }
+    {
+        self.is_text() && self.input.queue.len() == 0
+    }
+
+    /// Goes past a plain text, which was not fed before: the place where it begins.
+    pub(crate) fn pass_text(&mut self, text: &PlainText<'_>) -> u64
+        requires text { is_text self.old.state ≡ true }
+        requires empty { self.old.input.queue.items ≡ [] }
+        requires going { self.old.input.finished ≡ false }
+        requires room { self.old.place + length self.old.input.queue.items + length text.now < 2 ^ 64 }
+        ensures given { (run : Run) → IsAt self.old run → IsAt self.new (gave_all (fed run text.now) (plain_tokens result text.now)) }
+        ensures place { result ≡ self.old.place }
+        ensures new { self.new ≡ record self.old { place = self.old.place + length text.now } }
+        ensures bounded { (faults : Faults) → IsBounded self.old faults → IsBounded self.new faults }
+    {
+        let start = self.place;
+        self.place += text.len() as u64;
+        start
     }
 }

@@ -19,6 +19,7 @@ use crate::groups::Target;
 use crate::search::{Sought, last_index, last_node, steps_down};
 use crate::target::{put_new, text_before};
 use html_arena::{NewNode, NodeId};
+use html_charref::PlainText;
 use html_names::Tag;
 use html_open::{OpenError, kept_by_edits, place};
 
@@ -53,6 +54,42 @@ impl OpenTree {
         let count = self.append_to(node, run)?;
         self.charge_again(steps, count - 1);
         Ok((node, count))
+    }
+
+    /// Adds the longest front of a plain text that the limit on held code points takes to the text that stands just before the
+    /// place for the current node, or to a new one there (13.2.6.1, insert a character), and answers the text and how many were added.
+    /// Each code point counts the steps of the place, and one; a new text those of the place once more, and two.
+    ///
+    /// # Errors
+    ///
+    /// `NodeBudget` where there is no such text and a new one would pass that limit; `HeldBudget` where the first code point would pass
+    /// that limit; else `OutOfMemory`.
+    pub fn append_plain(
+        &mut self,
+        text: &PlainText<'_>,
+        foster: bool,
+    ) -> Result<(NodeId, usize), OpenError>
+        requires opened { 0 < length self.old.stack }
+        requires some { 0 < length text.now }
+        ensures count { IfOk result (λ r. (0 < r.1) × (r.1 ≤ length text.now)) }
+        ensures node { IfOk result (λ r. r.0 ≡ text_node self.old foster) }
+        ensures exact { IfOk result (λ r. self.new ≡ record self.old { tree = with_text self.old foster (take r.1 text.now); steps = self.new.steps }) }
+        ensures longest { IfOk result (λ r. r.1 < length text.now → budget self.new.tree 0 1 ≡ Err arena.HeldBudget) }
+        ensures counted { IfOk result (λ r. self.new.steps ≡ more self.old.steps (text_steps self.old foster r.1)) }
+        ensures steps { IfOk result (λ r. self.new.steps ≤ self.old.steps + r.1 * (2 * length self.old.stack + 4) + r.1) }
+        ensures keeps { OnOk result (Keeps self.old self.new) }
+        ensures grown { IfOk result (λ r. Grown 1 0 0 r.1 self.old self.new) }
+        ensures tags { open_tags self.new ≡ open_tags self.old }
+        ensures rest { self.new ≡ record self.old { tree = self.new.tree; steps = self.new.steps } }
+        ensures tokens { self.new.tokens ≡ self.old.tokens }
+        ensures cause { IfErr result (λ e. IsTextRefused self.old foster e) }
+        ensures told { IfErr result (λ e. IsTextPassed self.old self.new e) }
+    {
+        let steps = self.here_steps(foster);
+        let node = self.text_at(foster)?;
+        let added = self.append_plain_to(node, text)?;
+        self.charge_again(steps, added - 1);
+        Ok((node, added))
     }
 
     /// Counts the steps of a place so many times: nearly always one step, or no time.
@@ -186,5 +223,31 @@ impl OpenTree {
             return Err(OpenError::HeldBudget);
         }
         Ok(count)
+    }
+
+    /// Adds the longest front of a plain text that the limit on held code points takes to a text, and answers its length.
+    fn append_plain_to(&mut self, node: NodeId, text: &PlainText<'_>) -> Result<usize, OpenError>
+        requires node_in { node < length self.old.tree.labels }
+        requires is_text { IsText (label_of self.old.tree node) }
+        requires free { IsFree self.old node }
+        requires some { 0 < length text.now }
+        ensures count { IfOk result (λ n. (0 < n) × (n ≤ length text.now)) }
+        ensures exact { IfOk result (λ n. self.new ≡ record self.old { tree = bare (texted_run self.old.tree node (take n text.now)); steps = self.new.steps }) }
+        ensures longest { IfOk result (λ n. n < length text.now → budget self.new.tree 0 1 ≡ Err arena.HeldBudget) }
+        ensures steps { IfOk result (λ n. self.new.steps ≤ self.old.steps + n) }
+        ensures counted { IfOk result (λ n. self.new.steps ≡ more self.old.steps n) }
+        ensures keeps { OnOk result (Keeps self.old self.new) }
+        ensures grown { IfOk result (λ n. Grown 0 0 0 n self.old self.new) }
+        ensures tags { open_tags self.new ≡ open_tags self.old }
+        ensures rest { self.new ≡ record self.old { tree = self.new.tree; steps = self.new.steps } }
+        ensures cause { IfErr result (λ e. IsLack (budget self.old.tree 0 1) e) }
+        ensures told { IfErr result (λ e. IsPassed self.old self.new 0 1 e) }
+    {
+        kept_by_edits();
+        let added = self.arena.append_plain(node, text)?;
+        if added == 0 {
+            return Err(html_open::OpenError::HeldBudget);
+        }
+        Ok(added)
     }
 }

@@ -1,0 +1,31 @@
+use Rattle.std.proofs.Common.{ap, length, take}
+use Rattle.html_construction.specs.States.{State}
+use Rattle.html_modes.proofs.Settled.{Pays-called, Toils-called}
+use Rattle.html_modes.proofs.Begun.{begun-refuses-any}
+use Rattle.html_modes.proofs.Plain.{alike-begun, alike-counted}
+use Rattle.html_modes.proofs.RawText.{run-other}
+use Rattle.html_modes.proofs.TextRuns.{run-goes-on}
+use Rattle.html_modes.proofs.plain_text.take_body_plain.Goals as goal
+
+pub returns-clause-plain : goal.returns-clause-plain
+returns-clause-plain c =
+    run-goes-on (take c.in_ok-count.count c.args.text.now) c.args.page.now c.begin_call.new.self c.body_plain.new.page c.count_steps.new.self
+    (alike-begun c.args.page.now c.begin_call.new.self c.args.page.now.mode (length c.args.page.now.stack) (length c.args.page.now.tree.tree.labels) c.begin_call.ensures.rest)
+    c.in_ok-count.ensures.plain (alike-counted c.body_plain.new.page c.count_steps.new.self c.count_steps.ensures.rest c.count_steps.ensures.same)
+    c.laws.ensures.sound c.laws.ensures.tags
+
+pub returns-clause-adds : goal.returns-clause-adds
+returns-clause-adds c = run-other (take c.in_ok-count.count c.args.text.now) c.args.page.now c.count_steps.new.self c.requires.loose
+
+pub returns-in_err-count-clause-refuses : goal.returns-in_err-count-clause-refuses
+returns-in_err-count-clause-refuses c = begun-refuses-any c.from_residual.result c.args.page.now c.begin_call.new.self c.body_plain.new.page c.in_err-count.field-0.0 c.from_residual.ensures.1 c.begin_call.ensures.begins c.in_err-count.ensures.refuses
+
+pub returns-clause-pays : goal.returns-clause-pays
+returns-clause-pays c =
+    Pays-called c.in_ok-count.count c.args.page.now c.begin_call.new.self c.body_plain.new.page c.count_steps.new.self _ _ _ c.begin_call.ensures.rest c.in_ok-count.ensures.count.0 c.in_ok-count.ensures.grown
+    c.in_ok-count.ensures.lighter (ap (λ (z : State). z.mode) c.in_ok-count.ensures.rest) c.count_steps.ensures.rest c.count_steps.ensures.grown
+
+pub returns-clause-toils : goal.returns-clause-toils
+returns-clause-toils c =
+    Toils-called c.in_ok-count.count c.args.page.now c.begin_call.new.self c.body_plain.new.page c.count_steps.new.self _ _ _ c.begin_call.ensures.rest c.in_ok-count.ensures.count.0 c.in_ok-count.ensures.grown
+    c.in_ok-count.ensures.lighter (ap (λ (z : State). z.mode) c.in_ok-count.ensures.rest) c.count_steps.ensures.rest c.count_steps.ensures.grown c.in_ok-count.ensures.works c.count_steps.ensures.works

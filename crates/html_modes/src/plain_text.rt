@@ -1,0 +1,141 @@
+// Plain text, which is taken in runs (13.2.6.1).
+ghost use Rattle.std.specs.Prelude.{◌≡◌, ◌+◌, ◌<◌, ◌≤◌, ◌==◌, ℕ, IfOk, IfSome, IsTrue, OnOk, Some, [], ◌∷◌, false, length, slice_get, take, true, IfErr};
+ghost use Rattle.std.specs.List.{list_all};
+ghost use Rattle.html_ledger.specs.Flags.{is_not_null, may_text_run};
+ghost use Rattle.html_construction.specs.Budgets.{RefusesAny};
+ghost use Rattle.html_construction.specs.Begun.{IsFounded};
+ghost use Rattle.html_construction.specs.Built.{Accepts, AcceptsRun};
+ghost use Rattle.html_construction.specs.Foreign.{foreign_tag};
+ghost use Rattle.html_modes.specs.Begun.{GivesIn, StaysOut};
+ghost use Rattle.html_modes.specs.Entering.{Enters};
+ghost use Rattle.html_modes.specs.Fitting.{Fits, is_loose};
+ghost use Rattle.html_modes.specs.Guards.{is_text, takes_runs};
+ghost use Rattle.html_modes.specs.Plain.{GoesOnText};
+ghost use Rattle.html_modes.specs.Ranks.{top_rank};
+ghost use Rattle.html_modes.specs.Steps.{Pays, Toils};
+ghost use Rattle.html_modes.specs.RawText.{AddsText};
+ghost use Rattle.html_construction.specs.Weights.{weight};
+
+use crate::guards::{is_text, takes_run};
+use crate::modes::body::body_plain;
+use crate::runs::take_char;
+use html_charref::PlainText;
+use html_construction::{Construction, Refusal};
+
+/// Takes a front of a text that isn't empty, a code point a token, and answers its length: a run where the mode takes one, else one code
+/// point; in foreign content one. Of a run the longest front is taken that the limit on held code points takes. `entries` counts the entries of these tokens into the
+/// rules, one for each code point of a run.
+///
+/// # Errors
+///
+/// Those of `take` for the first code point.
+pub fn take_plain_front(
+    page: &mut Construction,
+    text: &PlainText<'_>,
+    entries: &mut u64,
+) -> Result<usize, Refusal>
+    requires fits { Fits page.old }
+    requires some { 0 < length text.now }
+    ensures fits { OnOk result (Fits page.new) }
+    ensures takes { IfOk result (λ n. AcceptsRun (take n text.now) page.old page.new) }
+    ensures parses { OnOk result (page.new.parses_foreign ≡ page.old.parses_foreign) }
+    ensures gives { OnOk result (GivesIn page.old page.new) }
+    ensures out { OnOk result (StaysOut page.old.mode page.new.mode) }
+    ensures founded { OnOk result (IsFounded page.new) }
+    ensures count { IfOk result (λ n. (0 < n) × (n ≤ length text.now)) }
+    ensures pays { OnOk result (Pays page.old page.new) }
+    ensures enters { IfOk result (λ n. Enters n entries.old entries.new page.old page.new) }
+    ensures toils { OnOk result (Toils 0 page.old page.new) }
+    ensures one { IfOk result (λ n. IfSome (foreign_tag page.old) (λ g. n ≡ 1)) }
+    ensures plain { IfOk result (λ n. list_all is_not_null (take n text.now) ≡ true → GoesOnText (take n text.now) page.old page.new) }
+    ensures adds { IfOk result (λ n. AddsText (take n text.now) page.old page.new) }
+    ensures refuses { IfErr result (λ e. RefusesAny e page.old page.new) }
+{
+    let first = text.first();
+    if takes_run(page, first) {
+        let count = take_plain(page, text)?;
+        *entries = entries.saturating_add(count as u64);
+        return Ok(count);
+    }
+    take_char(page, first, entries)?;
+    Ok(1)
+}
+
+/// Takes the longest front of a plain text that the limits take.
+#[tactic(auto, using(crate::proofs::Settled::run_rules, crate::proofs::Begun::run_begun))]
+fn take_plain(page: &mut Construction, text: &PlainText<'_>) -> Result<usize, Refusal>
+    requires fits { Fits page.old }
+    requires mode { takes_runs page.old.mode ≡ true }
+    requires some { 0 < length text.now }
+    requires may { IsTrue (may_text_run page.old.ledger.history text.now) }
+    ensures fits { OnOk result (Fits page.new) }
+    ensures takes { IfOk result (λ n. AcceptsRun (take n text.now) page.old page.new) }
+    ensures parses { OnOk result (page.new.parses_foreign ≡ page.old.parses_foreign) }
+    ensures gives { OnOk result (GivesIn page.old page.new) }
+    ensures out { OnOk result (StaysOut page.old.mode page.new.mode) }
+    ensures founded { OnOk result (IsFounded page.new) }
+    ensures count { IfOk result (λ n. (0 < n) × (n ≤ length text.now)) }
+    ensures pays { OnOk result (Pays page.old page.new) }
+    ensures lighter { OnOk result (weight page.new.stack + top_rank page.new.mode ≤ weight page.old.stack + top_rank page.old.mode) }
+    ensures toils { OnOk result (Toils 0 page.old page.new) }
+    ensures plain { IfOk result (λ n. GoesOnText (take n text.now) page.old page.new) }
+    ensures adds { IfOk result (λ n. AddsText (take n text.now) page.old page.new) }
+    ensures refuses { IfErr result (λ e. RefusesAny e page.old page.new) }
+{
+    if is_text(page.mode()) {
+        let count = take_text_plain(page, text)?;
+        return Ok(count);
+    }
+    let count = take_body_plain(page, text)?;
+    Ok(count)
+}
+
+/// The same, in the mode text.
+#[tactic(auto, using(crate::proofs::Settled::run_rules))]
+fn take_text_plain(page: &mut Construction, text: &PlainText<'_>) -> Result<usize, Refusal>
+    requires fits { Fits page.old }
+    requires mode { is_text page.old.mode ≡ true }
+    requires some { 0 < length text.now }
+    requires may { IsTrue (may_text_run page.old.ledger.history text.now) }
+    ensures fits { OnOk result (Fits page.new) }
+    ensures takes { IfOk result (λ n. AcceptsRun (take n text.now) page.old page.new) }
+    ensures parses { OnOk result (page.new.parses_foreign ≡ page.old.parses_foreign) }
+    ensures mode { OnOk result (page.new.mode ≡ page.old.mode) }
+    ensures count { IfOk result (λ n. (0 < n) × (n ≤ length text.now)) }
+    ensures pays { OnOk result (Pays page.old page.new) }
+    ensures lighter { OnOk result (weight page.new.stack + top_rank page.new.mode ≤ weight page.old.stack + top_rank page.old.mode) }
+    ensures toils { OnOk result (Toils 0 page.old page.new) }
+    ensures adds { IfOk result (λ n. AddsText (take n text.now) page.old page.new) }
+    ensures refuses { IfErr result (λ e. RefusesAny e page.old page.new) }
+{
+    page.begin_call();
+    let count = page.insert_plain(text)?;
+    page.count_steps(count);
+    Ok(count)
+}
+
+/// The same, in modes that go by the rules of the body.
+#[tactic(auto, using(crate::proofs::Settled::run_rules))]
+fn take_body_plain(page: &mut Construction, text: &PlainText<'_>) -> Result<usize, Refusal>
+    requires fits { Fits page.old }
+    requires loose { is_loose page.old.mode ≡ true }
+    requires some { 0 < length text.now }
+    requires may { IsTrue (may_text_run page.old.ledger.history text.now) }
+    ensures fits { OnOk result (Fits page.new) }
+    ensures takes { IfOk result (λ n. AcceptsRun (take n text.now) page.old page.new) }
+    ensures parses { OnOk result (page.new.parses_foreign ≡ page.old.parses_foreign) }
+    ensures mode { OnOk result (page.new.mode ≡ page.old.mode) }
+    ensures count { IfOk result (λ n. (0 < n) × (n ≤ length text.now)) }
+    ensures pays { OnOk result (Pays page.old page.new) }
+    ensures lighter { OnOk result (weight page.new.stack + top_rank page.new.mode ≤ weight page.old.stack + top_rank page.old.mode) }
+    ensures toils { OnOk result (Toils 0 page.old page.new) }
+    ensures plain { IfOk result (λ n. GoesOnText (take n text.now) page.old page.new) }
+    ensures adds { IfOk result (λ n. AddsText (take n text.now) page.old page.new) }
+    ensures refuses { IfErr result (λ e. RefusesAny e page.old page.new) }
+{
+    page.begin_call();
+    let count = body_plain(page, text)?;
+    page.count_steps(count);
+    page.laws();
+    Ok(count)
+}
