@@ -12,6 +12,8 @@ ghost use Rattle.html_construction.specs.Modes.{is_reset};
 ghost use Rattle.html_construction.specs.Works.{reach_of};
 ghost use Rattle.html_names.specs.declared.tag.Tag.TheVariants as tag;
 ghost use Rattle.html_ledger.specs.Entries.{begun};
+ghost use Rattle.html_open.specs.Entries.{nodes_of};
+ghost use Rattle.html_open.specs.Opened.{AreOneByOrigin};
 ghost use Rattle.html_tree.specs.States.{document_state};
 ghost use Rattle.html_ledger.specs.MayDrop.{MayBeForeign};
 ghost use Rattle.html_ledger.specs.declared.setting.Setting.{Setting};
@@ -380,6 +382,15 @@ impl Builder {
             → MayBeForeign s (symbols tokens) (fates_of self.now) }
     {
         let _ = self.stopped;
+    }
+
+    /// A law: of the elements of one token at most one is open, at most one is in the list of active formatting elements, and these are one.
+    pub fn opened(&self)
+        ensures stack { AreOneByOrigin self.now.page.tree.tree self.now.page.tree.stack self.now.page.tree.stack }
+        ensures list { AreOneByOrigin self.now.page.tree.tree (nodes_of self.now.page.tree.list) (nodes_of self.now.page.tree.list) }
+        ensures both { AreOneByOrigin self.now.page.tree.tree (nodes_of self.now.page.tree.list) self.now.page.tree.stack }
+    {
+        self.construction.laws();
     }
 
     /// The tree, the fate of each token, and the rising numbers of the tokens with an error. The end of the page was processed before.

@@ -77,7 +77,8 @@ IsFront bytes text = (more : List ℕ) → (rest : List ℕ) × (decode (bytes +
 abbrev pub HasLimits : Start → Type 0
 HasLimits start = (l : Limits) × (start.limits ≡ Some l)
 
--- A token that a budget refused: in the state in which tree construction was then, what was to be added next for the token would have passed that limit.
+-- A token that a budget refused: in some state of tree construction what was to be added next for the token would have passed that limit. (That it was the parser's own
+-- state is said where the parser is at hand: `IsToldIn`.)
 pub record IsPassedAt (start : Start) (finished : Bool) (text : List ℕ) (limit : ArenaError) (at : ℕ) : Type 0 where
   pub token : IsTokenAt start finished text at
   pub state : State
