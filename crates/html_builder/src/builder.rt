@@ -34,9 +34,10 @@ use crate::context::Context;
 use crate::error::BuildError;
 use crate::switches::mode_said;
 use html_arena::{Arena, Limits};
+use html_charref::PlainText;
 use html_construction::{Construction, Mode, Refusal};
 use html_ledger::{Fates, Symbol};
-use html_modes::{take, take_front};
+use html_modes::{take, take_front, take_plain_front};
 use html_tokens::{TextMode, Token};
 use std::alloc::Global;
 use std::marker::Model;
@@ -364,6 +365,65 @@ impl Builder {
                 Ok(count)
             }
             Err(refusal) => Err(BuildError::at(refusal, at)),
+        }
+    }
+
+    /// Takes a plain text as the next tokens, a code point each: the same as so many calls of `process`, and all at once where the mode allows. `start` is the
+    /// place of the first; each other stands at the next place.
+    ///
+    /// # Errors
+    ///
+    /// Those of `process`, with the place of the code point that was refused; those before it were taken.
+    pub fn process_plain(&mut self, text: &PlainText<'_>, start: u64) -> Result<(), BuildError>
+        ensures takes { OnOk result (HandsIn (chars_of text.now) self.old self.new) }
+        ensures grows { OnOk result (AddsFates self.old self.new) }
+        ensures gives { OnOk result (GivesFates self.old self.new) }
+        ensures enters { OnOk result (EntersNone self.old self.new) }
+        ensures parses { OnOk result (parses_foreign self.new ≡ parses_foreign self.old) }
+        ensures cause { IfErr result (λ e. (s : Setting) (l : Option Limits) (tokens : List TokenKind) → Handed s l tokens self.old
+            → IsTextCause s l tokens (fates_of self.old) text.now start e) }
+        ensures told { IfErr result (λ e. (s : Setting) (l : Option Limits) (tokens : List TokenKind) → Handed s l tokens self.old → IsTextTold l self.new.page e) }
+        ensures ok { OnOk result (is_stopped self.new ≡ is_stopped self.old) }
+        ensures err { OnErr result (is_stopped self.new ≡ true) }
+        ensures stopped { (result ≡ Err BuildError.Stopped) ↔ ((is_stopped self.old ≡ true) × (0 < length text.now)) }
+    {
+        let mut taken = 0;
+        'taking: while taken < text.len() {
+            let at = start.saturating_add(taken as u64);
+            let len = self.process_plain_front(&text.after(taken), at)?;
+            taken += len;
+        }
+        Ok(())
+    }
+
+    /// Takes a front of a plain text that isn't empty, and answers its length: at least one.
+    #[tactic(auto, using(crate::proofs::Handing::text_rules))]
+    fn process_plain_front(&mut self, text: &PlainText<'_>, at: u64) -> Result<usize, BuildError>
+        requires some { 0 < length text.now }
+        ensures takes { IfOk result (λ n. HandsIn (chars_of (take n text.now)) self.old self.new) }
+        ensures grows { OnOk result (AddsFates self.old self.new) }
+        ensures gives { OnOk result (GivesFates self.old self.new) }
+        ensures enters { OnOk result (EntersNone self.old self.new) }
+        ensures parses { OnOk result (parses_foreign self.new ≡ parses_foreign self.old) }
+        ensures count { IfOk result (λ n. (0 < n) × (n ≤ length text.now)) }
+        ensures cause { IfErr result (λ e. (s : Setting) (l : Option Limits) (tokens : List TokenKind) → Handed s l tokens self.old
+            → IsTextCause s l tokens (fates_of self.old) (take 1 text.now) at e) }
+        ensures told { IfErr result (λ e. (s : Setting) (l : Option Limits) (tokens : List TokenKind) → Handed s l tokens self.old → IsTextTold l self.new.page e) }
+        ensures ready { OnOk result (is_stopped self.old ≡ false) }
+        ensures ok { OnOk result (is_stopped self.new ≡ false) }
+        ensures err { OnErr result (is_stopped self.new ≡ true) }
+        ensures stopped { (result ≡ Err BuildError.Stopped) ↔ (is_stopped self.old ≡ true) }
+    {
+        if self.stopped {
+            return Err(BuildError::Stopped);
+        }
+        self.stopped = true;
+        match take_plain_front(&mut self.construction, text, &mut self.entries) {
+            Ok(count) => {
+                self.stopped = false;
+                Ok(count)
+            }
+            Err(lack) => Err(BuildError::at(lack, at)),
         }
     }
 

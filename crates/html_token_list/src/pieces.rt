@@ -5,7 +5,7 @@ ghost use Rattle.html_tokens.specs.Tokens.{token as token_at};
 ghost use Rattle.html_tokens.specs.declared.token.TokenKind.TheVariants.{Char};
 ghost use Rattle.html_token_list.specs.Pieces.{AreWhole, IsCounted, all_tokens};
 
-use html_charref::Str;
+use html_charref::{PlainText, Str};
 use html_tokens::{Token, TokenKind};
 use std::alloc::{AllocError, Global};
 use std::mem;
@@ -68,6 +68,29 @@ fn add_run(text: &mut Str, run: &[char]) -> Result<(), AllocError>
     ensures refused { OnErr result (text.new ≡ text.old) }
 {
     text.push_run(run)
+}
+
+impl Stretch {
+    /// Adds the code points of a plain text, or leaves the stretch as it was.
+    pub(crate) fn add_plain(&mut self, text: &PlainText<'_>) -> Result<(), AllocError>
+        requires room { self.old.count + length text.now < 2 ^ 64 }
+        ensures added { OnOk result (self.new.text ≡ self.old.text ++ text.now) }
+        ensures start { self.new.start ≡ self.old.start }
+        ensures count { OnOk result (self.new.count ≡ self.old.count + length text.now) }
+        ensures refused { OnErr result (self.new ≡ self.old) }
+    {
+        add_text(&mut self.text, text)?;
+        self.count += text.len() as u64;
+        Ok(())
+    }
+}
+
+/// Adds the code points of a plain text to a text, or leaves it as it was.
+fn add_text(text: &mut Str, more: &PlainText<'_>) -> Result<(), AllocError>
+    ensures added { OnOk result (text.new ≡ text.old ++ more.now) }
+    ensures refused { OnErr result (text.new ≡ text.old) }
+{
+    text.push_text(more.as_str())
 }
 
 /// Puts the last stretch behind the pieces, unless it is empty.

@@ -7,6 +7,7 @@ use crate::finding::token_at;
 use crate::iter::Iter;
 use crate::lent::TokenRef;
 use crate::pieces::{Piece, Stretch, close, plain_char, turn_to};
+use html_charref::PlainText;
 use html_tokens::Token;
 use std::alloc::{AllocError, Global};
 use std::marker::Model;
@@ -86,6 +87,24 @@ impl Tokens {
         };
         turn_to(&mut self.pieces, &mut self.last, start)?;
         self.last.add(text)?;
+        self.len = len;
+        Ok(())
+    }
+
+    /// Adds a token for each code point of a plain text, the first at a place of its own and each other one at the next, or leaves the list as it was.
+    pub fn push_plain(&mut self, text: &PlainText<'_>, start: u64) -> Result<(), AllocError>
+        ensures added { OnOk result (self.new ≡ self.old ++ plain_tokens start text.now) }
+        ensures refused { OnErr result (self.new ≡ self.old) }
+    {
+        let more = text.len() as u64;
+        let Some(len) = self.len.checked_add(more) else {
+            return Err(AllocError);
+        };
+        let Some(_end) = start.checked_add(more) else {
+            return Err(AllocError);
+        };
+        turn_to(&mut self.pieces, &mut self.last, start)?;
+        self.last.add_plain(text)?;
         self.len = len;
         Ok(())
     }

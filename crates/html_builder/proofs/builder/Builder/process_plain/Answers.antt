@@ -1,0 +1,51 @@
+use Rattle.std.proofs.Common.{arith, ◌≡◌, ◌+◌, ◌-◌, ◌<◌, ◌≤◌, ◌++◌, length, take, drop, sym, subst, ap, ◌∙◌, length-drop}
+use Rattle.std.proofs.lemmas.Grind.{common_steps}
+use Rattle.std.proofs.lemmas.Result.{err_from_is_err_and}
+use Rattle.std.proofs.Math.Seq.{take-add, take-length}
+use Rattle.html_construction.specs.Built.{chars_of}
+use Rattle.html_builder.specs.Errors.{IsTextTold}
+use Rattle.html_builder.specs.Handed.{HandsIn, IsTextCause, fates_of}
+use Rattle.html_builder.proofs.Handing.{added-then, enters-then, gives-then, handed-then, take-one, text-cause-part}
+use Rattle.html_builder.proofs.builder.Builder.process_plain.Goals as goal
+
+pub taking-preserved : goal.taking-preserved
+taking-preserved c =
+    let piece : HandsIn (chars_of (take c.in_ok-len.len (drop c.taking.taken c.args.text.now))) c.taking.self c.process_plain_front.new.self =
+    subst (λ cs. HandsIn (chars_of (take c.in_ok-len.len cs)) c.taking.self c.process_plain_front.new.self) c.after.ensures c.in_ok-len.ensures.takes in
+    let short : length c.after.result ≡ length c.args.text.now - c.taking.taken =
+    ap (λ cs. length cs) c.after.ensures ∙ length-drop c.taking.taken c.args.text.now in
+    let count : c.in_ok-len.len ≤ length c.args.text.now - c.taking.taken = subst (λ n. c.in_ok-len.len ≤ n) short c.in_ok-len.ensures.count.1 in
+    record {
+      takes = subst (λ cs. HandsIn (chars_of cs) c.args.self.now c.process_plain_front.new.self) (sym (take-add c.taking.taken c.in_ok-len.len c.args.text.now))
+          (handed-then (take c.taking.taken c.args.text.now) (take c.in_ok-len.len (drop c.taking.taken c.args.text.now)) c.args.self.now c.taking.self c.process_plain_front.new.self c.taking.invariant.takes piece);
+      grows = added-then (take c.taking.taken c.args.text.now) c.args.self.now c.taking.self c.process_plain_front.new.self c.taking.invariant.takes c.taking.invariant.grows c.in_ok-len.ensures.grows;
+      gives = gives-then (take c.taking.taken c.args.text.now) c.args.self.now c.taking.self c.process_plain_front.new.self c.taking.invariant.takes c.taking.invariant.enters c.taking.invariant.gives c.in_ok-len.ensures.gives;
+      enters = enters-then c.args.self.now c.taking.self c.process_plain_front.new.self c.taking.invariant.enters c.in_ok-len.ensures.enters;
+      stopped = c.in_ok-len.ensures.ok ∙ sym c.in_ok-len.ensures.ready ∙ c.taking.invariant.stopped;
+      parses = c.in_ok-len.ensures.parses ∙ c.taking.invariant.parses;
+      ready = λ k. sym c.taking.invariant.stopped ∙ c.in_ok-len.ensures.ready;
+      most = omega (arith, count, c.taking.invariant.most);
+    }
+
+pub returns-clause-takes : goal.returns-clause-takes
+returns-clause-takes c =
+    let whole : c.taking.taken ≡ length c.args.text.now = grind (arith, common_steps) in
+    subst (λ cs. HandsIn (chars_of cs) c.args.self.now c.taking.self) (ap (λ n. take n c.args.text.now) whole ∙ take-length c.args.text.now) c.taking.invariant.takes
+
+pub returns-in_err-len-clause-cause : goal.returns-in_err-len-clause-cause
+returns-in_err-len-clause-cause c =
+    let p = err_from_is_err_and c.from_residual.result c.from_residual.ensures.1 in
+    let low : c.args.start ≤ c.saturating_add-at.result = grind (arith, common_steps) in
+    let high : c.saturating_add-at.result ≤ c.args.start + c.taking.taken = grind (arith, common_steps) in
+    let one : length (take 1 (drop c.taking.taken c.args.text.now)) ≤ 1 = take-one (drop c.taking.taken c.args.text.now) in
+    let more : c.taking.taken < length c.args.text.now = grind (arith, common_steps) in
+    rw p.1 (λ s l ts h. subst (λ e. IsTextCause s l ts (fates_of c.args.self.now) c.args.text.now c.args.start e) (sym p.2)
+    (text-cause-part s l ts (ts ++ chars_of (take c.taking.taken c.args.text.now)) (fates_of c.args.self.now) (fates_of c.taking.self) c.args.text.now (take 1 (drop c.taking.taken c.args.text.now))
+    c.args.start c.saturating_add-at.result c.in_err-len.field-0.0 low (omega (arith, high, one, more))
+    (subst (λ cs. IsTextCause s l (ts ++ chars_of (take c.taking.taken c.args.text.now)) (fates_of c.taking.self) (take 1 cs) c.saturating_add-at.result c.in_err-len.field-0.0) c.after.ensures
+    (c.in_err-len.ensures.cause s l (ts ++ chars_of (take c.taking.taken c.args.text.now)) (c.taking.invariant.takes s l ts h)))))
+
+pub returns-in_err-len-clause-told : goal.returns-in_err-len-clause-told
+returns-in_err-len-clause-told c =
+    let p = err_from_is_err_and c.from_residual.result c.from_residual.ensures.1 in
+    rw p.1 (λ s l ts h. subst (λ e. IsTextTold l c.process_plain_front.new.self.page e) (sym p.2) (c.in_err-len.ensures.told s l (ts ++ chars_of (take c.taking.taken c.args.text.now)) (c.taking.invariant.takes s l ts h)))
