@@ -2,7 +2,7 @@
 
 use crate::pages::{Part, page_of};
 use crate::same::same;
-use html_job::{Command, Job, Profile};
+use html_job::{Command, Foreign, Job, Profile};
 use html_parser::{DeviceFault, OverRead, OverWrite, Sink};
 use html_run::{DONE, run};
 use std::alloc::{AllocError, Global};
@@ -44,6 +44,8 @@ fn job_of(alloc: Global, command: Command) -> Job<'static> {
         command,
         entities: None,
         fragment: None,
+        context_encoding: None,
+        foreign: Foreign::Refuse,
         max_nodes: None,
         max_held: None,
         max_input: None,
