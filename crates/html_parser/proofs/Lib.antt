@@ -20,3 +20,4 @@ pub mod Taken
 pub mod Tokenizing
 pub mod Unsaid
 pub mod Plain
+pub mod PlainTaken

@@ -5,6 +5,7 @@ ghost use Rattle.html_tokens.specs.Runs.{plain_tokens};
 ghost use Rattle.html_parser.specs.Kinds.{starts_of};
 
 use crate::starts::Starts;
+use html_charref::PlainText;
 use html_token_list::Tokens;
 use html_tokens::Token;
 use std::alloc::{AllocError, Global};
@@ -41,6 +42,20 @@ impl Kept {
         self.starts.push_run(place, text.len() as u64)?;
         if self.keeps_tokens {
             self.tokens.push_text(text, place)?;
+        }
+        Ok(())
+    }
+
+    /// Adds a token for each code point of a plain text, the first at a place and each other one at the next.
+    pub(crate) fn push_plain(&mut self, text: &PlainText<'_>, place: u64) -> Result<(), AllocError>
+        ensures starts { OnOk result (self.new.starts ≡ self.old.starts ++ starts_of (plain_tokens place text.now)) }
+        ensures either { (self.new.starts ≡ self.old.starts) ⊎ (self.new.starts ≡ self.old.starts ++ starts_of (plain_tokens place text.now)) }
+        ensures tokens { OnOk result (self.old.keeps_tokens ≡ true → self.new.tokens ≡ self.old.tokens ++ plain_tokens place text.now) }
+        ensures keeps { self.new.keeps_tokens ≡ self.old.keeps_tokens }
+    {
+        self.starts.push_run(place, text.len() as u64)?;
+        if self.keeps_tokens {
+            self.tokens.push_plain(text, place)?;
         }
         Ok(())
     }

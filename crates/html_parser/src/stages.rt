@@ -1,6 +1,8 @@
 //! The stages of parsing, one behind the other: the decoder, the tokenizer, tree construction.
 
-ghost use Rattle.std.specs.Prelude.{◌≡◌, ◌++◌, ◌∷◌, ◌≤◌, ◌<◌, ◌+◌, ◌-◌, ◌^◌, ◌⊎◌, ℕ, Bool, List, [], None, Option, Some, true, false, IfErr, IfOk, OnOk, length, min};
+ghost use Rattle.std.specs.Prelude.{◌≡◌, ◌++◌, ◌∷◌, ◌≤◌, ◌<◌, ◌+◌, ◌-◌, ◌^◌, ◌⊎◌, ℕ, Bool, List, [], None, Option, Some, true, false, IfErr, IfOk, OnOk, cond, encode_utf8_all, length, min, take};
+ghost use Rattle.std.specs.List.{list_all};
+ghost use Rattle.html_charref.specs.Plain.{is_plain_byte};
 ghost use Rattle.html_arena.specs.declared.arena.Limits.{Limits as LimitsType};
 ghost use Rattle.html_builder.specs.Handed.{AddsFates, Handed, HandsIn, IsBuildCause, IsForeignRefused, fates_of, is_stopped as builder_stopped, parses_foreign};
 ghost use Rattle.html_builder.specs.declared.error.BuildError.{BuildError as BuildErrorKind};
@@ -23,7 +25,7 @@ use crate::made::{Made, make};
 use crate::page::{Page, Tree};
 use html_arena::{Limits, NodeData, NodeId};
 use html_builder::Builder;
-use html_charref::EntityTable;
+use html_charref::{EntityTable, PlainText, plain_len, plain_start};
 use html_input::Decoder;
 use html_token_list::Tokens;
 use html_tokens::{TextMode, Token, Tokenizer};
@@ -31,6 +33,9 @@ use std::alloc::Global;
 
 /// How many bytes are decoded at once, so that the text on its way takes little room however long a piece is.
 pub(crate) const PIECE: usize = 4096;
+
+/// From how many bytes on a plain text is taken by itself.
+const LONG: usize = 64;
 
 /// How many bytes of input a node has at least, in most pages.
 const BYTES_A_NODE: usize = 12;
@@ -125,8 +130,100 @@ impl<'a> Stages<'a> {
         Ok(())
     }
 
-    /// Takes a piece of the input at once.
+    /// Takes a piece of the input at once, long plain texts in it by themselves.
     fn take_bit(&mut self, piece: &[u8]) -> Result<(), ParseError>
+        ensures taken { OnOk result ((start : Start) (bytes : List ℕ) (run : Run) → IsRun start false self.old bytes run → HasTaken start self.new (bytes ++ piece.now)) }
+        ensures cause { IfErr result (λ e. (start : Start) (bytes : List ℕ) (run : Run) → IsRun start false self.old bytes run → IsFeedCause start (bytes ++ piece.now) e) }
+        ensures keeps { self.new.kept.keeps_tokens ≡ self.old.kept.keeps_tokens }
+    {
+        let mut rest = piece;
+        'fronts: while rest.len() >= LONG {
+            let len = self.take_front(rest)?;
+            let (_, behind) = rest.split_at(len);
+            rest = behind;
+        }
+        self.take_chars(rest)?;
+        Ok(())
+    }
+
+    /// Takes a front of some bytes: a plain text by itself where it is long, else what stands before the next one. How many bytes they were.
+    fn take_front(&mut self, piece: &[u8]) -> Result<usize, ParseError>
+        requires some { 0 < length piece.now }
+        ensures some { IfOk result (λ n. 0 < n) }
+        ensures within { IfOk result (λ n. n ≤ length piece.now) }
+        ensures reads { IfOk result (λ n. (start : Start) (bytes : List ℕ) (run : Run) → IsRun start false self.old bytes run → HasRead start self.new (bytes ++ take n piece.now)) }
+        ensures cause { IfErr result (λ e. (start : Start) (bytes : List ℕ) (run : Run) → IsRun start false self.old bytes run → IsFeedCause start (bytes ++ piece.now) e) }
+        ensures keeps { self.new.kept.keeps_tokens ≡ self.old.kept.keeps_tokens }
+    {
+        let plain = plain_len(piece);
+        let taken = self.take_plain(&piece[..plain])?;
+        if taken > 0 {
+            return Ok(taken);
+        }
+        let end = self.front_end(piece, plain);
+        self.take_chars(&piece[..end])?;
+        Ok(end)
+    }
+
+    /// How many bytes are taken code point by code point, of some of which so many at the front are plain: all where each token is to be counted for by
+    /// itself, else those before the next long plain text.
+    fn front_end(&self, piece: &[u8], plain: usize) -> usize
+        requires some { 0 < length piece.now }
+        requires within { plain ≤ length piece.now }
+        ensures some { 0 < result }
+        ensures within { result ≤ length piece.now }
+    {
+        if self.counts_steps() {
+            piece.len()
+        } else {
+            next_text(piece, plain)
+        }
+    }
+
+    /// Whether a plain text may be taken by itself.
+    fn takes_plain(&self) -> bool {
+        self.tokenizer.takes_plain() && !self.counts_steps() && !self.builder.reads_foreign()
+    }
+
+    /// Takes plain bytes by themselves, where they are many and that goes: how many of them, which may be none.
+    fn take_plain(&mut self, piece: &[u8]) -> Result<usize, ParseError>
+        requires plain { list_all is_plain_byte piece.now ≡ true }
+        ensures within { IfOk result (λ n. n ≤ length piece.now) }
+        ensures reads { IfOk result (λ n. (start : Start) (bytes : List ℕ) (run : Run) → IsRun start false self.old bytes run → HasRead start self.new (bytes ++ take n piece.now)) }
+        ensures cause { IfErr result (λ e. (start : Start) (bytes : List ℕ) (run : Run) → IsRun start false self.old bytes run → IsFeedCause start (bytes ++ piece.now) e) }
+        ensures keeps { self.new.kept.keeps_tokens ≡ self.old.kept.keeps_tokens }
+    {
+        if piece.len() < LONG || !self.takes_plain() {
+            return Ok(0);
+        }
+        let len = piece.len() - tail_len(piece);
+        let Some(text) = PlainText::of(&piece[..len]) else {
+            return Ok(0);
+        };
+        let taken = self.take_text(&text)?;
+        Ok(if taken { len } else { 0 })
+    }
+
+    /// Takes a plain text by itself, where that goes: whether it was taken.
+    fn take_text(&mut self, text: &PlainText<'_>) -> Result<bool, ParseError>
+        ensures reads { IfOk result (λ taken. (start : Start) (bytes : List ℕ) (run : Run) → IsRun start false self.old bytes run → HasRead start self.new (bytes ++ cond taken (encode_utf8_all text.now) [])) }
+        ensures cause { IfErr result (λ e. (start : Start) (bytes : List ℕ) (run : Run) → IsRun start false self.old bytes run → IsFeedCause start (bytes ++ encode_utf8_all text.now) e) }
+        ensures keeps { self.new.kept.keeps_tokens ≡ self.old.kept.keeps_tokens }
+    {
+        if !self.decoder.take_text(text.as_str(), text.len()) {
+            return Ok(false);
+        }
+        self.builder.counted();
+        let Some(place) = self.tokenizer.take_plain(text) else {
+            return Err(ParseError::OutOfMemory);
+        };
+        self.builder.process_plain(text, place)?;
+        self.kept.push_plain(text, place)?;
+        Ok(true)
+    }
+
+    /// Takes a piece of the input at once, code point by code point.
+    fn take_chars(&mut self, piece: &[u8]) -> Result<(), ParseError>
         ensures taken { OnOk result ((start : Start) (bytes : List ℕ) (run : Run) → IsRun start false self.old bytes run → HasTaken start self.new (bytes ++ piece.now)) }
         ensures cause { IfErr result (λ e. (start : Start) (bytes : List ℕ) (run : Run) → IsRun start false self.old bytes run → IsFeedCause start (bytes ++ piece.now) e) }
         ensures keeps { self.new.kept.keeps_tokens ≡ self.old.kept.keeps_tokens }
@@ -370,6 +467,37 @@ impl<'a> Stages<'a> {
             steps,
         })
     }
+}
+
+/// How many bytes at the end may begin a code point that does not end there.
+fn tail_len(bytes: &[u8]) -> usize
+    ensures few { result ≤ length bytes.now }
+{
+    let len = bytes.len();
+    if len > 0 && bytes[len - 1] >= 0xC0 {
+        1
+    } else if len > 1 && bytes[len - 1] >= 0x80 && bytes[len - 2] >= 0xE0 {
+        2
+    } else if len > 2
+        && bytes[len - 1] >= 0x80
+        && bytes[len - 2] >= 0x80
+        && bytes[len - 3] >= 0xF0
+    {
+        3
+    } else {
+        0
+    }
+}
+
+/// Where the next long plain text begins in some bytes, behind so many at the front, or their end: never at their start.
+fn next_text(bytes: &[u8], front: usize) -> usize
+    requires some { 0 < length bytes.now }
+    requires within { front ≤ length bytes.now }
+    ensures some { 0 < result }
+    ensures within { result ≤ length bytes.now }
+{
+    let from = front.max(1);
+    from + plain_start(&bytes[from..])
 }
 
 /// Whether so many steps are more than the limit, if there is one.
