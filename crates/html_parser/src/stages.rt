@@ -236,6 +236,98 @@ impl<'a> Stages<'a> {
         ensures told { IfErr result (λ e. (start : Start) (bytes : List ℕ) (run : Run) → IsRun start false self.old bytes run → IsToldIn start.limits self.new.builder.page e) }
         ensures keeps { self.new.kept.keeps_tokens ≡ self.old.kept.keeps_tokens }
     {
+        let mut rest = piece;
+        'fronts: while rest.len() >= LONG {
+            let len = self.take_front(rest)?;
+            let (_, behind) = rest.split_at(len);
+            rest = behind;
+        }
+        self.take_chars(rest)?;
+        Ok(())
+    }
+
+    /// Takes a front of some bytes: a plain text by itself where it is long, else what stands before the next one. How many bytes they were.
+    fn take_front(&mut self, piece: &[u8]) -> Result<usize, ParseError>
+        requires some { 0 < length piece.now }
+        ensures some { IfOk result (λ n. 0 < n) }
+        ensures within { IfOk result (λ n. n ≤ length piece.now) }
+        ensures reads { IfOk result (λ n. (start : Start) (bytes : List ℕ) (run : Run) → IsRun start false self.old bytes run → HasRead start self.new (bytes ++ take n piece.now)) }
+        ensures cause { IfErr result (λ e. (start : Start) (bytes : List ℕ) (run : Run) → IsRun start false self.old bytes run → IsFeedCause start (bytes ++ piece.now) e) }
+        ensures keeps { self.new.kept.keeps_tokens ≡ self.old.kept.keeps_tokens }
+    {
+        let plain = plain_len(piece);
+        let taken = self.take_plain(&piece[..plain])?;
+        if taken > 0 {
+            return Ok(taken);
+        }
+        let end = self.front_end(piece, plain);
+        self.take_chars(&piece[..end])?;
+        Ok(end)
+    }
+
+    /// How many bytes are taken code point by code point, of some of which so many at the front are plain: all where each token is to be counted for by
+    /// itself, else those before the next long plain text.
+    fn front_end(&self, piece: &[u8], plain: usize) -> usize
+        requires some { 0 < length piece.now }
+        requires within { plain ≤ length piece.now }
+        ensures some { 0 < result }
+        ensures within { result ≤ length piece.now }
+    {
+        if self.counts_steps() {
+            piece.len()
+        } else {
+            next_text(piece, plain)
+        }
+    }
+
+    /// Whether a plain text may be taken by itself.
+    fn takes_plain(&self) -> bool {
+        self.tokenizer.takes_plain() && !self.counts_steps() && !self.builder.reads_foreign()
+    }
+
+    /// Takes plain bytes by themselves, where they are many and that goes: how many of them, which may be none.
+    fn take_plain(&mut self, piece: &[u8]) -> Result<usize, ParseError>
+        requires plain { list_all is_plain_byte piece.now ≡ true }
+        ensures within { IfOk result (λ n. n ≤ length piece.now) }
+        ensures reads { IfOk result (λ n. (start : Start) (bytes : List ℕ) (run : Run) → IsRun start false self.old bytes run → HasRead start self.new (bytes ++ take n piece.now)) }
+        ensures cause { IfErr result (λ e. (start : Start) (bytes : List ℕ) (run : Run) → IsRun start false self.old bytes run → IsFeedCause start (bytes ++ piece.now) e) }
+        ensures keeps { self.new.kept.keeps_tokens ≡ self.old.kept.keeps_tokens }
+    {
+        if piece.len() < LONG || !self.takes_plain() {
+            return Ok(0);
+        }
+        let len = piece.len() - tail_len(piece);
+        let Some(text) = PlainText::of(&piece[..len]) else {
+            return Ok(0);
+        };
+        let taken = self.take_text(&text)?;
+        Ok(if taken { len } else { 0 })
+    }
+
+    /// Takes a plain text by itself, where that goes: whether it was taken.
+    fn take_text(&mut self, text: &PlainText<'_>) -> Result<bool, ParseError>
+        ensures reads { IfOk result (λ taken. (start : Start) (bytes : List ℕ) (run : Run) → IsRun start false self.old bytes run → HasRead start self.new (bytes ++ cond taken (encode_utf8_all text.now) [])) }
+        ensures cause { IfErr result (λ e. (start : Start) (bytes : List ℕ) (run : Run) → IsRun start false self.old bytes run → IsFeedCause start (bytes ++ encode_utf8_all text.now) e) }
+        ensures keeps { self.new.kept.keeps_tokens ≡ self.old.kept.keeps_tokens }
+    {
+        if !self.decoder.take_text(text.as_str(), text.len()) {
+            return Ok(false);
+        }
+        self.builder.counted();
+        let Some(place) = self.tokenizer.take_plain(text) else {
+            return Err(ParseError::OutOfMemory);
+        };
+        self.builder.process_plain(text, place)?;
+        self.kept.push_plain(text, place)?;
+        Ok(true)
+    }
+
+    /// Takes a piece of the input at once, code point by code point.
+    fn take_chars(&mut self, piece: &[u8]) -> Result<(), ParseError>
+        ensures taken { OnOk result ((start : Start) (bytes : List ℕ) (run : Run) → IsRun start false self.old bytes run → HasTaken start self.new (bytes ++ piece.now)) }
+        ensures cause { IfErr result (λ e. (start : Start) (bytes : List ℕ) (run : Run) → IsRun start false self.old bytes run → IsFeedCause start (bytes ++ piece.now) e) }
+        ensures keeps { self.new.kept.keeps_tokens ≡ self.old.kept.keeps_tokens }
+    {
         self.text.clear();
         self.decoder.feed(piece, &mut self.text)?;
         self.tokenizer.feed(self.text.as_slice())?;
