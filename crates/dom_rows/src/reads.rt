@@ -13,10 +13,10 @@ pub(crate) fn read(
 ) -> Result<bool> {
     let node = node_of(arena, root, words.first);
     match words.call {
-        "children" => put_all(arena, dom::children(arena, node), out)?,
-        "ancestors" => put_all(arena, dom::ancestors(arena, node), out)?,
-        "descendants" => put_all(arena, dom::descendants(arena, node), out)?,
-        "named" => put_all(arena, dom::elements_named(arena, node, words.second), out)?,
+        "children" => put_children(arena, node, out)?,
+        "ancestors" => put_ancestors(arena, node, out)?,
+        "descendants" => put_descendants(arena, node, out)?,
+        "named" => put_named(arena, node, words.second, out)?,
         "textof" => dom::text_below(arena, node, out)?,
         "inner" => put_part(arena, node, true, out)?,
         "outer" => put_part(arena, node, false, out)?,
@@ -27,9 +27,30 @@ pub(crate) fn read(
     Ok(true)
 }
 
-fn put_all<I: Iterator<Item = NodeId>>(arena: &Arena, nodes: I, out: &mut String) -> Result<()> {
-    for node in nodes {
-        put_node(arena, Some(node), out)?;
+fn put_children(arena: &Arena, node: NodeId, out: &mut String) -> Result<()> {
+    for child in dom::children(arena, node) {
+        put_node(arena, Some(child), out)?;
+    }
+    Ok(())
+}
+
+fn put_ancestors(arena: &Arena, node: NodeId, out: &mut String) -> Result<()> {
+    for above in dom::ancestors(arena, node) {
+        put_node(arena, Some(above), out)?;
+    }
+    Ok(())
+}
+
+fn put_descendants(arena: &Arena, node: NodeId, out: &mut String) -> Result<()> {
+    for below in dom::descendants(arena, node) {
+        put_node(arena, Some(below), out)?;
+    }
+    Ok(())
+}
+
+fn put_named(arena: &Arena, node: NodeId, name: &str, out: &mut String) -> Result<()> {
+    for element in dom::elements_named(arena, node, name) {
+        put_node(arena, Some(element), out)?;
     }
     Ok(())
 }
