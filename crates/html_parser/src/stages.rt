@@ -382,8 +382,8 @@ impl<'a> Stages<'a> {
         };
         self.builder.process_text(self.run.as_slice(), place)?;
         self.kept.push_run(self.run.as_slice(), place)?;
-        let is_past = self.is_spent();
-        self.is_past = is_past;
+        let is_spent = self.is_spent();
+        self.is_past = is_spent;
         Ok(())
     }
 
