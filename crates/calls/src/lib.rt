@@ -13,6 +13,8 @@ mod devices;
 #[cfg(test)]
 mod growth;
 #[cfg(test)]
+mod lines;
+#[cfg(test)]
 mod pages;
 #[cfg(test)]
 mod pieces;

@@ -7,3 +7,4 @@ pub mod Lengths
 pub mod Steps
 pub mod Feeding
 pub mod Spelling
+pub mod Walking
