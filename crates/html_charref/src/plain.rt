@@ -4,6 +4,7 @@ ghost use Rattle.std.specs.List.{count_by, list_all};
 ghost use Rattle.std.specs.Str.{IsUtf8, chars, encode_utf8_all};
 ghost use Rattle.html_charref.specs.Plain.{IsCutAfter, is_lead, is_plain_byte, is_plain_char};
 
+use memchr::{memrchr2, memrchr3};
 use simdutf8::basic::from_utf8;
 use std::marker::Model;
 
@@ -181,8 +182,22 @@ pub fn plain_start(bytes: &[u8]) -> usize
     if block == bytes.len() {
         return block;
     }
-    let words = start_of_text(bytes, block, WORD);
-    start_by_bytes(bytes, words)
+    let from = block.saturating_sub(STRIDE);
+    from + text_start(&bytes[from..block])
+}
+
+/// How many bytes there are up to the last that is `>` or not plain.
+fn text_start(bytes: &[u8]) -> usize
+    ensures { result ≤ length bytes.now }
+{
+    let start = match memrchr3(b'>', b'<', b'&', bytes) {
+        Some(mark) => mark + 1,
+        None => 0,
+    };
+    match memrchr2(b'\r', 0, &bytes[start..]) {
+        Some(other) => start + other + 1,
+        None => start,
+    }
 }
 
 /// The place of a block of bytes that are all plain, or the length. Half of the blocks are looked at.
@@ -197,45 +212,6 @@ fn plain_block(bytes: &[u8]) -> usize
         at += STRIDE;
     }
     bytes.len()
-}
-
-/// The first place before this one from which on there are steps of plain bytes, none of which is `>`.
-#[inline(always)]
-fn start_of_text(bytes: &[u8], from: usize, step: usize) -> usize
-    requires within { from ≤ length bytes.now }
-    requires some { 0 < step }
-    requires few { step ≤ 64 }
-    ensures { result ≤ length bytes.now }
-{
-    let mut at = from;
-    while at >= step && is_plain(&bytes[at - step..at]) && !has_end(&bytes[at - step..at]) {
-        at -= step;
-    }
-    at
-}
-
-/// The first place before this one from which on there are plain bytes, none of which is `>`.
-fn start_by_bytes(bytes: &[u8], from: usize) -> usize
-    requires within { from ≤ length bytes.now }
-    ensures { result ≤ length bytes.now }
-{
-    let mut at = from;
-    while at > 0 && is_plain_byte(bytes[at - 1]) && bytes[at - 1] != b'>' {
-        at -= 1;
-    }
-    at
-}
-
-/// Whether one of at most 64 bytes is `>`.
-#[inline(always)]
-fn has_end(bytes: &[u8]) -> bool
-    requires { length bytes.now ≤ 64 }
-{
-    let mut ends = 0;
-    for &byte in bytes {
-        ends += (byte == b'>') as u8;
-    }
-    ends != 0
 }
 
 /// Whether all of at most 64 bytes are plain. It goes through all, so that many are looked at at once.

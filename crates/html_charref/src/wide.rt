@@ -124,6 +124,7 @@ impl WideKept {
     }
 
     /// Gives a short text memory of its own, with room for so many bytes more.
+    #[inline(always)]
     fn lengthen(&mut self, alloc: Global, more: usize) -> Result<(), AllocError>
         ensures long { OnOk result (IsWideLong self.new) }
         ensures same { wide_points self.new ≡ wide_points self.old }

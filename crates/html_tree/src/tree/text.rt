@@ -137,6 +137,7 @@ impl OpenTree {
     }
 
     /// The text that stands just before the place for the current node, or a new one there.
+    #[inline(always)]
     fn text_at(&mut self, foster: bool) -> Result<NodeId, OpenError>
         requires opened { 0 < length self.old.stack }
         ensures node { IfOk result (λ x. x ≡ text_node self.old foster) }
