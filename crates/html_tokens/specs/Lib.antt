@@ -7,6 +7,7 @@ pub mod Fed
 pub mod Given
 pub mod Input
 pub mod Marks
+pub mod Paused
 pub mod Reference
 pub mod Runs
 pub mod Script

@@ -1,12 +1,12 @@
 // The attributes of a tag.
 ghost use Rattle.html_tokens.specs.Tag.{has_name};
 ghost use Rattle.html_tokens.specs.Places.{comparisons};
-ghost use Rattle.std.specs.Prelude.{◌≡◌, [], IfOk, length};
+ghost use Rattle.std.specs.Prelude.{◌≡◌, ◌∷◌, [], IfOk, length};
 
 use html_charref::Str;
 use std::alloc::{AllocError, Global};
 use std::marker::Model;
-use std::rc::RcSlice;
+use std::rc::{Rc, RcSlice};
 
 /// An attribute: its name, and its value, which is empty where none was written.
 #[derive(Debug, Drop)]
@@ -42,10 +42,18 @@ pub(crate) fn search(attrs: &[Attr], name: &Str) -> (bool, usize)
     (false, compared)
 }
 
+/// Shared attributes. Most elements have but one, which is one piece of memory.
+#[derive(Debug, Drop)]
+enum Shared {
+    None,
+    One(Rc<Attr>),
+    Many(RcSlice<Attr>),
+}
+
 /// Attributes in order, seen as their list. A share of them takes no memory of its own, nor does the empty list.
 #[derive(Debug, Drop)]
 pub struct Attrs {
-    list: Option<RcSlice<Attr>>,
+    list: Shared,
 }
 
 impl Model for Attrs {
@@ -64,7 +72,17 @@ impl Attrs {
     pub fn new(_alloc: Global) -> Attrs
         ensures { result ≡ [] }
     {
-        Attrs { list: None }
+        Attrs { list: Shared::None }
+    }
+
+    /// One attribute, which nothing shares yet.
+    pub(crate) fn one(alloc: Global, attr: Attr) -> Result<Attrs, AllocError>
+        ensures { IfOk result (λ shared. shared ≡ attr ∷ []) }
+    {
+        let one = Rc::new(alloc, attr)?;
+        Ok(Attrs {
+            list: Shared::One(one),
+        })
     }
 
     /// The attributes of a `Vec`, which nothing shares yet.
@@ -72,23 +90,24 @@ impl Attrs {
         ensures { IfOk result (λ shared. shared ≡ attrs.items) }
     {
         if attrs.is_empty() {
-            return Ok(Attrs { list: None });
+            return Ok(Attrs { list: Shared::None });
         }
         let list = RcSlice::from_vec(attrs)?;
-        Ok(Attrs { list: Some(list) })
+        Ok(Attrs {
+            list: Shared::Many(list),
+        })
     }
 
     /// The same attributes, shared.
     pub fn share(&self) -> Result<Attrs, AllocError>
         ensures { IfOk result (λ shared. shared ≡ self.now) }
     {
-        match &self.list {
-            None => Ok(Attrs { list: None }),
-            Some(list) => {
-                let list = list.clone()?;
-                Ok(Attrs { list: Some(list) })
-            }
-        }
+        let list = match &self.list {
+            Shared::None => Shared::None,
+            Shared::One(one) => Shared::One(one.clone()?),
+            Shared::Many(list) => Shared::Many(list.clone()?),
+        };
+        Ok(Attrs { list })
     }
 
     /// How many there are.
@@ -103,8 +122,9 @@ impl Attrs {
         ensures { result.now ≡ self.now }
     {
         match &self.list {
-            None => &[],
-            Some(list) => list.as_slice(),
+            Shared::None => &[],
+            Shared::One(one) => std::slice::from_ref(one.as_ref()),
+            Shared::Many(list) => list.as_slice(),
         }
     }
 }

@@ -4,6 +4,7 @@ ghost use Rattle.html_tokens.specs.Tag.{has_name};
 ghost use Rattle.std.specs.Prelude.{◌≡◌, ◌≤◌, ◌+◌, ◌∷◌, [], ◌++◌, length, take, true, false, IfOk, OnErr, OnOk};
 
 use crate::attributes::{Attr, Attrs, search};
+use crate::gathered::Gathered;
 use html_charref::Str;
 use std::alloc::{AllocError, Global};
 use std::collections::BTreeMap;
@@ -17,7 +18,7 @@ const FEW: usize = 16;
 #[derive(Drop)]
 pub struct IndexedAttrs {
     alloc: Global,
-    attrs: Vec<Attr>,
+    attrs: Gathered,
     places: BTreeMap<String, usize>,
 }
 
@@ -28,9 +29,11 @@ impl Model for IndexedAttrs {
 
     ghost Value = { List Attr };
 
-    ghost view = { λ a. a.attrs.items };
+    ghost use Rattle.html_tokens.specs.Shared.{gathered_in};
 
-    ghost invariant = { λ a. AreFound a.attrs.items a.places × AreFirst a.attrs.items a.places };
+    ghost view = { λ a. gathered_in a.attrs };
+
+    ghost invariant = { λ a. AreFound (gathered_in a.attrs) a.places × AreFirst (gathered_in a.attrs) a.places };
 }
 
 /// The first few attributes.
@@ -59,26 +62,13 @@ fn search_at(attrs: &[Attr], place: usize, name: &Str) -> (bool, usize)
     search(attrs, name)
 }
 
-/// Adds one of the first attributes at the end, or leaves the list as it was. Most tags have but one, so there is room for the
-/// first alone.
-fn push_few(attrs: &mut Vec<Attr>, attr: Attr) -> Result<(), AllocError>
-    ensures ok { OnOk result (attrs.new.items ≡ attrs.old.items ++ attr ∷ []) }
-    ensures err { OnErr result (attrs.new.items ≡ attrs.old.items) }
-{
-    if attrs.is_empty() {
-        attrs.reserve_exact(1)?;
-    }
-    attrs.push(attr)?;
-    Ok(())
-}
-
 impl IndexedAttrs {
     pub(crate) fn new(alloc: Global) -> IndexedAttrs
         ensures { result ≡ [] }
     {
         IndexedAttrs {
             alloc,
-            attrs: Vec::new(alloc),
+            attrs: Gathered::None,
             places: BTreeMap::new(alloc),
         }
     }
@@ -89,13 +79,13 @@ impl IndexedAttrs {
         ensures ok { OnOk result (self.new ≡ self.old ++ attr ∷ []) }
         ensures err { OnErr result (self.new ≡ self.old) }
     {
-        if self.attrs.len() < FEW {
-            return push_few(&mut self.attrs, attr);
+        let place = self.attrs.as_slice().len();
+        if place < FEW {
+            return self.attrs.push(self.alloc, attr);
         }
         let name = attr.name.as_str().to_string(self.alloc)?;
-        let place = self.attrs.len();
         self.places.insert(name, place)?;
-        self.attrs.push(attr)?;
+        self.attrs.push(self.alloc, attr)?;
         Ok(())
     }
 
@@ -119,13 +109,13 @@ impl IndexedAttrs {
     pub(crate) fn len(&self) -> usize
         ensures { result ≡ length self.now }
     {
-        self.attrs.len()
+        self.attrs.as_slice().len()
     }
 
     /// The attributes without the places of their names.
     pub(crate) fn into_attrs(self) -> Result<Attrs, AllocError>
         ensures { IfOk result (λ attrs. attrs ≡ self) }
     {
-        Attrs::from_vec(self.attrs)
+        self.attrs.into_attrs(self.alloc)
     }
 }

@@ -19,9 +19,9 @@ use thiserror::Error;
 /// is refused, each later one is refused too.
 #[derive(Drop)]
 pub struct Tokenizer<'a> {
-    machine: Machine<'a>,
-    faults: Faults,
-    failed: bool,
+    pub(crate) machine: Machine<'a>,
+    pub(crate) faults: Faults,
+    pub(crate) failed: bool,
     ghost in_range: { machine.place + length machine.input.queue.items < 2 ^ 64 },
     ghost within: { IsWithin machine.place faults },
     ghost bounded: { failed ≡ false → IsBounded machine faults },
