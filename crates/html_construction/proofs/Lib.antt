@@ -17,3 +17,5 @@ pub mod Working
 pub mod Seats
 pub mod Lengths
 pub mod Opening
+pub mod Doing
+pub mod Resetting

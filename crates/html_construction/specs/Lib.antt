@@ -10,10 +10,13 @@ pub mod Foreign
 pub mod Grown
 pub mod Modes
 pub mod Origins
+pub mod Plans
+pub mod Resetting
 pub mod Standing
 pub mod States
 pub mod Targets
 pub mod Tokens
 pub mod UnderWay
 pub mod Weights
+pub mod Words
 pub mod Works

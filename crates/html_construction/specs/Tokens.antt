@@ -1,6 +1,6 @@
 -- Claimed.
 -- What a token says of its node (13.2.5).
-use Rattle.std.specs.Prelude.{ℕ, Bool, false, List, [], ◌++◌, map, Option, None, unwrap_or, if◌then◌else◌}
+use Rattle.std.specs.Prelude.{ℕ, Bool, false, List, [], ◌∷◌, ◌++◌, map, Option, None, unwrap_or, if◌then◌else◌}
 use Rattle.html_names.specs.declared.foreign.Space.{Space}
 use Rattle.html_names.specs.Foreign.{adjusted_attr, adjusted_name, prefix_of}
 use Rattle.html_names.specs.declared.tag.Tag.{Tag}
@@ -45,6 +45,11 @@ foreign_attr space a = record a { name = unwrap_or (adjusted_attr space a.name) 
 
 abbrev pub foreign_attrs : Space → List Attr → List Attr
 foreign_attrs space attrs = map (foreign_attr space) attrs
+
+-- the code point of a token, if it is one
+abbrev pub char_of : TokenKind → List ℕ
+char_of (kind.Char c) = c ∷ []
+char_of _ = []
 
 -- the data of a comment; another token has none
 abbrev pub data_of : TokenKind → List ℕ

@@ -19,6 +19,10 @@ ghost use Rattle.html_arena.specs.Tree.{tag_at};
 ghost use Rattle.html_tree.specs.Searching.{found, found_name};
 ghost use Rattle.html_tree.specs.Seats.{carries_part};
 ghost use Rattle.html_construction.specs.Calls.{IsTree, is_first, item_group};
+ghost use Rattle.html_tokens.specs.declared.token.TokenKind.{TokenKind};
+ghost use Rattle.html_construction.specs.Tokens.{tag_name};
+ghost use Rattle.html_construction.specs.Plans.{Chooses, Does, DoesAny, closing, popping};
+ghost use Rattle.html_construction.specs.Words.{ClearTo, CloseNamed, CloseThrough, Implied, Pop, current_or_other};
 
 use super::Construction;
 use html_arena::NodeId;
@@ -27,6 +31,7 @@ use html_tree::{Group, Stop, TableContext};
 
 impl Construction {
     /// Closes the current node.
+    #[tactic(auto, using(crate::proofs::Doing::doing_rules))]
     pub fn pop(&mut self)
         requires { 1 < length self.old.stack }
         ensures rest { self.new ≡ record self.old { tree = self.new.tree; stack = drop 1 self.old.stack } }
@@ -35,12 +40,14 @@ impl Construction {
         ensures works { Works 1 0 0 self.old self.new }
         ensures lighter { weight self.new.stack ≤ weight self.old.stack }
         ensures exact { IsTree (record self.old.tree { stack = popped self.old.tree.stack }) self.new }
+        ensures follows { DoesAny Pop self.old self.new }
     {
         self.tree.laws();
         self.tree.pop();
     }
 
     /// Closes the current node where it is of the group, unless it is the first element, and says whether it did.
+    #[tactic(auto, using(crate::proofs::Doing::doing_rules))]
     pub fn pop_if(&mut self, group: Group) -> bool
         requires opened { 0 < length self.old.stack }
         ensures rest { self.new ≡ record self.old { tree = self.new.tree; stack = self.new.stack } }
@@ -55,6 +62,8 @@ impl Construction {
         ensures exact { result ≡ true → IsTree (record self.old.tree { stack = popped self.old.tree.stack }) self.new }
         ensures kept { result ≡ false → IsTree self.old.tree self.new }
         ensures answer { result ≡ (nat_lt 1 (length self.old.stack) && is_first group self.old.stack) }
+        ensures told { result ≡ (nat_lt 1 (length self.old.tree.stack) && in_group group (current_or_other self.old.tree)) }
+        ensures follows { Chooses (popping group) result self.old self.new }
     {
         if self.depth() > 1 && self.current_is(group) {
             self.pop();
@@ -65,6 +74,7 @@ impl Construction {
 
     /// Closes elements through the last one of a name, and says whether there was one. (End tags that are implied before close none that
     /// would be left.)
+    #[tactic(auto, using(crate::proofs::Doing::doing_rules))]
     pub fn pop_through(&mut self, tag: Tag) -> bool
         requires opened { 0 < length self.old.stack }
         ensures rest { self.new ≡ record self.old { tree = self.new.tree; stack = self.new.stack } }
@@ -76,12 +86,14 @@ impl Construction {
         ensures opened { 0 < length self.new.stack }
         ensures answer { result ≡ is_some (found self.old.tree (group.Named tag) stop.Never) }
         ensures exact { IsTree (record self.old.tree { stack = closed_through self.old.tree (group.Named tag) stop.Never }) self.new }
+        ensures follows { Chooses (closing (group.Named tag) stop.Never) result self.old self.new }
     {
         self.tree.laws();
         self.tree.close(Group::Named(tag), Stop::Never)
     }
 
     /// Closes elements through the last one of a name where it is in a scope, and says whether it was.
+    #[tactic(auto, using(crate::proofs::Doing::doing_rules))]
     pub fn close_in_scope(&mut self, tag: Tag, scope: Scope) -> bool
         requires opened { 0 < length self.old.stack }
         ensures rest { self.new ≡ record self.old { tree = self.new.tree; stack = self.new.stack } }
@@ -94,12 +106,14 @@ impl Construction {
         ensures tags { self.new.stack ≡ open_tags self.new.tree }
         ensures answer { result ≡ is_some (found self.old.tree (group.Named tag) (stop.EndOf scope)) }
         ensures exact { IsTree (record self.old.tree { stack = closed_through self.old.tree (group.Named tag) (stop.EndOf scope) }) self.new }
+        ensures follows { Chooses (closing (group.Named tag) (stop.EndOf scope)) result self.old self.new }
     {
         self.tree.laws();
         self.tree.close(Group::Named(tag), Stop::EndOf(scope))
     }
 
     /// Closes elements through the last one of a group where it is in a scope, and says whether it was.
+    #[tactic(auto, using(crate::proofs::Doing::doing_rules))]
     pub fn close_group_in_scope(&mut self, group: Group, scope: Scope) -> bool
         requires opened { 0 < length self.old.stack }
         ensures rest { self.new ≡ record self.old { tree = self.new.tree; stack = self.new.stack } }
@@ -111,12 +125,14 @@ impl Construction {
         ensures opened { 0 < length self.new.stack }
         ensures answer { result ≡ is_some (found self.old.tree group (stop.EndOf scope)) }
         ensures exact { IsTree (record self.old.tree { stack = closed_through self.old.tree group (stop.EndOf scope) }) self.new }
+        ensures follows { Chooses (closing group (stop.EndOf scope)) result self.old self.new }
     {
         self.tree.laws();
         self.tree.close(group, Stop::EndOf(scope))
     }
 
     /// Closes a p element, where one is in button scope.
+    #[tactic(auto, using(crate::proofs::Doing::doing_rules))]
     pub fn close_p(&mut self)
         requires opened { 0 < length self.old.stack }
         ensures rest { self.new ≡ record self.old { tree = self.new.tree; stack = self.new.stack } }
@@ -127,11 +143,13 @@ impl Construction {
         ensures opened { 0 < length self.new.stack }
         ensures tags { self.new.stack ≡ open_tags self.new.tree }
         ensures exact { IsTree (record self.old.tree { stack = closed_through self.old.tree (group.Named html.P) (stop.EndOf scope.Button) }) self.new }
+        ensures follows { DoesAny (CloseThrough (group.Named html.P) (stop.EndOf scope.Button)) self.old self.new }
     {
         let _ = self.close_in_scope(Tag::P, Scope::Button);
     }
 
     /// Clears the stack back to a table context.
+    #[tactic(auto, using(crate::proofs::Doing::doing_rules))]
     pub fn clear_to(&mut self, context: TableContext)
         requires opened { 0 < length self.old.stack }
         ensures rest { self.new ≡ record self.old { tree = self.new.tree; stack = self.new.stack } }
@@ -141,12 +159,14 @@ impl Construction {
         ensures lighter { weight self.new.stack ≤ weight self.old.stack }
         ensures opened { 0 < length self.new.stack }
         ensures exact { IsTree (record self.old.tree { stack = cleared_to self.old.tree context }) self.new }
+        ensures follows { DoesAny (ClearTo context) self.old self.new }
     {
         self.tree.laws();
         self.tree.clear_to(context);
     }
 
     /// Generates implied end tags, but for one name.
+    #[tactic(auto, using(crate::proofs::Doing::doing_rules))]
     pub fn implied(&mut self, except: Option<Tag>)
         requires opened { 0 < length self.old.stack }
         ensures rest { self.new ≡ record self.old { tree = self.new.tree; stack = self.new.stack } }
@@ -156,6 +176,7 @@ impl Construction {
         ensures lighter { weight self.new.stack ≤ weight self.old.stack }
         ensures opened { 0 < length self.new.stack }
         ensures exact { IsTree (record self.old.tree { stack = up_to (stays self.old.tree.tree except) self.old.tree.stack }) self.new }
+        ensures follows { DoesAny (Implied except) self.old self.new }
     {
         self.tree.laws();
         self.tree.implied(except);
@@ -163,6 +184,7 @@ impl Construction {
 
     /// Closes the last open element of a name, and those after it, unless a special element stands after it ("any other end tag",
     /// 13.2.6.4.7).
+    #[tactic(auto, using(crate::proofs::Doing::doing_rules))]
     pub fn close_named(&mut self, name: &str)
         requires opened { 0 < length self.old.stack }
         ensures rest { self.new ≡ record self.old { tree = self.new.tree; stack = self.new.stack } }
@@ -173,6 +195,7 @@ impl Construction {
         ensures opened { 0 < length self.new.stack }
         ensures tags { self.new.stack ≡ open_tags self.new.tree }
         ensures exact { IsTree (record self.old.tree { stack = before_index (found_name self.old.tree (chars name.now)) self.old.tree.stack }) self.new }
+        ensures follows { (t : TokenKind) → tag_name t ≡ chars name.now → Does CloseNamed t self.old self.new }
     {
         if let Some(index) = self.index_of_name(name) {
             self.pop_to(index);
@@ -227,6 +250,7 @@ impl Construction {
     }
 
     /// Closes the last open list item that one of this name closes: of li an li, of dd and dt either (13.2.6.4.7).
+    #[tactic(auto, using(crate::proofs::Doing::doing_rules))]
     pub fn close_item(&mut self, item: Tag)
         requires opened { 0 < length self.old.stack }
         ensures rest { self.new ≡ record self.old { tree = self.new.tree; stack = self.new.stack } }
@@ -236,6 +260,7 @@ impl Construction {
         ensures lighter { weight self.new.stack ≤ weight self.old.stack }
         ensures opened { 0 < length self.new.stack }
         ensures exact { IsTree (record self.old.tree { stack = closed_through self.old.tree (item_group item) stop.PastItem }) self.new }
+        ensures follows { DoesAny (CloseThrough (item_group item) stop.PastItem) self.old self.new }
     {
         let group = if item.is_definition() {
             Group::Definition

@@ -15,6 +15,8 @@ ghost use Rattle.html_construction.specs.Grown.{Grown};
 ghost use Rattle.html_construction.specs.Works.{Works};
 ghost use Rattle.html_ledger.specs.declared.fate.Fate.TheVariants.{Dropped, Made};
 ghost use Rattle.html_construction.specs.Calls.{HasFate, is_idle};
+ghost use Rattle.html_construction.specs.Plans.{Does};
+ghost use Rattle.html_construction.specs.Words.{Drop as DropFor, End};
 
 use super::Construction;
 use crate::refusal::Refusal;
@@ -44,6 +46,7 @@ impl Construction {
     }
 
     /// Drops the token in hand, which the history allows for this cause, and the mode in which its call began.
+    #[tactic(auto, using(crate::proofs::Doing::doing_rules))]
     pub fn drop_token(
         &mut self,
         token: &TokenKind,
@@ -62,12 +65,14 @@ impl Construction {
         ensures fate { OnOk result (HasFate symbol (Dropped cause) self.old self.new) }
         ensures memory { IfErr result (λ e. e ≡ Refusal.OutOfMemory) }
         ensures refuses { IfErr result (λ e. RefusesAny e self.old self.new) }
+        ensures follows { OnOk result (Does (DropFor cause) token.now self.old self.new) }
     {
         self.ledger.give(symbol, Fate::Dropped(cause))?;
         Ok(())
     }
 
     /// An end tag, or the end of the page, is done with. It was ignored where it took nothing off the stack and made no node.
+    #[tactic(auto, using(crate::proofs::Doing::doing_rules))]
     pub fn end(&mut self, token: &TokenKind, symbol: Symbol) -> Result<(), Refusal>
         requires symbol { symbol_of token.now ≡ symbol }
         requires end { IsTrue (is_end symbol) }
@@ -80,6 +85,7 @@ impl Construction {
         ensures ended { OnOk result (self.new.ledger ≡ ended self.old.ledger symbol (is_idle self.old)) }
         ensures memory { IfErr result (λ e. e ≡ Refusal.OutOfMemory) }
         ensures refuses { IfErr result (λ e. RefusesAny e self.old self.new) }
+        ensures follows { OnOk result (Does End token.now self.old self.new) }
     {
         let ignored = self.is_idle();
         self.ledger.end(symbol, ignored)?;

@@ -25,6 +25,8 @@ ghost use Rattle.html_ledger.specs.declared.fate.Fate.TheVariants.{Dropped, Made
 ghost use Rattle.html_ledger.specs.Entries.{number_of};
 ghost use Rattle.html_construction.specs.Tokens.{attrs_of, element_tag, opens_own, tag_name};
 ghost use Rattle.html_construction.specs.Calls.{HasFate, IsTree, comment_of, counting, doctype_of, element_of, implied_of, listed_at, opened_at, placed_at, root_of, void_of};
+ghost use Rattle.html_construction.specs.Plans.{Does, DoesAny, Passes, PassesFor, implying_part, inserting_part};
+ghost use Rattle.html_construction.specs.Words.{Imply, ImplyRoot, ImplyVoid, Insert, InsertAt, InsertComment, InsertCommentAt, InsertDoctype, InsertListed, InsertRoot, InsertVoid, InsertVoidAt, MergeIntoBody, MergeIntoRoot};
 
 use super::Construction;
 use crate::refusal::Refusal;
@@ -37,6 +39,7 @@ use html_tree::Target;
 
 impl Construction {
     /// Makes the element of a start tag, puts it at the place for the current node and opens it. Its fate is Made, of that node.
+    #[tactic(auto, using(crate::proofs::Doing::doing_rules))]
     pub fn insert(&mut self, token: &TokenKind, tag: Tag) -> Result<(), Refusal>
         requires symbol { symbol_of token.now ≡ Start tag }
         requires named { opens_own tag ≡ true }
@@ -51,12 +54,14 @@ impl Construction {
         ensures exact { OnOk result (IsTree (opened_at (element_of self.old token.now) (Current self.old.fostering) (counting (number_of self.old.ledger + 1) self.old.tree)) self.new) }
         ensures fate { OnOk result (HasFate (Start tag) (Made (length self.old.tree.tree.labels)) self.old self.new) }
         ensures refuses { IfErr result (λ e. Refuses token.now e self.old self.new) }
+        ensures follows { OnOk result (Does Insert token.now self.old self.new) }
     {
         let target = self.here();
         self.insert_at(token, tag, target)
     }
 
     /// Makes the element of a start tag, puts it at a target and opens it.
+    #[tactic(auto, using(crate::proofs::Doing::doing_rules))]
     pub fn insert_at(&mut self, token: &TokenKind, tag: Tag, target: Target) -> Result<(), Refusal>
         requires symbol { symbol_of token.now ≡ Start tag }
         requires named { opens_own tag ≡ true }
@@ -72,6 +77,8 @@ impl Construction {
         ensures blank { OnOk result (IsBlank (label_for self.old.tree.tree (element_of self.old token.now)) (length self.old.tree.tree.labels) self.new.tree.tree) }
         ensures fate { OnOk result (HasFate (Start tag) (Made (length self.old.tree.tree.labels)) self.old self.new) }
         ensures refuses { IfErr result (λ e. Refuses token.now e self.old self.new) }
+        ensures follows { OnOk result (Does (InsertAt target) token.now self.old self.new) }
+        ensures here { OnOk result (target ≡ Current self.old.fostering → Does Insert token.now self.old self.new) }
     {
         let _ = self.open_at(token, tag, target)?;
         Ok(())
@@ -111,6 +118,7 @@ impl Construction {
 
     /// Makes the element of a start tag that is a part of a table, puts it in the current node and opens it, where that may hold it. Where it
     /// may not, as it always may in a real run, the token is dropped as misplaced.
+    #[tactic(auto, using(crate::proofs::Doing::doing_rules))]
     pub fn insert_part(&mut self, token: &TokenKind, tag: Tag) -> Result<(), Refusal>
         requires symbol { symbol_of token.now ≡ Start tag }
         requires part { is_part tag ≡ true }
@@ -128,6 +136,7 @@ impl Construction {
         ensures exact { OnOk result (has_seat self.old.tree tag ≡ true → IsTree (opened_at (element_of self.old token.now) (Current false) (counting (number_of self.old.ledger + 1) self.old.tree)) self.new) }
         ensures same { OnOk result (has_seat self.old.tree tag ≡ false → IsTree self.old.tree self.new) }
         ensures refuses { IfErr result (λ e. Refuses token.now e self.old self.new) }
+        ensures follows { OnOk result (PassesFor (inserting_part tag) token.now self.old self.new) }
     {
         if self.has_seat(tag) {
             let _ = self.open_at(token, tag, Target::Current(false))?;
@@ -138,6 +147,7 @@ impl Construction {
     }
 
     /// Makes the element of a start tag and puts it at the place for the current node; it is not opened.
+    #[tactic(auto, using(crate::proofs::Doing::doing_rules))]
     pub fn insert_void(&mut self, token: &TokenKind, tag: Tag) -> Result<(), Refusal>
         requires symbol { symbol_of token.now ≡ Start tag }
         requires part { is_part tag ≡ false }
@@ -152,12 +162,14 @@ impl Construction {
         ensures exact { OnOk result (IsTree (placed_at (void_of self.old tag token.now) (Current self.old.fostering) (counting (number_of self.old.ledger + 1) self.old.tree)) self.new) }
         ensures fate { OnOk result (HasFate (Start tag) (Made (length self.old.tree.tree.labels)) self.old self.new) }
         ensures refuses { IfErr result (λ e. Refuses token.now e self.old self.new) }
+        ensures follows { OnOk result (Does (InsertVoid tag) token.now self.old self.new) }
     {
         let target = self.here();
         self.insert_void_at(token, tag, target)
     }
 
     /// Makes the element of a start tag and puts it at a target; it is not opened.
+    #[tactic(auto, using(crate::proofs::Doing::doing_rules))]
     pub fn insert_void_at(
         &mut self,
         token: &TokenKind,
@@ -177,6 +189,8 @@ impl Construction {
         ensures exact { OnOk result (IsTree (placed_at (void_of self.old tag token.now) target (counting (number_of self.old.ledger + 1) self.old.tree)) self.new) }
         ensures fate { OnOk result (HasFate (Start tag) (Made (length self.old.tree.tree.labels)) self.old self.new) }
         ensures refuses { IfErr result (λ e. Refuses token.now e self.old self.new) }
+        ensures follows { OnOk result (Does (InsertVoidAt tag target) token.now self.old self.new) }
+        ensures here { OnOk result (target ≡ Current self.old.fostering → Does (InsertVoid tag) token.now self.old self.new) }
     {
         let _ = self.void_at(token, tag, target)?;
         Ok(())
@@ -200,6 +214,7 @@ impl Construction {
         ensures grown { OnOk result (Grown 1 2 0 0 0 self.old self.new) }
         ensures works { OnOk result (Works 1 0 0 self.old self.new) }
         ensures node { IfOk result (λ x. (x < length self.new.tree.tree.labels) × (tag_at self.new.tree.tree x ≡ element_tag tag)) }
+        ensures made { IfOk result (λ x. x ≡ length self.old.tree.tree.labels) }
         ensures exact { OnOk result (IsTree (placed_at (void_of self.old tag token.now) target (counting (number_of self.old.ledger + 1) self.old.tree)) self.new) }
         ensures fate { OnOk result (HasFate (Start tag) (Made (length self.old.tree.tree.labels)) self.old self.new) }
         ensures refuses { IfErr result (λ e. Refuses token.now e self.old self.new) }
@@ -213,6 +228,7 @@ impl Construction {
     }
 
     /// Makes the element of a start tag of a formatting name, puts it at the place for the current node, opens it, and adds it to the list.
+    #[tactic(auto, using(crate::proofs::Doing::doing_rules))]
     pub fn insert_listed(&mut self, token: &TokenKind, tag: Tag) -> Result<(), Refusal>
         requires symbol { symbol_of token.now ≡ Start tag }
         requires opened { 0 < length self.old.stack }
@@ -227,6 +243,7 @@ impl Construction {
         ensures exact { OnOk result (IsTree (listed_at self.old.fostering (tag_name token.now) (attrs_of token.now) (number_of self.old.ledger) self.old.tree) self.new) }
         ensures fate { OnOk result (HasFate (Start tag) (Made (length self.old.tree.tree.labels)) self.old self.new) }
         ensures refuses { IfErr result (λ e. Refuses token.now e self.old self.new) }
+        ensures follows { OnOk result (Does InsertListed token.now self.old self.new) }
     {
         let name = copy_name(self.alloc(), token)?;
         let attrs = copy_attrs(self.alloc(), token)?;
@@ -238,6 +255,7 @@ impl Construction {
     }
 
     /// Makes the html element of a start tag, puts it last in the document and opens it.
+    #[tactic(auto, using(crate::proofs::Doing::doing_rules))]
     pub fn insert_root(&mut self, token: &TokenKind) -> Result<(), Refusal>
         requires symbol { symbol_of token.now ≡ Start tag.Html }
         requires quiet { self.old.ledger.kept ≡ [] }
@@ -249,6 +267,7 @@ impl Construction {
         ensures exact { OnOk result (IsTree (opened_at (root_of self.old token.now) Document (counting (number_of self.old.ledger + 1) self.old.tree)) self.new) }
         ensures fate { OnOk result (HasFate (Start tag.Html) (Made (length self.old.tree.tree.labels)) self.old self.new) }
         ensures refuses { IfErr result (λ e. Refuses token.now e self.old self.new) }
+        ensures follows { OnOk result (Does InsertRoot token.now self.old self.new) }
     {
         let attrs = copy_attrs(self.alloc(), token)?;
         let number = self.give_made(Symbol::Start(Tag::Html))?;
@@ -258,6 +277,7 @@ impl Construction {
     }
 
     /// Makes a comment at the place for the current node.
+    #[tactic(auto, using(crate::proofs::Doing::doing_rules))]
     pub fn insert_comment(&mut self, token: &TokenKind) -> Result<(), Refusal>
         requires symbol { symbol_of token.now ≡ Comment }
         requires opened { 0 < length self.old.stack }
@@ -270,12 +290,14 @@ impl Construction {
         ensures exact { OnOk result (IsTree (placed_at (comment_of self.old token.now) (Current self.old.fostering) (counting (number_of self.old.ledger + 1) self.old.tree)) self.new) }
         ensures fate { OnOk result (HasFate Comment (Made (length self.old.tree.tree.labels)) self.old self.new) }
         ensures refuses { IfErr result (λ e. Refuses token.now e self.old self.new) }
+        ensures follows { OnOk result (Does InsertComment token.now self.old self.new) }
     {
         let target = self.here();
         self.insert_comment_at(token, target)
     }
 
     /// Makes a comment at a target.
+    #[tactic(auto, using(crate::proofs::Doing::doing_rules))]
     pub fn insert_comment_at(&mut self, token: &TokenKind, target: Target) -> Result<(), Refusal>
         requires symbol { symbol_of token.now ≡ Comment }
         requires target { CanTarget self.old.stack target }
@@ -288,6 +310,7 @@ impl Construction {
         ensures exact { OnOk result (IsTree (placed_at (comment_of self.old token.now) target (counting (number_of self.old.ledger + 1) self.old.tree)) self.new) }
         ensures fate { OnOk result (HasFate Comment (Made (length self.old.tree.tree.labels)) self.old self.new) }
         ensures refuses { IfErr result (λ e. Refuses token.now e self.old self.new) }
+        ensures follows { OnOk result (Does (InsertCommentAt target) token.now self.old self.new) }
     {
         let text = copy_data(self.alloc(), token)?;
         let number = self.give_made(Symbol::Comment)?;
@@ -297,6 +320,7 @@ impl Construction {
     }
 
     /// Makes a doctype last in the document. The history awaits one.
+    #[tactic(auto, using(crate::proofs::Doing::doing_rules))]
     pub fn insert_doctype(&mut self, token: &TokenKind) -> Result<(), Refusal>
         requires symbol { symbol_of token.now ≡ Doctype }
         requires awaited { self.old.ledger.history.awaits_doctype ≡ true }
@@ -309,6 +333,7 @@ impl Construction {
         ensures exact { OnOk result (IsTree (placed_at (doctype_of self.old token.now) Document (counting (number_of self.old.ledger + 1) self.old.tree)) self.new) }
         ensures fate { OnOk result (HasFate Doctype (Made (length self.old.tree.tree.labels)) self.old self.new) }
         ensures refuses { IfErr result (λ e. Refuses token.now e self.old self.new) }
+        ensures follows { OnOk result (Does InsertDoctype token.now self.old self.new) }
     {
         let ids = copy_doctype(token)?;
         let number = self.give_made(Symbol::Doctype)?;
@@ -319,6 +344,7 @@ impl Construction {
     }
 
     /// Adds the attributes of a start tag html, whose names it lacks, to the first open element, which is an html. Its fate is Merged.
+    #[tactic(auto, using(crate::proofs::Doing::doing_rules))]
     pub fn merge_into_root(&mut self, token: &TokenKind) -> Result<(), Refusal>
         requires symbol { symbol_of token.now ≡ Start tag.Html }
         requires opened { 0 < length self.old.stack }
@@ -331,12 +357,14 @@ impl Construction {
         ensures exact { OnOk result (IsTree (record self.old.tree { tree = bare (with_merged self.old.tree.tree (slice_index self.old.tree.stack 0) (attrs_of token.now)) }) self.new) }
         ensures fate { OnOk result (HasFate (Start tag.Html) Merged self.old self.new) }
         ensures refuses { IfErr result (λ e. Refuses token.now e self.old self.new) }
+        ensures follows { OnOk result (Does MergeIntoRoot token.now self.old self.new) }
     {
         self.tree.laws();
         self.merge_into(token, Tag::Html, 0)
     }
 
     /// Adds the attributes of a start tag body, whose names it lacks, to the second open element, a body. Its fate is Merged.
+    #[tactic(auto, using(crate::proofs::Doing::doing_rules))]
     pub fn merge_into_body(&mut self, token: &TokenKind) -> Result<(), Refusal>
         requires symbol { symbol_of token.now ≡ Start tag.Body }
         requires second { 1 < length self.old.stack }
@@ -350,6 +378,7 @@ impl Construction {
         ensures exact { OnOk result (IsTree (record self.old.tree { tree = bare (with_merged self.old.tree.tree (slice_index self.old.tree.stack 1) (attrs_of token.now)) }) self.new) }
         ensures fate { OnOk result (HasFate (Start tag.Body) Merged self.old self.new) }
         ensures refuses { IfErr result (λ e. Refuses token.now e self.old self.new) }
+        ensures follows { OnOk result (Does MergeIntoBody token.now self.old self.new) }
     {
         self.merge_into(token, Tag::Body, 1)
     }
@@ -381,6 +410,7 @@ impl Construction {
 
 impl Construction {
     /// Makes an element that no token asked for, puts it at the place for the current node and opens it. No token gets a fate.
+    #[tactic(auto, using(crate::proofs::Doing::doing_rules))]
     pub fn insert_implied(&mut self, tag: Tag) -> Result<(), Refusal>
         requires alone { is_made_alone tag ≡ true }
         requires part { is_part tag ≡ false }
@@ -392,6 +422,7 @@ impl Construction {
         ensures works { OnOk result (Works 1 0 0 self.old self.new) }
         ensures exact { OnOk result (IsTree (opened_at (implied_of tag) (Current self.old.fostering) self.old.tree) self.new) }
         ensures refuses { IfErr result (λ e. RefusesAny e self.old self.new) }
+        ensures follows { OnOk result (DoesAny (Imply tag) self.old self.new) }
     {
         let _ = self.open_implied(tag)?;
         Ok(())
@@ -408,6 +439,7 @@ impl Construction {
         ensures grown { OnOk result (Grown 0 2 0 0 1 self.old self.new) }
         ensures works { OnOk result (Works 1 0 0 self.old self.new) }
         ensures node { IfOk result (λ x. (x < length self.new.tree.tree.labels) × (tag_at self.new.tree.tree x ≡ tag)) }
+        ensures made { IfOk result (λ x. x ≡ length self.old.tree.tree.labels) }
         ensures exact { OnOk result (IsTree (opened_at (implied_of tag) (Current self.old.fostering) self.old.tree) self.new) }
         ensures refuses { IfErr result (λ e. RefusesAny e self.old self.new) }
     {
@@ -418,6 +450,7 @@ impl Construction {
 
     /// Makes a part of a table that no token asked for, puts it in the current node and opens it, where that may hold it, as it always may
     /// in a real run. No token gets a fate.
+    #[tactic(auto, using(crate::proofs::Doing::doing_rules))]
     pub fn insert_implied_part(&mut self, tag: Tag) -> Result<(), Refusal>
         requires alone { is_made_alone tag ≡ true }
         requires part { is_part tag ≡ true }
@@ -432,6 +465,7 @@ impl Construction {
         ensures exact { OnOk result (has_seat self.old.tree tag ≡ true → IsTree (opened_at (implied_of tag) (Current false) self.old.tree) self.new) }
         ensures same { OnOk result (has_seat self.old.tree tag ≡ false → IsTree self.old.tree self.new) }
         ensures refuses { IfErr result (λ e. RefusesAny e self.old self.new) }
+        ensures follows { OnOk result (Passes (implying_part tag) self.old self.new) }
     {
         if self.has_seat(tag) {
             self.open_implied_part(tag)?;
@@ -458,6 +492,7 @@ impl Construction {
     }
 
     /// Makes an element that no token asked for and puts it at the place for the current node; it is not opened. No token gets a fate.
+    #[tactic(auto, using(crate::proofs::Doing::doing_rules))]
     pub fn insert_implied_void(&mut self, tag: Tag) -> Result<(), Refusal>
         requires alone { is_made_alone tag ≡ true }
         requires part { is_part tag ≡ false }
@@ -469,6 +504,7 @@ impl Construction {
         ensures works { OnOk result (Works 1 0 0 self.old self.new) }
         ensures exact { OnOk result (IsTree (placed_at (implied_of tag) (Current self.old.fostering) self.old.tree) self.new) }
         ensures refuses { IfErr result (λ e. RefusesAny e self.old self.new) }
+        ensures follows { OnOk result (DoesAny (ImplyVoid tag) self.old self.new) }
     {
         self.tree.laws();
         self.tree
@@ -477,6 +513,7 @@ impl Construction {
     }
 
     /// Makes an html element that no token asked for, puts it last in the document and opens it. No token gets a fate.
+    #[tactic(auto, using(crate::proofs::Doing::doing_rules))]
     pub fn insert_implied_root(&mut self) -> Result<(), Refusal>
         ensures rest { OnOk result (self.new ≡ record self.old { tree = self.new.tree; stack = tag.Html ∷ self.old.stack }) }
         ensures keeps { OnOk result (Keeps self.old self.new) }
@@ -484,6 +521,7 @@ impl Construction {
         ensures works { OnOk result (Works 1 0 0 self.old self.new) }
         ensures exact { OnOk result (IsTree (opened_at (implied_of tag.Html) Document self.old.tree) self.new) }
         ensures refuses { IfErr result (λ e. RefusesAny e self.old self.new) }
+        ensures follows { OnOk result (DoesAny ImplyRoot self.old self.new) }
     {
         self.tree.laws();
         self.tree.insert_implied_root()?;

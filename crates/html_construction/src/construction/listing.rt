@@ -15,6 +15,8 @@ ghost use Rattle.html_open.specs.Reopening.{look_steps};
 ghost use Rattle.html_tree.specs.OpenTags.{open_tags};
 ghost use Rattle.html_tree.specs.Steps.{CountsReopening};
 ghost use Rattle.html_construction.specs.Calls.{HasEnded, IsTree};
+ghost use Rattle.html_construction.specs.Plans.{Adopt, DoesAny, Passes, Reconstruct};
+ghost use Rattle.html_construction.specs.Words.{AddMarker, ClearToMarker};
 
 use super::Construction;
 use crate::refusal::Refusal;
@@ -24,6 +26,7 @@ use html_tree::AdoptEnd;
 
 impl Construction {
     /// Adds a marker to the list.
+    #[tactic(auto, using(crate::proofs::Doing::doing_rules))]
     pub fn add_marker(&mut self) -> Result<(), Refusal>
         ensures rest { OnOk result (self.new ≡ record self.old { tree = self.new.tree }) }
         ensures keeps { OnOk result (Keeps self.old self.new) }
@@ -32,12 +35,14 @@ impl Construction {
         ensures exact { OnOk result (IsTree (record self.old.tree { list = self.old.tree.list ++ Marker ∷ [] }) self.new) }
         ensures memory { IfErr result (λ e. e ≡ Refusal.OutOfMemory) }
         ensures refuses { IfErr result (λ e. RefusesAny e self.old self.new) }
+        ensures follows { OnOk result (DoesAny AddMarker self.old self.new) }
     {
         self.tree.add_marker()?;
         Ok(())
     }
 
     /// Takes entries off the list up to the last marker.
+    #[tactic(auto, using(crate::proofs::Doing::doing_rules))]
     pub fn clear_to_marker(&mut self)
         requires listed { length self.old.tree.list ≤ length self.old.ledger.fates }
         ensures rest { self.new ≡ record self.old { tree = self.new.tree } }
@@ -45,11 +50,13 @@ impl Construction {
         ensures grown { Grown 0 0 0 0 0 self.old self.new }
         ensures works { Works 1 0 0 self.old self.new }
         ensures exact { IsTree (record self.old.tree { list = below is_marker self.old.tree.list }) self.new }
+        ensures follows { DoesAny ClearToMarker self.old self.new }
     {
         self.tree.clear_to_marker();
     }
 
     /// Reconstructs the active formatting elements: opens anew the listed elements that are not open.
+    #[tactic(auto, using(crate::proofs::Doing::doing_rules))]
     pub fn reconstruct(&mut self) -> Result<(), Refusal>
         requires opened { 0 < length self.old.stack }
         requires listed { length self.old.tree.list ≤ length self.old.ledger.fates }
@@ -63,6 +70,7 @@ impl Construction {
         ensures exact { OnOk result (IsReopened self.old.fostering self.old.tree self.new.tree) }
         ensures counted { OnOk result (CountsReopening self.old.fostering self.old.tree self.new.tree) }
         ensures refuses { IfErr result (λ e. RefusesAny e self.old self.new) }
+        ensures follows { OnOk result (Passes (λ p. Reconstruct p) self.old self.new) }
     {
         self.tree.laws();
         self.tree.reopen(self.registers.fostering)?;
@@ -82,6 +90,7 @@ impl Construction {
     }
 
     /// The end tag of a formatting element: the adoption agency, and where it says so the rules for any other end tag.
+    #[tactic(auto, using(crate::proofs::Doing::doing_rules))]
     pub fn end_formatting(&mut self, tag: Tag) -> Result<(), Refusal>
         requires opened { 0 < length self.old.stack }
         requires formatting { is_formatting tag ≡ true }
@@ -96,6 +105,7 @@ impl Construction {
         ensures tags_stay { OnOk result ((x : ℕ) → x < length self.old.tree.tree.labels → tag_at self.new.tree.tree x ≡ tag_at self.old.tree.tree x) }
         ensures exact { OnOk result (HasEnded tag self.old.fostering self.old.tree self.new.tree) }
         ensures refuses { IfErr result (λ e. RefusesAny e self.old self.new) }
+        ensures follows { OnOk result (Passes (λ p. Adopt tag p) self.old self.new) }
     {
         match self.adopt(tag)? {
             AdoptEnd::Done => {}

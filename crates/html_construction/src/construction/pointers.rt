@@ -12,8 +12,12 @@ ghost use Rattle.html_construction.specs.Works.{Works};
 ghost use Rattle.html_construction.specs.Weights.{weight};
 ghost use Rattle.html_ledger.specs.declared.fate.Fate.TheVariants.{Made};
 ghost use Rattle.html_ledger.specs.Entries.{number_of};
-ghost use Rattle.html_tree.specs.declared.groups.Target.TheVariants.{Current};
-ghost use Rattle.html_construction.specs.Calls.{HasFate, IsTree, counting, element_of, is_idle, opened_at};
+ghost use Rattle.html_open.specs.AdoptFinding.{element_in_scope};
+ghost use Rattle.html_tree.specs.Closing.{bodiless};
+ghost use Rattle.html_tree.specs.declared.groups.Target.TheVariants.{Current, First};
+ghost use Rattle.html_construction.specs.Calls.{HasFate, IsTree, counting, element_of, form_closed, implied_of, is_idle, is_unmoved, opened_at, placed_at, void_of};
+ghost use Rattle.html_construction.specs.Plans.{Does, DoesAny};
+ghost use Rattle.html_construction.specs.Words.{CloseForm, ImplyHead, InsertClosedForm, InsertForm, InsertHead, ReplaceBody};
 
 use super::Construction;
 use crate::mode::Mode;
@@ -28,6 +32,7 @@ use html_tree::Target;
 
 impl Construction {
     /// Makes the head of its start tag, opens it and points to it.
+    #[tactic(auto, using(crate::proofs::Doing::doing_rules))]
     pub fn insert_head(&mut self, token: &TokenKind) -> Result<(), Refusal>
         requires symbol { symbol_of token.now ≡ Start tag.Head }
         requires opened { 0 < length self.old.stack }
@@ -40,6 +45,7 @@ impl Construction {
         ensures exact { OnOk result (IsTree (record (opened_at (element_of self.old token.now) (Current self.old.fostering) (counting (number_of self.old.ledger + 1) self.old.tree)) { head = Some (length self.old.tree.tree.labels) }) self.new) }
         ensures fate { OnOk result (HasFate (Start tag.Head) (Made (length self.old.tree.tree.labels)) self.old self.new) }
         ensures refuses { IfErr result (λ e. Refuses token.now e self.old self.new) }
+        ensures follows { OnOk result (Does InsertHead token.now self.old self.new) }
     {
         let target = self.here();
         let head = self.open_at(token, Tag::Head, target)?;
@@ -48,6 +54,7 @@ impl Construction {
     }
 
     /// Makes a head that no token asked for, opens it and points to it. No token gets a fate.
+    #[tactic(auto, using(crate::proofs::Doing::doing_rules))]
     pub fn insert_implied_head(&mut self) -> Result<(), Refusal>
         requires opened { 0 < length self.old.stack }
         ensures rest { OnOk result (self.new ≡ record self.old { tree = self.new.tree; stack = tag.Head ∷ self.old.stack }) }
@@ -55,6 +62,8 @@ impl Construction {
         ensures grown { OnOk result (Grown 0 2 0 0 1 self.old self.new) }
         ensures works { OnOk result (Works 1 0 0 self.old self.new) }
         ensures refuses { IfErr result (λ e. RefusesAny e self.old self.new) }
+        ensures exact { OnOk result (IsTree (record (opened_at (implied_of tag.Head) (Current self.old.fostering) self.old.tree) { head = Some (length self.old.tree.tree.labels) }) self.new) }
+        ensures follows { OnOk result (DoesAny ImplyHead self.old self.new) }
     {
         let head = self.open_implied(Tag::Head)?;
         self.set_head(head);
@@ -88,6 +97,7 @@ impl Construction {
     }
 
     /// Makes the form of its start tag, opens it and points to it.
+    #[tactic(auto, using(crate::proofs::Doing::doing_rules))]
     pub fn insert_form(&mut self, token: &TokenKind) -> Result<(), Refusal>
         requires symbol { symbol_of token.now ≡ Start tag.Form }
         requires opened { 0 < length self.old.stack }
@@ -98,6 +108,9 @@ impl Construction {
         ensures grown { OnOk result (Grown 1 2 0 0 0 self.old self.new) }
         ensures works { OnOk result (Works 1 0 0 self.old self.new) }
         ensures refuses { IfErr result (λ e. Refuses token.now e self.old self.new) }
+        ensures exact { OnOk result (IsTree (record (opened_at (element_of self.old token.now) (Current self.old.fostering) (counting (number_of self.old.ledger + 1) self.old.tree)) { form = Some (length self.old.tree.tree.labels) }) self.new) }
+        ensures fate { OnOk result (HasFate (Start tag.Form) (Made (length self.old.tree.tree.labels)) self.old self.new) }
+        ensures follows { OnOk result (Does InsertForm token.now self.old self.new) }
     {
         let target = self.here();
         let form = self.open_at(token, Tag::Form, target)?;
@@ -106,6 +119,7 @@ impl Construction {
     }
 
     /// Makes the form of its start tag and points to it; it is not opened.
+    #[tactic(auto, using(crate::proofs::Doing::doing_rules))]
     pub fn insert_closed_form(&mut self, token: &TokenKind) -> Result<(), Refusal>
         requires symbol { symbol_of token.now ≡ Start tag.Form }
         requires opened { 0 < length self.old.stack }
@@ -116,6 +130,9 @@ impl Construction {
         ensures grown { OnOk result (Grown 1 2 0 0 0 self.old self.new) }
         ensures works { OnOk result (Works 1 0 0 self.old self.new) }
         ensures refuses { IfErr result (λ e. Refuses token.now e self.old self.new) }
+        ensures exact { OnOk result (IsTree (record (placed_at (void_of self.old tag.Form token.now) (Current self.old.fostering) (counting (number_of self.old.ledger + 1) self.old.tree)) { form = Some (length self.old.tree.tree.labels) }) self.new) }
+        ensures fate { OnOk result (HasFate (Start tag.Form) (Made (length self.old.tree.tree.labels)) self.old self.new) }
+        ensures follows { OnOk result (Does InsertClosedForm token.now self.old self.new) }
     {
         let target = self.here();
         let form = self.void_at(token, Tag::Form, target)?;
@@ -131,6 +148,7 @@ impl Construction {
     }
 
     /// Points to no form any more, and closes the one to which the pointer was, where it is in scope (13.2.6.4.7, an end tag "form").
+    #[tactic(auto, using(crate::proofs::Doing::doing_rules))]
     pub fn close_form(&mut self)
         requires opened { 0 < length self.old.stack }
         ensures rest { self.new ≡ record self.old { tree = self.new.tree; stack = self.new.stack; outer_form = false } }
@@ -139,6 +157,8 @@ impl Construction {
         ensures works { Works 3 0 0 self.old self.new }
         ensures lighter { weight self.new.stack ≤ weight self.old.stack }
         ensures opened { 0 < length self.new.stack }
+        ensures exact { IsTree (form_closed self.old.tree self.old.tree.form) self.new }
+        ensures follows { DoesAny CloseForm self.old self.new }
     {
         if let Some(form) = self.take_form() {
             if self.is_in_scope(form) {
@@ -172,6 +192,7 @@ impl Construction {
         ensures grown { Grown 0 0 0 0 0 self.old self.new }
         ensures works { Works 1 0 0 self.old self.new }
         ensures same { IsTree self.old.tree self.new }
+        ensures answer { result ≡ element_in_scope self.old.tree.tree node self.old.tree.stack }
     {
         self.tree.laws();
         self.tree.is_in_scope(node)
@@ -211,6 +232,7 @@ impl Construction {
 
     /// Makes the frameset element of a start tag in place of the body, which is the second open element: takes that out of the tree, closes all
     /// elements but the first, puts the frameset into this, and opens it. Its fate is Made, of that node.
+    #[tactic(auto, using(crate::proofs::Doing::doing_rules))]
     pub fn replace_body(&mut self, token: &TokenKind) -> Result<(), Refusal>
         requires symbol { symbol_of token.now ≡ Start tag.Frameset }
         requires second { 1 < length self.old.tree.stack }
@@ -224,6 +246,8 @@ impl Construction {
         ensures works { OnOk result (Works 1 0 0 self.old self.new) }
         ensures fate { OnOk result (HasFate (Start tag.Frameset) (Made (length self.old.tree.tree.labels)) self.old self.new) }
         ensures refuses { IfErr result (λ e. Refuses token.now e self.old self.new) }
+        ensures exact { OnOk result (IsTree (opened_at (element_of self.old token.now) First (counting (number_of self.old.ledger + 1) (bodiless self.old.tree))) self.new) }
+        ensures follows { OnOk result (Does ReplaceBody token.now self.old self.new) }
     {
         let name = copy_name(self.alloc(), token)?;
         let attrs = copy_attrs(self.alloc(), token)?;
@@ -276,6 +300,7 @@ impl Construction {
     /// longer makes a node.)
     pub(super) fn is_idle(&self) -> bool
         ensures value { result ≡ is_idle self.now }
+        ensures unmoved { result ≡ is_unmoved self.now }
     {
         self.depth() == self.registers.call.depth
             && self.tree.node_count() == self.registers.call.nodes

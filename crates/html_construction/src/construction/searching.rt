@@ -11,6 +11,10 @@ ghost use Rattle.html_tree.specs.declared.groups.Stop.TheVariants as stop;
 ghost use Rattle.html_tree.specs.Searching.{found};
 ghost use Rattle.html_tree.specs.Seats.{has_seat};
 ghost use Rattle.html_construction.specs.Calls.{IsTree, is_first};
+ghost use Rattle.html_construction.specs.Plans.{Asks};
+ghost use Rattle.html_construction.specs.Words.{Finds, HasSeat, HasTemplate, IsCurrent, current_or_other};
+ghost use Rattle.html_tree.specs.declared.groups.Group.{Group as AnyGroup};
+ghost use Rattle.html_tree.specs.Groups.{in_group};
 
 use super::Construction;
 use html_names::{Scope, Tag};
@@ -35,12 +39,14 @@ impl Construction {
         ensures works { Works 0 0 1 self.old self.new }
         ensures same { self.new ≡ record self.old { tree = record self.old.tree { steps = self.new.tree.steps } } }
         ensures tag { result ≡ tag_at self.new.tree.tree (slice_index self.new.tree.stack index) }
+        ensures within { index < length self.old.tree.stack }
     {
         self.tree.laws();
         self.tree.tag_at(index)
     }
 
     /// The tag of the current node; `Other` where nothing is open.
+    #[tactic(auto, using(crate::proofs::Doing::doing_rules))]
     pub fn current(&mut self) -> Tag
         ensures rest { self.new ≡ record self.old { tree = self.new.tree } }
         ensures keeps { Keeps self.old self.new }
@@ -48,12 +54,15 @@ impl Construction {
         ensures works { Works 1 0 0 self.old self.new }
         ensures tag { 0 < length self.old.stack → slice_get self.old.stack 0 ≡ Some result }
         ensures same { IsTree self.old.tree self.new }
+        ensures value { result ≡ current_or_other self.old.tree }
+        ensures follows { (g : AnyGroup) → Asks (IsCurrent g) (in_group g result) self.old self.new }
     {
         self.tree.laws();
         self.tree.current_tag().unwrap_or(Tag::Other)
     }
 
     /// Whether the current node may hold a part of a table of this tag, or, being a template, its contents may.
+    #[tactic(auto, using(crate::proofs::Doing::doing_rules))]
     pub(super) fn has_seat(&mut self, part: Tag) -> bool
         ensures rest { self.new ≡ record self.old { tree = self.new.tree } }
         ensures keeps { Keeps self.old self.new }
@@ -62,12 +71,14 @@ impl Construction {
         ensures same { IsTree self.old.tree self.new }
         ensures answer { result ≡ has_seat self.old.tree part }
         ensures still { has_seat self.new.tree part ≡ has_seat self.old.tree part }
+        ensures follows { Asks (HasSeat part) result self.old self.new }
     {
         self.tree.laws();
         self.tree.has_seat(part)
     }
 
     /// Whether the current node is of a group.
+    #[tactic(auto, using(crate::proofs::Doing::doing_rules))]
     pub fn current_is(&mut self, group: Group) -> bool
         ensures rest { self.new ≡ record self.old { tree = self.new.tree } }
         ensures keeps { Keeps self.old self.new }
@@ -76,11 +87,14 @@ impl Construction {
         ensures member { result ≡ true → 0 < length self.old.stack → weight (drop 1 self.old.stack) + group_weight group ≤ weight self.old.stack }
         ensures answer { 0 < length self.old.stack → result ≡ is_first group self.old.stack }
         ensures same { IsTree self.old.tree self.new }
+        ensures value { result ≡ in_group group (current_or_other self.old.tree) }
+        ensures follows { Asks (IsCurrent group) result self.old self.new }
     {
         group.has(self.current())
     }
 
     /// Whether an element of this name is in a scope.
+    #[tactic(auto, using(crate::proofs::Doing::doing_rules))]
     pub fn has_in_scope(&mut self, tag: Tag, scope: Scope) -> bool
         ensures rest { self.new ≡ record self.old { tree = self.new.tree } }
         ensures keeps { Keeps self.old self.new }
@@ -88,12 +102,14 @@ impl Construction {
         ensures works { Works 1 0 0 self.old self.new }
         ensures answer { result ≡ is_some (found self.old.tree (group.Named tag) (stop.EndOf scope)) }
         ensures same { IsTree self.old.tree self.new }
+        ensures follows { Asks (Finds (group.Named tag) (stop.EndOf scope)) result self.old self.new }
     {
         self.tree.laws();
         self.tree.has(Group::Named(tag), Stop::EndOf(scope))
     }
 
     /// Whether an element of the group is in a scope.
+    #[tactic(auto, using(crate::proofs::Doing::doing_rules))]
     pub fn has_group_in_scope(&mut self, group: Group, scope: Scope) -> bool
         ensures rest { self.new ≡ record self.old { tree = self.new.tree } }
         ensures keeps { Keeps self.old self.new }
@@ -101,12 +117,14 @@ impl Construction {
         ensures works { Works 1 0 0 self.old self.new }
         ensures answer { result ≡ is_some (found self.old.tree group (stop.EndOf scope)) }
         ensures same { IsTree self.old.tree self.new }
+        ensures follows { Asks (Finds group (stop.EndOf scope)) result self.old self.new }
     {
         self.tree.laws();
         self.tree.has(group, Stop::EndOf(scope))
     }
 
     /// Whether a template is open. None is where none was made, and the stack need not be searched.
+    #[tactic(auto, using(crate::proofs::Doing::doing_rules))]
     pub fn has_template(&mut self) -> bool
         ensures rest { self.new ≡ record self.old { tree = self.new.tree } }
         ensures keeps { Keeps self.old self.new }
@@ -115,6 +133,7 @@ impl Construction {
         ensures made { result ≡ true → self.old.ledger.history.template ≡ true }
         ensures answer { result ≡ (self.old.ledger.history.template && is_some (found self.old.tree (group.Named html.Template) stop.Never)) }
         ensures same { IsTree self.old.tree self.new }
+        ensures follows { Asks HasTemplate result self.old self.new }
     {
         self.history().template && self.has_open_template()
     }

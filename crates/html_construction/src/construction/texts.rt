@@ -13,6 +13,8 @@ ghost use Rattle.html_tree.specs.Texts.{text_node, with_text};
 ghost use Rattle.html_ledger.specs.declared.fate.Fate.TheVariants.{Text};
 ghost use Rattle.html_ledger.specs.Entries.{given_run};
 ghost use Rattle.html_construction.specs.Calls.{HasFate, IsTree};
+ghost use Rattle.html_construction.specs.Plans.{Does};
+ghost use Rattle.html_construction.specs.Words.{InsertCharacter};
 
 use super::Construction;
 use crate::refusal::Refusal;
@@ -22,6 +24,7 @@ use html_tokens::TokenKind;
 
 impl Construction {
     /// Adds a code point to the text at the place for the current node, which is its fate. It is not U+0000.
+    #[tactic(auto, using(crate::proofs::Doing::doing_rules))]
     pub fn insert_char(&mut self, token: &TokenKind, c: char) -> Result<(), Refusal>
         requires symbol { symbol_of token.now ≡ Char c }
         requires opened { 0 < length self.old.stack }
@@ -37,6 +40,7 @@ impl Construction {
         ensures exact { OnOk result (IsTree (record self.old.tree { tree = with_text self.old.tree self.old.fostering (c ∷ []) }) self.new) }
         ensures fate { OnOk result (HasFate (Char c) (Text (text_node self.old.tree self.old.fostering)) self.old self.new) }
         ensures refuses { IfErr result (λ e. RefusesAny e self.old self.new) }
+        ensures follows { OnOk result (Does InsertCharacter token.now self.old self.new) }
     {
         self.tree.laws();
         let run = [c];

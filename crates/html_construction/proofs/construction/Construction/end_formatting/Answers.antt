@@ -6,6 +6,8 @@ use Rattle.html_tree.specs.Closing.{before_index}
 use Rattle.html_tree.specs.Searching.{found_name}
 use Rattle.html_arena.specs.Tree.{tag_at}
 use Rattle.html_tree.specs.States.{State as Tree}
+use Rattle.std.proofs.Common.{rules}
+use Rattle.html_construction.proofs.Doing.{adopting}
 use Rattle.html_construction.proofs.construction.Construction.end_formatting.Goals as goal
 
 pub returns-in-OtherEndTag-clause-exact : goal.returns-in-OtherEndTag-clause-exact
@@ -20,3 +22,9 @@ returns-in-OtherEndTag-clause-exact c = record {
 
 pub returns-in-OtherEndTag-clause-tags_stay : goal.returns-in-OtherEndTag-clause-tags_stay
 returns-in-OtherEndTag-clause-tags_stay c = λ x b. ap (λ (t : Tree). tag_at t.tree x) c.close_named.ensures.exact.tree_is ∙ c.in_ok-adopt.ensures.tags_stay x b
+
+pub returns-in-Done-clause-follows : goal.returns-in-Done-clause-follows
+returns-in-Done-clause-follows c = adopting c.args.tag c.args.self.now _ (search rules) (search rules)
+
+pub returns-in-OtherEndTag-clause-follows : goal.returns-in-OtherEndTag-clause-follows
+returns-in-OtherEndTag-clause-follows c = adopting c.args.tag c.args.self.now _ (search rules) (returns-in-OtherEndTag-clause-exact c)

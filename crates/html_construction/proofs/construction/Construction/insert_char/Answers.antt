@@ -9,6 +9,8 @@ use Rattle.html_ledger.specs.declared.fate.Fate.TheVariants.{Text}
 use Rattle.html_construction.proofs.Copying.{copied-text, grown-given}
 use Rattle.html_construction.proofs.Working.{counted-text, works-char}
 use Rattle.html_construction.proofs.Telling.{handed-on-any, refused-text}
+use Rattle.std.proofs.Common.{rules}
+use Rattle.html_construction.proofs.Doing.{typing_by}
 use Rattle.html_construction.proofs.construction.Construction.insert_char.Goals as goal
 
 pub invariant_of-self : goal.invariant_of-self
@@ -35,3 +37,6 @@ pub returns-in_err-node-clause-refuses : goal.returns-in_err-node-clause-refuses
 returns-in_err-node-clause-refuses c =
     handed-on-any c.from_residual.result c.args.self.now _ c.in_err-node.field-0.0 c.from_residual.ensures.1
     (refused-text c.args.self.now _ c.self.inside.tree c.in_err-node.field-0.0 (ap (λ (x : State). x.tree.tree.limits) c.self.view_is) c.in_err-node.ensures.told)
+
+pub returns-clause-follows : goal.returns-clause-follows
+returns-clause-follows c = typing_by c.args.c c.args.token.now c.args.self.now _ c.requires.symbol (search rules) (record { ledger_is = search rules }) (record { tree_is = search rules })

@@ -11,6 +11,9 @@ use Rattle.html_construction.proofs.Originating.{named-formatting}
 use Rattle.html_construction.proofs.Copying.{copied-element, grown-made}
 use Rattle.html_construction.proofs.Working.{works-listed-made}
 use Rattle.html_construction.proofs.Telling.{handed-on, limits-made, refused-node}
+use Rattle.std.proofs.Common.{rules}
+use Rattle.html_construction.specs.Words.{InsertListed}
+use Rattle.html_construction.proofs.Doing.{doing, fated_any}
 use Rattle.html_construction.proofs.construction.Construction.insert_listed.Goals as goal
 
 pub insert_listed-requires-clause-token : goal.insert_listed-requires-clause-token
@@ -43,3 +46,6 @@ returns-in_err-insert_listed-clause-refuses c =
     handed-on c.from_residual-in_err-insert_listed.result c.args.token.now c.args.self.now _ c.in_err-insert_listed.field-0.0 c.from_residual-in_err-insert_listed.ensures.1
     (refused-node c.args.token.now c.args.self.now _ c.self.inside.tree (new.Element c.in_ok-name.name c.in_ok-attrs.attrs (Token c.in_ok-number.number)) c.in_err-insert_listed.field-0.0 (limits-made _ _ c.args.self.now c.self.view_is c.in_ok-number.ensures.rest)
     (record { name_tag = c.args.tag; start = c.requires.symbol; name_is = named-formatting c.args.tag c.args.token.now c.in_ok-name.name c.requires.formatting c.in_ok-name.ensures.name; attrs_are = c.in_ok-attrs.ensures.attrs }) c.in_err-insert_listed.ensures.told)
+
+pub returns-clause-follows : goal.returns-clause-follows
+returns-clause-follows c = doing InsertListed c.args.token.now c.args.self.now _ (fated_any (Start c.args.tag) c.args.token.now _ c.args.self.now _ c.requires.symbol (search rules) (record { ledger_is = search rules })) (returns-clause-exact c)

@@ -5,6 +5,8 @@ use Rattle.html_construction.proofs.Cloning.{reopened-copies}
 use Rattle.html_construction.proofs.Working.{works-reopened}
 use Rattle.html_construction.proofs.Telling.{handed-on-any, refused-clones}
 use Rattle.html_construction.specs.States.{State}
+use Rattle.std.proofs.Common.{rules}
+use Rattle.html_construction.proofs.Doing.{reconstructing}
 use Rattle.html_construction.proofs.construction.Construction.reconstruct.Goals as goal
 
 pub returns-clause-keeps : goal.returns-clause-keeps
@@ -25,3 +27,6 @@ pub returns-in_err-reopen-clause-refuses : goal.returns-in_err-reopen-clause-ref
 returns-in_err-reopen-clause-refuses c =
     handed-on-any c.from_residual.result c.args.self.now _ c.in_err-reopen.field-0.0 c.from_residual.ensures.1
     (refused-clones c.args.self.now _ c.self.inside.tree c.in_err-reopen.field-0.0 (ap (λ (x : State). x.tree.tree.limits) c.self.view_is) c.in_err-reopen.ensures.told)
+
+pub returns-clause-follows : goal.returns-clause-follows
+returns-clause-follows c = reconstructing c.args.self.now _ (search rules) (search rules)
