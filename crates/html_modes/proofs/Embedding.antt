@@ -12,12 +12,14 @@ use Rattle.html_names.proofs.Spaces.{space-of_prefixed}
 use Rattle.html_tokens.specs.Cut.{null_replaced}
 use Rattle.html_tokens.specs.declared.token.TokenKind.{TokenKind}
 use Rattle.html_ledger.specs.declared.fate.Cause.{Cause}
-use Rattle.html_ledger.specs.declared.fate.Fate.TheVariants.{Foreign as Embedded, Made, Text}
+use Rattle.html_ledger.specs.declared.fate.Cause.TheVariants.{Misplaced}
+use Rattle.html_ledger.specs.declared.fate.Fate.TheVariants.{Dropped, Foreign as Embedded, Made, Text}
 use Rattle.html_ledger.specs.declared.symbol.Symbol.{Symbol}
 use Rattle.html_ledger.specs.declared.symbol.Symbol.TheVariants.{Start, End, Char, Comment, Doctype, Eof}
 use Rattle.html_ledger.specs.Entries.{Entries, number_of}
 use Rattle.html_ledger.specs.Flags.{may_embed, must_drop}
 use Rattle.html_ledger.specs.MayDrop.{is_foreign_root}
+use Rattle.html_ledger.specs.Spaces.{is_space}
 use Rattle.html_ledger.specs.Symbols.{starts}
 use Rattle.html_tree.specs.declared.groups.Target.TheVariants.{Current}
 use Rattle.html_tree.specs.Foreign.{found_foreign, left_foreign}
@@ -28,7 +30,7 @@ use Rattle.html_tree.specs.Texts.{text_node, with_text}
 use Rattle.html_construction.specs.declared.mode.Mode.{Mode}
 use Rattle.html_construction.specs.declared.mode.Mode.TheVariants as mode
 use Rattle.html_construction.specs.Built.{Keeps}
-use Rattle.html_construction.specs.Calls.{HasFate, IsTree, counting, foreign_of, opened_at, placed_at}
+use Rattle.html_construction.specs.Calls.{HasFate, IsTree, comment_of, counting, foreign_of, opened_at, placed_at}
 use Rattle.html_construction.specs.Foreign.{adjusted_tag, foreign_tag, if_foreign}
 use Rattle.html_construction.specs.Grown.{Grown}
 use Rattle.html_construction.specs.Modes.{is_of_frames, is_of_selects}
@@ -43,7 +45,7 @@ use Rattle.html_modes.specs.declared.outcome.Foreign.{Foreign as Root}
 use Rattle.html_modes.specs.declared.outcome.Foreign.TheVariants as root
 use Rattle.html_modes.specs.Begun.{IgnoresIn}
 use Rattle.html_modes.specs.Fitting.{is_loose}
-use Rattle.html_modes.specs.Foreign.{Follows, FollowsForeign, IsEmbedded, IsInserted, IsRootMade, Stayed, Stays, around_foreign, breaks_out, closed_foreign, closes_itself, ends_any, ends_foreign, goes_by_foreign, goes_on, if_goes, leaves_foreign, stack_after}
+use Rattle.html_modes.specs.Foreign.{Follows, FollowsForeign, IsCommented, IsEmbedded, IsIgnored, IsInserted, IsRootMade, Stayed, Stays, around_foreign, breaks_out, closed_foreign, closes_itself, ends_any, ends_foreign, frameset_ok_after, goes_by_foreign, goes_on, if_goes, leaves_foreign, stack_after}
 use Rattle.html_modes.specs.Guards.{is_table_text}
 use Rattle.html_modes.specs.Ranks.{rank, top_rank}
 use Rattle.html_modes.specs.Plain.{IsNextInBody, TurnsInBody, is_plain_tag}
@@ -114,6 +116,28 @@ inserted-char c a b e f t = record { fate_is = f; tree_is = rw e t }
 
 pub inserted-flag : (c : ℕ) (f : Bool) (a m b : State) → b ≡ record m { frameset_ok = f } → IsInserted c a m → IsInserted c a b
 inserted-flag c f a m b r i = record { fate_is = record { ledger_is = ap (λ (x : State). x.ledger) r ∙ i.fate_is.ledger_is }; tree_is = record { tree_is = subst (λ (x : State). x.tree ≡ record (record a.tree { tree = with_text a.tree a.fostering (null_replaced c ∷ []) }) { steps = x.tree.steps }) (sym r) i.tree_is.tree_is } }
+
+-- the flag frameset-ok after a code point
+pub kept-null : (a b : State) → b.frameset_ok ≡ a.frameset_ok → b.frameset_ok ≡ frameset_ok_after (Char 0) a.frameset_ok
+kept-null a b e = e
+
+pub kept-space : (c : ℕ) (a b : State) → (c == 0) ≡ false → is_space c ≡ true → b.frameset_ok ≡ a.frameset_ok → b.frameset_ok ≡ frameset_ok_after (Char c) a.frameset_ok
+kept-space c a b n s e = rw (n, s) e
+
+pub turned-off : (c : ℕ) (a b : State) → (c == 0) ≡ false → is_space c ≡ false → b.frameset_ok ≡ false → b.frameset_ok ≡ frameset_ok_after (Char c) a.frameset_ok
+turned-off c a b n s e = rw (n, s) e
+
+-- a comment, and a DOCTYPE
+pub commented : (k : TokenKind) (a b : State) → HasFate Comment (Made (length a.tree.tree.labels)) a b → IsTree (placed_at (comment_of a k) (Current a.fostering) (counting (number_of a.ledger + 1) a.tree)) b → IsCommented k a b
+commented k a b f t = record { fate_is = f; tree_is = t }
+
+pub ignored-doctype : (a b : State) → HasFate Doctype (Dropped Misplaced) a b → b.tree ≡ a.tree → IsIgnored a b
+ignored-doctype a b f e = record { fate_is = λ w. f; tree_is = λ w. record { tree_is = e ∙ ap (λ n. record a.tree { steps = n }) (sym (ap (λ (x : Tree). x.steps) e)) } }
+
+pub awaited-doctype : (a b : State) → a.ledger.history.awaits_doctype ≡ true → IsIgnored a b
+awaited-doctype a b w = record { fate_is = λ n. absurd (false≢true (sym n ∙ w)); tree_is = λ n. absurd (false≢true (sym n ∙ w)) }
+
+pub ruleset doctype_rules = (ignored-doctype, awaited-doctype)
 
 -- WHERE THE ADJUSTED CURRENT NODE IS FOREIGN
 
@@ -214,7 +238,7 @@ pub ruleset embed_rules = (heavier-foreign, embedded-closed, embedded-opened, op
 
 pub ruleset root_rules = (root-made, outside-root, may-root)
 
-pub ruleset char_rules = (inserted-null, inserted-char, inserted-flag, history-foreign, any-refused, char-refused)
+pub ruleset char_rules = (inserted-null, inserted-char, inserted-flag, kept-null, kept-space, turned-off, history-foreign, any-refused, char-refused)
 
 -- the roots are no elements of a plain page, and none that hold text alone
 root-plain : (name : Root) (t : Tag) → Start t ≡ root_of name → is_plain_tag t ≡ false
@@ -241,7 +265,7 @@ opens-root o name t b e = opens-not o (Start t) b (by name t e)
 
 pub ruleset body_roots = (turns-root, opens-root, outside-root, may-root, asked-parsed)
 
-pub ruleset stay_rules = (history-foreign, around-outside, may-around, asked-around, any-refused)
+pub ruleset stay_rules = (commented, history-foreign, around-outside, may-around, asked-around, any-refused)
 
 pub ruleset around_rules = (around-none, around-some, around-strict, around-not)
 
@@ -303,15 +327,16 @@ stayed-after : (g : Tag) (y : Symbol) (k : TokenKind) (a m b : State) → (ends_
 stayed-after g (Start t) k a m b same h s w l = subst (λ (x : State). Stays g (Start t) k x b) (same refl) s
 stayed-after g (Char c) k a m b same h s w l = subst (λ (x : State). Stays g (Char c) k x b) (same refl) s
 stayed-after g (End t) k a m b same h s w l = stayed-end t k a m b h (w (rw l refl))
-stayed-after g Comment k a m b same h s w l = tt
-stayed-after g Doctype k a m b same h s w l = tt
+stayed-after g Comment k a m b same h s w l = subst (λ (x : State). Stays g Comment k x b) (same refl) s
+stayed-after g Doctype k a m b same h s w l = subst (λ (x : State). Stays g Doctype k x b) (same refl) s
 stayed-after g Eof k a m b same h s w l = tt
 
 pub follows-done : (g : Tag) (y : Symbol) (k : TokenKind) (a m b : State) (r : Bool) → r ≡ goes_on a.tree y k → r ≡ false → (ends_any y ≡ false → r ≡ false → m ≡ a) → IsTree (record a.tree { stack = stack_after a.tree y k }) m → Stays g y k m b
-    → (ends_any y ≡ true → b.tree ≡ m.tree) → Follows g Done y k a b
-follows-done g y k a m b r q n same h s w = record {
+    → (ends_any y ≡ true → b.tree ≡ m.tree) → m ≡ record a { tree = m.tree; stack = m.stack } → b.frameset_ok ≡ frameset_ok_after y m.frameset_ok → Follows g Done y k a b
+follows-done g y k a m b r q n same h s w e f = record {
   done = refl;
   stayed = stayed-after g y k a m b (λ e. same e n) h s w (or-first (leaves_foreign y k) _ (sym q ∙ n));
+  frameset_ok_is = f ∙ ap (λ (x : State). frameset_ok_after y x.frameset_ok) e;
 }
 
 Grows-stayed : (a m b : State) → Grown 0 0 0 0 0 a m → Grown 1 2 0 0 0 m b → Grows Done a b

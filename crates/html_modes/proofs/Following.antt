@@ -13,7 +13,7 @@ use Rattle.html_construction.specs.declared.mode.Mode.{Mode}
 use Rattle.html_construction.specs.Calls.{IsTree}
 use Rattle.html_construction.specs.Modes.{is_of_frames, is_of_selects}
 use Rattle.html_construction.specs.States.{State}
-use Rattle.html_modes.specs.Foreign.{Follows, FollowsForeign, IsEmbedded, Stayed, around_foreign, closes_itself, embedded, goes_on}
+use Rattle.html_modes.specs.Foreign.{Follows, FollowsForeign, IsEmbedded, Stayed, around_foreign, closes_itself, embedded, frameset_ok_after, goes_on}
 use Rattle.html_modes.specs.declared.outcome.Outcome.{Outcome}
 use Rattle.html_modes.specs.declared.outcome.Outcome.TheVariants.{Done, Reprocess}
 use Rattle.html_modes.proofs.Plain.{IsAlike, later}
@@ -58,8 +58,8 @@ stayed-later : (g : Tag) (y : Symbol) (k : TokenKind) (a b : State) (s : ℕ) (m
 stayed-later g (Start t) k a b s m d n h = embedded-later (space_of g) (Start t) k a b s m d n h
 stayed-later g (Char c) k a b s m d n h = record { fate_is = record { ledger_is = h.fate_is.ledger_is }; tree_is = record { tree_is = h.tree_is.tree_is } }
 stayed-later g (End t) k a b s m d n h = record { tree_is = h.tree_is }
-stayed-later g Comment k a b s m d n h = tt
-stayed-later g Doctype k a b s m d n h = tt
+stayed-later g Comment k a b s m d n h = record { fate_is = record { ledger_is = h.fate_is.ledger_is }; tree_is = record { tree_is = h.tree_is.tree_is } }
+stayed-later g Doctype k a b s m d n h = record { fate_is = λ w. record { ledger_is = (h.fate_is w).ledger_is }; tree_is = λ w. record { tree_is = (h.tree_is w).tree_is } }
 stayed-later g Eof k a b s m d n h = tt
 
 -- the mode aside
@@ -67,8 +67,8 @@ stayed-settled : (g : Tag) (y : Symbol) (k : TokenKind) (a b : State) (m : Mode)
 stayed-settled g (Start t) k a b m h = record { fate_is = record { ledger_is = h.fate_is.ledger_is }; tree_is = record { tree_is = h.tree_is.tree_is } }
 stayed-settled g (Char c) k a b m h = record { fate_is = record { ledger_is = h.fate_is.ledger_is }; tree_is = record { tree_is = h.tree_is.tree_is } }
 stayed-settled g (End t) k a b m h = record { tree_is = h.tree_is }
-stayed-settled g Comment k a b m h = tt
-stayed-settled g Doctype k a b m h = tt
+stayed-settled g Comment k a b m h = record { fate_is = record { ledger_is = h.fate_is.ledger_is }; tree_is = record { tree_is = h.tree_is.tree_is } }
+stayed-settled g Doctype k a b m h = record { fate_is = λ w. record { ledger_is = (h.fate_is w).ledger_is }; tree_is = λ w. record { tree_is = (h.tree_is w).tree_is } }
 stayed-settled g Eof k a b m h = tt
 
 -- the token is done with in its first entry
@@ -81,8 +81,11 @@ follows-on o y k a i n b d f l h r = record {
       let z : StaysIn g y k a = record { around = around; stays = stays; kept = kept; select = select; frames = frames } in
       let j : IsAlike i n = l g (stays-alike g y k a i f z) in
       let w : Follows g o y k n b = follows-in g o y k n b h (stays-alike g y k i n j (stays-alike g y k a i f z)) in
-      record { done = refl; stayed = subst (λ (x : State). Stayed g y k a x) (sym r) (stayed-settled g y k a b d.mode (back g a i f (back g i n j w.stayed))) };
+      record { done = refl; stayed = subst (λ (x : State). Stayed g y k a x) (sym r) (stayed-settled g y k a b d.mode (back g a i f (back g i n j w.stayed))); frameset_ok_is = ap (λ (x : State). x.frameset_ok) r ∙ w.frameset_ok_is ∙ ap (frameset_ok_after y) (flag-alike i n j ∙ flag-alike a i f) };
 }
   where
+    flag-alike : (u v : State) → IsAlike u v → v.frameset_ok ≡ u.frameset_ok
+    flag-alike u v f = ap (λ (x : State). x.frameset_ok) f.same
+
     back : (u : Tag) (a c : State) → IsAlike a c → Stayed u y k c b → Stayed u y k a b
     back u a c f w = stayed-later u y k a b c.tree.steps c.began c.depth c.nodes (subst (λ (x : State). Stayed u y k x b) f.same w)

@@ -14,3 +14,8 @@ pub mod RawText
 pub mod Embedding
 pub mod Words
 pub mod Following
+pub mod Ruled
+pub mod RulesInCaption
+pub mod RulesInCell
+pub mod RulesInRow
+pub mod RulesInTableBody

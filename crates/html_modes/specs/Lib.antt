@@ -9,4 +9,10 @@ pub mod Ranks
 pub mod RawText
 pub mod Steps
 -- For this crate's own functions.
+pub mod RuleForms
+pub mod Rules
+pub mod RulesInCaption
+pub mod RulesInCell
+pub mod RulesInRow
+pub mod RulesInTableBody
 pub mod Runs

@@ -14,7 +14,7 @@ ghost use Rattle.html_construction.specs.Tokens.{attrs_of, tag_name};
 ghost use Rattle.html_construction.specs.Weights.{weight};
 ghost use Rattle.html_construction.specs.Works.{Works};
 ghost use Rattle.html_modes.specs.Fitting.{Calls, Fits};
-ghost use Rattle.html_modes.specs.Foreign.{IsEmbedded, IsInserted, IsRootMade, Stays, around_foreign, breaks_out, closed_foreign, closes_itself, ends_any, ends_foreign, goes_by_foreign, goes_on, has_font_attr, is_html_point_here, stack_after, takes_char, takes_start};
+ghost use Rattle.html_modes.specs.Foreign.{IsEmbedded, IsInserted, IsRootMade, Stays, around_foreign, breaks_out, closed_foreign, closes_itself, ends_any, ends_foreign, frameset_ok_after, goes_by_foreign, goes_on, has_font_attr, is_html_point_here, stack_after, takes_char, takes_start};
 ghost use Rattle.html_modes.specs.RawText.{HasOpened, Opens};
 ghost use Rattle.html_modes.specs.Steps.{Falls, Grows, Worked};
 ghost use Rattle.html_modes.specs.declared.outcome.Outcome.TheVariants.{Done};
@@ -190,6 +190,7 @@ pub(crate) fn stay(
     ensures opened { OnOk result (0 < length page.new.stack) }
     ensures ended { ends_any symbol ≡ true → OnOk result (page.new.tree ≡ page.old.tree) }
     ensures stays { OnOk result (Stays around symbol token.now page.old page.new) }
+    ensures frameset { OnOk result (page.new.frameset_ok ≡ frameset_ok_after symbol page.old.frameset_ok) }
     ensures opens { OnOk result (Opens Done symbol page.new) }
     ensures refuses { IfErr result (λ e. Refuses token.now e page.old page.new) }
 {
@@ -223,6 +224,7 @@ fn insert_foreign_char(page: &mut Construction, token: &TokenKind, c: char) -> R
     ensures grown { OnOk result (Grown 1 1 0 0 0 page.old page.new) }
     ensures works { OnOk result (Works 1 0 1 page.old page.new) }
     ensures inserted { OnOk result (IsInserted c page.old page.new) }
+    ensures frameset { OnOk result (page.new.frameset_ok ≡ frameset_ok_after (Symbol.Char c) page.old.frameset_ok) }
     ensures refuses { IfErr result (λ e. RefusesAny e page.old page.new) }
 {
     if c == '\0' {

@@ -12,6 +12,9 @@ ghost use Rattle.html_modes.specs.Fitting.{Fits, Calls};
 ghost use Rattle.html_modes.specs.Steps.{Falls, Grows, Steps, Worked};
 ghost use Rattle.html_modes.specs.Ranks.{rank};
 ghost use Rattle.html_modes.specs.RawText.{Opens};
+ghost use Rattle.html_construction.specs.Plans.{Chooses};
+ghost use Rattle.html_modes.specs.Rules.{Follows};
+ghost use Rattle.html_modes.specs.RulesInCaption.{closing_caption, in_caption, in_caption_end, in_caption_start};
 
 use crate::guards::is_outside_column_group;
 use crate::modes::body::body_rules;
@@ -26,7 +29,7 @@ use html_tokens::TokenKind;
 use html_tree::Group;
 
 /// The rules for the "in caption" insertion mode (13.2.6.4.11).
-#[tactic(auto, using(crate::proofs::Settled::part_rules, crate::proofs::RawText::open_rules, crate::proofs::Begun::text_stays))]
+#[tactic(auto, using(crate::proofs::Settled::part_rules, crate::proofs::RawText::open_rules, crate::proofs::Begun::text_stays, crate::proofs::RulesInCaption::arms))]
 pub(crate) fn in_caption(
     page: &mut Construction,
     token: &TokenKind,
@@ -46,39 +49,90 @@ pub(crate) fn in_caption(
     ensures works { IfOk result (λ o. Worked o token.now page.old page.new) }
     ensures opens { IfOk result (λ o. Opens o symbol page.new) }
     ensures refuses { IfErr result (λ e. Refuses token.now e page.old page.new) }
+    ensures follows { IfOk result (λ o. Follows (in_caption symbol) token.now o page.old page.new) }
 {
     match symbol {
-        // A start tag whose tag name is one of: "caption", "col", "colgroup", "tbody", "td", "tfoot", "th",
-        // "thead", "tr".
-        Symbol::Start(tag) if tag.is_table_piece() => {
-            if close_caption(page) {
-                return Ok(Outcome::Reprocess);
-            }
-            page.drop_token(token, symbol, Cause::Misplaced)?;
+        Symbol::Start(tag) => {
+            let outcome = start_in_caption(page, token, tag)?;
+            Ok(outcome)
         }
+        Symbol::End(tag) => {
+            let outcome = end_in_caption(page, token, tag)?;
+            Ok(outcome)
+        }
+        // Anything else: process the token using the rules for "in body".
+        Symbol::Char(_) | Symbol::Comment | Symbol::Doctype | Symbol::Eof => {
+            let outcome = body_rules(page, token, symbol)?;
+            Ok(outcome)
+        }
+    }
+}
+
+#[tactic(auto, using(crate::proofs::Settled::part_rules, crate::proofs::RawText::open_rules, crate::proofs::RulesInCaption::arms))]
+fn start_in_caption(
+    page: &mut Construction,
+    token: &TokenKind,
+    tag: Tag,
+) -> Result<Outcome, Refusal>
+    requires mode { page.old.mode ≡ Mode.InCaption }
+    requires symbol { symbol_of token.now ≡ Symbol.Start tag }
+    requires calls { Calls page.old }
+    ensures fits { OnOk result (Fits page.new) }
+    ensures takes { IfOk result (λ o. Steps o token.now page.old page.new) }
+    ensures parses { OnOk result (page.new.parses_foreign ≡ page.old.parses_foreign) }
+    ensures falls { IfOk result (λ o. Falls o (Symbol.Start tag) page.old page.new) }
+    ensures grows { IfOk result (λ o. Grows o page.old page.new) }
+    ensures works { IfOk result (λ o. Worked o token.now page.old page.new) }
+    ensures opens { IfOk result (λ o. Opens o (Symbol.Start tag) page.new) }
+    ensures refuses { IfErr result (λ e. Refuses token.now e page.old page.new) }
+    ensures follows { IfOk result (λ o. Follows (in_caption_start tag) token.now o page.old page.new) }
+{
+    // A start tag whose tag name is one of: "caption", "col", "colgroup", "tbody", "td", "tfoot", "th", "thead", "tr".
+    if tag.is_table_piece() {
+        if close_caption(page) {
+            return Ok(Outcome::Reprocess);
+        }
+        page.drop_token(token, Symbol::Start(tag), Cause::Misplaced)?;
+        return Ok(Outcome::Done);
+    }
+    // Anything else: process the token using the rules for "in body".
+    let outcome = body_rules(page, token, Symbol::Start(tag))?;
+    Ok(outcome)
+}
+
+#[tactic(auto, using(crate::proofs::Settled::part_rules, crate::proofs::RulesInCaption::arms))]
+fn end_in_caption(page: &mut Construction, token: &TokenKind, tag: Tag) -> Result<Outcome, Refusal>
+    requires mode { page.old.mode ≡ Mode.InCaption }
+    requires symbol { symbol_of token.now ≡ Symbol.End tag }
+    requires calls { Calls page.old }
+    ensures fits { OnOk result (Fits page.new) }
+    ensures takes { IfOk result (λ o. Steps o token.now page.old page.new) }
+    ensures parses { OnOk result (page.new.parses_foreign ≡ page.old.parses_foreign) }
+    ensures falls { IfOk result (λ o. Falls o (Symbol.End tag) page.old page.new) }
+    ensures grows { IfOk result (λ o. Grows o page.old page.new) }
+    ensures works { IfOk result (λ o. Worked o token.now page.old page.new) }
+    ensures refuses { IfErr result (λ e. Refuses token.now e page.old page.new) }
+    ensures follows { IfOk result (λ o. Follows (in_caption_end tag) token.now o page.old page.new) }
+{
+    match tag {
         // An end tag whose tag name is "caption".
-        Symbol::End(Tag::Caption) => {
+        Tag::Caption => {
             let _ = close_caption(page);
-            page.end(token, symbol)?;
+            page.end(token, Symbol::End(Tag::Caption))?;
         }
         // An end tag whose tag name is "table".
-        Symbol::End(Tag::Table) => {
+        Tag::Table => {
             if close_caption(page) {
                 return Ok(Outcome::Reprocess);
             }
-            page.end(token, symbol)?;
+            page.end(token, Symbol::End(Tag::Table))?;
         }
         // An end tag whose tag name is one of: "body", "col", "colgroup", "html", "tbody", "td", "tfoot", "th",
         // "thead", "tr": ignore the token.
-        Symbol::End(tag) if tag.is_ignored_in_table() => page.end(token, symbol)?,
+        _ if tag.is_ignored_in_table() => page.end(token, Symbol::End(tag))?,
         // Anything else: process the token using the rules for "in body".
-        Symbol::Start(_)
-        | Symbol::End(_)
-        | Symbol::Char(_)
-        | Symbol::Comment
-        | Symbol::Doctype
-        | Symbol::Eof => {
-            let outcome = body_rules(page, token, symbol)?;
+        _ => {
+            let outcome = body_rules(page, token, Symbol::End(tag))?;
             return Ok(outcome);
         }
     }
@@ -97,6 +151,7 @@ fn close_caption(page: &mut Construction) -> bool
     ensures opened { 0 < length page.new.stack }
     ensures mode { page.new.mode ≡ (if result then Mode.InTable else page.old.mode) }
     ensures found { result ≡ true → weight page.new.stack + 4 ≤ weight page.old.stack }
+    ensures follows { Chooses closing_caption result page.old page.new }
 {
     if !page.close_in_scope(Tag::Caption, Scope::Table) {
         return false;

@@ -12,6 +12,15 @@ ghost use Rattle.html_modes.specs.Fitting.{Fits, Calls};
 ghost use Rattle.html_modes.specs.declared.outcome.Outcome.TheVariants.{Done};
 ghost use Rattle.html_modes.specs.Steps.{Falls, Grows, Steps, Worked};
 ghost use Rattle.html_modes.specs.RawText.{Opens};
+ghost use Rattle.html_names.specs.declared.sets.Scope.TheVariants as scope;
+ghost use Rattle.html_tree.specs.declared.groups.Group.TheVariants as group;
+ghost use Rattle.html_tree.specs.declared.groups.Stop.TheVariants as stop;
+ghost use Rattle.html_construction.specs.Plans.{Ask, Chooses};
+ghost use Rattle.html_construction.specs.Words.{Finds};
+ghost use Rattle.html_modes.specs.RuleForms.{again, done_with};
+ghost use Rattle.html_modes.specs.Rules.{Follows};
+ghost use Rattle.html_modes.specs.RulesInRow.{closing_row, in_row, in_row_end, in_row_start};
+ghost use Rattle.html_modes.specs.RulesInTableBody.{closing_section, in_table_body, in_table_body_end, in_table_body_start};
 
 use crate::modes::cell::cell_start;
 use crate::modes::table::table_rules;
@@ -23,7 +32,7 @@ use html_tokens::TokenKind;
 use html_tree::{Group, TableContext};
 
 /// The rules for the "in table body" insertion mode (13.2.6.4.13).
-#[tactic(auto, using(crate::proofs::Settled::part_rules, crate::proofs::RawText::table_names, crate::proofs::Begun::text_stays))]
+#[tactic(auto, using(crate::proofs::Settled::part_rules, crate::proofs::RawText::table_names, crate::proofs::Begun::text_stays, crate::proofs::RulesInTableBody::arms))]
 pub(crate) fn in_table_body(
     page: &mut Construction,
     token: &TokenKind,
@@ -43,44 +52,76 @@ pub(crate) fn in_table_body(
     ensures works { IfOk result (λ o. Worked o token.now page.old page.new) }
     ensures opens { IfOk result (λ o. Opens o symbol page.new) }
     ensures refuses { IfErr result (λ e. Refuses token.now e page.old page.new) }
+    ensures follows { IfOk result (λ o. Follows (in_table_body symbol) token.now o page.old page.new) }
 {
     match symbol {
+        Symbol::Start(tag) => {
+            let outcome = table_body_start(page, token, tag)?;
+            Ok(outcome)
+        }
+        Symbol::End(tag) => {
+            let outcome = table_body_end(page, token, tag)?;
+            Ok(outcome)
+        }
+        // Anything else: process the token using the rules for "in table".
+        Symbol::Char(_) | Symbol::Comment | Symbol::Doctype | Symbol::Eof => {
+            let outcome = table_rules(page, token, symbol)?;
+            Ok(outcome)
+        }
+    }
+}
+
+#[tactic(auto, using(crate::proofs::Settled::part_rules, crate::proofs::RawText::table_names, crate::proofs::RulesInTableBody::arms))]
+fn table_body_start(
+    page: &mut Construction,
+    token: &TokenKind,
+    tag: Tag,
+) -> Result<Outcome, Refusal>
+    requires mode { page.old.mode ≡ Mode.InTableBody }
+    requires symbol { symbol_of token.now ≡ Symbol.Start tag }
+    requires calls { Calls page.old }
+    ensures fits { OnOk result (Fits page.new) }
+    ensures takes { IfOk result (λ o. Steps o token.now page.old page.new) }
+    ensures parses { OnOk result (page.new.parses_foreign ≡ page.old.parses_foreign) }
+    ensures falls { IfOk result (λ o. Falls o (Symbol.Start tag) page.old page.new) }
+    ensures grows { IfOk result (λ o. Grows o page.old page.new) }
+    ensures works { IfOk result (λ o. Worked o token.now page.old page.new) }
+    ensures opens { IfOk result (λ o. Opens o (Symbol.Start tag) page.new) }
+    ensures refuses { IfErr result (λ e. Refuses token.now e page.old page.new) }
+    ensures follows { IfOk result (λ o. Follows (in_table_body_start tag) token.now o page.old page.new) }
+{
+    match tag {
         // A start tag whose tag name is "tr": clear the stack back to a table body context.
-        Symbol::Start(Tag::Tr) => {
+        Tag::Tr => {
             page.clear_to(TableContext::Body);
             page.insert_part(token, Tag::Tr)?;
             page.set_mode(Mode::InRow);
         }
         // A start tag whose tag name is one of: "th", "td": insert an HTML element for a "tr" start tag token
         // with no attributes, reprocess.
-        Symbol::Start(tag) if tag.is_cell() => {
+        _ if tag.is_cell() => {
             page.clear_to(TableContext::Body);
             page.insert_implied_part(Tag::Tr)?;
             page.set_mode(Mode::InRow);
             return Ok(Outcome::Reprocess);
         }
         // A start tag whose tag name is one of: "caption", "col", "colgroup", "tbody", "tfoot", "thead".
-        Symbol::Start(tag) if tag.ends_section() => {
+        _ if tag.ends_section() => {
             if close_section(page) {
                 return Ok(Outcome::Reprocess);
             }
-            page.drop_token(token, symbol, Cause::Misplaced)?;
-        }
-        // An end tag.
-        Symbol::End(tag) => {
-            let outcome = table_body_end(page, token, tag)?;
-            return Ok(outcome);
+            page.drop_token(token, Symbol::Start(tag), Cause::Misplaced)?;
         }
         // Anything else: process the token using the rules for "in table".
-        Symbol::Start(_) | Symbol::Char(_) | Symbol::Comment | Symbol::Doctype | Symbol::Eof => {
-            let outcome = table_rules(page, token, symbol)?;
+        _ => {
+            let outcome = table_rules(page, token, Symbol::Start(tag))?;
             return Ok(outcome);
         }
     }
     Ok(Outcome::Done)
 }
 
-#[tactic(auto, using(crate::proofs::Settled::part_rules))]
+#[tactic(auto, using(crate::proofs::Settled::part_rules, crate::proofs::RulesInTableBody::arms))]
 fn table_body_end(page: &mut Construction, token: &TokenKind, tag: Tag) -> Result<Outcome, Refusal>
     requires mode { page.old.mode ≡ Mode.InTableBody }
     requires symbol { symbol_of token.now ≡ Symbol.End tag }
@@ -92,6 +133,7 @@ fn table_body_end(page: &mut Construction, token: &TokenKind, tag: Tag) -> Resul
     ensures grows { IfOk result (λ o. Grows o page.old page.new) }
     ensures works { IfOk result (λ o. Worked o token.now page.old page.new) }
     ensures refuses { IfErr result (λ e. Refuses token.now e page.old page.new) }
+    ensures follows { IfOk result (λ o. Follows (in_table_body_end tag) token.now o page.old page.new) }
 {
     match tag {
         // An end tag whose tag name is "table".
@@ -118,7 +160,7 @@ fn table_body_end(page: &mut Construction, token: &TokenKind, tag: Tag) -> Resul
 }
 
 /// An end tag of a section in the section.
-#[tactic(auto, using(crate::proofs::Settled::part_rules))]
+#[tactic(auto, using(crate::proofs::Settled::part_rules, crate::proofs::RulesInTableBody::arms))]
 fn section_end(page: &mut Construction, token: &TokenKind, tag: Tag) -> Result<(), Refusal>
     requires mode { page.old.mode ≡ Mode.InTableBody }
     requires symbol { symbol_of token.now ≡ Symbol.End tag }
@@ -130,6 +172,7 @@ fn section_end(page: &mut Construction, token: &TokenKind, tag: Tag) -> Result<(
     ensures grows { OnOk result (Grows Done page.old page.new) }
     ensures works { OnOk result (Worked Done token.now page.old page.new) }
     ensures refuses { IfErr result (λ e. Refuses token.now e page.old page.new) }
+    ensures follows { OnOk result (Follows (Ask (Finds (group.Named tag) (stop.EndOf scope.Table)) (closing_section done_with done_with) done_with) token.now Done page.old page.new) }
 {
     if page.has_in_scope(tag, Scope::Table) {
         let _ = close_section(page);
@@ -148,6 +191,7 @@ fn close_section(page: &mut Construction) -> bool
     ensures opened { 0 < length page.new.stack }
     ensures mode { page.new.mode ≡ (if result then Mode.InTable else page.old.mode) }
     ensures found { result ≡ true → weight page.new.stack + 4 ≤ weight page.old.stack }
+    ensures follows { Chooses closing_section result page.old page.new }
 {
     if !page.has_group_in_scope(Group::Section, Scope::Table) {
         return false;
@@ -161,7 +205,7 @@ fn close_section(page: &mut Construction) -> bool
 }
 
 /// The rules for the "in row" insertion mode (13.2.6.4.14).
-#[tactic(auto, using(crate::proofs::Settled::part_rules, crate::proofs::RawText::table_names, crate::proofs::Begun::text_stays))]
+#[tactic(auto, using(crate::proofs::Settled::part_rules, crate::proofs::RawText::table_names, crate::proofs::Begun::text_stays, crate::proofs::RulesInRow::arms))]
 pub(crate) fn in_row(
     page: &mut Construction,
     token: &TokenKind,
@@ -181,32 +225,59 @@ pub(crate) fn in_row(
     ensures works { IfOk result (λ o. Worked o token.now page.old page.new) }
     ensures opens { IfOk result (λ o. Opens o symbol page.new) }
     ensures refuses { IfErr result (λ e. Refuses token.now e page.old page.new) }
+    ensures follows { IfOk result (λ o. Follows (in_row symbol) token.now o page.old page.new) }
 {
     match symbol {
-        // A start tag whose tag name is one of: "th", "td".
-        Symbol::Start(tag) if tag.is_cell() => cell_start(page, token, tag)?,
-        // A start tag whose tag name is one of: "caption", "col", "colgroup", "tbody", "tfoot", "thead", "tr".
-        Symbol::Start(tag) if tag.ends_row() => {
-            if close_row(page) {
-                return Ok(Outcome::Reprocess);
-            }
-            page.drop_token(token, symbol, Cause::Misplaced)?;
+        Symbol::Start(tag) => {
+            let outcome = row_start(page, token, tag)?;
+            Ok(outcome)
         }
-        // An end tag.
         Symbol::End(tag) => {
             let outcome = row_end(page, token, tag)?;
-            return Ok(outcome);
+            Ok(outcome)
         }
         // Anything else: process the token using the rules for "in table".
-        Symbol::Start(_) | Symbol::Char(_) | Symbol::Comment | Symbol::Doctype | Symbol::Eof => {
+        Symbol::Char(_) | Symbol::Comment | Symbol::Doctype | Symbol::Eof => {
             let outcome = table_rules(page, token, symbol)?;
-            return Ok(outcome);
+            Ok(outcome)
         }
     }
-    Ok(Outcome::Done)
 }
 
-#[tactic(auto, using(crate::proofs::Settled::part_rules))]
+#[tactic(auto, using(crate::proofs::Settled::part_rules, crate::proofs::RawText::table_names, crate::proofs::RulesInRow::arms))]
+fn row_start(page: &mut Construction, token: &TokenKind, tag: Tag) -> Result<Outcome, Refusal>
+    requires mode { page.old.mode ≡ Mode.InRow }
+    requires symbol { symbol_of token.now ≡ Symbol.Start tag }
+    requires calls { Calls page.old }
+    ensures fits { OnOk result (Fits page.new) }
+    ensures takes { IfOk result (λ o. Steps o token.now page.old page.new) }
+    ensures parses { OnOk result (page.new.parses_foreign ≡ page.old.parses_foreign) }
+    ensures falls { IfOk result (λ o. Falls o (Symbol.Start tag) page.old page.new) }
+    ensures grows { IfOk result (λ o. Grows o page.old page.new) }
+    ensures works { IfOk result (λ o. Worked o token.now page.old page.new) }
+    ensures opens { IfOk result (λ o. Opens o (Symbol.Start tag) page.new) }
+    ensures refuses { IfErr result (λ e. Refuses token.now e page.old page.new) }
+    ensures follows { IfOk result (λ o. Follows (in_row_start tag) token.now o page.old page.new) }
+{
+    // A start tag whose tag name is one of: "th", "td".
+    if tag.is_cell() {
+        cell_start(page, token, tag)?;
+        return Ok(Outcome::Done);
+    }
+    // A start tag whose tag name is one of: "caption", "col", "colgroup", "tbody", "tfoot", "thead", "tr".
+    if tag.ends_row() {
+        if close_row(page) {
+            return Ok(Outcome::Reprocess);
+        }
+        page.drop_token(token, Symbol::Start(tag), Cause::Misplaced)?;
+        return Ok(Outcome::Done);
+    }
+    // Anything else: process the token using the rules for "in table".
+    let outcome = table_rules(page, token, Symbol::Start(tag))?;
+    Ok(outcome)
+}
+
+#[tactic(auto, using(crate::proofs::Settled::part_rules, crate::proofs::RulesInRow::arms))]
 fn row_end(page: &mut Construction, token: &TokenKind, tag: Tag) -> Result<Outcome, Refusal>
     requires mode { page.old.mode ≡ Mode.InRow }
     requires symbol { symbol_of token.now ≡ Symbol.End tag }
@@ -218,6 +289,7 @@ fn row_end(page: &mut Construction, token: &TokenKind, tag: Tag) -> Result<Outco
     ensures grows { IfOk result (λ o. Grows o page.old page.new) }
     ensures works { IfOk result (λ o. Worked o token.now page.old page.new) }
     ensures refuses { IfErr result (λ e. Refuses token.now e page.old page.new) }
+    ensures follows { IfOk result (λ o. Follows (in_row_end tag) token.now o page.old page.new) }
 {
     match tag {
         // An end tag whose tag name is "tr".
@@ -250,7 +322,7 @@ fn row_end(page: &mut Construction, token: &TokenKind, tag: Tag) -> Result<Outco
 }
 
 /// An end tag of a section in a row, which closes the row first.
-#[tactic(auto, using(crate::proofs::Settled::part_rules))]
+#[tactic(auto, using(crate::proofs::Settled::part_rules, crate::proofs::RulesInRow::arms))]
 fn section_end_in_row(
     page: &mut Construction,
     token: &TokenKind,
@@ -266,6 +338,7 @@ fn section_end_in_row(
     ensures grows { IfOk result (λ o. Grows o page.old page.new) }
     ensures works { IfOk result (λ o. Worked o token.now page.old page.new) }
     ensures refuses { IfErr result (λ e. Refuses token.now e page.old page.new) }
+    ensures follows { IfOk result (λ o. Follows (Ask (Finds (group.Named tag) (stop.EndOf scope.Table)) (closing_row again done_with) done_with) token.now o page.old page.new) }
 {
     if page.has_in_scope(tag, Scope::Table) && close_row(page) {
         return Ok(Outcome::Reprocess);
@@ -285,6 +358,7 @@ fn close_row(page: &mut Construction) -> bool
     ensures opened { 0 < length page.new.stack }
     ensures mode { page.new.mode ≡ (if result then Mode.InTableBody else page.old.mode) }
     ensures found { result ≡ true → weight page.new.stack + 4 ≤ weight page.old.stack }
+    ensures follows { Chooses closing_row result page.old page.new }
 {
     if !page.has_in_scope(Tag::Tr, Scope::Table) {
         return false;

@@ -39,4 +39,4 @@ pub returns-clause-ignores : goal.returns-clause-ignores
 returns-clause-ignores c = ignores-in _ _ c.args.symbol (ignores-done c.args.symbol)
 
 pub returns-clause-follows : goal.returns-clause-follows
-returns-clause-follows c = λ n. follows-done c.args.around c.args.symbol c.args.token.now c.args.page.now c.goes_on.new.page c.stay.new.page c.goes_on.result c.goes_on.ensures.answer c.if-goes_on.false c.goes_on.ensures.same c.goes_on.ensures.exact c.in_ok-stay.ensures.stays c.in_ok-stay.ensures.ended
+returns-clause-follows c = λ n. follows-done c.args.around c.args.symbol c.args.token.now c.args.page.now c.goes_on.new.page c.stay.new.page c.goes_on.result c.goes_on.ensures.answer c.if-goes_on.false c.goes_on.ensures.same c.goes_on.ensures.exact c.in_ok-stay.ensures.stays c.in_ok-stay.ensures.ended c.goes_on.ensures.rest c.in_ok-stay.ensures.frameset

@@ -1,0 +1,37 @@
+-- For this crate's own functions.
+-- How the tables of the rules are written (13.2.6.4), and what it says of an entry that it followed one.
+use Rattle.html_tokens.specs.declared.token.TokenKind.{TokenKind}
+use Rattle.html_ledger.specs.declared.fate.Cause.{Cause}
+use Rattle.html_ledger.specs.declared.fate.Cause.TheVariants.{Misplaced}
+use Rattle.html_construction.specs.Plans.{Again, Ask, Do, Ending, Over, Plan, Refused, Stop}
+use Rattle.html_construction.specs.States.{State}
+use Rattle.html_construction.specs.Words.{AwaitsDoctype, Drop, End, InsertDoctype}
+use Rattle.html_modes.specs.Steps.{root_space}
+use Rattle.html_modes.specs.declared.outcome.Outcome.{Outcome}
+use Rattle.html_modes.specs.declared.outcome.Outcome.TheVariants.{Done, Reprocess, Foreign}
+
+-- how an entry ends, as plans say it
+abbrev pub ending : Outcome → Ending
+ending Done = Over
+ending Reprocess = Again
+ending (Foreign name) = Refused (root_space name)
+
+-- the token is done with
+abbrev pub over : Plan
+over = Stop Over
+
+-- reprocess the token
+abbrev pub again : Plan
+again = Stop Again
+
+-- the end tag, or the end of the file, is done with; it is ignored where the rule closed and made nothing
+abbrev pub done_with : Plan
+done_with = Do End over
+
+-- ignore the token
+abbrev pub ignored : Cause → Plan
+ignored cause = Do (Drop cause) over
+
+-- Ignore the doctype. (It is inserted where one is still awaited, as none is in these modes: own.)
+abbrev pub ignored_doctype : Plan
+ignored_doctype = Ask AwaitsDoctype (Do InsertDoctype over) (ignored Misplaced)
