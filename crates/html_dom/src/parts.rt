@@ -39,6 +39,8 @@ pub fn inner_html<W: Sink>(
     ensures no_place { IfErr result (λ e. e ≡ NoPlace → (is_placed arena.now node ≡ false) × (writer.new ≡ writer.old)) }
     ensures err { IfErr result (λ e. e ≡ PartError.Write → AppendsFront (W.taken writer.old) (W.taken writer.new) (encode_utf8_all (html_below profile arena.now node))) }
     ensures fault { IfErr result (λ e. e ≡ PartError.Write → (W.failed writer.new ≡ true) ⊎ (W.stalled writer.new ≡ true)) }
+    ensures failing { OnOk result (W.failed writer.new ≡ true → W.failed writer.old ≡ true) }
+    ensures stalling { OnOk result (W.stalled writer.new ≡ true → W.stalled writer.old ≡ true) }
 {
     if !is_placed(arena, node) {
         return Err(PartError::NoPlace);
@@ -65,6 +67,8 @@ pub fn outer_html<W: Sink>(
     ensures no_place { IfErr result (λ e. e ≡ NoPlace → (is_placed arena.now node ≡ false) × (writer.new ≡ writer.old)) }
     ensures err { IfErr result (λ e. e ≡ PartError.Write → AppendsFront (W.taken writer.old) (W.taken writer.new) (encode_utf8_all (html_at profile arena.now node))) }
     ensures fault { IfErr result (λ e. e ≡ PartError.Write → (W.failed writer.new ≡ true) ⊎ (W.stalled writer.new ≡ true)) }
+    ensures failing { OnOk result (W.failed writer.new ≡ true → W.failed writer.old ≡ true) }
+    ensures stalling { OnOk result (W.stalled writer.new ≡ true → W.stalled writer.old ≡ true) }
 {
     if !is_placed(arena, node) {
         return Err(PartError::NoPlace);

@@ -36,8 +36,10 @@ pub fn serialise_inner<W: Sink>(
     ensures ok { OnOk result (Appends (W.taken writer.old) (W.taken writer.new) (encode_utf8_all (html_below profile arena.now node))) }
     ensures err { OnErr result (AppendsFront (W.taken writer.old) (W.taken writer.new) (encode_utf8_all (html_below profile arena.now node))) }
 
-    // It is the writer that failed, or took no bytes.
+    // It is the writer that failed, or took no bytes; and a writer that does so is told.
     ensures fault { OnErr result ((W.failed writer.new ≡ true) ⊎ (W.stalled writer.new ≡ true)) }
+    ensures failing { OnOk result (W.failed writer.new ≡ true → W.failed writer.old ≡ true) }
+    ensures stalling { OnOk result (W.stalled writer.new ≡ true → W.stalled writer.old ≡ true) }
 
     // The text is that of the one forest that stands below the node, and no longer than this.
     ensures shows { Shows arena.now (kids All arena.now node) (forest_below arena.now node) }
@@ -65,8 +67,10 @@ pub fn serialise_outer<W: Sink>(
     ensures ok { OnOk result (Appends (W.taken writer.old) (W.taken writer.new) (encode_utf8_all (html_at profile arena.now node))) }
     ensures err { OnErr result (AppendsFront (W.taken writer.old) (W.taken writer.new) (encode_utf8_all (html_at profile arena.now node))) }
 
-    // It is the writer that failed, or took no bytes.
+    // It is the writer that failed, or took no bytes; and a writer that does so is told.
     ensures fault { OnErr result ((W.failed writer.new ≡ true) ⊎ (W.stalled writer.new ≡ true)) }
+    ensures failing { OnOk result (W.failed writer.new ≡ true → W.failed writer.old ≡ true) }
+    ensures stalling { OnOk result (W.stalled writer.new ≡ true → W.stalled writer.old ≡ true) }
 
     // What stands below the node is this one forest.
     ensures shows { Shows arena.now (kids All arena.now node) (forest_below arena.now node) }
@@ -87,6 +91,8 @@ fn write_node<W: Sink>(
     ensures ok { OnOk result (Appends (W.taken writer.old) (W.taken writer.new) (encode_utf8_all (html_at profile arena.now node))) }
     ensures err { OnErr result (AppendsFront (W.taken writer.old) (W.taken writer.new) (encode_utf8_all (html_at profile arena.now node))) }
     ensures fault { OnErr result ((W.failed writer.new ≡ true) ⊎ (W.stalled writer.new ≡ true)) }
+    ensures failing { OnOk result (W.failed writer.new ≡ true → W.failed writer.old ≡ true) }
+    ensures stalling { OnOk result (W.stalled writer.new ≡ true → W.stalled writer.old ≡ true) }
 {
     let mut output = Output::new();
     put_node(&mut output, writer, profile, arena, node)?;
@@ -104,6 +110,8 @@ fn put_node<W: Sink>(
     requires { IsPlaced arena.now node }
     ensures bytes { Puts (W.taken writer.old) (held output.old) (W.taken writer.new) (held output.new) result (encode_utf8_all (html_at profile arena.now node)) }
     ensures fault { OnErr result ((W.failed writer.new ≡ true) ⊎ (W.stalled writer.new ≡ true)) }
+    ensures failing { OnOk result (W.failed writer.new ≡ true → W.failed writer.old ≡ true) }
+    ensures stalling { OnOk result (W.stalled writer.new ≡ true → W.stalled writer.old ≡ true) }
 {
     put_event(output, writer, profile, arena, Event::Enter(node))?;
     put_below(output, writer, profile, arena, node)?;
