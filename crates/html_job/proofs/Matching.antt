@@ -45,6 +45,16 @@ some_fault a words e is other h = elim (h (ap is_simple_and_free is ∙ line_is_
   | inr among ↦ λ none. not_none (kind_of e) (fault_of a words) among (ap (λ x. fault_of x words) is ∙ none)
 ]
 
+pub version_asked : (a : App) (words : List Text) (e : Error) → a ≡ line → kind_of e ≡ kind.DisplayVersion
+    → (is_simple_and_free a ≡ true → HasKind (fault_of a words) e) → IsAmong kind.DisplayVersion (fault_of line words)
+version_asked a words e is version h = elim (h (ap is_simple_and_free is ∙ line_is_free)) [
+  | inl memory ↦ absurd (other (sym version ∙ memory))
+  | inr among ↦ subst (λ k. IsAmong k (fault_of line words)) version (subst (λ ks. IsAmong (kind_of e) ks) (ap (λ x. fault_of x words) is) among)
+]
+  where
+    other : kind.DisplayVersion ≢ kind.OutOfMemory
+    other = λ same. cc
+
 -- a pair from its parts
 pub pair_matched : {B : Type 0} (name : B → Text) (rows : B → List Row) (o : Option B) (n : Text) (r : List Row)
     → Some n ≡ option_map name o → Some r ≡ option_map {T = Text × List Row} (λ p. p.1) (option_map (λ b. (name b, rows b)) o)

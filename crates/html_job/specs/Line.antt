@@ -34,6 +34,7 @@ suite_app = with_rule (with_rule (with_rule (new_app (codes "suite")) (option_ru
 abbrev pub empty_line : App
 empty_line = record (new_app (codes "html_cmd")) {
   top = record (new_app (codes "html_cmd")).top {
+    has_version = true;
     subcommand_required = true;
     disable_help_subcommand = true;
   };

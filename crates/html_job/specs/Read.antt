@@ -12,7 +12,7 @@ use Rattle.html_job.specs.declared.jobs.Profile.{Profile}
 use Rattle.html_job.specs.declared.jobs.Profile.TheVariants.{One, Two}
 use Rattle.html_job.specs.declared.jobs.Job.{Job}
 use Rattle.html_job.specs.declared.jobs.JobFault.{JobFault}
-use Rattle.html_job.specs.declared.jobs.JobFault.TheVariants.{Words, OutOfMemory}
+use Rattle.html_job.specs.declared.jobs.JobFault.TheVariants.{Words, Version, OutOfMemory}
 
 -- the word of a command
 abbrev pub name_of : Command → Text
@@ -63,10 +63,17 @@ abbrev pub IsJobOf : Job → List Text → Type 0
 IsJobOf job words = (rows : List Row) × (subcommand_of line words ≡ Some (name_of job.command, rows))
     × Reads job rows
 
--- the words are wrong, or ask for help
+-- the words are wrong, or ask for help, or for the version
 abbrev pub IsWords : JobFault → Type 0
 IsWords (Words text) = Unit {0}
+IsWords (Version text) = Unit {0}
 IsWords OutOfMemory = ⊥
+
+-- they ask for the version
+abbrev pub IsVersion : JobFault → Type 0
+IsVersion (Words text) = ⊥
+IsVersion (Version text) = Unit {0}
+IsVersion OutOfMemory = ⊥
 
 -- a text that names no profile
 abbrev pub IsBadProfile : Option Text → Type 0

@@ -72,6 +72,9 @@ pub enum JobFault {
     /// The words are wrong, or ask for help: the text for the user.
     #[error("{0}")]
     Words(String),
+    /// The words ask for the version: the text for the user.
+    #[error("{0}")]
+    Version(String),
     /// There is no memory to read the words.
     #[error("out of memory")]
     OutOfMemory,

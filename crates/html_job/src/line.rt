@@ -207,6 +207,7 @@ fn empty_line<'a>(alloc: Global) -> Command<'a>
 {
     Command::new(alloc, "html_cmd")
         .about("Reads HTML pages")
+        .version("0.1.0")
         .subcommand_required(true)
         .disable_help_subcommand(true)
 }

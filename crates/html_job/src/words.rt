@@ -1,9 +1,9 @@
 //! Reading the words.
 
 ghost use Rattle.std.specs.Prelude.{◌≡◌, ◌≢◌, [], true, IfOk, IfErr, OnErr, OnOk, map, option_map, unwrap_or, codes};
-ghost use Rattle.clap.specs.Words.{all_of, first_of, found_of, kind_of, rows_of, fault_of, subcommand_of, subcommand_rows_of, has_subcommand};
+ghost use Rattle.clap.specs.Words.{IsAmong, all_of, first_of, found_of, kind_of, rows_of, fault_of, subcommand_of, subcommand_rows_of, has_subcommand};
 ghost use Rattle.html_job.specs.Line.{line};
-ghost use Rattle.html_job.specs.Read.{HasBadValue, IsBadForeign, IsBadNumber, IsBadProfile, IsJobOf, IsNumber, IsRefused, IsWords, Reads, foreign_text, profile_text};
+ghost use Rattle.html_job.specs.Read.{HasBadValue, IsBadForeign, IsBadNumber, IsBadProfile, IsJobOf, IsNumber, IsRefused, IsVersion, IsWords, Reads, foreign_text, profile_text};
 
 use crate::jobs::{Command, Foreign, Job, JobFault, Profile};
 use crate::line::line;
@@ -22,12 +22,13 @@ const WRONG_FOREIGN: &str =
 ///
 /// # Errors
 ///
-/// `Words` where the words are refused, or ask for help, with the text to show; `OutOfMemory` where there is no
-/// memory to read them, or for that text.
+/// `Words` where the words are refused, or ask for help, with the text to show; `Version` where they ask for the version, with that; `OutOfMemory` where
+/// there is no memory to read them, or for that text.
 pub fn job<'a, S: AsStr>(alloc: Global, words: &'a [S]) -> Result<Job<'a>, JobFault>
     ensures ok { IfOk result (λ j. IsJobOf j (map S.text words.entry.now)) }
     ensures taken { OnOk result (fault_of line (map S.text words.entry.now) ≡ []) }
     ensures refused { IfErr result (λ e. IsWords e → IsRefused (map S.text words.entry.now)) }
+    ensures version { IfErr result (λ e. IsVersion e → IsAmong ErrorKind.DisplayVersion (fault_of line (map S.text words.entry.now))) }
 {
     let matches = matched(alloc, words)?;
     let Some((name, rest)) = matches.subcommand() else {
@@ -45,6 +46,7 @@ fn matched<'a, S: AsStr>(alloc: Global, words: &'a [S]) -> Result<ArgMatches<'a>
     ensures met { IfOk result (λ m. has_subcommand m ≡ true) }
     ensures taken { OnOk result (fault_of line (map S.text words.entry.now) ≡ []) }
     ensures refused { IfErr result (λ e. IsWords e → fault_of line (map S.text words.entry.now) ≢ []) }
+    ensures version { IfErr result (λ e. IsVersion e → IsAmong ErrorKind.DisplayVersion (fault_of line (map S.text words.entry.now))) }
 {
     match line(alloc)?.try_get_matches_from(words) {
         Ok(matches) => Ok(matches),
@@ -61,6 +63,7 @@ fn job_of<'a>(
     ensures command { IfOk result (λ j. j.command ≡ command) }
     ensures reads { IfOk result (λ j. Reads j (rows_of (found_of matches.entry.now))) }
     ensures refused { IfErr result (λ e. IsWords e → HasBadValue (rows_of (found_of matches.entry.now))) }
+    ensures version { IfErr result (λ e. IsVersion e → ⊥) }
 {
     let profile = profile(alloc, matches)?;
     let foreign = foreign(alloc, matches)?;
@@ -89,6 +92,7 @@ fn job_of<'a>(
 fn profile(alloc: Global, matches: &ArgMatches<'_>) -> Result<Profile, JobFault>
     ensures ok { IfOk result (λ p. profile_text p ≡ unwrap_or (first_of (codes "profile") (rows_of (found_of matches.now))) (codes "1")) }
     ensures refused { OnErr result (IsBadProfile (first_of (codes "profile") (rows_of (found_of matches.now)))) }
+    ensures version { IfErr result (λ e. IsVersion e → ⊥) }
 {
     match text(matches, "profile") {
         None => Ok(Profile::One),
@@ -102,6 +106,7 @@ fn profile(alloc: Global, matches: &ArgMatches<'_>) -> Result<Profile, JobFault>
 fn foreign(alloc: Global, matches: &ArgMatches<'_>) -> Result<Foreign, JobFault>
     ensures ok { IfOk result (λ f. foreign_text f ≡ unwrap_or (first_of (codes "foreign") (rows_of (found_of matches.now))) (codes "refuse")) }
     ensures refused { OnErr result (IsBadForeign (first_of (codes "foreign") (rows_of (found_of matches.now)))) }
+    ensures version { IfErr result (λ e. IsVersion e → ⊥) }
 {
     match text(matches, "foreign") {
         None => Ok(Foreign::Refuse),
@@ -115,6 +120,7 @@ fn foreign(alloc: Global, matches: &ArgMatches<'_>) -> Result<Foreign, JobFault>
 fn number(alloc: Global, matches: &ArgMatches<'_>, name: &str) -> Result<Option<u64>, JobFault>
     ensures ok { IfOk result (λ n. IsNumber n (first_of name.now (rows_of (found_of matches.now)))) }
     ensures refused { OnErr result (IsBadNumber (first_of name.now (rows_of (found_of matches.now)))) }
+    ensures version { IfErr result (λ e. IsVersion e → ⊥) }
 {
     match text(matches, name) {
         None => Ok(None),
@@ -144,19 +150,23 @@ fn text<'a>(matches: &ArgMatches<'a>, name: &str) -> Option<&'a str>
 
 /// What an error of clap says.
 fn fault(alloc: Global, error: &Error) -> JobFault
-    ensures { IsWords result → kind_of error.now ≢ ErrorKind.OutOfMemory }
+    ensures words { IsWords result → kind_of error.now ≢ ErrorKind.OutOfMemory }
+    ensures version { IsVersion result → kind_of error.now ≡ ErrorKind.DisplayVersion }
 {
     if matches!(error.kind(), ErrorKind::OutOfMemory) {
         return JobFault::OutOfMemory;
     }
-    match error.to_string(alloc) {
-        Ok(text) => JobFault::Words(text),
-        Err(_) => JobFault::OutOfMemory,
+    match (error.to_string(alloc), error.kind()) {
+        (Ok(text), ErrorKind::DisplayVersion) => JobFault::Version(text),
+        (Ok(text), _) => JobFault::Words(text),
+        (Err(_), _) => JobFault::OutOfMemory,
     }
 }
 
 /// The fault of an option whose value is no number.
-fn wrong_number(alloc: Global, name: &str) -> JobFault {
+fn wrong_number(alloc: Global, name: &str) -> JobFault
+    ensures { IsVersion result → ⊥ }
+{
     match wrong_number_text(alloc, name) {
         Ok(text) => JobFault::Words(text),
         Err(_) => JobFault::OutOfMemory,
@@ -173,7 +183,9 @@ fn wrong_number_text(alloc: Global, name: &str) -> Result<String, AllocError> {
 }
 
 /// The fault of words that clap takes.
-fn words_fault(alloc: Global, text: &str) -> JobFault {
+fn words_fault(alloc: Global, text: &str) -> JobFault
+    ensures { IsVersion result → ⊥ }
+{
     match String::from_str(alloc, text) {
         Ok(text) => JobFault::Words(text),
         Err(_) => JobFault::OutOfMemory,
