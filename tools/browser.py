@@ -30,6 +30,8 @@ class Browser:
         os.close(commands)
         os.close(answers)
         self.unread, self.number, self.session = b"", 0, None
+        # what the browser told unasked, where a domain of its protocol was switched on
+        self.events = []
         self.version = self.ask("Browser.getVersion")["product"]
         target = self.ask("Target.createTarget", url="about:blank")["targetId"]
         self.session = self.ask("Target.attachToTarget", targetId=target, flatten=True)["sessionId"]
@@ -56,22 +58,35 @@ class Browser:
         text, _, self.unread = self.unread.partition(b"\0")
         return json.loads(text)
 
-    def ask(self, method, **params):
+    def send(self, method, **params):
         self.number += 1
         command = {"id": self.number, "method": method, "params": params, **({"sessionId": self.session} if self.session else {})}
         text = json.dumps(command).encode() + b"\0"
         while text:
             text = text[os.write(self.commands, text):]
+        return self.number
+
+    def ask(self, method, **params):
+        number = self.send(method, **params)
         while True:
             answer = self.answer()
-            if answer.get("id") == self.number:
+            if "method" in answer:
+                self.events.append(answer)
+            # a page waits until its dialog is closed
+            if answer.get("method") == "Page.javascriptDialogOpening":
+                self.send("Page.handleJavaScriptDialog", accept=False)
+            if answer.get("id") == number:
                 return answer["result"] if "result" in answer else sys.exit(f"the browser answers: {answer['error']}")
 
-    def run(self, script):
-        answer = self.ask("Runtime.evaluate", expression=script, returnByValue=True)
+    def run(self, script, awaits=False):
+        answer = self.ask("Runtime.evaluate", expression=script, returnByValue=True, awaitPromise=awaits)
         if "exceptionDetails" in answer:
             sys.exit(f"the browser's script failed: {answer['exceptionDetails']['exception'].get('description')}")
         return answer["result"].get("value")
+
+    def promise(self, script):
+        """Returns what the promise of a script gives."""
+        return self.run(script, awaits=True)
 
     def trees(self, pages):
         """Returns the tree of each page, in the form of the html5lib tests. A page is its bytes and its context, or None."""

@@ -1,9 +1,18 @@
 """The toolchain's `rt` as a module: its crates, its reading of edits, its way of checking a copy of a crate."""
 import importlib.machinery
 import importlib.util
+import operator
 import os
 import shutil
 import sys
+
+# what the tools use of the insides of `rt`, beside what its commands promise
+INSIDES = "KIT checked free in_lanes main must_fail need processors read_edit unread rtlib.RATTLE rtlib.STALE rtlib.blanked.__wrapped__"
+INSIDES += " rtlib.crates_below rtlib.files_of rtlib.guarded rtlib.lock"
+
+
+class Unexpected(ImportError):
+    """That the toolchain's insides are not as these tools expect them."""
 
 
 def load(name, path):
@@ -16,7 +25,23 @@ def load(name, path):
     return made
 
 
-rt = load("rt", os.path.realpath(shutil.which("rt") or sys.exit("rt, the toolchain's command, is not on the path")))
+def load_rt():
+    path = os.path.realpath(shutil.which("rt") or sys.exit("rt, the toolchain's command, is not on the path"))
+    try:
+        made, lacks = load("rt", path), []
+    except (Exception, SystemExit) as why:
+        raise Unexpected(f"{path} is read as no module: {why}") from why
+    for it in INSIDES.split():
+        try:
+            operator.attrgetter(it)(made)
+        except AttributeError:
+            lacks.append(it)
+    if lacks:
+        raise Unexpected(f"{path} has no {', '.join(lacks)}")
+    return made
+
+
+rt = load_rt()
 
 
 def crates():

@@ -5,7 +5,7 @@ from collections.abc import Callable
 from concurrent.futures import FIRST_COMPLETED, ThreadPoolExecutor, wait
 from typing import NamedTuple
 
-from kit import rt
+from kit import Unexpected, rt
 
 # the longest chain of crates, lowest first, each of which is proved before others take processors from it; and those of them that little else can be
 # done beside, so that they get all processors
@@ -44,6 +44,8 @@ class Task(NamedTuple):
 
 def of_rt(tasks):
     """Returns the tasks of `rt ci` as tasks: what each waits for, its lines, its memory, and its call."""
+    if any(len(it) != 4 or not callable(it[3]) for it in tasks.values()):
+        raise Unexpected("the tasks of `rt ci` have another form")
 
     def seconds(key, lines):
         # (roughly, and rather too much: a proof that others wait for goes before edits)
