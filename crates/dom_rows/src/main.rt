@@ -25,18 +25,19 @@ fn main(rt: HostRuntime) -> Result<()> {
 
 fn print_rows(rt: &HostRuntime, table: &EntityTable, text: &str) -> Result<()> {
     for line in text.lines() {
+        println!(rt; "{line}")?;
         if !line.starts_with("#") {
-            print_row(rt, table, line)?;
+            print_answer(rt, table, line)?;
         }
     }
     Ok(())
 }
 
-fn print_row(rt: &HostRuntime, table: &EntityTable, row: &str) -> Result<()> {
+fn print_answer(rt: &HostRuntime, table: &EntityTable, row: &str) -> Result<()> {
     let (piece, call) = row.split_once(" | ").context("no bar")?;
     let mut out = String::new(rt.alloc());
     answer(rt.alloc(), table, piece, call, &mut out)?;
-    println!(rt; "{out}")?;
+    println!(rt; "  {out}")?;
     Ok(())
 }
 

@@ -33,18 +33,19 @@ fn answer_input(rt: &HostRuntime, bytes: &[u8]) -> Result<()> {
 fn answer_lines(rt: &HostRuntime, table: &EntityTable, lines: &str) -> Result<()> {
     let mut sort = None;
     for line in lines.lines() {
+        println!(rt; "{line}")?;
         if let Some(name) = line.strip_prefix("= ") {
             sort = Some(Sort::named(name)?);
         } else if !line.starts_with("#") {
-            answer_row(rt, table, sort.context("a row above all headings")?, line)?;
+            print_answer(rt, table, sort.context("a row above all headings")?, line)?;
         }
     }
     Ok(())
 }
 
-fn answer_row(rt: &HostRuntime, table: &EntityTable, sort: Sort, row: &str) -> Result<()> {
+fn print_answer(rt: &HostRuntime, table: &EntityTable, sort: Sort, row: &str) -> Result<()> {
     let mut out = String::new(rt.alloc());
     answer(rt.alloc(), table, sort, row, &mut out)?;
-    println!(rt; "{out}")?;
+    println!(rt; "  {out}")?;
     Ok(())
 }

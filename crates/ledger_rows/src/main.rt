@@ -51,7 +51,7 @@ fn answer_rows(rt: &HostRuntime) -> Result<()> {
 
 fn answer_row(rt: &HostRuntime, line: &str, out: &mut String) -> Result<()> {
     rows::answer(rt.alloc(), line, out)?;
-    println!(rt; "{out}")?;
+    println!(rt; "{line}\n  {out}")?;
     out.clear();
     Ok(())
 }

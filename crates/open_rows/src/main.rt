@@ -44,11 +44,12 @@ fn answer_rows(rt: &HostRuntime) -> anyhow::Result<()> {
     Ok(())
 }
 
-/// Prints the answer of a row, where it is one.
+/// Prints a line and, where it is a row, its answer below it.
 fn answer_row(rt: &HostRuntime, row: &str, out: &mut String) -> anyhow::Result<()> {
+    println!(rt; "{row}")?;
     if !row.starts_with("#") {
         answer(rt.alloc(), row, out)?;
-        println!(rt; "{out}")?;
+        println!(rt; "  {out}")?;
         out.clear();
     }
     Ok(())
