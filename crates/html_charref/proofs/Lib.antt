@@ -14,3 +14,4 @@ pub mod Maximum
 pub mod FirstBad
 pub mod RangeLemmas
 pub mod PlainTexts
+pub mod Marks

@@ -1,18 +1,23 @@
 // Plain text: UTF-8 in which nothing begins and nothing becomes anything else.
-ghost use Rattle.std.specs.Prelude.{◌≡◌, ◌==◌, ◌+◌, ◌<◌, ◌≤◌, IfSome, IsTrue, Some, drop, length, slice_get, take, true};
+ghost use Rattle.std.specs.Prelude.{◌≡◌, ◌==◌, ◌<◌, ◌≤◌, ℕ, IfSome, Some, drop, length, slice_get, slice_index, take, true};
+ghost use Rattle.std.specs.Int.{bit_at};
 ghost use Rattle.std.specs.List.{count_by, list_all};
 ghost use Rattle.std.specs.Str.{IsUtf8, chars, encode_utf8_all};
 ghost use Rattle.html_charref.specs.Plain.{IsCutAfter, is_lead, is_plain_byte, is_plain_char};
 
-use memchr::{memrchr2, memrchr3};
 use simdutf8::basic::from_utf8;
 use std::marker::Model;
+use std::simd::prelude::*;
 
 /// How many bytes are looked at at once, with no branch between them.
 const BLOCK: usize = 64;
 
-/// How many at the end of a text.
-const WORD: usize = 8;
+/// At the place of a byte's low four bits the byte that is not plain and has these, or 0, which has others: once for each sixteen bytes of a block.
+const OTHERS: [u8; 64] = [
+    0, 0, 0, 0, 0, 0, 38, 0, 0, 0, 0, 0, 60, 13, 0, 0, 0, 0, 0, 0, 0, 0, 38, 0, 0, 0, 0, 0, 60, 13,
+    0, 0, 0, 0, 0, 0, 0, 0, 38, 0, 0, 0, 0, 0, 60, 13, 0, 0, 0, 0, 0, 0, 0, 0, 38, 0, 0, 0, 0, 0,
+    60, 13, 0, 0,
+];
 
 /// How far apart the blocks stand that are looked at, where long plain texts are looked for.
 const STRIDE: usize = 2 * BLOCK;
@@ -152,26 +157,56 @@ pub fn plain_len(bytes: &[u8]) -> usize
     ensures within { result ≤ length bytes.now }
     ensures plain { list_all is_plain_byte (take result bytes.now) ≡ true }
 {
-    let blocks = plain_steps(bytes, 0, BLOCK);
-    let words = plain_steps(bytes, blocks, WORD);
-    plain_steps(bytes, words, 1)
+    let mut len = 0;
+    while bytes.len() - len >= BLOCK {
+        let front = plain_front(&bytes[len..len + BLOCK]);
+        len += front;
+        if front < BLOCK {
+            return len;
+        }
+    }
+    plain_end(bytes, len)
 }
 
-/// How many bytes at the front are plain, of which so many are known: up to the first step of bytes that are not all plain.
-#[inline(always)]
-fn plain_steps(bytes: &[u8], known: usize, step: usize) -> usize
+/// The same, of which so many are known.
+fn plain_end(bytes: &[u8], known: usize) -> usize
     requires within { known ≤ length bytes.now }
     requires plain { list_all is_plain_byte (take known bytes.now) ≡ true }
-    requires some { 0 < step }
-    requires few { step ≤ 64 }
     ensures within { result ≤ length bytes.now }
     ensures plain { list_all is_plain_byte (take result bytes.now) ≡ true }
 {
     let mut len = known;
-    while bytes.len() - len >= step && is_plain(&bytes[len..len + step]) {
-        len += step;
+    while len < bytes.len() && is_plain_byte(bytes[len]) {
+        len += 1;
     }
     len
+}
+
+/// How many of 64 bytes at the front are plain.
+#[inline(always)]
+fn plain_front(block: &[u8]) -> usize
+    requires { length block.now ≡ 64 }
+    ensures within { result ≤ 64 }
+    ensures plain { list_all is_plain_byte (take result block.now) ≡ true }
+{
+    others_in(block).trailing_zeros() as usize
+}
+
+/// Which of 64 bytes are not plain: a bit each, the first the lowest.
+#[inline(always)]
+fn others_in(block: &[u8]) -> u64
+    requires { length block.now ≡ 64 }
+    ensures { (k : ℕ) → k < 64 → bit_at result k ≡ 0 → is_plain_byte (slice_index block.now k) ≡ true }
+{
+    others_of(u8x64::from_slice(block))
+}
+
+#[inline(always)]
+fn others_of(bytes: u8x64) -> u64
+    ensures { (k : ℕ) → k < 64 → bit_at result k ≡ 0 → is_plain_byte (slice_index bytes k) ≡ true }
+{
+    let others = u8x64::from_array(OTHERS).swizzle_dyn_within::<16>(bytes & u8x64::splat(15));
+    others.simd_eq(bytes).to_bitmask()
 }
 
 /// Where the first long plain text begins in some bytes, or their length. (Whatever the answer, it is a place where they may be cut.)
@@ -182,22 +217,31 @@ pub fn plain_start(bytes: &[u8]) -> usize
     if block == bytes.len() {
         return block;
     }
-    let from = block.saturating_sub(STRIDE);
-    from + text_start(&bytes[from..block])
+    text_start(&bytes[..block])
 }
 
-/// How many bytes there are up to the last that is `>` or not plain.
+/// How many bytes there are up to the last that is `>` or not plain. Of many the last two blocks are looked at.
 fn text_start(bytes: &[u8]) -> usize
     ensures { result ≤ length bytes.now }
 {
-    let start = match memrchr3(b'>', b'<', b'&', bytes) {
-        Some(mark) => mark + 1,
-        None => 0,
-    };
-    match memrchr2(b'\r', 0, &bytes[start..]) {
-        Some(other) => start + other + 1,
-        None => start,
+    let mut len = bytes.len();
+    'blocks: while len >= BLOCK && bytes.len() - len < STRIDE {
+        let marks = marks_in(&bytes[len - BLOCK..len]);
+        if marks != 0 {
+            return len - marks.leading_zeros() as usize;
+        }
+        len -= BLOCK;
     }
+    len
+}
+
+/// Which of 64 bytes are `>` or not plain, as `others_in` has it.
+#[inline(always)]
+fn marks_in(block: &[u8]) -> u64
+    requires { length block.now ≡ 64 }
+{
+    let ends = u8x64::from_slice(block).simd_eq(u8x64::splat(b'>'));
+    others_in(block) | ends.to_bitmask()
 }
 
 /// The place of a block of bytes that are all plain, or the length. Half of the blocks are looked at.
@@ -206,25 +250,12 @@ fn plain_block(bytes: &[u8]) -> usize
 {
     let mut at = 0;
     while bytes.len() - at >= STRIDE {
-        if is_plain(&bytes[at..at + BLOCK]) {
+        if others_in(&bytes[at..at + BLOCK]) == 0 {
             return at;
         }
         at += STRIDE;
     }
     bytes.len()
-}
-
-/// Whether all of at most 64 bytes are plain. It goes through all, so that many are looked at at once.
-#[inline(always)]
-fn is_plain(bytes: &[u8]) -> bool
-    requires few { length bytes.now ≤ 64 }
-    ensures { IsTrue result → list_all is_plain_byte bytes.now ≡ true }
-{
-    let mut others = 0;
-    for &byte in bytes {
-        others += !is_plain_byte(byte) as u8;
-    }
-    others == 0
 }
 
 #[inline(always)]

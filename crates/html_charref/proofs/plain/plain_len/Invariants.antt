@@ -1,7 +1,7 @@
 use Rattle.std.proofs.Common.{◌≡◌, ◌-◌, ◌≤◌, true, length, take}
 use Rattle.std.specs.List.{list_all}
 use Rattle.html_charref.specs.Plain.{is_plain_byte}
-use Rattle.html_charref.proofs.plain.plain_steps.Given as goal
+use Rattle.html_charref.proofs.plain.plain_len.Given as goal
 
 abbrev pub invariant-loop-len : goal.invariant-loop-len
 invariant-loop-len l = record {
