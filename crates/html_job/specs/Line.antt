@@ -2,11 +2,15 @@
 -- The command line, as clap sees it.
 use Rattle.std.specs.Prelude.{Some, codes, true}
 use Rattle.clap.specs.Words.{App, Rule, Text, new_app, new_rule, with_rule, with_subcommand}
-use Rattle.clap.specs.declared.builder.action.ArgAction.TheVariants.{Append}
+use Rattle.clap.specs.declared.builder.action.ArgAction.TheVariants.{Append, SetTrue}
 
 -- `--NAME VALUE`
 abbrev pub option_rule : Text → Rule
 option_rule name = record (new_rule name) { long = Some name; value_names = 1 }
+
+-- `--NAME`
+abbrev pub flag_rule : Text → Rule
+flag_rule name = record (new_rule name) { long = Some name; action = Some SetTrue }
 
 -- `INPUT`
 abbrev pub input_rule : Rule
@@ -21,6 +25,10 @@ abbrev pub page_app : Text → App
 page_app name =
     with_rule (with_rule (with_rule (with_rule (with_rule (with_rule (with_rule (with_rule (with_rule (new_app name) (option_rule (codes "entities"))) (option_rule (codes "fragment")))
     (option_rule (codes "context-encoding"))) (option_rule (codes "foreign"))) (option_rule (codes "max-nodes"))) (option_rule (codes "max-held"))) (option_rule (codes "max-input"))) (option_rule (codes "max-steps"))) input_rule
+
+-- the command that prints the parse errors of a page
+abbrev pub errors_app : App
+errors_app = with_rule (page_app (codes "errors")) (flag_rule (codes "lines"))
 
 -- the command that writes a page as HTML
 abbrev pub normalise_app : App
@@ -44,5 +52,5 @@ empty_line = record (new_app (codes "html_cmd")) {
 unfoldable pub line : App
 line =
     with_subcommand (with_subcommand (with_subcommand (with_subcommand (with_subcommand (with_subcommand empty_line
-    (page_app (codes "tree")).top) (page_app (codes "errors")).top) (page_app (codes "audit")).top) normalise_app.top)
+    (page_app (codes "tree")).top) errors_app.top) (page_app (codes "audit")).top) normalise_app.top)
     (page_app (codes "counts")).top) suite_app.top

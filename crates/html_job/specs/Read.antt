@@ -1,8 +1,8 @@
 -- Claimed.
 -- What a job says of the words.
-use Rattle.std.specs.Prelude.{◌≢◌, ◌≡◌, ◌⊎◌, ◌<◌, ◌^◌, ℕ, List, [], Option, Some, None, map, option_map, unwrap_or, codes}
+use Rattle.std.specs.Prelude.{◌≢◌, ◌≡◌, ◌⊎◌, ◌<◌, ◌^◌, ℕ, Bool, true, false, List, [], Option, Some, None, map, option_map, unwrap_or, codes}
 use Rattle.std.specs.Str.Parse.{IsNumeral, digits_value, without_leading_plus}
-use Rattle.clap.specs.Words.{Row, Text, all_of, fault_of, first_of, subcommand_of}
+use Rattle.clap.specs.Words.{Row, Text, all_of, fault_of, first_of, one_of, subcommand_of}
 use Rattle.html_job.specs.Line.{line}
 use Rattle.html_job.specs.declared.jobs.Command.{Command}
 use Rattle.html_job.specs.declared.jobs.Command.TheVariants.{Tree, Errors, Audit, Normalise, Counts, Suite}
@@ -44,6 +44,11 @@ IsNumber (Some n) None = ⊥
 IsNumber None (Some t) = ⊥
 IsNumber (Some n) (Some t) = IsNumeralText t × (n ≡ digits_value 10 (without_leading_plus t))
 
+-- a flag that stands there, or does not
+abbrev pub IsFlag : Bool → Option Text → Type 0
+IsFlag b None = b ≡ false
+IsFlag b (Some t) = (t ≡ codes "true" → b ≡ true) × (t ≡ codes "false" → b ≡ false)
+
 -- the job has what stands in the rows of its command
 pub record Reads (job : Job) (rows : List Row) : Type 0 where
   pub entities : option_map (λ s. s.now) job.entities ≡ first_of (codes "entities") rows
@@ -56,6 +61,7 @@ pub record Reads (job : Job) (rows : List Row) : Type 0 where
   pub max_input : IsNumber job.max_input (first_of (codes "max-input") rows)
   pub max_steps : IsNumber job.max_steps (first_of (codes "max-steps") rows)
   pub profile : profile_text job.profile ≡ unwrap_or (first_of (codes "profile") rows) (codes "1")
+  pub lines : IsFlag job.lines (one_of (codes "lines") rows)
   pub files : map (λ s. s.now) job.files.items ≡ unwrap_or (all_of (codes "FILE") rows) []
 
 -- the job is that of the words: clap's matches have its command, with these rows

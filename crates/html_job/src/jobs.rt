@@ -60,6 +60,8 @@ pub struct Job<'a> {
     pub max_steps: Option<u64>,
     /// How `Normalise` escapes; `One` where the words do not say, and for the other commands.
     pub profile: Profile,
+    /// Whether `Errors` tells places by lines and columns; no for the other commands.
+    pub lines: bool,
     /// The file of the page. `-`, or none, is standard input.
     pub input: Option<&'a str>,
     /// The files of test cases, one or more, of `Suite`; else none.

@@ -3,7 +3,7 @@
 ghost use Rattle.std.specs.Prelude.{◌≡◌, IfOk, codes, true, false};
 ghost use Rattle.clap.specs.Words.{app_of, rule_of, with_subcommand};
 ghost use Rattle.clap.specs.declared.builder.command.Command.TheViews.{out-Command as fields_of};
-ghost use Rattle.html_job.specs.Line.{option_rule, input_rule, files_rule, page_app, normalise_app, suite_app, empty_line, line};
+ghost use Rattle.html_job.specs.Line.{option_rule, flag_rule, input_rule, files_rule, page_app, errors_app, normalise_app, suite_app, empty_line, line};
 
 use clap::{Arg, ArgAction, Command};
 use std::alloc::{AllocError, Global};
@@ -142,6 +142,19 @@ fn max_steps<'a>(alloc: Global) -> Arg<'a>
     )
 }
 
+/// Whether places are told by lines and columns.
+fn lines<'a>(alloc: Global) -> Arg<'a>
+    ensures rule { rule_of result ≡ flag_rule (codes "lines") }
+    ensures local { result.global ≡ false }
+{
+    Arg::new(alloc, "lines")
+        .long("lines")
+        .action(ArgAction::SetTrue)
+        .help(
+            "Tell each place by its line and column, from 1, in place of the code points before it",
+        )
+}
+
 /// A command on one page.
 fn page_command<'a>(alloc: Global, name: &'a str, about: &'a str) -> Result<Command<'a>, AllocError>
     ensures app { IfOk result (λ c. app_of c ≡ page_app name.entry.now) }
@@ -158,6 +171,14 @@ fn page_command<'a>(alloc: Global, name: &'a str, about: &'a str) -> Result<Comm
         .arg(max_input(alloc))?
         .arg(max_steps(alloc))?
         .arg(input(alloc))
+}
+
+/// The command that prints the parse errors of a page.
+fn errors<'a>(alloc: Global) -> Result<Command<'a>, AllocError>
+    ensures app { IfOk result (λ c. app_of c ≡ errors_app) }
+    ensures local { IfOk result (λ c. (fields_of c).has_globals ≡ false) }
+{
+    page_command(alloc, "errors", "Print the parse errors of a page")?.arg(lines(alloc))
 }
 
 /// The command that writes a page as HTML.
@@ -219,7 +240,7 @@ pub(crate) fn line<'a>(alloc: Global) -> Result<Command<'a>, AllocError>
 {
     let program = empty_line(alloc);
     let program = with_page_command(program, alloc, "tree", "Print the tree of a page")?;
-    let program = with_page_command(program, alloc, "errors", "Print the parse errors of a page")?;
+    let program = program.subcommand(errors(alloc)?)?;
     let program = with_page_command(
         program,
         alloc,

@@ -1,9 +1,9 @@
 //! Reading the words.
 
 ghost use Rattle.std.specs.Prelude.{◌≡◌, ◌≢◌, [], true, IfOk, IfErr, OnErr, OnOk, map, option_map, unwrap_or, codes};
-ghost use Rattle.clap.specs.Words.{IsAmong, all_of, first_of, found_of, kind_of, rows_of, fault_of, subcommand_of, subcommand_rows_of, has_subcommand};
+ghost use Rattle.clap.specs.Words.{IsAmong, all_of, first_of, one_of, found_of, kind_of, rows_of, fault_of, subcommand_of, subcommand_rows_of, has_subcommand};
 ghost use Rattle.html_job.specs.Line.{line};
-ghost use Rattle.html_job.specs.Read.{HasBadValue, IsBadForeign, IsBadNumber, IsBadProfile, IsJobOf, IsNumber, IsRefused, IsVersion, IsWords, Reads, foreign_text, profile_text};
+ghost use Rattle.html_job.specs.Read.{HasBadValue, IsBadForeign, IsBadNumber, IsBadProfile, IsFlag, IsJobOf, IsNumber, IsRefused, IsVersion, IsWords, Reads, foreign_text, profile_text};
 
 use crate::jobs::{Command, Foreign, Job, JobFault, Profile};
 use crate::line::line;
@@ -83,6 +83,7 @@ fn job_of<'a>(
         max_input,
         max_steps,
         profile,
+        lines: flag(matches, "lines"),
         input: text(matches, "INPUT"),
         files,
     })
@@ -146,6 +147,13 @@ fn text<'a>(matches: &ArgMatches<'a>, name: &str) -> Option<&'a str>
     ensures { option_map (λ s. s.now) result ≡ first_of name.now (rows_of (found_of matches.now)) }
 {
     matches.get_str(name)
+}
+
+/// Whether a flag stands there.
+fn flag(matches: &ArgMatches<'_>, name: &str) -> bool
+    ensures { IsFlag result (one_of name.now (rows_of (found_of matches.now))) }
+{
+    matches.get_flag(name)
 }
 
 /// What an error of clap says.

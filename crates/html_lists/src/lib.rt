@@ -8,5 +8,5 @@ mod fault_names;
 
 pub use audit::write_audit;
 pub use counts::write_counts;
-pub use errors::write_errors;
+pub use errors::{write_errors, write_located_errors};
 pub use html_device::{DeviceFault, Sink};

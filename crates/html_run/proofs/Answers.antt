@@ -1,5 +1,5 @@
 -- What a command wrote, from what parsing and writing say.
-use Rattle.std.proofs.Common.{◌≡◌, ◌⊎◌, inl, inr, ℕ, List, [], Option, subst, sym}
+use Rattle.std.proofs.Common.{◌≡◌, ◌⊎◌, inl, inr, ℕ, Bool, List, [], Option, subst, sym}
 use Rattle.std.specs.Prelude.{Result, Ok, Err, OnOk, OnErr, IfErr}
 use Rattle.std.specs.Str.{encode_utf8_all}
 use Rattle.std.specs.Io.KnownBytes.{Appends, Consumes, IsAtEnd}
@@ -8,6 +8,7 @@ use Rattle.html_job.specs.declared.jobs.Command.{Command}
 use Rattle.html_job.specs.declared.jobs.Command.TheVariants.{Suite}
 use Rattle.html_job.specs.declared.jobs.Profile.{Profile}
 use Rattle.html_lists.specs.Audit.{audit_lines}
+use Rattle.html_lists.specs.Errors.{located_lines}
 use Rattle.html_output.proofs.Puts.{Appends-nil}
 use Rattle.html_parser.specs.Parsed.{IsPageOf, IsTreeOf}
 use Rattle.html_parser.specs.Start.{Start}
@@ -16,7 +17,7 @@ use Rattle.html_parser.specs.declared.error.ParseError.TheVariants.{Write}
 use Rattle.html_parser.specs.declared.page.Page.{Page}
 use Rattle.html_parser.specs.declared.page.Tree.{Tree}
 use Rattle.html_print.specs.Printed.{IsPrinted}
-use Rattle.html_run.specs.Answers.{IsAnswer, IsAudited, IsListed}
+use Rattle.html_run.specs.Answers.{IsAnswer, IsAudited, IsListed, IsLocated}
 use Rattle.html_run.specs.Jobs.{IsShown}
 use Rattle.html_refusal.specs.Outcome.{status_of}
 
@@ -56,9 +57,22 @@ module _ (start : Start) (tree : Tree) (bytes : List ℕ) (old new : Option (Lis
     front-listed writer new_writer (Err e) p q = inr (q, listed (AppendsFront writer new_writer) p)
 
   -- nothing, of a job on files of cases
-  pub nothing-answered : (command : Command) → command ≡ Suite → (profile : Profile) (writer : Option (List ℕ)) → IsAnswer command profile start (Appends writer writer) old new
-  nothing-answered command is profile writer =
-      subst (λ (k : Command). IsAnswer k profile start (Appends writer writer) old new) (sym is) (listed (λ (t : Tree). []) (Appends writer writer) (Appends-nil writer))
+  pub nothing-answered : (command : Command) → command ≡ Suite → (lines : Bool) (profile : Profile) (writer : Option (List ℕ)) → IsAnswer command lines profile start (Appends writer writer) old new
+  nothing-answered command is lines profile writer =
+      subst (λ (k : Command). IsAnswer k lines profile start (Appends writer writer) old new) (sym is) (listed (λ (t : Tree). []) (Appends writer writer) (Appends-nil writer))
+
+  located : (W : List ℕ → Type 0) → W (located_lines bytes tree.errors.items) → IsLocated start W old new
+  located W p = record { bytes = bytes; consumed = consumed; at_end = at_end; tree = tree; is_tree = is_tree; written = p }
+
+  pub all-located : (writer new_writer : Option (List ℕ)) (r : Result (Unit {0}) ParseError) → OnOk r (Appends writer new_writer (located_lines bytes tree.errors.items))
+      → OnOk r (IsLocated start (Appends writer new_writer) old new)
+  all-located writer new_writer (Ok u) p = located (Appends writer new_writer) p
+  all-located writer new_writer (Err e) p = tt
+
+  pub front-located : (writer new_writer : Option (List ℕ)) (r : Result (Unit {0}) ParseError) → OnErr r (AppendsFront writer new_writer (located_lines bytes tree.errors.items)) → IfErr r (λ e. e ≡ Write)
+      → IfErr r (NothingOr writer new_writer (IsLocated start (AppendsFront writer new_writer) old new))
+  front-located writer new_writer (Ok u) p q = tt
+  front-located writer new_writer (Err e) p q = inr (q, located (AppendsFront writer new_writer) p)
 
 -- TOKENS WITH THEIR FATES
 
@@ -78,13 +92,13 @@ module _ (start : Start) (page : Page) (bytes : List ℕ) (old new : Option (Lis
 
 -- BY THE COMMAND
 
-module _ (command is : Command) (same : command ≡ is) (profile : Profile) (start : Start) (old new writer new_writer : Option (List ℕ)) (r : Result (Unit {0}) ParseError) where
-  pub answered-by : OnOk r (IsAnswer is profile start (Appends writer new_writer) old new) → OnOk r (IsAnswer command profile start (Appends writer new_writer) old new)
-  answered-by p = subst (λ (k : Command). OnOk r (IsAnswer k profile start (Appends writer new_writer) old new)) (sym same) p
+module _ (command is : Command) (same : command ≡ is) (lines : Bool) (profile : Profile) (start : Start) (old new writer new_writer : Option (List ℕ)) (r : Result (Unit {0}) ParseError) where
+  pub answered-by : OnOk r (IsAnswer is lines profile start (Appends writer new_writer) old new) → OnOk r (IsAnswer command lines profile start (Appends writer new_writer) old new)
+  answered-by p = subst (λ (k : Command). OnOk r (IsAnswer k lines profile start (Appends writer new_writer) old new)) (sym same) p
 
-  pub failed-by : IfErr r (NothingOr writer new_writer (IsAnswer is profile start (AppendsFront writer new_writer) old new))
-      → IfErr r (NothingOr writer new_writer (IsAnswer command profile start (AppendsFront writer new_writer) old new))
-  failed-by p = subst (λ (k : Command). IfErr r (NothingOr writer new_writer (IsAnswer k profile start (AppendsFront writer new_writer) old new))) (sym same) p
+  pub failed-by : IfErr r (NothingOr writer new_writer (IsAnswer is lines profile start (AppendsFront writer new_writer) old new))
+      → IfErr r (NothingOr writer new_writer (IsAnswer command lines profile start (AppendsFront writer new_writer) old new))
+  failed-by p = subst (λ (k : Command). IfErr r (NothingOr writer new_writer (IsAnswer k lines profile start (AppendsFront writer new_writer) old new))) (sym same) p
 
 -- where the status is that of a refusal, nothing was written
 pub nothing-written : (writer new_writer : Option (List ℕ)) (Front : Type 0) (e : ParseError) → NothingOr writer new_writer Front e → status_of e ≡ 1 → new_writer ≡ writer

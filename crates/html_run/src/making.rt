@@ -1,6 +1,6 @@
 //! The parser that a job asks for.
 
-ghost use Rattle.std.specs.Prelude.{◌≡◌, ℕ, [], List, true, false, Err, IfErr, IfOk, OnOk};
+ghost use Rattle.std.specs.Prelude.{◌≡◌, ◌⊎◌, ℕ, [], List, true, false, Err, IfErr, IfOk, OnOk};
 ghost use Rattle.std.specs.Io.KnownBytes.{Consumes, IsAtEnd};
 ghost use Rattle.html_parser.specs.Fed.{IsFed};
 ghost use Rattle.html_parser.specs.Parsed.{IsPageOf, IsTreeOf};
@@ -9,9 +9,11 @@ ghost use Rattle.html_run.specs.Jobs.{context_for, encoding_for, foreign_for, li
 ghost use Rattle.html_parser.specs.Options.{IsBeginCause};
 ghost use Rattle.html_run.specs.Refused.{IsReadCause};
 
+use html_device::{ReadAllError, read_all};
 use html_job::Job;
 use html_parser::{
     Context, EntityTable, Foreign, Limits, Options, Page, ParseError, Parser, Source, Str, Tree,
+    parse_tree_with,
 };
 use std::alloc::{AllocError, Global};
 
@@ -32,6 +34,38 @@ pub(crate) fn tree_for<R: Source>(
     let mut parser = parser.without_ledger();
     let fed = parser.feed_from(reader);
     fed.and(parser.finish())
+}
+
+/// The tree of all that a reader has, as the job asks for it, and these bytes.
+pub(crate) fn tree_and_bytes_for<R: Source>(
+    alloc: Global,
+    job: &Job<'_>,
+    table: &EntityTable,
+    reader: &mut R,
+) -> Result<(Tree, Vec<u8>), ParseError>
+    ensures tree { IfOk result (λ r. Consumes (R.remaining reader.old) (R.remaining reader.new) r.1.items × IsTreeOf (start_for job.now table.now) r.1.items r.0) }
+    ensures end { OnOk result (IsAtEnd (R.remaining reader.new)) }
+    ensures cause { IfErr result (IsReadCause job.now table.now (R.remaining reader.old) (R.remaining reader.new) (R.failed reader.new)) }
+    ensures failing { R.failed reader.old ≡ false → R.failed reader.new ≡ true → result ≡ Err ParseError.Read }
+{
+    let bytes = bytes_of(alloc, reader)?;
+    let options = options_of(alloc, job)?;
+    let tree = parse_tree_with(alloc, table, &options, bytes.as_slice())?;
+    Ok((tree, bytes))
+}
+
+/// All bytes that a reader has.
+fn bytes_of<R: Source>(alloc: Global, reader: &mut R) -> Result<Vec<u8>, ParseError>
+    ensures bytes { IfOk result (λ v. Consumes (R.remaining reader.old) (R.remaining reader.new) v.items) }
+    ensures end { OnOk result (IsAtEnd (R.remaining reader.new)) }
+    ensures cause { IfErr result (λ e. (e ≡ ParseError.OutOfMemory) ⊎ ((e ≡ ParseError.Read) × (R.failed reader.new ≡ true))) }
+    ensures failing { R.failed reader.new ≡ true → result ≡ Err ParseError.Read }
+{
+    match read_all(alloc, reader) {
+        Ok(bytes) => Ok(bytes),
+        Err(ReadAllError::OutOfMemory) => Err(ParseError::OutOfMemory),
+        Err(ReadAllError::Read) => Err(ParseError::Read),
+    }
 }
 
 /// The page of all that a reader has, with its ledger, as the job asks for it.

@@ -6,13 +6,13 @@ ghost use Rattle.html_charref.specs.declared.table.Row.{Row};
 ghost use Rattle.html_device.specs.Device.{AppendsFront};
 ghost use Rattle.html_refusal.specs.Outcome.{line_of, status_of};
 ghost use Rattle.html_refusal.specs.Told.{IsTableTold, IsTold};
-ghost use Rattle.html_run.specs.Answers.{IsAnswer, IsAudited};
+ghost use Rattle.html_run.specs.Answers.{AreErrors, IsAnswer, IsAudited, IsLocated};
 ghost use Rattle.html_run.specs.Jobs.{IsRead, input_name, start_for};
 ghost use Rattle.html_run.specs.Profiles.{profile_of};
 ghost use Rattle.html_run.specs.Refused.{AreRows, IsJobCause, IsTableCause};
 
-use crate::making::{page_for, tree_for};
-use crate::writing::{list_audit, list_counts, list_errors, print};
+use crate::making::{page_for, tree_and_bytes_for, tree_for};
+use crate::writing::{list_audit, list_counts, list_errors, list_located, print};
 use html_job::{Command, Job};
 use html_parser::{EntityError, EntityTable, ParseError, Profile, Sink, Source};
 use html_refusal::{DONE, FILE_FAULT, REFUSED, tell, tell_table};
@@ -34,11 +34,11 @@ pub fn run<R: Source, W: Sink, F: Sink>(
 
     // What the command writes of the page was written, or nothing, or a front of it.
     ensures answered { result ≡ DONE → (rows : List Row) × AreRows entities.entry rows
-        × IsAnswer job.now.command job.now.profile (start_for job.now rows) (Appends (W.taken writer.old) (W.taken writer.new)) (R.remaining reader.old) (R.remaining reader.new) }
+        × IsAnswer job.now.command job.now.lines job.now.profile (start_for job.now rows) (Appends (W.taken writer.old) (W.taken writer.new)) (R.remaining reader.old) (R.remaining reader.new) }
     ensures refused { result ≡ REFUSED → W.taken writer.new ≡ W.taken writer.old }
     ensures failed { result ≡ FILE_FAULT → (W.taken writer.new ≡ W.taken writer.old)
         ⊎ ((rows : List Row) × AreRows entities.entry rows
-        × IsAnswer job.now.command job.now.profile (start_for job.now rows) (AppendsFront (W.taken writer.old) (W.taken writer.new)) (R.remaining reader.old) (R.remaining reader.new)) }
+        × IsAnswer job.now.command job.now.lines job.now.profile (start_for job.now rows) (AppendsFront (W.taken writer.old) (W.taken writer.new)) (R.remaining reader.old) (R.remaining reader.new)) }
 
     // Nothing is told where the job was done; else the line of the cause, and the status is that of the cause.
     ensures quiet { result ≡ DONE → F.taken faults.new ≡ F.taken faults.old }
@@ -81,10 +81,10 @@ fn answer<R: Source, W: Sink>(
     writer: &mut W,
 ) -> Result<(), ParseError>
     ensures done { OnOk result (IsRead (start_for job.now table.now) (R.remaining reader.old) (R.remaining reader.new)) }
-    ensures answered { OnOk result (IsAnswer job.now.command job.now.profile (start_for job.now table.now)
+    ensures answered { OnOk result (IsAnswer job.now.command job.now.lines job.now.profile (start_for job.now table.now)
         (Appends (W.taken writer.old) (W.taken writer.new)) (R.remaining reader.old) (R.remaining reader.new)) }
     ensures failed { IfErr result (λ e. (W.taken writer.new ≡ W.taken writer.old)
-        ⊎ ((e ≡ ParseError.Write) × IsAnswer job.now.command job.now.profile (start_for job.now table.now)
+        ⊎ ((e ≡ ParseError.Write) × IsAnswer job.now.command job.now.lines job.now.profile (start_for job.now table.now)
         (AppendsFront (W.taken writer.old) (W.taken writer.new)) (R.remaining reader.old) (R.remaining reader.new))) }
     ensures cause { IfErr result (IsJobCause job.now table.now (R.remaining reader.old) (R.remaining reader.new) (R.failed reader.new) (W.failed writer.new) (W.stalled writer.new)) }
     ensures read_failing { R.failed reader.old ≡ false → R.failed reader.new ≡ true → result ≡ Err ParseError.Read }
@@ -94,14 +94,61 @@ fn answer<R: Source, W: Sink>(
     if matches!(job.command, Command::Audit) {
         return answer_audit(alloc, job, table, reader, writer);
     }
+    if matches!(job.command, Command::Errors) {
+        return answer_errors(alloc, job, table, reader, writer);
+    }
     let tree = tree_for(alloc, job, table, reader)?;
     match job.command {
         Command::Tree => print(alloc, &tree, writer),
-        Command::Errors => list_errors(&tree, writer),
         Command::Counts => list_counts(&tree, writer),
         Command::Normalise => tree.serialise(profile(job.profile), writer),
-        Command::Audit | Command::Suite => Ok(()),
+        Command::Errors | Command::Audit | Command::Suite => Ok(()),
     }
+}
+
+/// Prints the parse errors of a page, with lines and columns where the job asks for these.
+fn answer_errors<R: Source, W: Sink>(
+    alloc: Global,
+    job: &Job<'_>,
+    table: &EntityTable,
+    reader: &mut R,
+    writer: &mut W,
+) -> Result<(), ParseError>
+    ensures done { OnOk result (IsRead (start_for job.now table.now) (R.remaining reader.old) (R.remaining reader.new)) }
+    ensures answered { OnOk result (AreErrors job.now.lines (start_for job.now table.now) (Appends (W.taken writer.old) (W.taken writer.new)) (R.remaining reader.old) (R.remaining reader.new)) }
+    ensures failed { IfErr result (λ e. (W.taken writer.new ≡ W.taken writer.old)
+        ⊎ ((e ≡ ParseError.Write) × AreErrors job.now.lines (start_for job.now table.now) (AppendsFront (W.taken writer.old) (W.taken writer.new)) (R.remaining reader.old) (R.remaining reader.new))) }
+    ensures cause { IfErr result (IsJobCause job.now table.now (R.remaining reader.old) (R.remaining reader.new) (R.failed reader.new) (W.failed writer.new) (W.stalled writer.new)) }
+    ensures read_failing { R.failed reader.old ≡ false → R.failed reader.new ≡ true → result ≡ Err ParseError.Read }
+    ensures write_failing { W.failed writer.old ≡ false → W.failed writer.new ≡ true → result ≡ Err ParseError.Write }
+    ensures write_stalling { W.stalled writer.old ≡ false → W.stalled writer.new ≡ true → result ≡ Err ParseError.Write }
+{
+    if job.lines {
+        return answer_located(alloc, job, table, reader, writer);
+    }
+    let tree = tree_for(alloc, job, table, reader)?;
+    list_errors(&tree, writer)
+}
+
+/// Prints the parse errors of a page, with lines and columns.
+fn answer_located<R: Source, W: Sink>(
+    alloc: Global,
+    job: &Job<'_>,
+    table: &EntityTable,
+    reader: &mut R,
+    writer: &mut W,
+) -> Result<(), ParseError>
+    ensures done { OnOk result (IsRead (start_for job.now table.now) (R.remaining reader.old) (R.remaining reader.new)) }
+    ensures answered { OnOk result (IsLocated (start_for job.now table.now) (Appends (W.taken writer.old) (W.taken writer.new)) (R.remaining reader.old) (R.remaining reader.new)) }
+    ensures failed { IfErr result (λ e. (W.taken writer.new ≡ W.taken writer.old)
+        ⊎ ((e ≡ ParseError.Write) × IsLocated (start_for job.now table.now) (AppendsFront (W.taken writer.old) (W.taken writer.new)) (R.remaining reader.old) (R.remaining reader.new))) }
+    ensures cause { IfErr result (IsJobCause job.now table.now (R.remaining reader.old) (R.remaining reader.new) (R.failed reader.new) (W.failed writer.new) (W.stalled writer.new)) }
+    ensures read_failing { R.failed reader.old ≡ false → R.failed reader.new ≡ true → result ≡ Err ParseError.Read }
+    ensures write_failing { W.failed writer.old ≡ false → W.failed writer.new ≡ true → result ≡ Err ParseError.Write }
+    ensures write_stalling { W.stalled writer.old ≡ false → W.stalled writer.new ≡ true → result ≡ Err ParseError.Write }
+{
+    let (tree, bytes) = tree_and_bytes_for(alloc, job, table, reader)?;
+    list_located(&tree, bytes.as_slice(), writer)
 }
 
 /// Prints what became of each token of a page.

@@ -7,10 +7,10 @@ ghost use Rattle.html_arena.specs.Walking.{IsRoot};
 ghost use Rattle.html_device.specs.Device.{AppendsFront};
 ghost use Rattle.html_lists.specs.Audit.{audit_lines};
 ghost use Rattle.html_lists.specs.Counts.{count_lines};
-ghost use Rattle.html_lists.specs.Errors.{error_lines};
+ghost use Rattle.html_lists.specs.Errors.{error_lines, located_lines};
 ghost use Rattle.html_print.specs.Printed.{IsPrinted};
 
-use html_lists::{write_audit, write_counts, write_errors};
+use html_lists::{write_audit, write_counts, write_errors, write_located_errors};
 use html_parser::{Page, ParseError, Sink, Tree};
 use html_print::{PrintError, print_tree};
 use std::alloc::Global;
@@ -42,6 +42,25 @@ pub(crate) fn list_errors<W: Sink>(tree: &Tree, writer: &mut W) -> Result<(), Pa
     ensures stalling { W.stalled writer.old ≡ false → W.stalled writer.new ≡ true → result ≡ Err ParseError.Write }
 {
     match write_errors(tree.errors.as_slice(), writer) {
+        Ok(()) => Ok(()),
+        Err(_) => Err(ParseError::Write),
+    }
+}
+
+/// Lists the parse errors of a page whose bytes these are, with lines and columns.
+pub(crate) fn list_located<W: Sink>(
+    tree: &Tree,
+    bytes: &[u8],
+    writer: &mut W,
+) -> Result<(), ParseError>
+    ensures ok { OnOk result (Appends (W.taken writer.old) (W.taken writer.new) (located_lines bytes.now tree.now.errors.items)) }
+    ensures err { OnErr result (AppendsFront (W.taken writer.old) (W.taken writer.new) (located_lines bytes.now tree.now.errors.items)) }
+    ensures cause { IfErr result (λ e. e ≡ ParseError.Write) }
+    ensures fault { OnErr result ((W.failed writer.new ≡ true) ⊎ (W.stalled writer.new ≡ true)) }
+    ensures failing { W.failed writer.old ≡ false → W.failed writer.new ≡ true → result ≡ Err ParseError.Write }
+    ensures stalling { W.stalled writer.old ≡ false → W.stalled writer.new ≡ true → result ≡ Err ParseError.Write }
+{
+    match write_located_errors(tree.errors.as_slice(), bytes, writer) {
         Ok(()) => Ok(()),
         Err(_) => Err(ParseError::Write),
     }

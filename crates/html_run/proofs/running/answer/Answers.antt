@@ -20,31 +20,14 @@ returns-in-Tree-clause-done g c =
 pub returns-in-Tree-clause-answered : goal.returns-in-Tree-clause-answered
 returns-in-Tree-clause-answered g c =
     let (bytes, consumed, is) = c.in_ok-tree.ensures.tree in
-    answered-by c.args.job.now.command command.Tree c.in-Tree.is c.args.job.now.profile (start_for c.args.job.now c.args.table.now) _ _ _ _ c.print.result
+    answered-by c.args.job.now.command command.Tree c.in-Tree.is c.args.job.now.lines c.args.job.now.profile (start_for c.args.job.now c.args.table.now) _ _ _ _ c.print.result
     (all-shown (start_for c.args.job.now c.args.table.now) c.in_ok-tree.tree bytes _ _ consumed c.in_ok-tree.ensures.end is _ _ c.print.result c.print.ensures.ok)
 
 pub returns-in-Tree-clause-failed : goal.returns-in-Tree-clause-failed
 returns-in-Tree-clause-failed g c =
     let (bytes, consumed, is) = c.in_ok-tree.ensures.tree in
-    failed-by c.args.job.now.command command.Tree c.in-Tree.is c.args.job.now.profile (start_for c.args.job.now c.args.table.now) _ _ _ _ c.print.result
+    failed-by c.args.job.now.command command.Tree c.in-Tree.is c.args.job.now.lines c.args.job.now.profile (start_for c.args.job.now c.args.table.now) _ _ _ _ c.print.result
     (front-shown (start_for c.args.job.now c.args.table.now) c.in_ok-tree.tree bytes _ _ consumed c.in_ok-tree.ensures.end is _ _ c.print.result c.print.ensures.err)
-
-pub returns-in-Errors-clause-done : goal.returns-in-Errors-clause-done
-returns-in-Errors-clause-done g c =
-    let (bytes, consumed, is) = c.in_ok-tree.ensures.tree in
-    on-ok c.list_errors.result _ (read-tree (start_for c.args.job.now c.args.table.now) _ _ bytes c.in_ok-tree.tree consumed c.in_ok-tree.ensures.end is)
-
-pub returns-in-Errors-clause-answered : goal.returns-in-Errors-clause-answered
-returns-in-Errors-clause-answered g c =
-    let (bytes, consumed, is) = c.in_ok-tree.ensures.tree in
-    answered-by c.args.job.now.command command.Errors c.in-Errors.is c.args.job.now.profile (start_for c.args.job.now c.args.table.now) _ _ _ _ c.list_errors.result
-    (all-listed (start_for c.args.job.now c.args.table.now) c.in_ok-tree.tree bytes _ _ consumed c.in_ok-tree.ensures.end is (λ (tree : Tree). error_lines tree.errors.items) _ _ c.list_errors.result c.list_errors.ensures.ok)
-
-pub returns-in-Errors-clause-failed : goal.returns-in-Errors-clause-failed
-returns-in-Errors-clause-failed g c =
-    let (bytes, consumed, is) = c.in_ok-tree.ensures.tree in
-    failed-by c.args.job.now.command command.Errors c.in-Errors.is c.args.job.now.profile (start_for c.args.job.now c.args.table.now) _ _ _ _ c.list_errors.result
-    (front-listed (start_for c.args.job.now c.args.table.now) c.in_ok-tree.tree bytes _ _ consumed c.in_ok-tree.ensures.end is (λ (tree : Tree). error_lines tree.errors.items) _ _ c.list_errors.result c.list_errors.ensures.err c.list_errors.ensures.cause)
 
 pub returns-in-Counts-clause-done : goal.returns-in-Counts-clause-done
 returns-in-Counts-clause-done g c =
@@ -54,13 +37,13 @@ returns-in-Counts-clause-done g c =
 pub returns-in-Counts-clause-answered : goal.returns-in-Counts-clause-answered
 returns-in-Counts-clause-answered g c =
     let (bytes, consumed, is) = c.in_ok-tree.ensures.tree in
-    answered-by c.args.job.now.command command.Counts c.in-Counts.is c.args.job.now.profile (start_for c.args.job.now c.args.table.now) _ _ _ _ c.list_counts.result
+    answered-by c.args.job.now.command command.Counts c.in-Counts.is c.args.job.now.lines c.args.job.now.profile (start_for c.args.job.now c.args.table.now) _ _ _ _ c.list_counts.result
     (all-listed (start_for c.args.job.now c.args.table.now) c.in_ok-tree.tree bytes _ _ consumed c.in_ok-tree.ensures.end is count_lines _ _ c.list_counts.result c.list_counts.ensures.ok)
 
 pub returns-in-Counts-clause-failed : goal.returns-in-Counts-clause-failed
 returns-in-Counts-clause-failed g c =
     let (bytes, consumed, is) = c.in_ok-tree.ensures.tree in
-    failed-by c.args.job.now.command command.Counts c.in-Counts.is c.args.job.now.profile (start_for c.args.job.now c.args.table.now) _ _ _ _ c.list_counts.result
+    failed-by c.args.job.now.command command.Counts c.in-Counts.is c.args.job.now.lines c.args.job.now.profile (start_for c.args.job.now c.args.table.now) _ _ _ _ c.list_counts.result
     (front-listed (start_for c.args.job.now c.args.table.now) c.in_ok-tree.tree bytes _ _ consumed c.in_ok-tree.ensures.end is count_lines _ _ c.list_counts.result c.list_counts.ensures.err c.list_counts.ensures.cause)
 
 pub returns-in-Normalise-clause-done : goal.returns-in-Normalise-clause-done
@@ -71,23 +54,16 @@ returns-in-Normalise-clause-done g c =
 pub returns-in-Normalise-clause-answered : goal.returns-in-Normalise-clause-answered
 returns-in-Normalise-clause-answered g c =
     let (bytes, consumed, is) = c.in_ok-tree.ensures.tree in
-    answered-by c.args.job.now.command command.Normalise c.in-Normalise.is c.args.job.now.profile (start_for c.args.job.now c.args.table.now) _ _ _ _ c.serialise.result
+    answered-by c.args.job.now.command command.Normalise c.in-Normalise.is c.args.job.now.lines c.args.job.now.profile (start_for c.args.job.now c.args.table.now) _ _ _ _ c.serialise.result
     (all-written (start_for c.args.job.now c.args.table.now) c.profile.result (profile_of c.args.job.now.profile) c.profile.ensures c.in_ok-tree.tree bytes _ _ c.serialise.result
     consumed c.in_ok-tree.ensures.end is c.serialise.ensures.size c.serialise.ensures.only _ _ c.serialise.ensures.ok)
 
 pub returns-in-Normalise-clause-failed : goal.returns-in-Normalise-clause-failed
 returns-in-Normalise-clause-failed g c =
     let (bytes, consumed, is) = c.in_ok-tree.ensures.tree in
-    failed-by c.args.job.now.command command.Normalise c.in-Normalise.is c.args.job.now.profile (start_for c.args.job.now c.args.table.now) _ _ _ _ c.serialise.result
+    failed-by c.args.job.now.command command.Normalise c.in-Normalise.is c.args.job.now.lines c.args.job.now.profile (start_for c.args.job.now c.args.table.now) _ _ _ _ c.serialise.result
     (front-written (start_for c.args.job.now c.args.table.now) c.profile.result (profile_of c.args.job.now.profile) c.profile.ensures c.in_ok-tree.tree bytes _ _ c.serialise.result
     consumed c.in_ok-tree.ensures.end is c.serialise.ensures.size c.serialise.ensures.only _ _ c.serialise.ensures.err c.serialise.ensures.cause)
 
 pub returns-clause-answered : goal.returns-clause-answered
-returns-clause-answered g c = elim c.match-matches.branch [
-  | in-Audit w ↦ absurd (true≢false (sym w.matches-is ∙ c.if-matches.false))
-  | in_default w ↦ elim c.in-Audit-command.is [
-    | inl is ↦ absurd (w.in_default.not-Audit is)
-    | inr is ↦ (let (bytes, consumed, was) = c.in_ok-tree.ensures.tree in
-        nothing-answered (start_for c.args.job.now c.args.table.now) c.in_ok-tree.tree bytes _ _ consumed c.in_ok-tree.ensures.end was c.args.job.now.command is c.args.job.now.profile _)
-  ]
-]
+returns-clause-answered g c = ?
