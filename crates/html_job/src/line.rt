@@ -99,7 +99,7 @@ fn max_nodes<'a>(alloc: Global) -> Arg<'a>
         alloc,
         "max-nodes",
         "K",
-        "Refuse a page of more than K nodes",
+        "Refuse a page of more than K nodes [default: no limit]",
     )
 }
 
@@ -112,7 +112,7 @@ fn max_held<'a>(alloc: Global) -> Arg<'a>
         alloc,
         "max-held",
         "K",
-        "Refuse a page whose nodes hold more than K code points",
+        "Refuse a page whose nodes hold more than K code points [default: no limit]",
     )
 }
 
@@ -125,7 +125,7 @@ fn max_input<'a>(alloc: Global) -> Arg<'a>
         alloc,
         "max-input",
         "K",
-        "Refuse an input of more than K code points",
+        "Refuse an input of more than K code points [default and greatest: 268435456]",
     )
 }
 
@@ -138,7 +138,7 @@ fn max_steps<'a>(alloc: Global) -> Arg<'a>
         alloc,
         "max-steps",
         "K",
-        "Refuse a page of more than K counted steps",
+        "Refuse a page of more than K counted steps [default: no limit]",
     )
 }
 
@@ -155,13 +155,19 @@ fn lines<'a>(alloc: Global) -> Arg<'a>
         )
 }
 
-/// A command on one page.
-fn page_command<'a>(alloc: Global, name: &'a str, about: &'a str) -> Result<Command<'a>, AllocError>
+/// A command on one page, with an example of it.
+fn page_command<'a>(
+    alloc: Global,
+    name: &'a str,
+    about: &'a str,
+    example: &'a str,
+) -> Result<Command<'a>, AllocError>
     ensures app { IfOk result (λ c. app_of c ≡ page_app name.entry.now) }
     ensures local { IfOk result (λ c. (fields_of c).has_globals ≡ false) }
 {
     Command::new(alloc, name)
         .about(about)
+        .after_help(example)
         .arg(entities(alloc))?
         .arg(fragment(alloc))?
         .arg(context_encoding(alloc))?
@@ -178,7 +184,13 @@ fn errors<'a>(alloc: Global) -> Result<Command<'a>, AllocError>
     ensures app { IfOk result (λ c. app_of c ≡ errors_app) }
     ensures local { IfOk result (λ c. (fields_of c).has_globals ≡ false) }
 {
-    page_command(alloc, "errors", "Print the parse errors of a page")?.arg(lines(alloc))
+    page_command(
+        alloc,
+        "errors",
+        "Print the parse errors of a page",
+        "Example: html_cmd errors --lines page.html",
+    )?
+    .arg(lines(alloc))
 }
 
 /// The command that writes a page as HTML.
@@ -192,7 +204,13 @@ fn normalise<'a>(alloc: Global) -> Result<Command<'a>, AllocError>
         "PROFILE",
         "What is escaped in the values of attributes: 1 is & \" and no-break spaces, 2 also < and > [default: 1]",
     );
-    page_command(alloc, "normalise", "Write a page as HTML")?.arg(profile)
+    page_command(
+        alloc,
+        "normalise",
+        "Write a page as HTML",
+        "Example: html_cmd normalise --entities entities.json --foreign parse page.html > clean.html",
+    )?
+    .arg(profile)
 }
 
 /// The command on files of test cases.
@@ -202,6 +220,9 @@ fn suite<'a>(alloc: Global) -> Result<Command<'a>, AllocError>
 {
     Command::new(alloc, "suite")
         .about("Run files of test cases")
+        .after_help(
+            "Example: html_cmd suite --entities entities.json --foreign parse tests/tree/*.dat",
+        )
         .arg(entities(alloc))?
         .arg(foreign(alloc))?
         .arg(files(alloc))
@@ -213,12 +234,13 @@ fn with_page_command<'a>(
     alloc: Global,
     name: &'a str,
     about: &'a str,
+    example: &'a str,
 ) -> Result<Command<'a>, AllocError>
     requires local { (fields_of program).has_globals ≡ false }
     ensures app { IfOk result (λ c. app_of c ≡ with_subcommand (app_of program.entry) (page_app name.entry.now).top) }
     ensures local { IfOk result (λ c. (fields_of c).has_globals ≡ false) }
 {
-    program.subcommand(page_command(alloc, name, about)?)
+    program.subcommand(page_command(alloc, name, about, example)?)
 }
 
 /// The program, with no command.
@@ -239,15 +261,28 @@ pub(crate) fn line<'a>(alloc: Global) -> Result<Command<'a>, AllocError>
     ensures local { IfOk result (λ c. (fields_of c).has_globals ≡ false) }
 {
     let program = empty_line(alloc);
-    let program = with_page_command(program, alloc, "tree", "Print the tree of a page")?;
+    let program = with_page_command(
+        program,
+        alloc,
+        "tree",
+        "Print the tree of a page",
+        "Example: html_cmd tree --fragment td --max-nodes 100000 page.html",
+    )?;
     let program = program.subcommand(errors(alloc)?)?;
     let program = with_page_command(
         program,
         alloc,
         "audit",
         "Print what became of each token of a page",
+        "Example: printf '<p>One<p>Two' | html_cmd audit",
     )?;
     let program = program.subcommand(normalise(alloc)?)?;
-    let program = with_page_command(program, alloc, "counts", "Print how large a page is")?;
+    let program = with_page_command(
+        program,
+        alloc,
+        "counts",
+        "Print how large a page is",
+        "Example: html_cmd counts --max-steps 10000000 page.html",
+    )?;
     program.subcommand(suite(alloc)?)
 }

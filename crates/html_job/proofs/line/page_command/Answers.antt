@@ -6,9 +6,9 @@ use Rattle.html_job.proofs.line.page_command.Goals as goal
 
 pub returns-clause-app : goal.returns-clause-app
 returns-clause-app c =
-    let named : Is c.about.result _ = record {
-      app = ap app_of_fields c.about.ensures ∙ c.new.ensures.app;
-      local = ap (λ f. f.has_globals) c.about.ensures ∙ c.new.ensures.local;
+    let named : Is c.after_help.result _ = record {
+      app = ap app_of_fields c.after_help.ensures ∙ ap app_of_fields c.about.ensures ∙ c.new.ensures.app;
+      local = ap (λ f. f.has_globals) c.after_help.ensures ∙ ap (λ f. f.has_globals) c.about.ensures ∙ c.new.ensures.local;
     } in
     let entities = arg_added _ _ _ _ _ named c.in_ok-arg.ensures c.entities.ensures.local c.entities.ensures.rule in
     let fragment = arg_added _ _ _ _ _ entities c.in_ok-arg-2.ensures c.fragment.ensures.local c.fragment.ensures.rule in
@@ -22,9 +22,9 @@ returns-clause-app c =
 
 pub returns-clause-local : goal.returns-clause-local
 returns-clause-local c =
-    let named : Is c.about.result _ = record {
-      app = ap app_of_fields c.about.ensures ∙ c.new.ensures.app;
-      local = ap (λ f. f.has_globals) c.about.ensures ∙ c.new.ensures.local;
+    let named : Is c.after_help.result _ = record {
+      app = ap app_of_fields c.after_help.ensures ∙ ap app_of_fields c.about.ensures ∙ c.new.ensures.app;
+      local = ap (λ f. f.has_globals) c.after_help.ensures ∙ ap (λ f. f.has_globals) c.about.ensures ∙ c.new.ensures.local;
     } in
     let entities = arg_added _ _ _ _ _ named c.in_ok-arg.ensures c.entities.ensures.local c.entities.ensures.rule in
     let fragment = arg_added _ _ _ _ _ entities c.in_ok-arg-2.ensures c.fragment.ensures.local c.fragment.ensures.rule in
