@@ -1,4 +1,4 @@
--- Claimed, but for this crate's own functions: is_droppable, takes_runs, is_table_text.
+-- Claimed, but for this crate's own functions: takes_runs.
 -- Modes and tokens as the guards tell them apart (13.2.6).
 use Rattle.std.specs.Prelude.{Bool, true, false}
 use Rattle.html_ledger.specs.declared.symbol.Symbol.{Symbol}

@@ -1,5 +1,6 @@
 -- Claimed.
 pub mod Begun
+pub mod Dispatching
 pub mod Entering
 pub mod Fitting
 pub mod Foreign
@@ -7,12 +8,28 @@ pub mod Guards
 pub mod Plain
 pub mod Ranks
 pub mod RawText
-pub mod Steps
--- For this crate's own functions.
 pub mod RuleForms
 pub mod Rules
+pub mod RulesAfterAfterBody
+pub mod RulesAfterAfterFrameset
+pub mod RulesAfterBody
+pub mod RulesAfterFrameset
+pub mod RulesAfterHead
+pub mod RulesBeforeHead
+pub mod RulesBeforeHtml
 pub mod RulesInCaption
 pub mod RulesInCell
+pub mod RulesInColumnGroup
+pub mod RulesInFrameset
+pub mod RulesInHead
+pub mod RulesInHeadNoscript
 pub mod RulesInRow
+pub mod RulesInSelect
+pub mod RulesInSelectInTable
 pub mod RulesInTableBody
+pub mod RulesInTemplate
+pub mod RulesInitial
+pub mod RulesText
+pub mod Steps
+-- For this crate's own functions.
 pub mod Runs

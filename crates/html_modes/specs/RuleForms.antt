@@ -1,9 +1,10 @@
--- For this crate's own functions.
+-- Claimed.
 -- How the tables of the rules are written (13.2.6.4), and what it says of an entry that it followed one.
 use Rattle.html_tokens.specs.declared.token.TokenKind.{TokenKind}
 use Rattle.html_ledger.specs.declared.fate.Cause.{Cause}
 use Rattle.html_ledger.specs.declared.fate.Cause.TheVariants.{Misplaced}
-use Rattle.html_construction.specs.Plans.{Again, Ask, Do, Ending, Over, Plan, Refused, Stop}
+use Rattle.html_tree.specs.declared.groups.Group.{Group}
+use Rattle.html_construction.specs.Plans.{Again, Ask, Do, Ending, Over, Plan, Refused, Stop, popping}
 use Rattle.html_construction.specs.States.{State}
 use Rattle.html_construction.specs.Words.{AwaitsDoctype, Drop, End, InsertDoctype}
 use Rattle.html_modes.specs.Steps.{root_space}
@@ -32,6 +33,14 @@ done_with = Do End over
 abbrev pub ignored : Cause → Plan
 ignored cause = Do (Drop cause) over
 
+-- Append a DocumentType node to the Document node, where a doctype is still awaited, as it is in the mode initial; else ignore the token.
+abbrev pub inserting_doctype : Plan → Plan
+inserting_doctype p = Ask AwaitsDoctype (Do InsertDoctype p) (Do (Drop Misplaced) p)
+
 -- Ignore the doctype. (It is inserted where one is still awaited, as none is in these modes: own.)
 abbrev pub ignored_doctype : Plan
-ignored_doctype = Ask AwaitsDoctype (Do InsertDoctype over) (ignored Misplaced)
+ignored_doctype = inserting_doctype over
+
+-- pop the current node where it is of the group, and not the first element (own)
+abbrev pub popping_any : Group → Plan → Plan
+popping_any g p = popping g p p

@@ -1,4 +1,4 @@
--- For this crate's own functions.
+-- Claimed.
 -- The "in caption" insertion mode (13.2.6.4.11).
 use Rattle.std.specs.Prelude.{if◌then◌else◌}
 use Rattle.html_names.specs.declared.sets.Scope.TheVariants as scope

@@ -1,4 +1,4 @@
--- Claimed, but for this crate's own functions: root_space, IsRefused, Steps, Falls, Grows, Spends, Settles, Worked, Counts, Counted.
+-- Claimed, but for this crate's own functions: IsRefused, Steps, Falls, Grows, Spends, Settles, Worked, Counts, Counted.
 -- What one entry of a token into the rules of a mode does (13.2.6).
 use Rattle.std.specs.Prelude.{ℕ, ◌+◌, ◌*◌, ◌≡◌, ◌<◌, ◌≤◌, Bool, true, false, [], length}
 use Rattle.html_tokens.specs.declared.token.TokenKind.{TokenKind}

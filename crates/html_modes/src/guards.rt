@@ -2,6 +2,7 @@
 // not, the token goes on by a rule that asks for nothing.
 ghost use Rattle.std.specs.Prelude.{◌≡◌, ◌≤◌, ◌==◌, IsTrue, None, true, false};
 ghost use Rattle.html_ledger.specs.Flags.{is_free, may_select, may_drop};
+ghost use Rattle.html_modes.specs.Dispatching.{is_astray, is_unfounded};
 ghost use Rattle.html_modes.specs.Fitting.{is_loose};
 ghost use Rattle.html_modes.specs.Ranks.{rank, top_rank};
 ghost use Rattle.html_ledger.specs.declared.fate.Cause.TheVariants.{InColumnGroup};
@@ -18,6 +19,7 @@ use html_ledger::Symbol;
 /// frameset that was made. Never: tokens that lead into these modes are not processed again, and see `is_unfounded`. Would go on in the
 /// mode in body. So the causes InSelect and InFrameset come in calls alone that begin in their modes, and the history allows them.
 /// (A call that begins in such a mode, to which something leads, goes by its rules.)
+#[tactic(auto, using(crate::proofs::Dispatching::guards))]
 pub(crate) fn is_astray(page: &Construction, symbol: Symbol) -> bool
     ensures select { result ≡ false → is_droppable symbol ≡ true → is_of_selects page.now.mode ≡ true → may_select page.now.ledger.history ≡ true }
     ensures frameset { result ≡ false → is_droppable symbol ≡ true → is_of_frames page.now.mode ≡ true → page.now.ledger.history.frameset ≡ true }
@@ -27,6 +29,7 @@ pub(crate) fn is_astray(page: &Construction, symbol: Symbol) -> bool
     ensures other { is_of_selects page.now.mode ≡ false → is_of_frames page.now.mode ≡ false → result ≡ false }
     ensures loose { result ≡ true → is_loose page.now.mode ≡ true }
     ensures high { (s : AnySymbol) → result ≡ true → 2 ≤ rank page.now.mode s }
+    ensures value { result ≡ is_astray page.now symbol }
 {
     if !is_droppable(symbol) {
         return false;
@@ -43,12 +46,13 @@ pub(crate) fn is_astray(page: &Construction, symbol: Symbol) -> bool
 
 /// At the end of a call: a mode of selects or of frames, to which nothing that was seen leads. Never: a select or a frameset was made, or
 /// is the context, and is open. Would leave the mode in body. So a start tag `svg` in a select is always dropped.
-#[tactic(auto, using(crate::proofs::Begun::begun_rules))]
+#[tactic(auto, using(crate::proofs::Begun::begun_rules, crate::proofs::Dispatching::guards))]
 pub(crate) fn is_unfounded(page: &Construction) -> bool
     ensures founded { result ≡ false → IsFounded page.now }
     ensures other { is_of_selects page.now.mode ≡ false → is_of_frames page.now.mode ≡ false → result ≡ false }
     ensures loose { result ≡ true → is_loose page.now.mode ≡ true }
     ensures high { result ≡ true → 2 ≤ top_rank page.now.mode }
+    ensures value { result ≡ is_unfounded page.now }
 {
     let mode = page.mode();
     if is_of_selects(mode) {

@@ -10,7 +10,9 @@ ghost use Rattle.html_modes.specs.Entering.{Enters};
 ghost use Rattle.html_construction.specs.Foreign.{foreign_tag};
 ghost use Rattle.html_modes.specs.Fitting.{Fits, is_loose};
 ghost use Rattle.html_modes.specs.Foreign.{Follows, FollowsForeign, goes_on};
+ghost use Rattle.html_modes.specs.Dispatching.{Entries, FollowsOn, IsDispatched, IsEntry, begun, settled};
 ghost use Rattle.html_modes.specs.Plain.{GoesOn, Turns};
+ghost use Rattle.html_modes.specs.Rules.{Follows as FollowsPlan, plan};
 ghost use Rattle.html_modes.specs.declared.outcome.Outcome.TheVariants.{Done};
 ghost use Rattle.html_modes.specs.Steps.{Counted, Falls, Pays, Settles, Spends, Steps, Toils, compared, root_of};
 ghost use Rattle.html_modes.specs.Ranks.{top_rank};
@@ -74,6 +76,7 @@ pub fn take(
     ensures adds { IfOk result (λ f. f ≡ None → AddsBy symbol page.old page.new) }
     ensures ends { IfOk result (λ f. f ≡ None → EndsBy symbol token.now page.old page.new) }
     ensures refuses { IfErr result (λ e. Refuses token.now e page.old page.new) }
+    ensures entries { IfOk result (λ f. f ≡ None → Entries symbol token.now (begun page.old) page.new) }
 {
     page.begin_call();
     'steps: loop {
@@ -92,7 +95,7 @@ pub fn take(
 }
 
 /// Leaves a mode to which nothing that was seen leads.
-#[tactic(auto, using(crate::proofs::Settled::step_rules, crate::proofs::Begun::begun_rules))]
+#[tactic(auto, using(crate::proofs::Settled::step_rules, crate::proofs::Begun::begun_rules, crate::proofs::Dispatching::guards))]
 fn settle(page: &mut Construction)
     requires fits { Fits page.old }
     ensures rest { page.new ≡ record page.old { mode = page.new.mode } }
@@ -102,6 +105,7 @@ fn settle(page: &mut Construction)
     ensures same { is_of_selects page.old.mode ≡ false → is_of_frames page.old.mode ≡ false → page.new ≡ page.old }
     ensures founded { IsFounded page.new }
     ensures out { StaysOut page.old.mode page.new.mode }
+    ensures settled { page.new ≡ settled page.old }
 {
     if is_unfounded(page) {
         page.set_mode(Mode::InBody);
@@ -109,7 +113,7 @@ fn settle(page: &mut Construction)
 }
 
 /// One entry: the text of a table, what every mode drops, the rules for foreign content, or those of the mode that is set (13.2.6).
-#[tactic(auto, using(crate::proofs::Settled::step_rules, crate::proofs::Plain::step_plain, crate::proofs::RawText::step_texts, crate::proofs::Begun::first_rules, crate::proofs::Begun::text_stays, crate::proofs::Embedding::step_foreign))]
+#[tactic(auto, using(crate::proofs::Settled::step_rules, crate::proofs::Plain::step_plain, crate::proofs::RawText::step_texts, crate::proofs::Begun::first_rules, crate::proofs::Begun::text_stays, crate::proofs::Embedding::step_foreign, crate::proofs::Dispatching::entries))]
 fn step(page: &mut Construction, token: &TokenKind, symbol: Symbol) -> Result<Outcome, Refusal>
     requires symbol { symbol_of token.now ≡ symbol }
     requires fits { Fits page.old }
@@ -128,6 +132,7 @@ fn step(page: &mut Construction, token: &TokenKind, symbol: Symbol) -> Result<Ou
     ensures ends { IfOk result (λ o. Ends o symbol token.now page.old page.new) }
     ensures foreign { IfOk result (λ o. FollowsForeign o symbol token.now page.old page.new) }
     ensures refuses { IfErr result (λ e. Refuses token.now e page.old page.new) }
+    ensures entry { IfOk result (λ o. IsEntry o symbol token.now page.old page.new) }
 {
     if is_table_text(page.mode()) {
         let outcome = in_table_text(page, token, symbol)?;
@@ -150,7 +155,7 @@ fn step(page: &mut Construction, token: &TokenKind, symbol: Symbol) -> Result<Ou
 }
 
 /// The tree construction dispatcher (13.2.6), where foreign content was made or is the context.
-#[tactic(auto, using(crate::proofs::Settled::step_rules, crate::proofs::Plain::step_plain, crate::proofs::RawText::step_texts, crate::proofs::Begun::text_stays, crate::proofs::Embedding::step_foreign))]
+#[tactic(auto, using(crate::proofs::Settled::step_rules, crate::proofs::Plain::step_plain, crate::proofs::RawText::step_texts, crate::proofs::Begun::text_stays, crate::proofs::Embedding::step_foreign, crate::proofs::Dispatching::entries))]
 #[inline(never)]
 fn dispatch(page: &mut Construction, token: &TokenKind, symbol: Symbol) -> Result<Outcome, Refusal>
     requires symbol { symbol_of token.now ≡ symbol }
@@ -178,6 +183,7 @@ fn dispatch(page: &mut Construction, token: &TokenKind, symbol: Symbol) -> Resul
     ensures ends { IfOk result (λ o. Ends o symbol token.now page.old page.new) }
     ensures foreign { IfOk result (λ o. FollowsForeign o symbol token.now page.old page.new) }
     ensures refuses { IfErr result (λ e. Refuses token.now e page.old page.new) }
+    ensures dispatched { IfOk result (λ o. IsDispatched o symbol token.now page.old page.new) }
 {
     if let Some(around) = around_foreign(page, token, symbol) {
         let outcome = foreign_rules(page, token, symbol, around)?;
@@ -219,6 +225,7 @@ fn foreign_rules(
     ensures opens { IfOk result (λ o. Opens o symbol page.new) }
     ensures follows { IfOk result (λ o. goes_on page.old.tree symbol token.now ≡ false → Follows around o symbol token.now page.old page.new) }
     ensures refuses { IfErr result (λ e. Refuses token.now e page.old page.new) }
+    ensures on { IfOk result (λ o. goes_on page.old.tree symbol token.now ≡ true → FollowsOn (plan page.old.mode symbol) o symbol token.now page.old page.new) }
 {
     if goes_on(page, token, symbol) {
         let outcome = rules(page, token, symbol)?;
@@ -229,7 +236,7 @@ fn foreign_rules(
 }
 
 /// The rules of the mode that is set.
-#[tactic(auto, using(crate::proofs::Settled::rules_rules, crate::proofs::Plain::rules_plain, crate::proofs::RawText::other_rules, crate::proofs::Begun::modes_ignoring))]
+#[tactic(auto, using(crate::proofs::Settled::rules_rules, crate::proofs::Plain::rules_plain, crate::proofs::RawText::other_rules, crate::proofs::Begun::modes_ignoring, crate::proofs::Dispatching::plans))]
 #[inline(always)]
 fn rules(page: &mut Construction, token: &TokenKind, symbol: Symbol) -> Result<Outcome, Refusal>
     requires symbol { symbol_of token.now ≡ symbol }
@@ -255,6 +262,7 @@ fn rules(page: &mut Construction, token: &TokenKind, symbol: Symbol) -> Result<O
     ensures adds { IfOk result (λ o. Adds o symbol page.old page.new) }
     ensures ends { IfOk result (λ o. Ends o symbol token.now page.old page.new) }
     ensures refuses { IfErr result (λ e. Refuses token.now e page.old page.new) }
+    ensures follows { IfOk result (λ o. FollowsPlan (plan page.old.mode symbol) token.now o page.old page.new) }
 {
     let outcome = match page.mode() {
         Mode::Initial => initial(page, token, symbol),

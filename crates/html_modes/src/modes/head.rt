@@ -19,6 +19,13 @@ ghost use Rattle.html_modes.specs.Steps.{Falls, Grows, Steps, Worked};
 ghost use Rattle.html_modes.specs.Ranks.{rank, top_rank};
 ghost use Rattle.html_modes.specs.declared.outcome.Outcome.TheVariants.{Done};
 ghost use Rattle.html_modes.specs.RawText.{HasOpened, Opens};
+ghost use Rattle.html_tree.specs.declared.groups.Target.TheVariants.{Current};
+ghost use Rattle.html_construction.specs.Plans.{Passes};
+ghost use Rattle.html_construction.specs.Words.{Insert, InsertAt, InsertVoid, InsertVoidAt};
+ghost use Rattle.html_modes.specs.Rules.{Follows};
+ghost use Rattle.html_modes.specs.RulesAfterHead.{after_head, after_head_start};
+ghost use Rattle.html_modes.specs.RulesInHead.{in_head, in_head_end, in_head_part, in_head_start, leaving_head};
+ghost use Rattle.html_modes.specs.RulesInHeadNoscript.{in_head_noscript, in_head_noscript_start, leaving_noscript};
 
 use crate::modes::body_start::html_start;
 use crate::modes::initial::doctype;
@@ -32,7 +39,7 @@ use html_tokens::TokenKind;
 use html_tree::{Group, Target};
 
 /// The rules for the "in head" insertion mode (13.2.6.4.4).
-#[tactic(auto, using(crate::proofs::Settled::mode_rules, crate::proofs::RawText::head_names, crate::proofs::Begun::text_stays, crate::proofs::Begun::text_leaves))]
+#[tactic(auto, using(crate::proofs::Settled::mode_rules, crate::proofs::RawText::head_names, crate::proofs::Begun::text_stays, crate::proofs::Begun::text_leaves, crate::proofs::RulesInHead::arms))]
 pub(crate) fn in_head(
     page: &mut Construction,
     token: &TokenKind,
@@ -53,37 +60,31 @@ pub(crate) fn in_head(
     ensures plain { IfOk result (λ o. Turns o symbol token.now page.old page.new) }
     ensures opens { IfOk result (λ o. Opens o symbol page.new) }
     ensures refuses { IfErr result (λ e. Refuses token.now e page.old page.new) }
+    ensures follows { IfOk result (λ o. Follows (in_head symbol) token.now o page.old page.new) }
 {
     match symbol {
-        // A character token that is one of U+0009, U+000A, U+000C, U+000D, U+0020: insert the character.
-        Symbol::Char(c) if is_space(c) => page.insert_char(token, c)?,
+        Symbol::Char(c) => {
+            // Anything else: pop the current node, switch the insertion mode to "after head", reprocess.
+            if !is_space(c) {
+                leave_head(page);
+                return Ok(Outcome::Reprocess);
+            }
+            // A character token that is one of U+0009, U+000A, U+000C, U+000D, U+0020: insert the character.
+            page.insert_char(token, c)?;
+        }
         // A comment token: insert a comment.
         Symbol::Comment => page.insert_comment(token)?,
         // A DOCTYPE token: ignore the token.
         Symbol::Doctype => doctype(page, token)?,
-        // A start tag whose tag name is "html": process the token using the rules for "in body".
-        Symbol::Start(Tag::Html) => html_start(page, token)?,
-        // A start tag whose tag name is "noscript", if the scripting flag is disabled: insert an HTML element.
-        Symbol::Start(Tag::Noscript) => {
-            page.insert(token, Tag::Noscript)?;
-            page.set_mode(Mode::InHeadNoscript);
+        Symbol::Start(tag) => {
+            let outcome = start_in_head(page, token, tag)?;
+            return Ok(outcome);
         }
-        // A start tag whose tag name is "head": ignore the token.
-        Symbol::Start(Tag::Head) => page.drop_token(token, symbol, Cause::Misplaced)?,
-        // A start tag whose tag name is one of: "base", "basefont", "bgsound", "link", "meta", "title",
-        // "noframes", "style", "script", "template".
-        Symbol::Start(tag) if tag.is_headish() => head_start(page, token, tag)?,
-        // An end tag whose tag name is "head": pop the current node, switch the insertion mode to "after head".
-        Symbol::End(Tag::Head) => {
-            leave_head(page);
-            page.end(token, symbol)?;
+        Symbol::End(tag) => {
+            let outcome = end_in_head(page, token, tag)?;
+            return Ok(outcome);
         }
-        // An end tag whose tag name is "template".
-        Symbol::End(Tag::Template) => template_end(page, token)?,
-        // Any other end tag than one of "body", "html", "br": ignore the token.
-        Symbol::End(tag) if !tag.is_page_part() => page.end(token, symbol)?,
-        // Anything else: pop the current node, switch the insertion mode to "after head", reprocess.
-        Symbol::Start(_) | Symbol::End(_) | Symbol::Char(_) | Symbol::Eof => {
+        Symbol::Eof => {
             leave_head(page);
             return Ok(Outcome::Reprocess);
         }
@@ -91,8 +92,80 @@ pub(crate) fn in_head(
     Ok(Outcome::Done)
 }
 
+#[tactic(auto, using(crate::proofs::Settled::mode_rules, crate::proofs::RawText::head_names, crate::proofs::RulesInHead::arms))]
+fn start_in_head(page: &mut Construction, token: &TokenKind, tag: Tag) -> Result<Outcome, Refusal>
+    requires mode { page.old.mode ≡ Mode.InHead }
+    requires symbol { symbol_of token.now ≡ Symbol.Start tag }
+    requires calls { Calls page.old }
+    ensures fits { OnOk result (Fits page.new) }
+    ensures takes { IfOk result (λ o. Steps o token.now page.old page.new) }
+    ensures parses { OnOk result (page.new.parses_foreign ≡ page.old.parses_foreign) }
+    ensures falls { IfOk result (λ o. Falls o (Symbol.Start tag) page.old page.new) }
+    ensures grows { IfOk result (λ o. Grows o page.old page.new) }
+    ensures works { IfOk result (λ o. Worked o token.now page.old page.new) }
+    ensures plain { IfOk result (λ o. Turns o (Symbol.Start tag) token.now page.old page.new) }
+    ensures opens { IfOk result (λ o. Opens o (Symbol.Start tag) page.new) }
+    ensures refuses { IfErr result (λ e. Refuses token.now e page.old page.new) }
+    ensures follows { IfOk result (λ o. Follows (in_head_start tag) token.now o page.old page.new) }
+{
+    match tag {
+        // A start tag whose tag name is "html": process the token using the rules for "in body".
+        Tag::Html => html_start(page, token)?,
+        // A start tag whose tag name is "noscript", if the scripting flag is disabled: insert an HTML element.
+        Tag::Noscript => {
+            page.insert(token, Tag::Noscript)?;
+            page.set_mode(Mode::InHeadNoscript);
+        }
+        // A start tag whose tag name is "head": ignore the token.
+        Tag::Head => page.drop_token(token, Symbol::Start(Tag::Head), Cause::Misplaced)?,
+        // A start tag whose tag name is one of: "base", "basefont", "bgsound", "link", "meta", "title",
+        // "noframes", "style", "script", "template".
+        _ if tag.is_headish() => head_start(page, token, tag)?,
+        // Anything else: pop the current node, switch the insertion mode to "after head", reprocess.
+        _ => {
+            leave_head(page);
+            return Ok(Outcome::Reprocess);
+        }
+    }
+    Ok(Outcome::Done)
+}
+
+#[tactic(auto, using(crate::proofs::Settled::mode_rules, crate::proofs::RawText::open_rules, crate::proofs::RulesInHead::arms))]
+fn end_in_head(page: &mut Construction, token: &TokenKind, tag: Tag) -> Result<Outcome, Refusal>
+    requires mode { page.old.mode ≡ Mode.InHead }
+    requires symbol { symbol_of token.now ≡ Symbol.End tag }
+    requires calls { Calls page.old }
+    ensures fits { OnOk result (Fits page.new) }
+    ensures takes { IfOk result (λ o. Steps o token.now page.old page.new) }
+    ensures parses { OnOk result (page.new.parses_foreign ≡ page.old.parses_foreign) }
+    ensures falls { IfOk result (λ o. Falls o (Symbol.End tag) page.old page.new) }
+    ensures grows { IfOk result (λ o. Grows o page.old page.new) }
+    ensures works { IfOk result (λ o. Worked o token.now page.old page.new) }
+    ensures plain { IfOk result (λ o. Turns o (Symbol.End tag) token.now page.old page.new) }
+    ensures refuses { IfErr result (λ e. Refuses token.now e page.old page.new) }
+    ensures follows { IfOk result (λ o. Follows (in_head_end tag) token.now o page.old page.new) }
+{
+    match tag {
+        // An end tag whose tag name is "head": pop the current node, switch the insertion mode to "after head".
+        Tag::Head => {
+            leave_head(page);
+            page.end(token, Symbol::End(Tag::Head))?;
+        }
+        // An end tag whose tag name is "template".
+        Tag::Template => template_end(page, token)?,
+        // An end tag whose tag name is one of: "body", "html", "br": as anything else.
+        _ if tag.is_page_part() => {
+            leave_head(page);
+            return Ok(Outcome::Reprocess);
+        }
+        // Any other end tag: ignore the token.
+        _ => page.end(token, Symbol::End(tag))?,
+    }
+    Ok(Outcome::Done)
+}
+
 /// Closes the head and goes on after it. (In a real run the head is the current node; else the rules of the body go on.)
-#[tactic(auto, using(crate::proofs::Begun::out_rules))]
+#[tactic(auto, using(crate::proofs::Begun::out_rules, crate::proofs::RulesInHead::arms))]
 fn leave_head(page: &mut Construction)
     requires mode { page.old.mode ≡ Mode.InHead }
     requires opened { 0 < length page.old.stack }
@@ -108,6 +181,7 @@ fn leave_head(page: &mut Construction)
     ensures out { StaysOut page.old.mode page.new.mode }
     ensures closed { (nat_lt 1 (length page.old.stack) && is_first (group.Named tag.Head) page.old.stack) ≡ true → page.new ≡ record page.old { tree = page.new.tree; stack = drop 1 page.old.stack; mode = Mode.AfterHead } }
     ensures exact { (nat_lt 1 (length page.old.stack) && is_first (group.Named tag.Head) page.old.stack) ≡ true → IsTree (record page.old.tree { stack = popped page.old.tree.stack }) page.new }
+    ensures follows { Passes leaving_head page.old page.new }
 {
     if page.pop_if(Group::Named(Tag::Head)) {
         page.set_mode(Mode::AfterHead);
@@ -117,7 +191,7 @@ fn leave_head(page: &mut Construction)
 }
 
 /// A start tag that belongs into the head.
-#[tactic(auto, using(crate::proofs::Settled::head_rules, crate::proofs::RawText::head_names))]
+#[tactic(auto, using(crate::proofs::Settled::head_rules, crate::proofs::RawText::head_names, crate::proofs::RulesInHead::arms))]
 pub(crate) fn head_start(
     page: &mut Construction,
     token: &TokenKind,
@@ -134,6 +208,7 @@ pub(crate) fn head_start(
     ensures works { OnOk result (Worked Done token.now page.old page.new) }
     ensures opens { OnOk result (HasOpened tag page.new) }
     ensures refuses { IfErr result (λ e. Refuses token.now e page.old page.new) }
+    ensures follows { OnOk result (Follows (in_head_part Insert (InsertVoid tag) tag) token.now Done page.old page.new) }
 {
     let target = page.here();
     head_start_at(page, token, tag, target)
@@ -141,7 +216,7 @@ pub(crate) fn head_start(
 
 /// A start tag that belongs into the head, whose element goes to a target: last into the head, as if that were open, where it comes after
 /// the head's end.
-#[tactic(auto, using(crate::proofs::Settled::head_rules, crate::proofs::RawText::head_names))]
+#[tactic(auto, using(crate::proofs::Settled::head_rules, crate::proofs::RawText::head_names, crate::proofs::RulesInHead::arms))]
 fn head_start_at(
     page: &mut Construction,
     token: &TokenKind,
@@ -159,6 +234,8 @@ fn head_start_at(
     ensures works { OnOk result (Worked Done token.now page.old page.new) }
     ensures opens { OnOk result (HasOpened tag page.new) }
     ensures refuses { IfErr result (λ e. Refuses token.now e page.old page.new) }
+    ensures follows { OnOk result (Follows (in_head_part (InsertAt target) (InsertVoidAt tag target) tag) token.now Done page.old page.new) }
+    ensures here { OnOk result (target ≡ Current page.old.fostering → Follows (in_head_part Insert (InsertVoid tag) tag) token.now Done page.old page.new) }
 {
     if tag.is_head_text() {
         return text_start_at(page, token, tag, target);
@@ -170,7 +247,7 @@ fn head_start_at(
 }
 
 /// The rules for the "in head noscript" insertion mode (13.2.6.4.5).
-#[tactic(auto, using(crate::proofs::Settled::mode_rules, crate::proofs::RawText::head_names, crate::proofs::Begun::text_stays, crate::proofs::Begun::text_leaves))]
+#[tactic(auto, using(crate::proofs::Settled::mode_rules, crate::proofs::RawText::head_names, crate::proofs::Begun::text_stays, crate::proofs::Begun::text_leaves, crate::proofs::RulesInHeadNoscript::arms))]
 pub(crate) fn in_head_noscript(
     page: &mut Construction,
     token: &TokenKind,
@@ -190,32 +267,79 @@ pub(crate) fn in_head_noscript(
     ensures works { IfOk result (λ o. Worked o token.now page.old page.new) }
     ensures opens { IfOk result (λ o. Opens o symbol page.new) }
     ensures refuses { IfErr result (λ e. Refuses token.now e page.old page.new) }
+    ensures follows { IfOk result (λ o. Follows (in_head_noscript symbol) token.now o page.old page.new) }
 {
     match symbol {
-        // A character token that is one of U+0009, U+000A, U+000C, U+000D, U+0020: insert the character.
-        Symbol::Char(c) if is_space(c) => page.insert_char(token, c)?,
+        Symbol::Char(c) => {
+            // Anything else: pop the current node, switch the insertion mode to "in head", reprocess.
+            if !is_space(c) {
+                leave_noscript(page);
+                return Ok(Outcome::Reprocess);
+            }
+            // A character token that is one of U+0009, U+000A, U+000C, U+000D, U+0020: insert the character.
+            page.insert_char(token, c)?;
+        }
         // A comment token: insert a comment.
         Symbol::Comment => page.insert_comment(token)?,
         // A DOCTYPE token: ignore the token.
         Symbol::Doctype => doctype(page, token)?,
+        Symbol::Start(tag) => {
+            let outcome = start_in_noscript(page, token, tag)?;
+            return Ok(outcome);
+        }
+        Symbol::End(tag) => match tag {
+            // An end tag whose tag name is "noscript": pop the current node, switch the insertion mode to "in head".
+            Tag::Noscript => {
+                leave_noscript(page);
+                page.end(token, symbol)?;
+            }
+            // An end tag whose tag name is "br": as anything else.
+            Tag::Br => {
+                leave_noscript(page);
+                return Ok(Outcome::Reprocess);
+            }
+            // Any other end tag: ignore the token.
+            _ => page.end(token, symbol)?,
+        },
+        Symbol::Eof => {
+            leave_noscript(page);
+            return Ok(Outcome::Reprocess);
+        }
+    }
+    Ok(Outcome::Done)
+}
+
+#[tactic(auto, using(crate::proofs::Settled::mode_rules, crate::proofs::RawText::head_names, crate::proofs::RulesInHeadNoscript::arms))]
+fn start_in_noscript(
+    page: &mut Construction,
+    token: &TokenKind,
+    tag: Tag,
+) -> Result<Outcome, Refusal>
+    requires mode { page.old.mode ≡ Mode.InHeadNoscript }
+    requires symbol { symbol_of token.now ≡ Symbol.Start tag }
+    requires calls { Calls page.old }
+    ensures fits { OnOk result (Fits page.new) }
+    ensures takes { IfOk result (λ o. Steps o token.now page.old page.new) }
+    ensures parses { OnOk result (page.new.parses_foreign ≡ page.old.parses_foreign) }
+    ensures falls { IfOk result (λ o. Falls o (Symbol.Start tag) page.old page.new) }
+    ensures grows { IfOk result (λ o. Grows o page.old page.new) }
+    ensures works { IfOk result (λ o. Worked o token.now page.old page.new) }
+    ensures opens { IfOk result (λ o. Opens o (Symbol.Start tag) page.new) }
+    ensures refuses { IfErr result (λ e. Refuses token.now e page.old page.new) }
+    ensures follows { IfOk result (λ o. Follows (in_head_noscript_start tag) token.now o page.old page.new) }
+{
+    match tag {
         // A start tag whose tag name is "html": process the token using the rules for "in body".
-        Symbol::Start(Tag::Html) => html_start(page, token)?,
+        Tag::Html => html_start(page, token)?,
         // A start tag whose tag name is one of: "head", "noscript": ignore the token.
-        Symbol::Start(Tag::Head) => page.drop_token(token, symbol, Cause::Misplaced)?,
-        Symbol::Start(Tag::Noscript) if page.history().noscript => {
-            page.drop_token(token, symbol, Cause::Misplaced)?;
+        Tag::Head => page.drop_token(token, Symbol::Start(Tag::Head), Cause::Misplaced)?,
+        Tag::Noscript if page.history().noscript => {
+            page.drop_token(token, Symbol::Start(Tag::Noscript), Cause::Misplaced)?;
         }
         // A start tag whose tag name is one of: "basefont", "bgsound", "link", "meta", "noframes", "style".
-        Symbol::Start(tag) if tag.is_noscript_part() => head_start(page, token, tag)?,
-        // An end tag whose tag name is "noscript": pop the current node, switch the insertion mode to "in head".
-        Symbol::End(Tag::Noscript) => {
-            leave_noscript(page);
-            page.end(token, symbol)?;
-        }
-        // Any other end tag than "br": ignore the token.
-        Symbol::End(tag) if !tag.is(Tag::Br) => page.end(token, symbol)?,
+        _ if tag.is_noscript_part() => head_start(page, token, tag)?,
         // Anything else: pop the current node, switch the insertion mode to "in head", reprocess.
-        Symbol::Start(_) | Symbol::End(_) | Symbol::Char(_) | Symbol::Eof => {
+        _ => {
             leave_noscript(page);
             return Ok(Outcome::Reprocess);
         }
@@ -224,7 +348,7 @@ pub(crate) fn in_head_noscript(
 }
 
 /// Closes the noscript and goes on in the head. (In a real run the noscript is the current node; else the rules of the body go on.)
-#[tactic(auto, using(crate::proofs::Begun::out_rules))]
+#[tactic(auto, using(crate::proofs::Begun::out_rules, crate::proofs::RulesInHeadNoscript::arms))]
 fn leave_noscript(page: &mut Construction)
     requires mode { page.old.mode ≡ Mode.InHeadNoscript }
     requires opened { 0 < length page.old.stack }
@@ -238,6 +362,7 @@ fn leave_noscript(page: &mut Construction)
     ensures loose { is_loose page.new.mode ≡ true }
     ensures top { top_rank page.new.mode ≤ 3 }
     ensures out { StaysOut page.old.mode page.new.mode }
+    ensures follows { Passes leaving_noscript page.old page.new }
 {
     if page.pop_if(Group::Named(Tag::Noscript)) {
         page.set_mode(Mode::InHead);
@@ -247,7 +372,7 @@ fn leave_noscript(page: &mut Construction)
 }
 
 /// The rules for the "after head" insertion mode (13.2.6.4.6).
-#[tactic(auto, using(crate::proofs::Settled::mode_rules, crate::proofs::RawText::head_names, crate::proofs::Begun::text_stays))]
+#[tactic(auto, using(crate::proofs::Settled::mode_rules, crate::proofs::RawText::head_names, crate::proofs::Begun::text_stays, crate::proofs::RulesAfterHead::arms))]
 pub(crate) fn after_head(
     page: &mut Construction,
     token: &TokenKind,
@@ -268,39 +393,89 @@ pub(crate) fn after_head(
     ensures plain { IfOk result (λ o. Turns o symbol token.now page.old page.new) }
     ensures opens { IfOk result (λ o. Opens o symbol page.new) }
     ensures refuses { IfErr result (λ e. Refuses token.now e page.old page.new) }
+    ensures follows { IfOk result (λ o. Follows (after_head symbol) token.now o page.old page.new) }
 {
     match symbol {
-        // A character token that is one of U+0009, U+000A, U+000C, U+000D, U+0020: insert the character.
-        Symbol::Char(c) if is_space(c) => page.insert_char(token, c)?,
+        Symbol::Char(c) => {
+            // Anything else: insert an HTML element for a "body" start tag token with no attributes, reprocess.
+            if !is_space(c) {
+                page.insert_implied(Tag::Body)?;
+                page.set_mode(Mode::InBody);
+                return Ok(Outcome::Reprocess);
+            }
+            // A character token that is one of U+0009, U+000A, U+000C, U+000D, U+0020: insert the character.
+            page.insert_char(token, c)?;
+        }
         // A comment token: insert a comment.
         Symbol::Comment => page.insert_comment(token)?,
         // A DOCTYPE token: ignore the token.
         Symbol::Doctype => doctype(page, token)?,
+        Symbol::Start(tag) => {
+            let outcome = start_after_head(page, token, tag)?;
+            return Ok(outcome);
+        }
+        Symbol::End(tag) => match tag {
+            // An end tag whose tag name is "template": process the token using the rules for "in head".
+            Tag::Template => template_end(page, token)?,
+            Tag::Head => page.end(token, symbol)?,
+            // An end tag whose tag name is one of: "body", "html", "br": as anything else.
+            _ if tag.is_page_part() => {
+                page.insert_implied(Tag::Body)?;
+                page.set_mode(Mode::InBody);
+                return Ok(Outcome::Reprocess);
+            }
+            // Any other end tag: ignore the token.
+            _ => page.end(token, symbol)?,
+        },
+        Symbol::Eof => {
+            page.insert_implied(Tag::Body)?;
+            page.set_mode(Mode::InBody);
+            return Ok(Outcome::Reprocess);
+        }
+    }
+    Ok(Outcome::Done)
+}
+
+#[tactic(auto, using(crate::proofs::Settled::mode_rules, crate::proofs::RawText::head_names, crate::proofs::RulesAfterHead::arms))]
+fn start_after_head(
+    page: &mut Construction,
+    token: &TokenKind,
+    tag: Tag,
+) -> Result<Outcome, Refusal>
+    requires mode { page.old.mode ≡ Mode.AfterHead }
+    requires symbol { symbol_of token.now ≡ Symbol.Start tag }
+    requires calls { Calls page.old }
+    ensures fits { OnOk result (Fits page.new) }
+    ensures takes { IfOk result (λ o. Steps o token.now page.old page.new) }
+    ensures parses { OnOk result (page.new.parses_foreign ≡ page.old.parses_foreign) }
+    ensures falls { IfOk result (λ o. Falls o (Symbol.Start tag) page.old page.new) }
+    ensures grows { IfOk result (λ o. Grows o page.old page.new) }
+    ensures works { IfOk result (λ o. Worked o token.now page.old page.new) }
+    ensures plain { IfOk result (λ o. Turns o (Symbol.Start tag) token.now page.old page.new) }
+    ensures opens { IfOk result (λ o. Opens o (Symbol.Start tag) page.new) }
+    ensures refuses { IfErr result (λ e. Refuses token.now e page.old page.new) }
+    ensures follows { IfOk result (λ o. Follows (after_head_start tag) token.now o page.old page.new) }
+{
+    match tag {
         // A start tag whose tag name is "html": process the token using the rules for "in body".
-        Symbol::Start(Tag::Html) => html_start(page, token)?,
+        Tag::Html => html_start(page, token)?,
         // A start tag whose tag name is "body": insert an HTML element, set the frameset-ok flag to "not ok".
-        Symbol::Start(Tag::Body) => {
+        Tag::Body => {
             page.insert(token, Tag::Body)?;
             page.frameset_off();
             page.set_mode(Mode::InBody);
         }
         // A start tag whose tag name is "frameset": insert an HTML element.
-        Symbol::Start(Tag::Frameset) => {
+        Tag::Frameset => {
             page.insert(token, Tag::Frameset)?;
             page.set_mode(Mode::InFrameset);
         }
         // A start tag whose tag name is "head": ignore the token.
-        Symbol::Start(Tag::Head) => page.drop_token(token, symbol, Cause::Misplaced)?,
+        Tag::Head => page.drop_token(token, Symbol::Start(Tag::Head), Cause::Misplaced)?,
         // A start tag whose tag name is one of: "base", "basefont", "bgsound", .., "title": its element goes last into the head.
-        Symbol::Start(tag) if tag.is_headish() => head_start_at(page, token, tag, Target::Head)?,
-        // An end tag whose tag name is "template": process the token using the rules for "in head".
-        Symbol::End(Tag::Template) => template_end(page, token)?,
-        // Any other end tag than one of "body", "html", "br": ignore the token.
-        Symbol::End(tag) if tag.is(Tag::Head) || !tag.is_page_part() => {
-            page.end(token, symbol)?;
-        }
+        _ if tag.is_headish() => head_start_at(page, token, tag, Target::Head)?,
         // Anything else: insert an HTML element for a "body" start tag token with no attributes, reprocess.
-        Symbol::Start(_) | Symbol::End(_) | Symbol::Char(_) | Symbol::Eof => {
+        _ => {
             page.insert_implied(Tag::Body)?;
             page.set_mode(Mode::InBody);
             return Ok(Outcome::Reprocess);

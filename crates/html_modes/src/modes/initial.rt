@@ -16,6 +16,12 @@ ghost use Rattle.html_modes.specs.Foreign.{IsIgnored};
 ghost use Rattle.html_modes.specs.Plain.{Turns};
 ghost use Rattle.html_modes.specs.Steps.{Falls, Grows, Steps, Worked};
 ghost use Rattle.html_modes.specs.RawText.{Opens};
+ghost use Rattle.html_construction.specs.Plans.{PassesFor};
+ghost use Rattle.html_modes.specs.RuleForms.{inserting_doctype};
+ghost use Rattle.html_modes.specs.Rules.{Follows};
+ghost use Rattle.html_modes.specs.RulesBeforeHead.{before_head};
+ghost use Rattle.html_modes.specs.RulesBeforeHtml.{before_html};
+ghost use Rattle.html_modes.specs.RulesInitial.{initial};
 
 use crate::modes::body_start::html_start;
 use crate::outcome::Outcome;
@@ -27,7 +33,7 @@ use html_tokens::TokenKind;
 use html_tree::Target;
 
 /// The rules for the "initial" insertion mode (13.2.6.4.1).
-#[tactic(auto, using(crate::proofs::Settled::mode_rules, crate::proofs::RawText::open_rules, crate::proofs::Begun::text_stays))]
+#[tactic(auto, using(crate::proofs::Settled::mode_rules, crate::proofs::RawText::open_rules, crate::proofs::Begun::text_stays, crate::proofs::RulesInitial::arms))]
 pub(crate) fn initial(
     page: &mut Construction,
     token: &TokenKind,
@@ -48,6 +54,7 @@ pub(crate) fn initial(
     ensures plain { IfOk result (λ o. Turns o symbol token.now page.old page.new) }
     ensures opens { IfOk result (λ o. Opens o symbol page.new) }
     ensures refuses { IfErr result (λ e. Refuses token.now e page.old page.new) }
+    ensures follows { IfOk result (λ o. Follows (initial symbol) token.now o page.old page.new) }
 {
     match symbol {
         // A comment token: insert a comment as the last child of the Document object.
@@ -69,7 +76,7 @@ pub(crate) fn initial(
 }
 
 /// The rules for the "before html" insertion mode (13.2.6.4.2).
-#[tactic(auto, using(crate::proofs::Settled::mode_rules, crate::proofs::RawText::open_rules, crate::proofs::Begun::text_stays))]
+#[tactic(auto, using(crate::proofs::Settled::mode_rules, crate::proofs::RawText::open_rules, crate::proofs::Begun::text_stays, crate::proofs::RulesBeforeHtml::arms))]
 pub(crate) fn before_html(
     page: &mut Construction,
     token: &TokenKind,
@@ -90,21 +97,36 @@ pub(crate) fn before_html(
     ensures plain { IfOk result (λ o. Turns o symbol token.now page.old page.new) }
     ensures opens { IfOk result (λ o. Opens o symbol page.new) }
     ensures refuses { IfErr result (λ e. Refuses token.now e page.old page.new) }
+    ensures follows { IfOk result (λ o. Follows (before_html symbol) token.now o page.old page.new) }
 {
     match symbol {
         // A comment token: insert a comment as the last child of the Document object.
         Symbol::Comment => page.insert_comment_at(token, Target::Document)?,
         // A DOCTYPE token: ignore the token.
         Symbol::Doctype => doctype(page, token)?,
-        // A start tag whose tag name is "html": create an element, append it to the Document object.
-        Symbol::Start(Tag::Html) => {
-            page.insert_root(token)?;
-            page.set_mode(Mode::BeforeHead);
+        Symbol::Start(tag) => match tag {
+            // A start tag whose tag name is "html": create an element, append it to the Document object.
+            Tag::Html => {
+                page.insert_root(token)?;
+                page.set_mode(Mode::BeforeHead);
+            }
+            _ => {
+                page.insert_implied_root()?;
+                page.set_mode(Mode::BeforeHead);
+                return Ok(Outcome::Reprocess);
+            }
+        },
+        Symbol::End(tag) => {
+            if tag.is_page_part() {
+                page.insert_implied_root()?;
+                page.set_mode(Mode::BeforeHead);
+                return Ok(Outcome::Reprocess);
+            }
+            // Any other end tag than one of "head", "body", "html", "br": ignore the token.
+            page.end(token, symbol)?;
         }
-        // Any other end tag than one of "head", "body", "html", "br": ignore the token.
-        Symbol::End(tag) if !tag.is_page_part() => page.end(token, symbol)?,
         // Anything else: create an html element, append it to the Document object, reprocess.
-        Symbol::Start(_) | Symbol::End(_) | Symbol::Char(_) | Symbol::Eof => {
+        Symbol::Char(_) | Symbol::Eof => {
             page.insert_implied_root()?;
             page.set_mode(Mode::BeforeHead);
             return Ok(Outcome::Reprocess);
@@ -114,7 +136,7 @@ pub(crate) fn before_html(
 }
 
 /// The rules for the "before head" insertion mode (13.2.6.4.3).
-#[tactic(auto, using(crate::proofs::Settled::mode_rules, crate::proofs::RawText::open_rules, crate::proofs::Begun::text_stays))]
+#[tactic(auto, using(crate::proofs::Settled::mode_rules, crate::proofs::RawText::open_rules, crate::proofs::Begun::text_stays, crate::proofs::RulesBeforeHead::arms))]
 pub(crate) fn before_head(
     page: &mut Construction,
     token: &TokenKind,
@@ -135,23 +157,38 @@ pub(crate) fn before_head(
     ensures plain { IfOk result (λ o. Turns o symbol token.now page.old page.new) }
     ensures opens { IfOk result (λ o. Opens o symbol page.new) }
     ensures refuses { IfErr result (λ e. Refuses token.now e page.old page.new) }
+    ensures follows { IfOk result (λ o. Follows (before_head symbol) token.now o page.old page.new) }
 {
     match symbol {
         // A comment token: insert a comment.
         Symbol::Comment => page.insert_comment(token)?,
         // A DOCTYPE token: ignore the token.
         Symbol::Doctype => doctype(page, token)?,
-        // A start tag whose tag name is "html": process the token using the rules for "in body".
-        Symbol::Start(Tag::Html) => html_start(page, token)?,
-        // A start tag whose tag name is "head": insert an HTML element, set the head element pointer.
-        Symbol::Start(Tag::Head) => {
-            page.insert_head(token)?;
-            page.set_mode(Mode::InHead);
+        Symbol::Start(tag) => match tag {
+            // A start tag whose tag name is "html": process the token using the rules for "in body".
+            Tag::Html => html_start(page, token)?,
+            // A start tag whose tag name is "head": insert an HTML element, set the head element pointer.
+            Tag::Head => {
+                page.insert_head(token)?;
+                page.set_mode(Mode::InHead);
+            }
+            _ => {
+                page.insert_implied_head()?;
+                page.set_mode(Mode::InHead);
+                return Ok(Outcome::Reprocess);
+            }
+        },
+        Symbol::End(tag) => {
+            if tag.is_page_part() {
+                page.insert_implied_head()?;
+                page.set_mode(Mode::InHead);
+                return Ok(Outcome::Reprocess);
+            }
+            // Any other end tag than one of "head", "body", "html", "br": ignore the token.
+            page.end(token, symbol)?;
         }
-        // Any other end tag than one of "head", "body", "html", "br": ignore the token.
-        Symbol::End(tag) if !tag.is_page_part() => page.end(token, symbol)?,
         // Anything else: insert an HTML element for a "head" start tag token with no attributes, reprocess.
-        Symbol::Start(_) | Symbol::End(_) | Symbol::Char(_) | Symbol::Eof => {
+        Symbol::Char(_) | Symbol::Eof => {
             page.insert_implied_head()?;
             page.set_mode(Mode::InHead);
             return Ok(Outcome::Reprocess);
@@ -161,7 +198,7 @@ pub(crate) fn before_head(
 }
 
 /// A DOCTYPE token: made where one is awaited, which is in the mode initial, and else ignored.
-#[tactic(auto, using(crate::proofs::Embedding::doctype_rules))]
+#[tactic(auto, using(crate::proofs::Embedding::doctype_rules, crate::proofs::Ruled::doctype_plans))]
 pub(crate) fn doctype(page: &mut Construction, token: &TokenKind) -> Result<(), Refusal>
     requires symbol { symbol_of token.now ≡ Symbol.Doctype }
     requires quiet { page.old.ledger.kept ≡ [] }
@@ -174,6 +211,7 @@ pub(crate) fn doctype(page: &mut Construction, token: &TokenKind) -> Result<(), 
     ensures fate { OnOk result (page.old.ledger.history.awaits_doctype ≡ true → HasFate Symbol.Doctype (Made (length page.old.tree.tree.labels)) page.old page.new) }
     ensures ignored { OnOk result (IsIgnored page.old page.new) }
     ensures refuses { IfErr result (λ e. Refuses token.now e page.old page.new) }
+    ensures follows { OnOk result (PassesFor inserting_doctype token.now page.old page.new) }
 {
     if page.history().awaits_doctype {
         return page.insert_doctype(token);

@@ -17,6 +17,12 @@ ghost use Rattle.html_modes.specs.declared.outcome.Outcome.TheVariants.{Done};
 ghost use Rattle.html_ledger.specs.MayDrop.{is_in_select};
 ghost use Rattle.html_modes.specs.Guards.{is_droppable};
 ghost use Rattle.html_modes.specs.RawText.{Opens};
+ghost use Rattle.html_ledger.specs.declared.fate.Cause.TheVariants.{InSelect};
+ghost use Rattle.html_construction.specs.Plans.{Chooses, Passes};
+ghost use Rattle.html_modes.specs.RuleForms.{again, ignored};
+ghost use Rattle.html_modes.specs.Rules.{Follows};
+ghost use Rattle.html_modes.specs.RulesInSelect.{closing_options, closing_select, in_select, in_select_end, in_select_start};
+ghost use Rattle.html_modes.specs.RulesInSelectInTable.{in_select_in_table};
 
 use crate::modes::body::body_rules;
 use crate::modes::body_start::html_start;
@@ -32,7 +38,7 @@ use html_tokens::TokenKind;
 use html_tree::Group;
 
 /// The rules for the "in select" insertion mode (13.2.6.4.16).
-#[tactic(auto, using(crate::proofs::Settled::mode_rules, crate::proofs::RawText::open_rules, crate::proofs::Begun::text_stays))]
+#[tactic(auto, using(crate::proofs::Settled::mode_rules, crate::proofs::RawText::open_rules, crate::proofs::Begun::text_stays, crate::proofs::RulesInSelect::arms))]
 pub(crate) fn in_select(
     page: &mut Construction,
     token: &TokenKind,
@@ -55,13 +61,14 @@ pub(crate) fn in_select(
     ensures ignores { IfOk result (λ o. Ignores o symbol) }
     ensures opens { IfOk result (λ o. Opens o symbol page.new) }
     ensures refuses { IfErr result (λ e. Refuses token.now e page.old page.new) }
+    ensures follows { IfOk result (λ o. Follows (in_select symbol) token.now o page.old page.new) }
 {
     let outcome = select_rules(page, token, symbol)?;
     Ok(outcome)
 }
 
 /// The rules that both modes share.
-#[tactic(auto, using(crate::proofs::Settled::reset_rules, crate::proofs::RawText::open_rules, crate::proofs::Begun::ignoring_rules, crate::proofs::Begun::text_stays))]
+#[tactic(auto, using(crate::proofs::Settled::reset_rules, crate::proofs::RawText::open_rules, crate::proofs::Begun::ignoring_rules, crate::proofs::Begun::text_stays, crate::proofs::RulesInSelect::arms))]
 fn select_rules(
     page: &mut Construction,
     token: &TokenKind,
@@ -83,6 +90,7 @@ fn select_rules(
     ensures ignores { IfOk result (λ o. Ignores o symbol) }
     ensures opens { IfOk result (λ o. Opens o symbol page.new) }
     ensures refuses { IfErr result (λ e. Refuses token.now e page.old page.new) }
+    ensures follows { IfOk result (λ o. Follows (in_select symbol) token.now o page.old page.new) }
 {
     match symbol {
         // A character token: insert the token's character, unless it is U+0000 NULL.
@@ -107,7 +115,7 @@ fn select_rules(
     Ok(Outcome::Done)
 }
 
-#[tactic(auto, using(crate::proofs::Settled::reset_rules, crate::proofs::RawText::head_names, crate::proofs::Begun::ignoring_rules))]
+#[tactic(auto, using(crate::proofs::Settled::reset_rules, crate::proofs::RawText::head_names, crate::proofs::Begun::ignoring_rules, crate::proofs::RulesInSelect::arms))]
 fn select_start_tag(
     page: &mut Construction,
     token: &TokenKind,
@@ -127,6 +135,7 @@ fn select_start_tag(
     ensures ignores { IfOk result (λ o. Ignores o (Symbol.Start tag)) }
     ensures opens { IfOk result (λ o. Opens o (Symbol.Start tag) page.new) }
     ensures refuses { IfErr result (λ e. Refuses token.now e page.old page.new) }
+    ensures follows { IfOk result (λ o. Follows (in_select_start tag) token.now o page.old page.new) }
 {
     match tag {
         // A start tag whose tag name is "html": process the token using the rules for "in body".
@@ -165,7 +174,7 @@ fn select_start_tag(
     Ok(Outcome::Done)
 }
 
-#[tactic(auto, using(crate::proofs::Settled::reset_rules))]
+#[tactic(auto, using(crate::proofs::Settled::reset_rules, crate::proofs::RulesInSelect::arms))]
 fn select_end_tag(page: &mut Construction, token: &TokenKind, tag: Tag) -> Result<(), Refusal>
     requires symbol { symbol_of token.now ≡ Symbol.End tag }
     requires calls { Calls page.old }
@@ -176,6 +185,7 @@ fn select_end_tag(page: &mut Construction, token: &TokenKind, tag: Tag) -> Resul
     ensures grows { OnOk result (Grows Done page.old page.new) }
     ensures works { OnOk result (Worked Done token.now page.old page.new) }
     ensures refuses { IfErr result (λ e. Refuses token.now e page.old page.new) }
+    ensures follows { OnOk result (Follows (in_select_end tag) token.now Done page.old page.new) }
 {
     match tag {
         // An end tag whose tag name is "template": process the token using the rules for "in head".
@@ -201,6 +211,7 @@ fn select_end_tag(page: &mut Construction, token: &TokenKind, tag: Tag) -> Resul
 }
 
 /// Closes a current option, and then a current group of them.
+#[tactic(auto, using(crate::proofs::RulesInSelect::arms))]
 fn close_options(page: &mut Construction)
     requires opened { 0 < length page.old.stack }
     ensures rest { page.new ≡ record page.old { tree = page.new.tree; stack = page.new.stack } }
@@ -209,6 +220,7 @@ fn close_options(page: &mut Construction)
     ensures works { Works 6 0 6 page.old page.new }
     ensures lighter { weight page.new.stack ≤ weight page.old.stack }
     ensures opened { 0 < length page.new.stack }
+    ensures follows { Passes closing_options page.old page.new }
 {
     let _ = page.pop_if(Group::Named(Tag::Option));
     let _ = page.pop_if(Group::Named(Tag::Optgroup));
@@ -244,7 +256,7 @@ fn close_grouped_option(page: &mut Construction)
 }
 
 /// A start tag that closes the select, and is dropped where none is in scope.
-#[tactic(auto, using(crate::proofs::Settled::reset_rules, crate::proofs::RawText::open_rules, crate::proofs::Begun::ignoring_rules))]
+#[tactic(auto, using(crate::proofs::Settled::reset_rules, crate::proofs::RawText::open_rules, crate::proofs::Begun::ignoring_rules, crate::proofs::RulesInSelect::arms))]
 fn leave_select(page: &mut Construction, token: &TokenKind, tag: Tag) -> Result<Outcome, Refusal>
     requires seen { may_select page.old.ledger.history ≡ true }
     requires began { is_of_selects page.old.began ≡ true }
@@ -262,6 +274,7 @@ fn leave_select(page: &mut Construction, token: &TokenKind, tag: Tag) -> Result<
     ensures ignores { IfOk result (λ o. Ignores o (Symbol.Start tag)) }
     ensures opens { IfOk result (λ o. Opens o (Symbol.Start tag) page.new) }
     ensures refuses { IfErr result (λ e. Refuses token.now e page.old page.new) }
+    ensures follows { IfOk result (λ o. Follows (closing_select again (ignored InSelect)) token.now o page.old page.new) }
 {
     if close_select(page) {
         return Ok(Outcome::Reprocess);
@@ -271,7 +284,7 @@ fn leave_select(page: &mut Construction, token: &TokenKind, tag: Tag) -> Result<
 }
 
 /// Closes the select that is in scope, sets the mode that the elements outside call for, and says whether there was one.
-#[tactic(auto, using(crate::proofs::Settled::reset_rules))]
+#[tactic(auto, using(crate::proofs::Settled::reset_rules, crate::proofs::RulesInSelect::arms))]
 fn close_select(page: &mut Construction) -> bool
     requires loose { is_loose page.old.mode ≡ true }
     requires opened { 0 < length page.old.stack }
@@ -284,6 +297,7 @@ fn close_select(page: &mut Construction) -> bool
     ensures loose { is_loose page.new.mode ≡ true }
     ensures found { result ≡ true → weight page.new.stack + 4 ≤ weight page.old.stack }
     ensures reset { result ≡ true → is_reset page.new.mode ≡ true }
+    ensures follows { Chooses closing_select result page.old page.new }
 {
     if !page.close_in_scope(Tag::Select, Scope::Select) {
         return false;
@@ -293,7 +307,7 @@ fn close_select(page: &mut Construction) -> bool
 }
 
 /// The rules for the "in select in table" insertion mode (13.2.6.4.17).
-#[tactic(auto, using(crate::proofs::Settled::select_rules, crate::proofs::RawText::open_rules, crate::proofs::Begun::ignoring_rules, crate::proofs::Begun::text_stays))]
+#[tactic(auto, using(crate::proofs::Settled::select_rules, crate::proofs::RawText::open_rules, crate::proofs::Begun::ignoring_rules, crate::proofs::Begun::text_stays, crate::proofs::RulesInSelectInTable::arms))]
 pub(crate) fn in_select_in_table(
     page: &mut Construction,
     token: &TokenKind,
@@ -316,28 +330,32 @@ pub(crate) fn in_select_in_table(
     ensures ignores { IfOk result (λ o. Ignores o symbol) }
     ensures opens { IfOk result (λ o. Opens o symbol page.new) }
     ensures refuses { IfErr result (λ e. Refuses token.now e page.old page.new) }
+    ensures follows { IfOk result (λ o. Follows (in_select_in_table symbol) token.now o page.old page.new) }
 {
     match symbol {
-        // A start tag whose tag name is one of: "caption", "table", "tbody", "tfoot", "thead", "tr", "td", "th".
-        Symbol::Start(tag) if tag.ends_select_in_table() => {
-            let outcome = leave_select(page, token, tag)?;
+        Symbol::Start(tag) => {
+            // A start tag whose tag name is one of: "caption", "table", "tbody", "tfoot", "thead", "tr", "td", "th".
+            if tag.ends_select_in_table() {
+                let outcome = leave_select(page, token, tag)?;
+                return Ok(outcome);
+            }
+            let outcome = select_rules(page, token, symbol)?;
             Ok(outcome)
         }
-        // An end tag whose tag name is one of: "caption", "table", "tbody", "tfoot", "thead", "tr", "td", "th".
-        Symbol::End(tag) if tag.ends_select_in_table() => {
-            if page.has_in_scope(tag, Scope::Table) && close_select(page) {
-                return Ok(Outcome::Reprocess);
+        Symbol::End(tag) => {
+            // An end tag whose tag name is one of: "caption", "table", "tbody", "tfoot", "thead", "tr", "td", "th".
+            if tag.ends_select_in_table() {
+                if page.has_in_scope(tag, Scope::Table) && close_select(page) {
+                    return Ok(Outcome::Reprocess);
+                }
+                page.end(token, symbol)?;
+                return Ok(Outcome::Done);
             }
-            page.end(token, symbol)?;
-            Ok(Outcome::Done)
+            let outcome = select_rules(page, token, symbol)?;
+            Ok(outcome)
         }
         // Anything else: process the token using the rules for "in select".
-        Symbol::Start(_)
-        | Symbol::End(_)
-        | Symbol::Char(_)
-        | Symbol::Comment
-        | Symbol::Doctype
-        | Symbol::Eof => {
+        Symbol::Char(_) | Symbol::Comment | Symbol::Doctype | Symbol::Eof => {
             let outcome = select_rules(page, token, symbol)?;
             Ok(outcome)
         }

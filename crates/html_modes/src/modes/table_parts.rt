@@ -12,9 +12,11 @@ ghost use Rattle.html_modes.specs.Fitting.{Fits, Calls};
 ghost use Rattle.html_modes.specs.Steps.{Falls, Grows, Steps, Worked};
 ghost use Rattle.html_modes.specs.Ranks.{rank};
 ghost use Rattle.html_modes.specs.RawText.{Opens};
-ghost use Rattle.html_construction.specs.Plans.{Chooses};
+ghost use Rattle.html_construction.specs.Plans.{Chooses, Unsaid};
+ghost use Rattle.html_modes.specs.RuleForms.{again};
 ghost use Rattle.html_modes.specs.Rules.{Follows};
 ghost use Rattle.html_modes.specs.RulesInCaption.{closing_caption, in_caption, in_caption_end, in_caption_start};
+ghost use Rattle.html_modes.specs.RulesInColumnGroup.{closing_column_group, in_column_group, in_column_group_end};
 
 use crate::guards::is_outside_column_group;
 use crate::modes::body::body_rules;
@@ -162,7 +164,7 @@ fn close_caption(page: &mut Construction) -> bool
 }
 
 /// The rules for the "in column group" insertion mode (13.2.6.4.12).
-#[tactic(auto, using(crate::proofs::Settled::part_rules, crate::proofs::RawText::open_rules, crate::proofs::Begun::text_stays))]
+#[tactic(auto, using(crate::proofs::Settled::part_rules, crate::proofs::RawText::open_rules, crate::proofs::Begun::text_stays, crate::proofs::RulesInColumnGroup::arms))]
 pub(crate) fn in_column_group(
     page: &mut Construction,
     token: &TokenKind,
@@ -182,51 +184,85 @@ pub(crate) fn in_column_group(
     ensures works { IfOk result (λ o. Worked o token.now page.old page.new) }
     ensures opens { IfOk result (λ o. Opens o symbol page.new) }
     ensures refuses { IfErr result (λ e. Refuses token.now e page.old page.new) }
+    ensures follows { IfOk result (λ o. Follows (in_column_group symbol) token.now o page.old page.new) }
 {
     match symbol {
-        // A character token that is one of U+0009, U+000A, U+000C, U+000D, U+0020: insert the character.
-        Symbol::Char(c) if is_space(c) => page.insert_char(token, c)?,
+        Symbol::Char(c) => {
+            // A character token that is one of U+0009, U+000A, U+000C, U+000D, U+0020: insert the character.
+            if is_space(c) {
+                page.insert_char(token, c)?;
+                return Ok(Outcome::Done);
+            }
+            // Anything else: pop a current colgroup and reprocess in "in table", or ignore the token.
+            let outcome = leave_column_group(page, token, symbol)?;
+            return Ok(outcome);
+        }
         // A comment token: insert a comment.
         Symbol::Comment => page.insert_comment(token)?,
         // A DOCTYPE token: ignore the token.
         Symbol::Doctype => doctype(page, token)?,
-        // A start tag whose tag name is "html": process the token using the rules for "in body".
-        Symbol::Start(Tag::Html) => html_start(page, token)?,
-        // A start tag whose tag name is "col": insert an HTML element.
-        Symbol::Start(Tag::Col) => page.insert_void(token, Tag::Col)?,
-        // A start tag whose tag name is "template": process the token using the rules for "in head".
-        Symbol::Start(Tag::Template) => {
-            let target = page.here();
-            template_start_at(page, token, target)?;
-        }
-        // An end tag whose tag name is "template": process the token using the rules for "in head".
-        Symbol::End(Tag::Template) => template_end(page, token)?,
-        // An end tag whose tag name is "col": ignore the token.
-        Symbol::End(Tag::Col) => page.end(token, symbol)?,
-        // An end tag whose tag name is "colgroup".
-        Symbol::End(Tag::Colgroup) => {
-            let _ = close_column_group(page);
-            page.end(token, symbol)?;
+        Symbol::Start(tag) => match tag {
+            // A start tag whose tag name is "html": process the token using the rules for "in body".
+            Tag::Html => html_start(page, token)?,
+            // A start tag whose tag name is "col": insert an HTML element.
+            Tag::Col => page.insert_void(token, Tag::Col)?,
+            // A start tag whose tag name is "template": process the token using the rules for "in head".
+            Tag::Template => {
+                let target = page.here();
+                template_start_at(page, token, target)?;
+            }
+            _ => {
+                let outcome = leave_column_group(page, token, symbol)?;
+                return Ok(outcome);
+            }
+        },
+        Symbol::End(tag) => {
+            let outcome = end_in_column_group(page, token, tag)?;
+            return Ok(outcome);
         }
         // An end-of-file token: process the token using the rules for "in body".
         Symbol::Eof => {
             let outcome = body_rules(page, token, symbol)?;
             return Ok(outcome);
         }
-        // Anything else: ignore the token, or pop a current colgroup and reprocess in "in table".
-        Symbol::End(_) => {
+    }
+    Ok(Outcome::Done)
+}
+
+#[tactic(auto, using(crate::proofs::Settled::part_rules, crate::proofs::RulesInColumnGroup::arms))]
+fn end_in_column_group(
+    page: &mut Construction,
+    token: &TokenKind,
+    tag: Tag,
+) -> Result<Outcome, Refusal>
+    requires mode { page.old.mode ≡ Mode.InColumnGroup }
+    requires symbol { symbol_of token.now ≡ Symbol.End tag }
+    requires calls { Calls page.old }
+    ensures fits { OnOk result (Fits page.new) }
+    ensures takes { IfOk result (λ o. Steps o token.now page.old page.new) }
+    ensures parses { OnOk result (page.new.parses_foreign ≡ page.old.parses_foreign) }
+    ensures falls { IfOk result (λ o. Falls o (Symbol.End tag) page.old page.new) }
+    ensures grows { IfOk result (λ o. Grows o page.old page.new) }
+    ensures works { IfOk result (λ o. Worked o token.now page.old page.new) }
+    ensures refuses { IfErr result (λ e. Refuses token.now e page.old page.new) }
+    ensures follows { IfOk result (λ o. Follows (in_column_group_end tag) token.now o page.old page.new) }
+{
+    match tag {
+        // An end tag whose tag name is "colgroup".
+        Tag::Colgroup => {
+            let _ = close_column_group(page);
+            page.end(token, Symbol::End(Tag::Colgroup))?;
+        }
+        // An end tag whose tag name is "col": ignore the token.
+        Tag::Col => page.end(token, Symbol::End(Tag::Col))?,
+        // An end tag whose tag name is "template": process the token using the rules for "in head".
+        Tag::Template => template_end(page, token)?,
+        // Anything else: pop a current colgroup and reprocess in "in table", or ignore the token.
+        _ => {
             if close_column_group(page) {
                 return Ok(Outcome::Reprocess);
             }
-            page.end(token, symbol)?;
-        }
-        Symbol::Start(_) => {
-            let outcome = leave_column_group(page, token, symbol)?;
-            return Ok(outcome);
-        }
-        Symbol::Char(_) => {
-            let outcome = leave_column_group(page, token, symbol)?;
-            return Ok(outcome);
+            page.end(token, Symbol::End(tag))?;
         }
     }
     Ok(Outcome::Done)
@@ -243,6 +279,7 @@ fn close_column_group(page: &mut Construction) -> bool
     ensures opened { 0 < length page.new.stack }
     ensures mode { page.new.mode ≡ (if result then Mode.InTable else page.old.mode) }
     ensures found { result ≡ true → weight page.new.stack + 4 ≤ weight page.old.stack }
+    ensures follows { Chooses closing_column_group result page.old page.new }
 {
     if !page.pop_if(Group::Named(Tag::Colgroup)) {
         return false;
@@ -253,7 +290,7 @@ fn close_column_group(page: &mut Construction) -> bool
 
 /// A token that closes the column group, and is dropped where none is open. (In a real run a col was made then, or the context is a
 /// column group, and the token came in this mode; else the rules of the body go on.)
-#[tactic(auto, using(crate::proofs::Settled::part_rules, crate::proofs::RawText::open_rules, crate::proofs::Begun::text_stays))]
+#[tactic(auto, using(crate::proofs::Settled::part_rules, crate::proofs::RawText::open_rules, crate::proofs::Begun::text_stays, crate::proofs::RulesInColumnGroup::arms))]
 fn leave_column_group(
     page: &mut Construction,
     token: &TokenKind,
@@ -273,6 +310,7 @@ fn leave_column_group(
     ensures works { IfOk result (λ o. Worked o token.now page.old page.new) }
     ensures opens { IfOk result (λ o. Opens o symbol page.new) }
     ensures refuses { IfErr result (λ e. Refuses token.now e page.old page.new) }
+    ensures follows { IfOk result (λ o. Follows (closing_column_group again Unsaid) token.now o page.old page.new) }
 {
     if close_column_group(page) {
         return Ok(Outcome::Reprocess);

@@ -14,6 +14,12 @@ ghost use Rattle.html_modes.specs.declared.outcome.Outcome.TheVariants.{Done};
 ghost use Rattle.html_modes.specs.RawText.{Adds, AddsText, Ends, HasOpened, IsLeft, Opens};
 ghost use Rattle.html_construction.specs.Tokens.{opens_own};
 ghost use Rattle.html_tree.specs.Seats.{is_part};
+ghost use Rattle.html_tree.specs.declared.groups.Target.TheVariants.{Current};
+ghost use Rattle.html_construction.specs.Plans.{Passes};
+ghost use Rattle.html_construction.specs.Words.{Insert, InsertAt};
+ghost use Rattle.html_modes.specs.Rules.{Follows};
+ghost use Rattle.html_modes.specs.RulesInHead.{holding_text};
+ghost use Rattle.html_modes.specs.RulesText.{leaving_text, text, text_char};
 
 use crate::outcome::Outcome;
 use html_construction::{Construction, Mode, Refusal};
@@ -23,7 +29,7 @@ use html_tokens::TokenKind;
 use html_tree::Target;
 
 /// A start tag of an element that holds text alone.
-#[tactic(auto, using(crate::proofs::Settled::head_rules))]
+#[tactic(auto, using(crate::proofs::Settled::head_rules, crate::proofs::RulesText::arms))]
 pub(crate) fn text_start(
     page: &mut Construction,
     token: &TokenKind,
@@ -42,13 +48,14 @@ pub(crate) fn text_start(
     ensures works { OnOk result (Works 6 0 6 page.old page.new) }
     ensures opens { OnOk result (HasOpened tag page.new) }
     ensures refuses { IfErr result (λ e. Refuses token.now e page.old page.new) }
+    ensures follows { OnOk result (Follows (holding_text Insert) token.now Done page.old page.new) }
 {
     let target = page.here();
     text_start_at(page, token, tag, target)
 }
 
 /// The same, with the element at a target.
-#[tactic(auto, using(crate::proofs::Settled::head_rules))]
+#[tactic(auto, using(crate::proofs::Settled::head_rules, crate::proofs::RulesText::arms))]
 pub(crate) fn text_start_at(
     page: &mut Construction,
     token: &TokenKind,
@@ -68,6 +75,8 @@ pub(crate) fn text_start_at(
     ensures works { OnOk result (Works 6 0 6 page.old page.new) }
     ensures opens { OnOk result (HasOpened tag page.new) }
     ensures refuses { IfErr result (λ e. Refuses token.now e page.old page.new) }
+    ensures follows { OnOk result (Follows (holding_text (InsertAt target)) token.now Done page.old page.new) }
+    ensures here { OnOk result (target ≡ Current page.old.fostering → Follows (holding_text Insert) token.now Done page.old page.new) }
 {
     page.insert_at(token, tag, target)?;
     page.enter(Mode::Text);
@@ -75,7 +84,7 @@ pub(crate) fn text_start_at(
 }
 
 /// The rules for the "text" insertion mode (13.2.6.4.8).
-#[tactic(auto, using(crate::proofs::Settled::text_rules, crate::proofs::RawText::text_texts, crate::proofs::Begun::text_stays))]
+#[tactic(auto, using(crate::proofs::Settled::text_rules, crate::proofs::RawText::text_texts, crate::proofs::Begun::text_stays, crate::proofs::RulesText::arms))]
 pub(crate) fn text(
     page: &mut Construction,
     token: &TokenKind,
@@ -97,6 +106,7 @@ pub(crate) fn text(
     ensures adds { IfOk result (λ o. Adds o symbol page.old page.new) }
     ensures ends { IfOk result (λ o. Ends o symbol token.now page.old page.new) }
     ensures refuses { IfErr result (λ e. Refuses token.now e page.old page.new) }
+    ensures follows { IfOk result (λ o. Follows (text symbol) token.now o page.old page.new) }
 {
     match symbol {
         // A character token: insert the token's character. (No tokenizer gives U+0000 here.)
@@ -117,7 +127,7 @@ pub(crate) fn text(
 }
 
 /// Closes the element that holds text alone, and comes back to the mode in which it began.
-#[tactic(auto, using(crate::proofs::Settled::text_rules))]
+#[tactic(auto, using(crate::proofs::Settled::text_rules, crate::proofs::RulesText::arms))]
 fn leave_text(page: &mut Construction)
     requires mode { page.old.mode ≡ Mode.Text }
     requires fits { Fits page.old }
@@ -128,6 +138,7 @@ fn leave_text(page: &mut Construction)
     ensures lighter { weight page.new.stack ≤ weight page.old.stack }
     ensures opened { 0 < length page.new.stack }
     ensures left { IsLeft page.old.tree page.new.tree }
+    ensures follows { Passes leaving_text page.old page.new }
 {
     page.laws();
     page.pop();
@@ -135,7 +146,7 @@ fn leave_text(page: &mut Construction)
 }
 
 /// A code point of text, which is dropped where it is U+0000.
-#[tactic(auto, using(crate::proofs::RawText::text_texts))]
+#[tactic(auto, using(crate::proofs::RawText::text_texts, crate::proofs::RulesText::arms))]
 pub(crate) fn insert_text_char(
     page: &mut Construction,
     token: &TokenKind,
@@ -152,6 +163,7 @@ pub(crate) fn insert_text_char(
     ensures works { OnOk result (Works 6 0 6 page.old page.new) }
     ensures adds { OnOk result (AddsText (c ∷ []) page.old page.new) }
     ensures refuses { IfErr result (λ e. Refuses token.now e page.old page.new) }
+    ensures follows { OnOk result (Follows (text_char c) token.now Done page.old page.new) }
 {
     if c == '\0' {
         return page.drop_token(token, Symbol::Char(c), Cause::Null);

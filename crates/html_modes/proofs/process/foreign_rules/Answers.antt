@@ -1,6 +1,8 @@
-use Rattle.std.proofs.Common.{ap}
+use Rattle.std.proofs.Common.{ap, sym, ◌∙◌}
+use Rattle.std.proofs.lemmas.Bool.{false≢true}
 use Rattle.html_construction.specs.States.{State}
 use Rattle.html_modes.proofs.Begun.{ignores-done, ignores-in}
+use Rattle.html_modes.proofs.Dispatching.{left-on}
 use Rattle.html_modes.proofs.Embedding.{Counted-stayed, Falls-after, Falls-stayed, Ignores-after, Settles-after, Settles-stayed, Spends-after, Spends-stayed, Steps-after, follows-done}
 use Rattle.html_modes.proofs.Settled.{Counted-after}
 use Rattle.html_modes.proofs.process.foreign_rules.Goals as goal
@@ -40,3 +42,9 @@ returns-clause-ignores c = ignores-in _ _ c.args.symbol (ignores-done c.args.sym
 
 pub returns-clause-follows : goal.returns-clause-follows
 returns-clause-follows c = λ n. follows-done c.args.around c.args.symbol c.args.token.now c.args.page.now c.goes_on.new.page c.stay.new.page c.goes_on.result c.goes_on.ensures.answer c.if-goes_on.false c.goes_on.ensures.same c.goes_on.ensures.exact c.in_ok-stay.ensures.stays c.in_ok-stay.ensures.ended c.goes_on.ensures.rest c.in_ok-stay.ensures.frameset
+
+pub returns-then-goes_on-clause-on : goal.returns-then-goes_on-clause-on
+returns-then-goes_on-clause-on c = λ n. left-on c.in_ok-outcome.outcome c.args.symbol c.args.token.now c.args.page.now c.goes_on.new.page c.rules.new.page c.goes_on.ensures.rest c.goes_on.ensures.exact c.in_ok-outcome.ensures.follows
+
+pub returns-clause-on : goal.returns-clause-on
+returns-clause-on c = λ n. absurd (false≢true (sym c.if-goes_on.false ∙ c.goes_on.ensures.answer ∙ n))

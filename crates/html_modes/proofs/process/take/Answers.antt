@@ -1,9 +1,11 @@
 use Rattle.std.proofs.Common.{◌≡◌, ap, arith, false, inl, inr, length, subst, sym, ◌∙◌}
 use Rattle.html_open.proofs.Keeps.{cases_bool}
 use Rattle.html_construction.specs.States.{State}
+use Rattle.html_modes.specs.Dispatching.{Entries, IsEntry, last, next}
 use Rattle.html_modes.specs.Entering.{Enters}
 use Rattle.html_modes.specs.Guards.{is_text}
 use Rattle.html_modes.specs.Steps.{Steps, Toils, compared}
+use Rattle.html_modes.proofs.Dispatching.{counted-becomes}
 use Rattle.html_modes.proofs.Entering.{enters-done, enters-next}
 use Rattle.html_modes.proofs.Settled.{Entered, entered-next, toils-done}
 use Rattle.html_modes.proofs.Following.{follows-on, follows-once}
@@ -38,6 +40,10 @@ steps-preserved c =
       fates = e.1.1.1.1.1.1.0;
       entered = enters-next c.in_ok-step.field-0 c.args.symbol c.begin_call.new.self c.steps.page c.count_steps.new.self c.step.new.page c.args.entries.now c.steps.entries c.saturating_add.result c.in-Reprocess.is
           c.count_steps.ensures.rest c.in_ok-step.ensures.falls (let k = c.saturating_add.ensures in omega (arith, k)) i.entered;
+      run = λ z k. i.run z (
+          next c.steps.page c.count_steps.new.self c.step.new.page z (counted-becomes c.steps.page c.count_steps.new.self c.count_steps.ensures.rest c.count_steps.ensures.same)
+          (subst (λ o. IsEntry o c.args.symbol c.args.token.now c.count_steps.new.self c.step.new.page) c.in-Reprocess.is c.in_ok-step.ensures.entry) k
+          );
       falls = e.1.1.1.1.1.1.1;
       adds = λ m p. absurd (
           adds-not c.in_ok-step.field-0 c.args.symbol c.begin_call.new.self c.count_steps.new.self c.step.new.page c.in-Reprocess.is
@@ -157,3 +163,12 @@ returns-in-Done-clause-embeds c = λ n.
     (alike-begun c.args.page.now c.begin_call.new.self c.args.page.now.mode (length c.args.page.now.stack) (length c.args.page.now.tree.tree.labels) c.begin_call.ensures.rest)
     (λ g h. alike-then c.begin_call.new.self c.steps.page c.count_steps.new.self (c.steps.invariant.foreign g h) (alike-counted c.steps.page c.count_steps.new.self c.count_steps.ensures.rest c.count_steps.ensures.same))
     c.in_ok-step.ensures.foreign c.settle.ensures.rest
+
+pub returns-in-Done-clause-entries : goal.returns-in-Done-clause-entries
+returns-in-Done-clause-entries c = λ n.
+    subst (λ (x : State). Entries c.args.symbol c.args.token.now x c.settle.new.page) c.begin_call.ensures.rest (
+    c.steps.invariant.run c.settle.new.page (
+    last c.steps.page c.count_steps.new.self c.step.new.page c.settle.new.page (counted-becomes c.steps.page c.count_steps.new.self c.count_steps.ensures.rest c.count_steps.ensures.same)
+    (subst (λ o. IsEntry o c.args.symbol c.args.token.now c.count_steps.new.self c.step.new.page) c.in-Done.is c.in_ok-step.ensures.entry) c.settle.ensures.settled
+    )
+    )

@@ -2,9 +2,11 @@ use Rattle.std.proofs.Common.{◌≡◌, ◌+◌, ◌*◌, ◌≤◌, false, len
 use Rattle.html_construction.specs.Begun.{IsFounded}
 use Rattle.html_construction.specs.Built.{Keeps}
 use Rattle.html_construction.specs.Copies.{implied_count}
+use Rattle.html_construction.specs.States.{State}
 use Rattle.html_construction.specs.Weights.{weight}
 use Rattle.html_construction.specs.Works.{reach_of, toll_of}
 use Rattle.html_modes.specs.Begun.{TextStays, begins_foreign, ignores_foreign}
+use Rattle.html_modes.specs.Dispatching.{Entries}
 use Rattle.html_modes.specs.Fitting.{Fits}
 use Rattle.html_modes.specs.Guards.{is_text}
 use Rattle.html_modes.specs.Plain.{IsNext}
@@ -38,6 +40,7 @@ invariant-steps l = record {
   foreign : (g : Tag) → StaysIn g l.symbol l.token l.initial.page → IsAlike l.initial.page l.page;
   plain : IsNext l.symbol l.token l.initial.page → IsAlike l.initial.page l.page;
   entered : l.entries + (weight l.page.stack + rank l.page.mode l.symbol) ≤ l.initial.entries + (weight l.initial.page.stack + rank l.initial.page.mode l.symbol);
+  run : (z : State) → Entries l.symbol l.token l.page z → Entries l.symbol l.token l.initial.page z;
   falls : weight l.page.stack + rank l.page.mode l.symbol ≤ weight l.initial.page.stack + rank l.initial.page.mode l.symbol;
 }
 
