@@ -1,5 +1,5 @@
 -- What a command wrote, from what parsing and writing say.
-use Rattle.std.proofs.Common.{◌≡◌, ◌⊎◌, inl, inr, ℕ, Bool, List, [], Option, subst, sym}
+use Rattle.std.proofs.Common.{◌≡◌, ◌⊎◌, inl, inr, ℕ, Bool, false, List, [], Option, subst, sym}
 use Rattle.std.specs.Prelude.{Result, Ok, Err, OnOk, OnErr, IfErr}
 use Rattle.std.specs.Str.{encode_utf8_all}
 use Rattle.std.specs.Io.KnownBytes.{Appends, Consumes, IsAtEnd}
@@ -17,7 +17,7 @@ use Rattle.html_parser.specs.declared.error.ParseError.TheVariants.{Write}
 use Rattle.html_parser.specs.declared.page.Page.{Page}
 use Rattle.html_parser.specs.declared.page.Tree.{Tree}
 use Rattle.html_print.specs.Printed.{IsPrinted}
-use Rattle.html_run.specs.Answers.{IsAnswer, IsAudited, IsListed, IsLocated}
+use Rattle.html_run.specs.Answers.{AreErrors, IsAnswer, IsAudited, IsListed, IsLocated}
 use Rattle.html_run.specs.Jobs.{IsShown}
 use Rattle.html_refusal.specs.Outcome.{status_of}
 
@@ -89,6 +89,16 @@ module _ (start : Start) (page : Page) (bytes : List ℕ) (old new : Option (Lis
       → IfErr r (NothingOr writer new_writer (IsAudited start (AppendsFront writer new_writer) old new))
   front-audited writer new_writer (Ok u) p q = tt
   front-audited writer new_writer (Err e) p q = inr (q, audited (AppendsFront writer new_writer) p)
+
+-- WHERE NO LINES ARE ASKED FOR
+
+module _ (lines : Bool) (off : lines ≡ false) (start : Start) (old new writer new_writer : Option (List ℕ)) (r : Result (Unit {0}) ParseError) where
+  pub errors-answered : OnOk r (AreErrors false start (Appends writer new_writer) old new) → OnOk r (AreErrors lines start (Appends writer new_writer) old new)
+  errors-answered p = subst (λ (k : Bool). OnOk r (AreErrors k start (Appends writer new_writer) old new)) (sym off) p
+
+  pub errors-failed : IfErr r (NothingOr writer new_writer (AreErrors false start (AppendsFront writer new_writer) old new))
+      → IfErr r (NothingOr writer new_writer (AreErrors lines start (AppendsFront writer new_writer) old new))
+  errors-failed p = subst (λ (k : Bool). IfErr r (NothingOr writer new_writer (AreErrors k start (AppendsFront writer new_writer) old new))) (sym off) p
 
 -- BY THE COMMAND
 

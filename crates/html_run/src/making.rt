@@ -2,6 +2,7 @@
 
 ghost use Rattle.std.specs.Prelude.{◌≡◌, ◌⊎◌, ℕ, [], List, true, false, Err, IfErr, IfOk, OnOk};
 ghost use Rattle.std.specs.Io.KnownBytes.{Consumes, IsAtEnd};
+ghost use Rattle.html_parser.specs.Causes.{IsCause};
 ghost use Rattle.html_parser.specs.Fed.{IsFed};
 ghost use Rattle.html_parser.specs.Parsed.{IsPageOf, IsTreeOf};
 ghost use Rattle.html_parser.specs.Staged.{KeepsTokens};
@@ -49,9 +50,24 @@ pub(crate) fn tree_and_bytes_for<R: Source>(
     ensures failing { R.failed reader.old ≡ false → R.failed reader.new ≡ true → result ≡ Err ParseError.Read }
 {
     let bytes = bytes_of(alloc, reader)?;
+    match tree_of(alloc, job, table, bytes.as_slice()) {
+        Ok(tree) => Ok((tree, bytes)),
+        Err(error) => Err(error),
+    }
+}
+
+/// The tree of an input, as the job asks for it.
+fn tree_of(
+    alloc: Global,
+    job: &Job<'_>,
+    table: &EntityTable,
+    bytes: &[u8],
+) -> Result<Tree, ParseError>
+    ensures tree { IfOk result (IsTreeOf (start_for job.now table.now) bytes.now) }
+    ensures cause { IfErr result (λ e. IsCause (start_for job.now table.now) bytes.now e ⊎ IsBeginCause (options_for job.now) e) }
+{
     let options = options_of(alloc, job)?;
-    let tree = parse_tree_with(alloc, table, &options, bytes.as_slice())?;
-    Ok((tree, bytes))
+    parse_tree_with(alloc, table, &options, bytes)
 }
 
 /// All bytes that a reader has.

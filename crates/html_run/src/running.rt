@@ -147,8 +147,8 @@ fn answer_located<R: Source, W: Sink>(
     ensures write_failing { W.failed writer.old ≡ false → W.failed writer.new ≡ true → result ≡ Err ParseError.Write }
     ensures write_stalling { W.stalled writer.old ≡ false → W.stalled writer.new ≡ true → result ≡ Err ParseError.Write }
 {
-    let (tree, bytes) = tree_and_bytes_for(alloc, job, table, reader)?;
-    list_located(&tree, bytes.as_slice(), writer)
+    let read = tree_and_bytes_for(alloc, job, table, reader)?;
+    list_located(&read.0, read.1.as_slice(), writer)
 }
 
 /// Prints what became of each token of a page.

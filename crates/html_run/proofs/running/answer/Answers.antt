@@ -10,7 +10,7 @@ use Rattle.html_run.proofs.Answers.{all-listed, all-shown, answered-by, failed-b
 use Rattle.html_run.proofs.Fronts.{all-written, front-written, on-ok}
 use Rattle.html_run.proofs.Read.{read-tree}
 use Rattle.html_run.proofs.running.answer.Goals as goal
-use Rattle.html_run.proofs.running.answer.Goals.{in-Audit, in_default}
+use Rattle.html_run.proofs.running.answer.Goals.{in-Audit, in_default, in-Errors, in_default-matches}
 
 pub returns-in-Tree-clause-done : goal.returns-in-Tree-clause-done
 returns-in-Tree-clause-done g c =
@@ -66,4 +66,17 @@ returns-in-Normalise-clause-failed g c =
     consumed c.in_ok-tree.ensures.end is c.serialise.ensures.size c.serialise.ensures.only _ _ c.serialise.ensures.err c.serialise.ensures.cause)
 
 pub returns-clause-answered : goal.returns-clause-answered
-returns-clause-answered g c = ?
+returns-clause-answered g c = elim c.match-matches.branch [
+  | in-Audit w ↦ absurd (true≢false (sym w.matches-is ∙ c.if-matches.false))
+  | in_default w ↦ elim c.match-matches-2.branch [
+    | in-Errors v ↦ absurd (true≢false (sym v.matches-is ∙ c.if-matches-2.false))
+    | in_default-matches v ↦ elim c.in-Errors-command.is [
+      | inl is ↦ absurd (v.in_default-matches.not-Errors is)
+      | inr rest ↦ elim rest [
+        | inl is ↦ absurd (w.in_default.not-Audit is)
+        | inr is ↦ (let (bytes, consumed, was) = c.in_ok-tree.ensures.tree in
+            nothing-answered (start_for c.args.job.now c.args.table.now) c.in_ok-tree.tree bytes _ _ consumed c.in_ok-tree.ensures.end was c.args.job.now.command is c.args.job.now.lines c.args.job.now.profile _)
+      ]
+    ]
+  ]
+]

@@ -6,15 +6,15 @@ use Rattle.html_run.proofs.running.answer_located.Goals as goal
 
 pub returns-clause-done : goal.returns-clause-done
 returns-clause-done g c =
-    let (consumed, is) = c.in_ok-tree_and_bytes_for.ensures.tree in
-    on-ok c.list_located.result _ (read-tree (start_for c.args.job.now c.args.table.now) _ _ c.in_ok-tree_and_bytes_for.bytes.items c.in_ok-tree_and_bytes_for.tree consumed c.in_ok-tree_and_bytes_for.ensures.end is)
+    let (consumed, is) = c.in_ok-read.ensures.tree in
+    on-ok c.list_located.result _ (read-tree (start_for c.args.job.now c.args.table.now) _ _ c.in_ok-read.read.1.items c.in_ok-read.read.0 consumed c.in_ok-read.ensures.end is)
 
 pub returns-clause-answered : goal.returns-clause-answered
 returns-clause-answered g c =
-    let (consumed, is) = c.in_ok-tree_and_bytes_for.ensures.tree in
-    all-located (start_for c.args.job.now c.args.table.now) c.in_ok-tree_and_bytes_for.tree c.in_ok-tree_and_bytes_for.bytes.items _ _ consumed c.in_ok-tree_and_bytes_for.ensures.end is _ _ c.list_located.result c.list_located.ensures.ok
+    let (consumed, is) = c.in_ok-read.ensures.tree in
+    all-located (start_for c.args.job.now c.args.table.now) c.in_ok-read.read.0 c.in_ok-read.read.1.items _ _ consumed c.in_ok-read.ensures.end is _ _ c.list_located.result c.list_located.ensures.ok
 
 pub returns-clause-failed : goal.returns-clause-failed
 returns-clause-failed g c =
-    let (consumed, is) = c.in_ok-tree_and_bytes_for.ensures.tree in
-    front-located (start_for c.args.job.now c.args.table.now) c.in_ok-tree_and_bytes_for.tree c.in_ok-tree_and_bytes_for.bytes.items _ _ consumed c.in_ok-tree_and_bytes_for.ensures.end is _ _ c.list_located.result c.list_located.ensures.err c.list_located.ensures.cause
+    let (consumed, is) = c.in_ok-read.ensures.tree in
+    front-located (start_for c.args.job.now c.args.table.now) c.in_ok-read.read.0 c.in_ok-read.read.1.items _ _ consumed c.in_ok-read.ensures.end is _ _ c.list_located.result c.list_located.ensures.err c.list_located.ensures.cause
