@@ -10,10 +10,12 @@ import sys
 import tarfile
 import threading
 import time
+import tracemalloc
 import unittest
 from pathlib import Path
 
 import zilqumet
+import zilqumet.batch
 
 PAGES = [b"<p>One<p>Two", b"", b"<svg><path/>", b"\xff\xfe<b>", b"<table>x<td>y", "<p>é<title>ü".encode()] * 40
 
@@ -22,9 +24,9 @@ def lines(pages):
     return b"".join(json.dumps({"name": number, "body": base64.b64encode(page).decode()}).encode() + b"\n" for number, page in enumerate(pages))
 
 
-def tar(pages):
+def tar(pages, mode="w:gz"):
     held = io.BytesIO()
-    with tarfile.open(fileobj=held, mode="w:gz") as made:
+    with tarfile.open(fileobj=held, mode=mode) as made:
         for number, page in enumerate(pages):
             info = tarfile.TarInfo(str(number))
             info.size = len(page)
@@ -74,18 +76,22 @@ class Batch(unittest.TestCase):
             self.assertEqual([it["name"] for it in rows], [str(it) for it in range(len(rows))])
 
     def test_what_came_whole_before_a_cut_is_answered(self):
-        held = io.BytesIO()
-        with tarfile.open(fileobj=held, mode="w") as made:
-            for number in range(100):
-                info = tarfile.TarInfo(str(number))
-                info.size = 700
-                made.addfile(info, io.BytesIO(b"x" * 700))
+        whole = tar([b"x" * 700] * 100, "w")
         for jobs in ("1", "2"):
             # each has a block of its own, and two of the page: cut behind a page, in one, in a block before one, and before the mark of the end
             for blocks, count in ((3 * 70, 70), (3 * 70 + 2, 70), (3 * 70 + 0.5, 70), (3 * 100, 100)):
-                status, rows, told = batch(held.getvalue()[: int(512 * blocks)], "--jobs", jobs)
+                status, rows, told = batch(whole[: int(512 * blocks)], "--jobs", jobs)
                 self.assertEqual((status, [it["name"] for it in rows]), (3, [str(it) for it in range(count)]))
                 self.assertIn("the tar ends too early", told)
+
+    def test_a_tar_is_not_held(self):
+        stream = io.BufferedReader(io.BytesIO(tar([b"<p>"] * 5000, "w")))
+        tracemalloc.start()
+        count = sum(1 for _ in zilqumet.batch.pages(stream))
+        most = tracemalloc.get_traced_memory()[1]
+        tracemalloc.stop()
+        self.assertEqual(count, 5000)
+        self.assertLess(most, 1_000_000)
 
     def test_no_such_file_is_told(self):
         status, rows, told = batch(b"", "no-such-file")

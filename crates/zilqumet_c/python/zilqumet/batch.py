@@ -88,6 +88,8 @@ def _files(stream: BinaryIO) -> Iterator[tuple[Any, Body]]:
                 if member.isfile():
                     file = tar.extractfile(member)
                     yield member.name, b"" if file is None else file.read()
+                # (which else keeps all members)
+                tar.members = []
     except (tarfile.TarError, EOFError, OSError) as why:
         raise Cut(f"the tar ends too early or is none: {why}") from why
 
