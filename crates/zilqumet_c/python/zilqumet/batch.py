@@ -6,7 +6,7 @@
 The stream is a tar (compressed or not), of which each file is a page, or lines of JSON, each an object with `body`, the page in base64, or `text`, the page
 as a text, and a `name` of any kind. Of each page one line is written: its `name`, its `status`, and where that is `ok` what it counts (and with --normalise its
 `text`), else the `place` where there is one. A page that is refused, or a line that is none, is a line too, and no end. The status of the program is 0 where
-the stream was read to its end, 2 where the words are wrong, and 3 where the stream was cut, or a process of the pool was ended; what was written before is
+the stream was read to its end, 2 where the words are wrong, and 3 where the stream was cut, or one of the processes was ended; what was written before is
 whole.
 """
 
@@ -17,18 +17,18 @@ import base64
 import binascii
 import io
 import json
+import multiprocessing
 import os
+import signal
 import sys
 import tarfile
 import time
-from collections import deque
-from concurrent.futures import Future, ProcessPoolExecutor
-from concurrent.futures.process import BrokenProcessPool
+from multiprocessing.connection import Connection, wait
 from typing import Any, BinaryIO, Iterator, NamedTuple, Optional, Sequence, Union
 
 from . import Refused, parse_counts
 
-__all__ = ["Cut", "Job", "answer_all", "answers", "main", "pages", "shares"]
+__all__ = ["Cut", "Ended", "Job", "answer_all", "answers", "main", "pages", "shares"]
 
 # a share of the work: at most so many pages, or so many bytes and the page that passes them
 _PAGES, _BYTES = 64, 1 << 20
@@ -54,6 +54,10 @@ class Cut(Exception):
     """The stream ended before its end."""
 
 
+class Ended(Exception):
+    """One of the processes was ended."""
+
+
 # THE STREAM
 
 
@@ -64,13 +68,28 @@ def pages(stream: BinaryIO) -> Iterator[tuple[Any, Body]]:
     return _lines(reader) if first in (b"{", b"", b"\n", b" ", b"\r", b"\t") else _files(reader)
 
 
+class _Member(tarfile.TarInfo):
+    """A member of a tar. Where there is none, and no mark of the end (of which `tarfile` makes an end like another), the tar is cut."""
+
+    @classmethod
+    def fromtarfile(cls, tar: tarfile.TarFile) -> tarfile.TarInfo:
+        try:
+            return super().fromtarfile(tar)
+        except tarfile.EOFHeaderError:
+            raise
+        except tarfile.HeaderError as why:
+            raise tarfile.ReadError(str(why)) from why
+
+
 def _files(stream: BinaryIO) -> Iterator[tuple[Any, Body]]:
     try:
-        with tarfile.open(fileobj=stream, mode="r|*") as tar:
+        with tarfile.open(fileobj=stream, mode="r|*", tarinfo=_Member) as tar:
             for member in tar:
                 if member.isfile():
                     file = tar.extractfile(member)
                     yield member.name, b"" if file is None else file.read()
+                # (which else keeps all members)
+                tar.members = []
     except (tarfile.TarError, EOFError, OSError) as why:
         raise Cut(f"the tar ends too early or is none: {why}") from why
 
@@ -116,38 +135,107 @@ def answer_all(job: Job, share: Sequence[tuple[Any, Body]]) -> list[str]:
 
 
 def shares(stream: Iterator[tuple[Any, Body]]) -> Iterator[list[tuple[Any, Body]]]:
-    """The pages in shares that are worth a process's while."""
+    """The pages in shares that are worth a process's while. Where the stream is cut, the pages before that come first."""
     share: list[tuple[Any, Body]] = []
     size = 0
-    for name, body in stream:
-        share.append((name, body))
-        size += len(body)
-        if len(share) == _PAGES or size >= _BYTES:
-            yield share
-            share, size = [], 0
+    try:
+        for name, body in stream:
+            share.append((name, body))
+            size += len(body)
+            if len(share) == _PAGES or size >= _BYTES:
+                yield share
+                share, size = [], 0
+    except Cut:
+        yield share
+        raise
     yield share
 
 
 def answers(job: Job, stream: Iterator[tuple[Any, Body]], jobs: int = 1) -> Iterator[str]:
-    """The lines of the pages, in their order, by so many processes. At most some shares a process are held at a time, however long the stream is."""
+    """The lines of the pages, in their order, by so many processes. At most two shares a process are held at a time, however long the stream is."""
     if jobs == 1:
         for share in shares(stream):
             yield from answer_all(job, share)
         return
-    waiting: deque[Future[list[str]]] = deque()
-    with ProcessPoolExecutor(jobs) as pool:
+    workers: list[_Worker] = []
+    try:
+        for _ in range(jobs):
+            workers.append(_Worker(job, workers))
+        yield from _in_order(workers, shares(stream))
+    finally:
+        for worker in workers:
+            worker.end()
+
+
+class _Worker:
+    """A process that answers shares, one at a time, over a connection that no other process has: so where it is ended, in whatever it does, that is seen."""
+
+    def __init__(self, job: Job, others: Sequence[_Worker]) -> None:
+        context = multiprocessing.get_context("fork")
+        self.connection, theirs = context.Pipe()
+        inherited = [self.connection, *(it.connection for it in others)]
+        self.process = context.Process(target=_work, args=(job, theirs, inherited), daemon=True)
+        self.process.start()
+        theirs.close()
+
+    def send(self, share: list[tuple[Any, Body]]) -> None:
         try:
-            for share in shares(stream):
-                waiting.append(pool.submit(answer_all, job, share))
-                if len(waiting) > 2 * jobs:
-                    yield from waiting.popleft().result()
-        except Cut:
-            # what came before the cut is answered first
-            while waiting:
-                yield from waiting.popleft().result()
-            raise
-        while waiting:
-            yield from waiting.popleft().result()
+            self.connection.send(share)
+        except OSError as why:
+            raise Ended from why
+
+    def receive(self) -> list[str]:
+        try:
+            return self.connection.recv()
+        except (EOFError, OSError) as why:
+            raise Ended from why
+
+    def end(self) -> None:
+        self.connection.close()
+        self.process.join()
+
+
+def _work(job: Job, connection: Connection, inherited: Sequence[Connection]) -> None:
+    """Answers shares until there are no more, or nobody asks."""
+    signal.signal(signal.SIGINT, signal.SIG_IGN)
+    for it in inherited:
+        it.close()
+    try:
+        while True:
+            connection.send(answer_all(job, connection.recv()))
+    except (EOFError, OSError):
+        pass
+
+
+def _in_order(workers: Sequence[_Worker], waiting: Iterator[list[tuple[Any, Body]]]) -> Iterator[str]:
+    """The lines of shares in their order, each share by a worker that has no other."""
+    idle = [*workers]
+    busy: dict[Connection, tuple[_Worker, int]] = {}
+    done: dict[int, list[str]] = {}
+    asked = given = 0
+    cut: Optional[Cut] = None
+    share: Optional[list[tuple[Any, Body]]] = []
+    while share is not None or busy:
+        while share is not None and idle and asked - given < 2 * len(workers):
+            try:
+                share = next(waiting, None)
+            except Cut as why:
+                cut, share = why, None
+            if share is not None:
+                worker = idle.pop()
+                worker.send(share)
+                busy[worker.connection] = worker, asked
+                asked += 1
+        for connection in wait([*busy]) if busy else ():
+            assert isinstance(connection, Connection)
+            worker, number = busy.pop(connection)
+            done[number] = worker.receive()
+            idle.append(worker)
+        while given in done:
+            yield from done.pop(given)
+            given += 1
+    if cut is not None:
+        raise cut
 
 
 # THE PROGRAM
@@ -204,8 +292,8 @@ def main(words: Optional[Sequence[str]] = None) -> int:
         sys.stdout.flush()
     except Cut as why:
         return _fault(progress, str(why))
-    except BrokenProcessPool:
-        return _fault(progress, "a process of the pool was ended")
+    except Ended:
+        return _fault(progress, "one of the processes was ended")
     except OSError as why:
         return _fault(progress, str(why))
     progress.end()
