@@ -12,6 +12,8 @@ pub mod Making
 pub mod MaySaying
 pub mod Naming
 pub mod Openings
+pub mod Owning
+pub mod Pausing
 pub mod Refusals
 pub mod Rewritten
 pub mod Stretches

@@ -59,7 +59,7 @@ pub given-all : (run : Run) (tokens : List Token) → (gave_all run tokens).give
 given-all run [] = sym (append-nil run.given)
 given-all run (t ∷ ts) = given-all (gave run t None) ts ∙ append_assoc run.given (t ∷ []) ts
 
-starts-length : (tokens : List Token) → length (starts_of tokens) ≡ length tokens
+pub starts-length : (tokens : List Token) → length (starts_of tokens) ≡ length tokens
 starts-length [] = refl
 starts-length (t ∷ ts) = ap suc (starts-length ts)
 

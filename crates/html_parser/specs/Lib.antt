@@ -6,7 +6,9 @@ pub mod Feeding
 pub mod Kinds
 pub mod Normalised
 pub mod Options
+pub mod Owned
 pub mod Parsed
+pub mod Paused
 pub mod Reading
 pub mod Said
 pub mod Spent
@@ -28,6 +30,7 @@ pub use Rattle.html_device.specs.Device
 pub use Rattle.html_dom.specs.Allowed
 pub use Rattle.html_dom.specs.Places
 pub use Rattle.html_dom.specs.Reads
+pub use Rattle.html_input.specs.Lines
 pub use Rattle.html_page.specs.Html
 pub use Rattle.html_page.specs.Serialised
 pub use Rattle.html_page.specs.Shows

@@ -47,6 +47,18 @@ impl<'a> Feeder<'a> {
         })
     }
 
+    /// Stages that go on.
+    pub(crate) fn of(stages: Stages<'a>) -> Feeder<'a>
+        requires staged { AreStaged stages }
+        ensures stages { result.stages ≡ stages.entry }
+        ensures going { result.is_stopped ≡ false }
+    {
+        Feeder {
+            stages,
+            is_stopped: false,
+        }
+    }
+
     /// Keeps no more tokens.
     pub(crate) fn keep_no_tokens(&mut self)
         ensures fed { (start : Start) (bytes : List ℕ) → IsFed start self.old bytes → IsFed start self.new bytes }

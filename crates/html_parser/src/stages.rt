@@ -48,17 +48,17 @@ const MOST_ROOM: usize = (31 << 20) / size_of::<NodeData>();
 /// The stages, and the text that is on its way between them.
 #[derive(Drop)]
 pub(crate) struct Stages<'a> {
-    decoder: Decoder,
-    tokenizer: Tokenizer<'a>,
-    builder: Builder,
+    pub decoder: Decoder,
+    pub tokenizer: Tokenizer<'a>,
+    pub builder: Builder,
     /// What the decoder last put out, which the tokenizer has.
-    text: Vec<char>,
+    pub text: Vec<char>,
     /// The plain text that the tokenizer last gave, which tree construction has.
-    run: Vec<char>,
-    kept: Kept,
+    pub run: Vec<char>,
+    pub kept: Kept,
     /// Whether more steps than the limit were counted when the last token had been taken.
-    is_past: bool,
-    alloc: Global,
+    pub is_past: bool,
+    pub alloc: Global,
     ghost tokenizing: { IsTokenizing tokenizer kept.starts },
 }
 
