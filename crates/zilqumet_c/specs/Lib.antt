@@ -1,6 +1,7 @@
 -- Claimed.
 pub mod Causes
 pub mod Kept
+pub mod Places
 pub mod Reads
 pub mod Status
 pub mod Texts

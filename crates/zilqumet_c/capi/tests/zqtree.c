@@ -192,11 +192,11 @@ int main(int argc, char **argv) {
     if (context != NULL) {
         status = zq_parse_fragment(&entities, &options, context, strlen(context), bytes, len, &page, &at);
     } else if (piece != 0) {
-        status = zq_parser_new(&options, &parser);
+        status = zq_parser_new(&entities, &options, &parser);
         for (size_t from = 0; status == ZQ_OK && from < len; from += piece)
-            status = zq_parser_feed(&parser, bytes + from, len - from < piece ? len - from : piece);
+            status = zq_parser_feed(&parser, bytes + from, len - from < piece ? len - from : piece, &at);
         if (status == ZQ_OK)
-            status = zq_parser_finish(&parser, &entities, &page, &at);
+            status = zq_parser_finish(&parser, &page, &at);
     } else {
         status = zq_parse(&entities, &options, bytes, len, &page, &at);
     }
