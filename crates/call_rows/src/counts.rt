@@ -7,7 +7,7 @@ use html_tokens::{TextMode, Tokenizer};
 use std::alloc::{AllocError, Global};
 
 /// The table of five names; it is refused for want of memory alone.
-fn core_table(alloc: Global) -> Result<EntityTable, ParseError> {
+pub(crate) fn core_table(alloc: Global) -> Result<EntityTable, ParseError> {
     EntityTable::core(alloc).map_err(|_| ParseError::OutOfMemory)
 }
 

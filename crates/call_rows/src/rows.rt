@@ -1,6 +1,7 @@
 // Rows, and the line of each.
 
 use crate::counts::{fragment_nodes, page_nodes, tokens_given, tokens_taken};
+use crate::owned::{owned_nodes, owned_tree_nodes};
 use anyhow::{Result, bail};
 use html_parser::ParseError;
 use std::alloc::Global;
@@ -35,6 +36,8 @@ fn count_of(alloc: Global, call: &str, input: &str) -> Option<Result<u64, ParseE
         "process" => Some(tokens_taken(alloc, input)),
         "parse" => Some(page_nodes(alloc, input.as_bytes())),
         "parse_fragment" => Some(fragment_nodes(alloc, input.as_bytes())),
+        "owned" => Some(owned_nodes(alloc, input.as_bytes())),
+        "owned_tree" => Some(owned_tree_nodes(alloc, input.as_bytes())),
         _ => None,
     }
 }
