@@ -53,10 +53,8 @@ impl<'a> Feeder<'a> {
         ensures stages { result.stages ≡ stages.entry }
         ensures going { result.is_stopped ≡ false }
     {
-        Feeder {
-            stages,
-            is_stopped: false,
-        }
+        let is_stopped = false;
+        Feeder { stages, is_stopped }
     }
 
     /// Keeps no more tokens.
