@@ -12,9 +12,9 @@ returns-clause-done g c =
 pub returns-clause-answered : goal.returns-clause-answered
 returns-clause-answered g c =
     let (consumed, is) = c.in_ok-read.ensures.tree in
-    all-located (start_for c.args.job.now c.args.table.now) c.in_ok-read.read.0 c.in_ok-read.read.1.items _ _ consumed c.in_ok-read.ensures.end is _ _ c.list_located.result c.list_located.ensures.ok
+    all-located (start_for c.args.job.now c.args.table.now) c.in_ok-read.read.0 c.in_ok-read.read.1.items _ _ consumed c.in_ok-read.ensures.end is _ _ c.list_located.result (rw c.as_slice.ensures.value at c.list_located.ensures.ok)
 
 pub returns-clause-failed : goal.returns-clause-failed
 returns-clause-failed g c =
     let (consumed, is) = c.in_ok-read.ensures.tree in
-    front-located (start_for c.args.job.now c.args.table.now) c.in_ok-read.read.0 c.in_ok-read.read.1.items _ _ consumed c.in_ok-read.ensures.end is _ _ c.list_located.result c.list_located.ensures.err c.list_located.ensures.cause
+    front-located (start_for c.args.job.now c.args.table.now) c.in_ok-read.read.0 c.in_ok-read.read.1.items _ _ consumed c.in_ok-read.ensures.end is _ _ c.list_located.result (rw c.as_slice.ensures.value at c.list_located.ensures.err) c.list_located.ensures.cause
