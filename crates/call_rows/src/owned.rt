@@ -1,4 +1,5 @@
 // Pages by parsers that own their table, in pieces.
+ghost use Rattle.std.specs.Prelude.{◌<◌};
 
 use crate::counts::core_table;
 use html_parser::{EntityTable, Options, OwnedParser, OwnedTreeParser, ParseError, parse};
@@ -26,11 +27,10 @@ fn shared_table(alloc: Global) -> Result<Arc<EntityTable>, ParseError> {
 pub(crate) fn owned_nodes(alloc: Global, bytes: &[u8]) -> Result<u64, ParseError> {
     let table = shared_table(alloc)?;
     let whole = whole_counts(alloc, &table, bytes)?;
-    for length in [1, 3] {
-        let table = shared(&table)?;
-        if page_counts(alloc, table, length, bytes)? != whole {
-            return Err(ParseError::Stopped);
-        }
+    let by_ones = page_counts(alloc, shared(&table)?, 1, bytes)?;
+    let by_threes = page_counts(alloc, shared(&table)?, 3, bytes)?;
+    if by_ones != whole || by_threes != whole {
+        return Err(ParseError::Stopped);
     }
     Ok(whole.nodes)
 }
@@ -39,11 +39,10 @@ pub(crate) fn owned_nodes(alloc: Global, bytes: &[u8]) -> Result<u64, ParseError
 pub(crate) fn owned_tree_nodes(alloc: Global, bytes: &[u8]) -> Result<u64, ParseError> {
     let table = shared_table(alloc)?;
     let whole = whole_counts(alloc, &table, bytes)?;
-    for length in [1, 3] {
-        let table = shared(&table)?;
-        if tree_counts(alloc, table, length, bytes)? != whole {
-            return Err(ParseError::Stopped);
-        }
+    let by_ones = tree_counts(alloc, shared(&table)?, 1, bytes)?;
+    let by_threes = tree_counts(alloc, shared(&table)?, 3, bytes)?;
+    if by_ones != whole || by_threes != whole {
+        return Err(ParseError::Stopped);
     }
     Ok(whole.nodes)
 }
@@ -69,7 +68,9 @@ fn page_counts(
     table: Arc<EntityTable>,
     length: usize,
     bytes: &[u8],
-) -> Result<Counts, ParseError> {
+) -> Result<Counts, ParseError>
+    requires some { 0 < length }
+{
     let mut parser = OwnedParser::new(alloc, table, &Options::new())?;
     let mut fed = Ok(());
     for piece in bytes.chunks(length) {
@@ -91,7 +92,9 @@ fn tree_counts(
     table: Arc<EntityTable>,
     length: usize,
     bytes: &[u8],
-) -> Result<Counts, ParseError> {
+) -> Result<Counts, ParseError>
+    requires some { 0 < length }
+{
     let mut parser = OwnedTreeParser::new(alloc, table, &Options::new())?;
     let mut fed = Ok(());
     for piece in bytes.chunks(length) {
