@@ -51,6 +51,7 @@ fn job_of(alloc: Global, command: Command) -> Job<'static> {
         max_input: None,
         max_steps: None,
         profile: Profile::One,
+        lines: false,
         input: None,
         files: Vec::new(alloc),
     }
