@@ -1,4 +1,5 @@
 """What the verdicts on a crate's edits follow from, and at which of it all were refused."""
+import collections
 import functools
 import hashlib
 import os
@@ -17,26 +18,65 @@ TRAIT = re.compile(r"\btrait\s+\w[^{;]*\{")
 OF_ONE_FUNCTION = re.compile(rb"\bRattle\.(\w+)\.(?:specs\.contracts|proofs\.[a-z])")
 # a module of tests
 TESTS = re.compile(rb"(?m)^#\[cfg\(test\)\]\nmod (\w+);\n")
+# what a file brings in: `pub` where it hands that on, and which names
+IMPORT = re.compile(r"(?m)^(pub |pub\([^)]*\) |)(?:ghost )?use\s+([^;]*);\n?")
+SUBMODULE = re.compile(r"(?m)^(?:pub(?:\([^)]*\))? )?mod \w+;\n?")
+COMMENT = {".rt": re.compile(r"(?m)^\s*//.*\n?"), ".antt": re.compile(r"(?m)^\s*--.*\n?")}
+# an impl of a type's own functions, of which none is left
+EMPTY = re.compile(r"\bimpl\b(?:(?!\bfor\b)[^{;])*\{\s*\}")
+# a file of definitions or lemmas, as texts name it
+MODULE = re.compile(r"\b(\w+)(?:\.|::)(specs|proofs)((?:(?:\.|::)\w+)+)")
+# the logic of the toolchain, which builds of one kit share: a verdict is about what can be proved, and all builds of a logic agree on that
+LOGIC = re.compile(rb"logic \w+")
+# what a file declares, and an impl that hangs on no name
+DECLARED = re.compile(r"\b(?:struct|enum|union|const|static|type|trait|fn|macro)\s+(\w+)")
+OF_TRAIT = re.compile(r"\bimpl\b[^{;]*\bfor\b")
 
 
-def unseen(file, text):
-    """Yields the spans of a file's text that no crate above can see, in order: functions that are not public, with the comments above them, and the bodies
-    of others; but of a trait's functions and of constant ones nothing. `text` has no comments and strings."""
+functions_in = functools.lru_cache(maxsize=None)(functions_of_file)
+
+
+def unseen(file, text, words):
+    """Yields the spans of a file's text that no crate above can see that has these words, in order: functions that are not public, or not named there, with
+    the comments above them, and the bodies of others; but of a trait's functions and of constant ones nothing. `text` has no comments and strings."""
     traits = [range(it.end(), closing(text, it.end() - 1)) for it in TRAIT.finditer(text)]
     end = 0
-    for it in sorted(functions_of_file(file, text), key=lambda it: it.start):
+    for it in sorted(functions_in(file, text), key=lambda it: it.start):
         is_seen = it.is_constant or any(it.start in span for span in traits)
         if it.start >= end and not is_seen:
-            is_whole = not (it.is_public or it.owner.trait)
+            is_whole = not (it.owner.trait or it.is_public and it.name in words)
             yield (len(text[: it.begin].rstrip()), it.end + 1) if is_whole else (it.start + 1, it.end)
             end = it.end
 
 
-def seen(file, data, text):
-    """Returns what a crate above can see of a file, without empty lines."""
-    for start, end in reversed([*unseen(file, text)]):
+def entries(text):
+    """Yields what an import brings in, entry by entry: what stands before its brackets, and what it is called."""
+    front, opens, rest = text.partition("{")
+    if not opens:
+        yield text.strip(), (re.findall(r"\w+", text) or [""])[-1]
+        return
+    depth, part = 0, ""
+    for sign in rest:
+        depth += (sign == "{") - (sign == "}")
+        if depth < 0 or sign == "," and not depth:
+            yield from ((front + it, name) for it, name in entries(part) if it)
+            part = ""
+        else:
+            part += sign
+
+
+def seen(file, data, text, words):
+    """Returns what a crate above that has these words can see of a file of src/, without comments, and sorted what of its imports is used there."""
+    for start, end in reversed([*unseen(file, text, words)]):
         data = data[:start] + data[end:]
-    return b"".join(it for it in TESTS.sub(b"", data).splitlines(True) if it.strip())
+    left = COMMENT[".rt"].sub("", TESTS.sub(b"", data).decode(errors="replace"))
+    imports = [(it[1], *entry) for it in IMPORT.finditer(left) for entry in entries(it[2])]
+    left = SUBMODULE.sub("", IMPORT.sub("", left))
+    if not EMPTY.sub("", left).strip():
+        left = ""
+    used = {*re.findall(r"\w+", left)}
+    kept = sorted(f"{pub}{path}" for pub, path, name in imports if name in used or pub == "pub " and name in words)
+    return "\n".join([*kept, *(it for it in left.splitlines() if it.strip())])
 
 
 def files_of_tests(files):
@@ -48,24 +88,70 @@ def files_of_tests(files):
     return named
 
 
+def sum_of(data):
+    return hashlib.sha256(data).digest()
+
+
 def sums_of(folder):
     """Returns the files of a crate's folder with the sums of their texts."""
-    return [(it, hashlib.sha256(Path(it).read_bytes()).digest()) for it in rt.rtlib.files_of(folder)]
+    return [(it, sum_of(Path(it).read_bytes())) for it in rt.rtlib.files_of(folder)]
+
+
+def bare(path):
+    """Returns the text of a file of definitions or lemmas without comments."""
+    return COMMENT[".antt"].sub("", Path(path).read_text(errors="replace"))
 
 
 @functools.lru_cache(maxsize=None)
-def seen_from_above(folder, _sums):
-    """Returns the files that a check of a crate above can see of a library whose files have these sums, with the sums of what it can see of each."""
-    blanked, found = rt.rtlib.blanked.__wrapped__(folder), []
-    files = [*rt.rtlib.files_of(folder)]
+def blanked(folder, _sums):
+    return rt.rtlib.blanked.__wrapped__(folder)
+
+
+def sources_seen(folder, words):
+    """Yields the files of a library's src/ of which a crate above that has these words sees something, with that."""
+    sums = tuple(sums_of(folder))
+    files, texts = [it for it, _ in sums], blanked(folder, sums)
     tests = files_of_tests(files)
     for path in files:
-        data, file = Path(path).read_bytes(), os.path.relpath(path, folder)
-        if file.startswith("src/"):
-            data = seen(file, data, blanked[path].encode().decode("latin-1"))
-        if not OF_ONE_PROOF.search(f"/{file}") and path not in tests:
-            found.append((path, hashlib.sha256(data).digest()))
-    return found
+        file = os.path.relpath(path, folder)
+        if file.startswith("src/") and path.endswith(".rt") and path not in tests:
+            if text := seen(file, Path(path).read_bytes(), texts[path].encode().decode("latin-1"), words):
+                yield path, text
+
+
+def without_unnamed(texts, words):
+    """Returns the texts of files without those that declare names alone which neither the others nor these words have."""
+    counts = collections.Counter(word for text in texts.values() for word in {*re.findall(r"\w+", text)})
+    is_named = lambda it: it in words or counts[it] > 1
+    return {path: text for path, text in texts.items() if OF_TRAIT.search(text) or any(map(is_named, DECLARED.findall(text))) or not DECLARED.search(text)}
+
+
+def named_files(text, own, folders):
+    """Yields the files of definitions and lemmas that a text names, of these folders by the crate's name; `own` is the name of its crate."""
+    for name, part, path in MODULE.findall(text):
+        steps = re.findall(r"\w+", path)
+        folder = folders.get(own if name == "crate" else name)
+        if folder:
+            paths = (f"{folder}/{part}/{'/'.join(steps[:it])}.antt" for it in range(len(steps), 0, -1))
+            yield from (it for it in paths if os.path.isfile(it))
+
+
+def seen_from(crate):
+    """Returns the files of the libraries below that a crate's verdicts can hang on, with the sums of what counts of each: contracts of functions that the
+    crate's texts name, all that is no function, and the files of definitions and lemmas that are named there or by the crate, or by such files."""
+    folders = {it.name: it.folder for it in crate.below()}
+    own = "\n".join(Path(it).read_text(errors="replace") for it in rt.rtlib.files_of(crate.folder))
+    words = {*re.findall(r"\w+", own)}
+    found = without_unnamed({path: text for folder in folders.values() for path, text in sources_seen(folder, words)}, words)
+    owner = lambda path: next(name for name, folder in folders.items() if path.startswith(f"{folder}/"))
+    waiting = [*named_files(own, crate.name, folders)]
+    waiting += [it for path, text in found.items() for it in named_files(text, owner(path), folders)]
+    while waiting:
+        path = waiting.pop()
+        if path not in found:
+            found[path] = bare(path)
+            waiting += named_files(found[path], owner(path), folders)
+    return [(path, sum_of(text.encode())) for path, text in found.items()]
 
 
 @functools.lru_cache(maxsize=None)
@@ -74,24 +160,31 @@ def opened(name, folder, _sums):
     return {it.decode() for path in rt.rtlib.files_of(folder) for it in OF_ONE_FUNCTION.findall(Path(path).read_bytes())} - {name}
 
 
+def own_sums(crate):
+    """Returns the files of the crate itself with their sums, those of definitions and lemmas without comments."""
+    return [(it, sum_of(bare(it).encode()) if it.endswith(".antt") else data) for it, data in sums_of(crate.folder)]
+
+
 def digest(crate):
-    """Returns what tells apart all that the verdicts on a crate's edits follow from: the toolchain, the edits, the texts of the crate, and of those
-    below what it can see: of a public function the contract, and neither its body nor its proof; but all of a library of which the crate, or one below, names more. A
-    program is linked with all that it reaches."""
-    sums, named = sums_of(crate.folder), set()
+    """Returns what tells apart all that the verdicts on a crate's edits follow from: the toolchain's logic, the edits, the texts of the crate, and of those
+    below what they can hang on; but all of a library of which the crate, or one below, names more. A program is linked with all that it reaches."""
+    sums, named = own_sums(crate), set()
     for it in (crate, *crate.below()):
         named |= opened(it.name, it.folder, tuple(sums_of(it.folder)))
+    if crate.is_program:
+        named |= {it.name for it in crate.below()}
     for below in crate.below():
-        whole = sums_of(below.folder)
-        sums += whole if crate.is_program or below.name in named else seen_from_above(below.folder, tuple(whole))
+        if below.name in named:
+            sums += sums_of(below.folder)
+    whole = {it for it, _ in sums}
+    sums += [it for it in seen_from(crate) if it[0] not in whole]
     if os.path.isdir(f"{crate.folder}/edits"):
-        sums += [(str(it), hashlib.sha256(it.read_bytes()).digest()) for it in Path(crate.folder, "edits").iterdir()]
-    found = hashlib.sha256(Path(rt.KIT, "KIT-ID").read_bytes())
+        sums += [(str(it), sum_of(it.read_bytes())) for it in Path(crate.folder, "edits").iterdir()]
+    kit = Path(rt.KIT, "KIT-ID").read_bytes()
+    found = hashlib.sha256((LOGIC.search(kit) or [kit])[0])
     for path, sum_of_text in sorted(sums):
         found.update(f"\0{os.path.relpath(path)}\0".encode() + sum_of_text)
     return found.hexdigest()
-
-
 class Verdicts(NamedTuple):
     """That all edits of a crate were refused: the digest at which they were, and how many seconds it took."""
 

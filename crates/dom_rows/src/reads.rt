@@ -18,6 +18,7 @@ pub(crate) fn read(
         "descendants" => put_descendants(arena, node, out)?,
         "named" => put_named(arena, node, words.second, out)?,
         "textof" => dom::text_below(arena, node, out)?,
+        "texts" => put_texts(arena, node, out)?,
         "inner" => put_part(arena, node, true, out)?,
         "outer" => put_part(arena, node, false, out)?,
         "attr" => out.push_str(dom::attr(arena, node, words.second).unwrap_or("none"))?,
@@ -51,6 +52,13 @@ fn put_descendants(arena: &Arena, node: NodeId, out: &mut String) -> Result<()> 
 fn put_named(arena: &Arena, node: NodeId, name: &str, out: &mut String) -> Result<()> {
     for element in dom::elements_named(arena, node, name) {
         put_node(arena, Some(element), out)?;
+    }
+    Ok(())
+}
+
+fn put_texts(arena: &Arena, node: NodeId, out: &mut String) -> Result<()> {
+    for text in dom::texts(arena, node) {
+        write!(out, "\"{text}\" ")?;
     }
     Ok(())
 }

@@ -41,6 +41,7 @@ use Rattle.html_construction.specs.Origins.{AreOrigins, HasRoot, IsRootLabel}
 use Rattle.html_construction.specs.States.{State}
 use Rattle.html_modes.specs.Steps.{allowance}
 use Rattle.html_builder.specs.Builders.{BuilderState}
+use Rattle.html_builder.specs.Built.{IsBuiltByRules}
 use Rattle.html_builder.specs.Handed.{CostAtMost, EndsAtEof, Handed, HaveFates, fates_of, given, own_total, parses_foreign}
 use Rattle.html_builder.specs.Outcome.{AreVoidsEmpty, HasNoForeignRoot, IsBounded, IsOutcome, IsRooted, most_entries, most_held, most_nodes, most_tree_steps}
 use Rattle.html_construction.specs.Standing.{IsStanding}
@@ -317,6 +318,10 @@ within s l ts b t h e w = subst (λ o. AreWithin o (length t.labels) t.held) (ap
 -- where foreign content is refused, no element of it was made
 pub native : (s : Setting) (l : Option Limits) (ts : List TokenKind) (b : BuilderState) → Handed s l ts b → parses_foreign b ≡ false → is_foreign_context s ≡ false → list_all is_native (fates_of b) ≡ true
 native s l ts b h p f = h.built.refusing p f
+
+-- and what was built was built by the rules
+pub built-by-rules : (s : Setting) (l : Option Limits) (ts : List TokenKind) (b : BuilderState) (t : Tree) (fs : List Fate) → Handed s l ts b → bare t ≡ b.page.tree.tree → fs ≡ b.page.ledger.fates → IsBuiltByRules s l (parses_foreign b) ts fs t
+built-by-rules s l ts b t fs h e f = record { first = h.first; begins = h.begins; foreign_is = h.parses; last = b.page; constructs = h.constructs; tree_is = e; fates_are = f }
 
 pub ruleset finish_rules = (outcome, bounded)
 

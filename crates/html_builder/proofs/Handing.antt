@@ -23,6 +23,7 @@ use Rattle.html_ledger.specs.declared.fate.Fate.TheVariants as fate
 use Rattle.html_ledger.specs.Symbols.{symbol_of}
 use Rattle.html_construction.specs.Budgets.{IsPassed, IsRefused, Refuses, RefusesAny}
 use Rattle.html_construction.specs.Built.{Accepts, AcceptsRun, Handed as Given, IsBuilt, chars_of, in_call, nothing_of, some_made, symbols, with_tokens}
+use Rattle.html_construction.specs.Beginning.{IsFirst}
 use Rattle.html_construction.specs.Begun.{IsFounded, IsInCall, drops_in, gives_in}
 use Rattle.html_construction.specs.Modes.{is_of_frames, is_of_selects, is_reset}
 use Rattle.html_construction.specs.States.{State}
@@ -35,6 +36,8 @@ use Rattle.html_construction.specs.declared.refusal.Refusal.{Refusal}
 use Rattle.html_construction.specs.declared.refusal.Refusal.TheVariants as refusal
 use Rattle.html_modes.specs.Begun.{Gives, GivesIn, StaysOut, ignores_foreign}
 use Rattle.html_modes.proofs.Begun.{accepts-gives, founded-other, run-gives}
+use Rattle.html_modes.proofs.Constructing.{constructs-one, constructs-then}
+use Rattle.html_modes.specs.Dispatching.{Constructs, Entries, begun as begun_call}
 use Rattle.html_modes.specs.Entering.{Enters}
 use Rattle.html_modes.specs.Ranks.{top_rank}
 use Rattle.html_modes.specs.Steps.{Pays, Toils, compared, root_of}
@@ -113,8 +116,9 @@ RawSoFar us v w = (s : Setting) (l : Option Limits) (ts : List TokenKind) → Ha
 
 -- so many tokens, handed in at once
 handed-in : (us : List TokenKind) (more : ℕ) (v w : BuilderState) → Accepting us v.page w.page → Pays v.page w.page
-    → Enters (length us) v.entries w.entries v.page w.page → Toils more v.page w.page → more ≤ attribute_total us * span_of w.page → ((s : Setting) (ts : List TokenKind) → IsPlainSoFar s ts v.page → IsPlainSoFar s (ts ++ us) w.page) → RawSoFar us v w → 0 < length us → IsFounded w.page → w.stopped ≡ false → HandsIn us v w
-handed-in us more v w f p r o m q z k i g = λ s l ts h.
+    → Enters (length us) v.entries w.entries v.page w.page → Toils more v.page w.page → more ≤ attribute_total us * span_of w.page → ((s : Setting) (ts : List TokenKind) → IsPlainSoFar s ts v.page → IsPlainSoFar s (ts ++ us) w.page) → RawSoFar us v w → 0 < length us → IsFounded w.page
+    → w.page.parses_foreign ≡ v.page.parses_foreign → Constructs us v.page w.page → w.stopped ≡ false → HandsIn us v w
+handed-in us more v w f p r o m q z k i x y g = λ s l ts h.
     let n : length (ts ++ us) ≡ length ts + length us = length-append ts us in
     let b : IsBuilt (given s l (ts ++ us)) w.page = subst (λ x. IsBuilt x w.page) (with-given s l ts us) (over (given s l ts) us v.page w.page refl (f (given s l ts) h.built)) in
     let c = handed-count (given s l (ts ++ us)) w.page b in record {
@@ -129,21 +133,26 @@ handed-in us more v w f p r o m q z k i g = λ s l ts h.
       founded = i;
       plain = q s ts h.plain;
       raw_texts = z s l ts h;
+      first = h.first;
+      begins = h.begins;
+      parses = h.parses ∙ sym x;
+      constructs = constructs-then ts us h.first v.page w.page h.constructs y;
     }
 
 pub handed-token : (t : TokenKind) (v w : BuilderState) → Accepts t v.page w.page → Pays v.page w.page → Enters 1 v.entries w.entries v.page w.page → Toils (compared t w.page) v.page w.page → GoesOn (symbol_of t) t v.page w.page
-    → OpensBy (symbol_of t) w.page → AddsBy (symbol_of t) v.page w.page → EndsBy (symbol_of t) t v.page w.page → IsFounded w.page → w.stopped ≡ false → HandsIn (t ∷ []) v w
-handed-token t v w f p r o q x y z i g = handed-in (t ∷ []) (compared t w.page) v w f p r o (compared-one t (span_of w.page)) (plain-token t v.page w.page q)
-    (λ s l ts h. raw-token (given s l ts) ts t v.page w.page refl h.built f x y z (added-token t v w f s l ts h) h.raw_texts) (omega arith) i g
+    → OpensBy (symbol_of t) w.page → AddsBy (symbol_of t) v.page w.page → EndsBy (symbol_of t) t v.page w.page → IsFounded w.page → w.page.parses_foreign ≡ v.page.parses_foreign
+    → Entries (symbol_of t) t (begun_call v.page) w.page → w.stopped ≡ false → HandsIn (t ∷ []) v w
+handed-token t v w f p r o q x y z i m n g = handed-in (t ∷ []) (compared t w.page) v w f p r o (compared-one t (span_of w.page)) (plain-token t v.page w.page q)
+    (λ s l ts h. raw-token (given s l ts) ts t v.page w.page refl h.built f x y z (added-token t v w f s l ts h) h.raw_texts) (omega arith) i m (constructs-one t v.page w.page n) g
 
 length-chars : (cs : List ℕ) → length (chars_of cs) ≡ length cs
 length-chars [] = refl
 length-chars (c ∷ cs) = ap suc (length-chars cs)
 
-pub handed-run : (cs : List ℕ) (v w : BuilderState) → AcceptsRun cs v.page w.page → Pays v.page w.page → Enters (length cs) v.entries w.entries v.page w.page → Toils 0 v.page w.page → (list_all is_not_null cs ≡ true → GoesOnText cs v.page w.page) → AddsText cs v.page w.page → 0 < length cs → IsFounded w.page → w.stopped ≡ false
-    → HandsIn (chars_of cs) v w
-handed-run cs v w f p r o q z k i g = handed-in (chars_of cs) 0 v w f p (subst (λ n. Enters n v.entries w.entries v.page w.page) (sym (length-chars cs)) r) o (omega arith) (plain-run cs v.page w.page k q)
-    (λ s l ts h. raw-run (given s l ts) ts (chars_of cs) cs v.page w.page refl h.built (symbols-chars cs) f z (added-run cs v w f s l ts h) h.raw_texts) (let e = length-chars cs in omega (arith, e, k)) i g
+pub handed-run : (cs : List ℕ) (v w : BuilderState) → AcceptsRun cs v.page w.page → Pays v.page w.page → Enters (length cs) v.entries w.entries v.page w.page → Toils 0 v.page w.page → (list_all is_not_null cs ≡ true → GoesOnText cs v.page w.page) → AddsText cs v.page w.page → 0 < length cs → IsFounded w.page
+    → w.page.parses_foreign ≡ v.page.parses_foreign → Constructs (chars_of cs) v.page w.page → w.stopped ≡ false → HandsIn (chars_of cs) v w
+handed-run cs v w f p r o q z k i m n g = handed-in (chars_of cs) 0 v w f p (subst (λ n. Enters n v.entries w.entries v.page w.page) (sym (length-chars cs)) r) o (omega arith) (plain-run cs v.page w.page k q)
+    (λ s l ts h. raw-run (given s l ts) ts (chars_of cs) cs v.page w.page refl h.built (symbols-chars cs) f z (added-run cs v w f s l ts h) h.raw_texts) (let e = length-chars cs in omega (arith, e, k)) i m n g
 
 -- ONE AFTER ANOTHER
 
@@ -214,16 +223,16 @@ pub none-fated : (s : Setting) (l : Option Limits) (a : State) → IsBuilt (noth
 none-fated s l a w = let c = handed-count (nothing_of s l) a w in length-none a.ledger.fates (omega (arith, c))
 
 begun : (s : Setting) (l : Option Limits) (b : BuilderState) → b.stopped ≡ false → b.entries ≡ 0 → IsBuilt (nothing_of s l) b.page → length b.page.tree.tree.labels + 2 * (weight b.page.stack + top_rank b.page.mode) ≤ 40
-    → most_clones b.page.tree.tree.labels ≡ 0 → implied_count b.page.tree.tree.labels ≤ 1 → b.page.tree.steps ≤ 2 + reach_of b.page → weight b.page.stack + top_rank b.page.mode ≤ 14 → IsFounded b.page → IsPlainSoFar s [] b.page → Handed s l [] b
-begun s l b g z w p c i t r f q = record { going = g; built = w; paid = omega (arith, p); cloned = omega (arith, c); implied = omega (arith, i); implied_paid = omega (arith, i, r); entered = omega (arith, z, r); counted = counted-none [] b.page t r; founded = f; plain = q; raw_texts = tt }
+    → most_clones b.page.tree.tree.labels ≡ 0 → implied_count b.page.tree.tree.labels ≤ 1 → b.page.tree.steps ≤ 2 + reach_of b.page → weight b.page.stack + top_rank b.page.mode ≤ 14 → IsFounded b.page → IsPlainSoFar s [] b.page → IsFirst s l b.page → Handed s l [] b
+begun s l b g z w p c i t r f q o = record { going = g; built = w; paid = omega (arith, p); cloned = omega (arith, c); implied = omega (arith, i); implied_paid = omega (arith, i, r); entered = omega (arith, z, r); counted = counted-none [] b.page t r; founded = f; plain = q; raw_texts = tt; first = b.page; begins = o; parses = refl; constructs = refl }
 
 pub begun-document : (l : Option Limits) (b : BuilderState) → b.stopped ≡ false → b.entries ≡ 0 → IsBuilt (nothing_of setting.Document l) b.page → b.page.mode ≡ mode.Initial → b.page.stack ≡ [] → length b.page.tree.tree.labels ≡ 1
     → most_clones b.page.tree.tree.labels ≡ 0 → implied_count b.page.tree.tree.labels ≤ 1 → b.page.tree.steps ≤ 2 + reach_of b.page → (z : Option Limits) × (j : ℕ) × (b.page.tree ≡ document_state z j)
-    → b.page.ledger ≡ begun_ledger setting.Document → b.page.fostering ≡ false → b.page.context ≡ None → Handed setting.Document l [] b
-begun-document l b g z w m k n c i t d e f o =
+    → b.page.ledger ≡ begun_ledger setting.Document → b.page.fostering ≡ false → b.page.context ≡ None → IsFirst setting.Document l b.page → Handed setting.Document l [] b
+begun-document l b g z w m k n c i t d e f o h =
     let p : top_rank b.page.mode ≡ 14 = ap top_rank m in
     let q : weight b.page.stack ≡ 0 = ap weight k in
-    begun setting.Document l b g z w (omega (arith, p, q, n)) c i t (omega (arith, p, q)) (founded-other b.page (ap is_of_selects m) (ap is_of_frames m)) (λ z. begun-plain b.page m k d.0 d.1 d.2 e f o)
+    begun setting.Document l b g z w (omega (arith, p, q, n)) c i t (omega (arith, p, q)) (founded-other b.page (ap is_of_selects m) (ap is_of_frames m)) (λ z. begun-plain b.page m k d.0 d.1 d.2 e f o) h
 
 reset-low : (m : Mode) → is_reset m ≡ true → top_rank m ≤ 10
 reset-low mode.Initial e = absurd (false≢true e)
@@ -233,11 +242,12 @@ reset-low mode.InTableText e = absurd (false≢true e)
 reset-low _ e = omega arith
 
 pub begun-fragment : (u : Tag) (form : Bool) (l : Option Limits) (b : BuilderState) → b.stopped ≡ false → b.entries ≡ 0 → IsBuilt (nothing_of (setting.Fragment u form) l) b.page → is_reset b.page.mode ≡ true → b.page.stack ≡ tag.Html ∷ []
-    → length b.page.tree.tree.labels ≡ 1 → most_clones b.page.tree.tree.labels ≡ 0 → implied_count b.page.tree.tree.labels ≤ 1 → b.page.tree.steps ≤ 2 + reach_of b.page → IsFounded b.page → Handed (setting.Fragment u form) l [] b
-begun-fragment u form l b g z w m k n c i t f =
+    → length b.page.tree.tree.labels ≡ 1 → most_clones b.page.tree.tree.labels ≡ 0 → implied_count b.page.tree.tree.labels ≤ 1 → b.page.tree.steps ≤ 2 + reach_of b.page → IsFounded b.page
+    → IsFirst (setting.Fragment u form) l b.page → Handed (setting.Fragment u form) l [] b
+begun-fragment u form l b g z w m k n c i t f h =
     let p : top_rank b.page.mode ≤ 10 = reset-low b.page.mode m in
     let q : weight b.page.stack ≡ 4 = ap weight k in
-    begun (setting.Fragment u form) l b g z w (omega (arith, p, q, n)) c i t (omega (arith, p, q)) f tt
+    begun (setting.Fragment u form) l b g z w (omega (arith, p, q, n)) c i t (omega (arith, p, q)) f tt h
 
 -- WHAT IS SAID AND REFUSED
 
@@ -332,13 +342,15 @@ text-cause-part s l ts us fs gs text part start at (error.HeldBudget place) p q 
 
 -- the same, where the state is seen as a view
 pub viewed-token : (t : TokenKind) (y : Symbol) (u v w : BuilderState) → u ≡ v → y ≡ symbol_of t → Accepts t u.page w.page → Pays u.page w.page → Enters 1 u.entries w.entries u.page w.page → Toils (compared t w.page) u.page w.page → GoesOn y t u.page w.page
-    → OpensBy y w.page → AddsBy y u.page w.page → EndsBy y t u.page w.page → IsFounded w.page → w.stopped ≡ false → HandsIn (t ∷ []) v w
-viewed-token t y u v w e i f p r o q x m n j g =
+    → OpensBy y w.page → AddsBy y u.page w.page → EndsBy y t u.page w.page → IsFounded w.page
+    → w.page.parses_foreign ≡ u.page.parses_foreign → Entries y t (begun_call u.page) w.page → w.stopped ≡ false → HandsIn (t ∷ []) v w
+viewed-token t y u v w e i f p r o q x m n j a b g =
     subst (λ x. HandsIn (t ∷ []) x w) e
-    (handed-token t u w f p r o (subst (λ z. GoesOn z t u.page w.page) i q) (subst (λ z. OpensBy z w.page) i x) (subst (λ z. AddsBy z u.page w.page) i m) (subst (λ z. EndsBy z t u.page w.page) i n) j g)
+    (handed-token t u w f p r o (subst (λ z. GoesOn z t u.page w.page) i q) (subst (λ z. OpensBy z w.page) i x) (subst (λ z. AddsBy z u.page w.page) i m) (subst (λ z. EndsBy z t u.page w.page) i n) j a (subst (λ z. Entries z t (begun_call u.page) w.page) i b) g)
 
-pub viewed-run : (cs : List ℕ) (u v w : BuilderState) → u ≡ v → AcceptsRun cs u.page w.page → Pays u.page w.page → Enters (length cs) u.entries w.entries u.page w.page → Toils 0 u.page w.page → (list_all is_not_null cs ≡ true → GoesOnText cs u.page w.page) → AddsText cs u.page w.page → 0 < length cs → IsFounded w.page → w.stopped ≡ false → HandsIn (chars_of cs) v w
-viewed-run cs u v w e f p r o q z k i g = subst (λ x. HandsIn (chars_of cs) x w) e (handed-run cs u w f p r o q z k i g)
+pub viewed-run : (cs : List ℕ) (u v w : BuilderState) → u ≡ v → AcceptsRun cs u.page w.page → Pays u.page w.page → Enters (length cs) u.entries w.entries u.page w.page → Toils 0 u.page w.page → (list_all is_not_null cs ≡ true → GoesOnText cs u.page w.page) → AddsText cs u.page w.page → 0 < length cs → IsFounded w.page
+    → w.page.parses_foreign ≡ u.page.parses_foreign → Constructs (chars_of cs) u.page w.page → w.stopped ≡ false → HandsIn (chars_of cs) v w
+viewed-run cs u v w e f p r o q z k i m n g = subst (λ x. HandsIn (chars_of cs) x w) e (handed-run cs u w f p r o q z k i m n g)
 
 pub viewed-added : (cs : List ℕ) (u v w : BuilderState) → u ≡ v → AcceptsRun cs u.page w.page → AddsFates v w
 viewed-added cs u v w e f = subst (λ x. AddsFates x w) e (added-run cs u w f)

@@ -15,6 +15,7 @@ use Rattle.html_ledger.specs.MayDrop.{MayBeForeign}
 use Rattle.html_ledger.specs.Runs.{last_of}
 use Rattle.html_ledger.specs.Symbols.{symbol_of}
 use Rattle.html_tree.specs.States.{document_state}
+use Rattle.html_construction.specs.Beginning.{IsFirst, first_state}
 use Rattle.html_construction.specs.Begun.{IsFounded}
 use Rattle.html_construction.specs.Built.{IsBuilt, ends_made, nothing_of, symbols}
 use Rattle.html_construction.specs.Copies.{implied_count, most_clones}
@@ -88,22 +89,33 @@ known-foreign s l ts b h e =
 
 -- THE BEGINNING
 
+-- foreign content is parsed from the beginning
+parsed-first : (s : Setting) (l : Option Limits) (a p : State) → p ≡ record a { parses_foreign = true } → IsFirst s l a → IsFirst s l p
+parsed-first s l a p e f = record {
+  state_is =
+      e ∙ ap (λ (x : State). record x { parses_foreign = true }) f.state_is
+      ∙ ap (λ (q : Bool). first_state s l q true a.tree.steps) (sym (ap (λ (x : State). x.quirks) e))
+      ∙ ap (λ (q : Bool). first_state s l p.quirks q a.tree.steps) (sym (ap (λ (x : State). x.parses_foreign) e))
+      ∙ ap (λ (n : ℕ). first_state s l p.quirks p.parses_foreign n) (sym (ap (λ (x : State). x.tree.steps) e));
+  quirks_are = λ d. ap (λ (x : State). x.quirks) e ∙ f.quirks_are d;
+}
+
 -- a document that parses foreign content
 pub foreign-document : (l : Option Limits) (a p : State) → p ≡ record a { parses_foreign = true } → IsBuilt (nothing_of setting.Document l) p → a.mode ≡ mode.Initial → a.stack ≡ [] → length a.tree.tree.labels ≡ 1
     → most_clones a.tree.tree.labels ≡ 0 → implied_count a.tree.tree.labels ≤ 1 → a.tree.steps ≤ 2 + reach_of a → (z : Option Limits) × (j : ℕ) × (a.tree ≡ document_state z j)
-    → a.ledger ≡ begun_ledger setting.Document → a.fostering ≡ false → a.context ≡ None → Handed setting.Document l [] (record { page = p; entries = 0; stopped = false })
-foreign-document l a p e w m k n c i t d f o q =
+    → a.ledger ≡ begun_ledger setting.Document → a.fostering ≡ false → a.context ≡ None → IsFirst setting.Document l a → Handed setting.Document l [] (record { page = p; entries = 0; stopped = false })
+foreign-document l a p e w m k n c i t d f o q h =
     begun-document l (record { page = p; entries = 0; stopped = false }) refl refl w (ap (λ (x : State). x.mode) e ∙ m) (ap (λ (x : State). x.stack) e ∙ k) (ap (λ (x : State). length x.tree.tree.labels) e ∙ n)
     (ap (λ (x : State). most_clones x.tree.tree.labels) e ∙ c) (subst (λ (x : State). implied_count x.tree.tree.labels ≤ 1) (sym e) i) (subst (λ (x : State). x.tree.steps ≤ 2 + reach_of x) (sym e) t)
-    (d.0, d.1, ap (λ (x : State). x.tree) e ∙ d.2) (ap (λ (x : State). x.ledger) e ∙ f) (ap (λ (x : State). x.fostering) e ∙ o) (ap (λ (x : State). x.context) e ∙ q)
+    (d.0, d.1, ap (λ (x : State). x.tree) e ∙ d.2) (ap (λ (x : State). x.ledger) e ∙ f) (ap (λ (x : State). x.fostering) e ∙ o) (ap (λ (x : State). x.context) e ∙ q) (parsed-first setting.Document l a p e h)
 
 -- a fragment
 pub foreign-fragment : (u : Tag) (form : Bool) (l : Option Limits) (a p : State) → p ≡ record a { parses_foreign = true } → IsBuilt (nothing_of (setting.Fragment u form) l) p → is_reset a.mode ≡ true
     → a.stack ≡ tag.Html ∷ [] → length a.tree.tree.labels ≡ 1 → most_clones a.tree.tree.labels ≡ 0 → implied_count a.tree.tree.labels ≤ 1 → a.tree.steps ≤ 2 + reach_of a → IsFounded a
-    → Handed (setting.Fragment u form) l [] (record { page = p; entries = 0; stopped = false })
-foreign-fragment u form l a p e w m k n c i t f =
+    → IsFirst (setting.Fragment u form) l a → Handed (setting.Fragment u form) l [] (record { page = p; entries = 0; stopped = false })
+foreign-fragment u form l a p e w m k n c i t f h =
     begun-fragment u form l (record { page = p; entries = 0; stopped = false }) refl refl w (ap (λ (x : State). is_reset x.mode) e ∙ m) (ap (λ (x : State). x.stack) e ∙ k)
     (ap (λ (x : State). length x.tree.tree.labels) e ∙ n) (ap (λ (x : State). most_clones x.tree.tree.labels) e ∙ c) (subst (λ (x : State). implied_count x.tree.tree.labels ≤ 1) (sym e) i)
-    (subst (λ (x : State). x.tree.steps ≤ 2 + reach_of x) (sym e) t) (subst (λ (x : State). IsFounded x) (sym e) (record { select = f.select; frameset = f.frameset }))
+    (subst (λ (x : State). x.tree.steps ≤ 2 + reach_of x) (sym e) t) (subst (λ (x : State). IsFounded x) (sym e) (record { select = f.select; frameset = f.frameset })) (parsed-first (setting.Fragment u form) l a p e h)
 
 pub ruleset saying_rules = (said-by)

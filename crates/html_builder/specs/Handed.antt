@@ -13,15 +13,18 @@ use Rattle.html_ledger.specs.declared.setting.Setting.{Setting}
 use Rattle.html_ledger.specs.declared.fate.Fate.{Fate}
 use Rattle.html_ledger.specs.Fated.{Fated}
 use Rattle.html_construction.specs.declared.mode.Mode.{Mode}
+use Rattle.html_construction.specs.Beginning.{IsFirst}
 use Rattle.html_construction.specs.Begun.{IsFounded}
 use Rattle.html_construction.specs.Built.{Handed as Given, IsBuilt, chars_of, symbols}
 use Rattle.html_construction.specs.Copies.{implied_count, most_clones}
 use Rattle.html_construction.specs.Foreign.{foreign_tag as foreign_tag_of}
+use Rattle.html_construction.specs.States.{State}
 use Rattle.html_construction.specs.Tokens.{attrs_of}
 use Rattle.html_construction.specs.Weights.{weight}
 use Rattle.html_modes.specs.declared.outcome.Foreign.{Foreign}
 use Rattle.html_modes.specs.declared.outcome.Foreign.TheVariants.{Svg, Math}
 use Rattle.html_modes.specs.Begun.{Gives, StaysOut, ignores_foreign}
+use Rattle.html_modes.specs.Dispatching.{Constructs}
 use Rattle.html_modes.specs.Ranks.{top_rank}
 use Rattle.html_modes.specs.Steps.{allowance, fee_of, turn_of}
 use Rattle.html_builder.specs.Builders.{BuilderState}
@@ -66,7 +69,7 @@ most_compared tokens = 2 * (attribute_total tokens * attribute_total tokens * (l
 -- for each fate; and so are bounded the elements that no token asked for, and the steps that it counted: a fee for each fate, and for each token so many
 -- entries into the rules, less those for which the open elements and the mode are still room. Where its mode is inside a select, or of a page of
 -- frames, something leads there. Where the tokens begin those of a plain page, the tree is that page's so far. Each element that holds text alone holds
--- the text up to the next other token, or so far.
+-- the text up to the next other token, or so far. And its state is that to which the rules lead from the beginning, through these tokens.
 pub record Handed (s : Setting) (limits : Option Limits) (tokens : List TokenKind) (b : BuilderState) : Type 0 where
   pub going : b.stopped ≡ false
   pub built : IsBuilt (given s limits tokens) b.page
@@ -80,6 +83,10 @@ pub record Handed (s : Setting) (limits : Option Limits) (tokens : List TokenKin
   pub founded : IsFounded b.page
   pub plain : IsPlainSoFar s tokens b.page
   pub raw_texts : StandSoFar (symbols tokens) b.page.ledger.fates b.page
+  pub first : State
+  pub begins : IsFirst s limits first
+  pub parses : first.parses_foreign ≡ b.page.parses_foreign
+  pub constructs : Constructs tokens first b.page
 
 -- These tokens were handed in.
 abbrev pub HandsIn : List TokenKind → BuilderState → BuilderState → Type 0

@@ -1,5 +1,6 @@
 -- Claimed.
 pub mod Builders
+pub mod Built
 pub mod Contexts
 pub mod Errors
 pub mod Handed

@@ -3,6 +3,7 @@ ghost use Rattle.std.specs.Prelude.{◌≡◌, ◌↔◌, ◌⊎◌, ◌<◌, �
 ghost use Rattle.html_arena.specs.Budget.{AreWithin};
 ghost use Rattle.html_arena.specs.Forest.{Forest};
 ghost use Rattle.html_arena.specs.declared.arena.Limits.{Limits};
+ghost use Rattle.html_construction.specs.Beginning.{IsFirst};
 ghost use Rattle.html_construction.specs.Begun.{IsFounded};
 ghost use Rattle.std.specs.List.{list_all};
 ghost use Rattle.html_ledger.specs.Settings.{is_foreign_context};
@@ -23,6 +24,7 @@ ghost use Rattle.html_page.specs.Label.{Label};
 ghost use Rattle.html_page.specs.PageTokens.{page_kinds};
 ghost use Rattle.html_page.specs.Plain.{IsPlainPage};
 ghost use Rattle.html_page.specs.Shows.{Shows};
+ghost use Rattle.html_builder.specs.Built.{IsBuiltByRules};
 ghost use Rattle.html_builder.specs.Contexts.{IsGood, IsGoodAnywhere, context_tag, setting_of};
 ghost use Rattle.html_builder.specs.Errors.{IsTextTold, IsTold};
 ghost use Rattle.html_builder.specs.Handed.{AddsFates, AreSo, CostAtMost, EndsAtEof, EntersNone, GivesFates, Handed, HandsIn, HaveFates, IsBuildCause, IsForeignOutside, IsForeignRefused, IsTextCause, fates_of, is_stopped, parses_foreign, reads_foreign};
@@ -460,6 +462,7 @@ impl Builder {
         ensures steps { result.0.steps ≡ self.page.tree.steps }
         ensures outcome { (s : Setting) (l : Option Limits) (tokens : List TokenKind) → Handed s l tokens self → EndsAtEof tokens
             → IsOutcome s tokens result.1 result.2.items result.0 }
+        ensures built { (s : Setting) (l : Option Limits) (tokens : List TokenKind) → Handed s l tokens self → IsBuiltByRules s l (parses_foreign self) tokens result.1 result.0 }
         ensures within { (s : Setting) (l : Option Limits) (tokens : List TokenKind) → Handed s l tokens self → AreWithin l (length result.0.labels) result.0.held }
         ensures bounds { (s : Setting) (l : Option Limits) (tokens : List TokenKind) → Handed s l tokens self → (n : ℕ) → CostAtMost n tokens → IsBounded n result.0 }
         ensures entries { (s : Setting) (l : Option Limits) (tokens : List TokenKind) → Handed s l tokens self → (n : ℕ) → CostAtMost n tokens → self.entries ≤ most_entries n }
@@ -477,6 +480,7 @@ impl Builder {
 /// The tree construction of a document, within limits, where there are any.
 fn begun_document(alloc: Global, limits: Option<Limits>) -> Result<Construction, Refusal>
     ensures built { IfOk result (λ b. IsBuilt (nothing_of Document limits) b) }
+    ensures first { IfOk result (λ b. IsFirst Document limits b) }
     ensures mode { IfOk result (λ b. b.mode ≡ Mode.Initial) }
     ensures stack { IfOk result (λ b. b.stack ≡ []) }
     ensures quiet { IfOk result (λ b. b.ledger.kept ≡ []) }
@@ -504,6 +508,7 @@ fn begun_fragment(
     limits: Option<Limits>,
 ) -> Result<Construction, Refusal>
     ensures built { IfOk result (λ b. IsBuilt (nothing_of (setting_of context.now) limits) b) }
+    ensures first { IfOk result (λ b. IsFirst (setting_of context.now) limits b) }
     ensures reset { IfOk result (λ b. is_reset b.mode ≡ true) }
     ensures founded { IfOk result (λ b. IsFounded b) }
     ensures stack { IfOk result (λ b. b.stack ≡ tag.Html ∷ []) }

@@ -1,5 +1,5 @@
 -- How long adjusted names are, and what adjusted attributes weigh.
-use Rattle.std.proofs.Common.{ℕ, ◌+◌, ◌≡◌, ◌≤◌, Bool, true, false, List, [], ◌∷◌, ◌++◌, length, length-append, map, Option, Some, None, refl, sym, ap, ◌∙◌, arith}
+use Rattle.std.proofs.Common.{ℕ, ◌+◌, ◌≡◌, ◌≤◌, true, false, List, [], ◌∷◌, length, length-append, map, Option, Some, None, refl, sym, ap, ◌∙◌, arith}
 use Rattle.std.specs.Prelude.{IfSome, unwrap_or}
 use Rattle.std.specs.Char.{to_ascii_lowercase}
 use Rattle.std.proofs.lemmas.Bool.{false≢true}
@@ -7,11 +7,11 @@ use Rattle.html_names.specs.declared.foreign.Space.{Space}
 use Rattle.html_names.specs.declared.foreign.Space.TheVariants as space
 use Rattle.html_names.specs.declared.tag.Tag.{Tag}
 use Rattle.html_names.specs.declared.tag.Tag.TheVariants as tag
-use Rattle.html_names.specs.Foreign.{adjusted_attr, adjusted_name, as_read, is_html_space, lowered, prefix_of, read_char, space_of}
+use Rattle.html_names.specs.Foreign.{adjusted_attr, adjusted_name, is_html_space, prefix_of, read_char, space_of}
 use Rattle.html_names.specs.Sets.{is_formatting}
 use Rattle.html_names.proofs.Adjusted.{attr-back, name-back}
 use Rattle.html_tokens.specs.declared.attributes.Attr.{Attr}
-use Rattle.html_construction.specs.Tokens.{foreign_attr, foreign_attrs, foreign_name}
+use Rattle.html_construction.specs.Tokens.{foreign_attrs, foreign_name}
 
 length-of-map : (f : ℕ → ℕ) (xs : List ℕ) → length (map f xs) ≡ length xs
 length-of-map f [] = refl

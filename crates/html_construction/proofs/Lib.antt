@@ -19,3 +19,5 @@ pub mod Lengths
 pub mod Opening
 pub mod Doing
 pub mod Resetting
+pub mod Homing
+pub mod Founding

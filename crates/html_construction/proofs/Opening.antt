@@ -1,10 +1,10 @@
 -- An element of foreign content is opened as others are: it is not void, and has not the name of a root of foreign content, which is an HTML name.
-use Rattle.std.proofs.Common.{◌≡◌, List, ℕ, false, true, refl, sym, ◌∙◌, ap, subst}
+use Rattle.std.proofs.Common.{◌≡◌, List, ℕ, false, true, refl, ◌∙◌, ap}
 use Rattle.std.specs.Prelude.{unwrap_or}
 use Rattle.html_names.specs.declared.tag.Tag.{Tag}
 use Rattle.html_names.specs.declared.tag.Tag.TheVariants as tag
 use Rattle.html_names.specs.declared.foreign.Space.{Space}
-use Rattle.html_names.specs.Foreign.{adjusted_name, is_html_space, prefix_of, space_of}
+use Rattle.html_names.specs.Foreign.{adjusted_name, is_html_space, space_of}
 use Rattle.html_names.specs.Names.{tag_of}
 use Rattle.html_names.proofs.Spaces.{space-of_prefixed}
 use Rattle.html_tree.specs.Proper.{is_foreign_root, opens}

@@ -1,5 +1,5 @@
 -- The insertion mode that the open elements call for.
-use Rattle.std.proofs.Common.{ℕ, zero, suc, ◌+◌, ◌≡◌, ◌<◌, ◌≤◌, Bool, true, false, cond, List, [], ◌∷◌, ◌++◌, length, take, Option, Some, None, unwrap_or, refl, sym, ap, subst, ◌∙◌, arith, add-one}
+use Rattle.std.proofs.Common.{ℕ, suc, ◌+◌, ◌≡◌, ◌<◌, ◌≤◌, Bool, true, false, List, [], ◌∷◌, ◌++◌, length, take, Option, Some, None, unwrap_or, refl, sym, ap, subst, ◌∙◌, arith, add-one}
 use Rattle.std.proofs.Math.Seq.{take-suc}
 use Rattle.std.proofs.lemmas.List.{length-take}
 use Rattle.std.specs.Prelude.{◌-◌, slice_get, slice_index}
@@ -15,7 +15,7 @@ use Rattle.html_construction.specs.declared.mode.Mode.{Mode}
 use Rattle.html_construction.specs.declared.mode.Mode.TheVariants as mode
 use Rattle.html_construction.specs.Calls.{IsTree}
 use Rattle.html_construction.specs.States.{State}
-use Rattle.html_construction.specs.Resetting.{element_mode, is_none_left, mode_of, or_mode, outermost_mode, reset_mode, root_mode, select_mode, template_mode}
+use Rattle.html_construction.specs.Resetting.{element_mode, is_none_left, mode_of, outermost_mode, reset_mode, select_mode, template_mode}
 
 -- the element at an index comes before those below it
 pub down-next : (t : Nodes) (s : List ℕ) (i : ℕ) → i < length s → tags_down t (take (i + 1) s) ≡ tag_at t (slice_index s i) ∷ tags_down t (take i s)

@@ -1,6 +1,6 @@
 -- Claimed.
 -- The adjusted current node (13.2.4.2), and whether it is one of foreign content (13.2.6).
-use Rattle.std.specs.Prelude.{ℕ, ◌==◌, Bool, length, Option, Some, None, if◌then◌else◌}
+use Rattle.std.specs.Prelude.{◌==◌, length, Option, Some, None, if◌then◌else◌}
 use Rattle.html_names.specs.declared.tag.Tag.{Tag}
 use Rattle.html_names.specs.Foreign.{is_foreign}
 use Rattle.html_tree.specs.Searching.{current_tag}

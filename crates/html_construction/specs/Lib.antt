@@ -1,5 +1,6 @@
 -- Claimed.
 pub mod Accounts
+pub mod Beginning
 pub mod Begun
 pub mod Budgets
 pub mod Built
@@ -11,6 +12,7 @@ pub mod Grown
 pub mod Modes
 pub mod Origins
 pub mod Plans
+pub mod Quirks
 pub mod Resetting
 pub mod Standing
 pub mod States

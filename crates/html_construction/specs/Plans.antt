@@ -1,9 +1,10 @@
 -- Claimed.
 -- A rule of tree construction as data, and what it does (13.2.6).
-use Rattle.std.specs.Prelude.{◌≡◌, Bool, if◌then◌else◌, true, false}
+use Rattle.std.specs.Prelude.{ℕ, ◌≡◌, Bool, if◌then◌else◌, true, false, List, [], ◌∷◌}
 use Rattle.html_names.specs.declared.foreign.Space.{Space}
 use Rattle.html_names.specs.declared.tag.Tag.{Tag}
 use Rattle.html_tokens.specs.declared.token.TokenKind.{TokenKind}
+use Rattle.html_tokens.specs.declared.token.TokenKind.TheVariants.{Char}
 use Rattle.html_ledger.specs.declared.fate.Cause.TheVariants.{Misplaced}
 use Rattle.html_ledger.specs.declared.symbol.Symbol.{Symbol}
 use Rattle.html_ledger.specs.Symbols.{symbol_of}
@@ -13,7 +14,7 @@ use Rattle.html_tree.specs.Listing.{IsReopened}
 use Rattle.html_construction.specs.declared.mode.Mode.{Mode}
 use Rattle.html_construction.specs.Calls.{HasEnded, IsLinkClosed}
 use Rattle.html_construction.specs.States.{State}
-use Rattle.html_construction.specs.Words.{Becomes, Query, Word, after, answer, CanPop, CloseThrough, Drop, Finds, HasSeat, ImplyPart, InsertPart, Pop}
+use Rattle.html_construction.specs.Words.{Becomes, Query, Word, after, answer, with_kept, CanPop, CloseThrough, Drop, Finds, HasSeat, ImplyPart, InsertPart, Pop}
 
 -- How a rule ends: the token is done with, is reprocessed, or begins foreign content that is refused.
 pub data Ending : Type 0 where
@@ -31,19 +32,24 @@ pub data Plan : Type 0 where
   -- where an a element is listed after the last marker: run the adoption agency algorithm for the token, then remove that element from the list and from
   -- the stack
   CloseLink : Plan → Plan
+  -- enable foster parenting, follow this, and disable foster parenting
+  Foster : Plan → Plan
+  -- take out the pending table character tokens, follow the first for each of them, and then, for the token, the second
+  Settle : Plan → Plan → Plan
+  -- follow the first for each of these character tokens, and then, for the token, the second
+  Each : List ℕ → Plan → Plan → Plan
   Stop : Ending → Plan
   -- process the token using the rules for this insertion mode
   By : Mode → Plan
-  -- there is no table yet: nothing is said
-  Unsaid : Plan
 
 -- the rules of each insertion mode, for each token
 abbrev pub Rules : Type 0
 Rules = Mode → Symbol → Plan
 
--- nothing changed but the tree, and the tags of the open elements
+-- nothing changed but the nodes, the open elements and the list of active formatting elements
 pub record IsMoved (a b : State) : Type 0 where
   pub rest : b ≡ record a { tree = b.tree; stack = b.stack }
+  pub pointers : b.tree ≡ record a.tree { stack = b.tree.stack; list = b.tree.list; tree = b.tree.tree; steps = b.tree.steps }
 
 -- By these rules this plan, followed for a token from the one state, ends so in the other. (States are told apart but for steps.)
 pub data Runs (r : Rules) : Plan → TokenKind → State → Ending → State → Type 0 where
@@ -52,9 +58,12 @@ pub data Runs (r : Rules) : Plan → TokenKind → State → Ending → State �
   reconstructs : (p : Plan) (t : TokenKind) (a b : State) (e : Ending) (z : State) → IsMoved a b → IsReopened a.fostering a.tree b.tree → Runs r p t b e z → Runs r (Reconstruct p) t a e z
   adopts : (g : Tag) (p : Plan) (t : TokenKind) (a b : State) (e : Ending) (z : State) → IsMoved a b → HasEnded g a.fostering a.tree b.tree → Runs r p t b e z → Runs r (Adopt g p) t a e z
   closes_link : (p : Plan) (t : TokenKind) (a b : State) (e : Ending) (z : State) → IsMoved a b → IsLinkClosed a.fostering a.tree b.tree → Runs r p t b e z → Runs r (CloseLink p) t a e z
+  fosters : (p : Plan) (t : TokenKind) (a b c : State) (e : Ending) (z : State) → Becomes (record a { fostering = true }) b → Runs r p t b e c → Becomes (record c { fostering = false }) z → Runs r (Foster p) t a e z
+  settles : (q p : Plan) (t : TokenKind) (a b : State) (e : Ending) (z : State) → Becomes (with_kept [] a) b → Runs r (Each a.ledger.kept q p) t b e z → Runs r (Settle q p) t a e z
+  ends_each : (q p : Plan) (t : TokenKind) (a : State) (e : Ending) (z : State) → Runs r p t a e z → Runs r (Each [] q p) t a e z
+  does_each : (c : ℕ) (cs : List ℕ) (q p : Plan) (t : TokenKind) (a b : State) (e : Ending) (z : State) → Runs r q (Char c) a Over b → Runs r (Each cs q p) t b e z → Runs r (Each (c ∷ cs) q p) t a e z
   stops : (t : TokenKind) (a : State) (e : Ending) (z : State) → Becomes a z → Runs r (Stop e) t a e z
   goes_by : (m : Mode) (t : TokenKind) (a : State) (e : Ending) (z : State) → Runs r (r m (symbol_of t)) t a e z → Runs r (By m) t a e z
-  unsaid : (t : TokenKind) (a : State) (e : Ending) (z : State) → Runs r Unsaid t a e z
 
 -- WHAT ONE CALL IS OF A PLAN
 

@@ -35,6 +35,11 @@ abbrev pub attrs_of : TokenKind → List Attr
 attrs_of (kind.Start name attrs self_closing) = attrs
 attrs_of _ = []
 
+-- the tag closes itself; another token does not
+abbrev pub closes_itself : TokenKind → Bool
+closes_itself (kind.Start name attrs self_closing) = self_closing
+closes_itself _ = false
+
 -- the name of an element of foreign content: what the names of its namespace begin with, and that of the tag, adjusted (13.2.6.5)
 abbrev pub foreign_name : Space → List ℕ → List ℕ
 foreign_name space name = prefix_of space ++ unwrap_or (adjusted_name space name) name

@@ -1,15 +1,24 @@
 -- Claimed.
 -- What a rule of tree construction does and asks, in the words of the standard (13.2.6), and what that makes of the state.
-use Rattle.std.specs.Prelude.{ℕ, ◌≡◌, ◌+◌, ◌-◌, ◌==◌, ◌&&◌, Bool, true, false, List, [], ◌∷◌, ◌++◌, length, nat_lt, take, is_some, slice_index, Option, Some, None, unwrap_or}
+use Rattle.std.specs.Prelude.{ℕ, ◌≡◌, ◌+◌, ◌-◌, ◌==◌, ◌&&◌, ◌||◌, Bool, true, false, not, cond, codes, List, [], ◌∷◌, ◌++◌, length, nat_lt, take, is_some, slice_index, Option, Some, unwrap_or}
+use Rattle.std.specs.List.{list_all}
+use Rattle.std.specs.Str.{bytes_eq}
+use Rattle.html_names.specs.declared.foreign.Space.{Space}
 use Rattle.html_names.specs.declared.tag.Tag.{Tag}
 use Rattle.html_names.specs.declared.tag.Tag.TheVariants as tag
-use Rattle.html_arena.specs.Tree.{with_merged}
+use Rattle.html_names.specs.Foreign.{is_lowered}
+use Rattle.html_names.specs.Sets.{is_fostering}
+use Rattle.html_names.specs.Tags.{is_same}
+use Rattle.html_arena.specs.Tree.{named, with_merged}
+use Rattle.html_tokens.specs.declared.attributes.Attr.{Attr}
 use Rattle.html_tokens.specs.declared.token.TokenKind.{TokenKind}
 use Rattle.html_ledger.specs.declared.fate.Cause.{Cause}
-use Rattle.html_ledger.specs.declared.fate.Fate.{Fate}
-use Rattle.html_ledger.specs.declared.fate.Fate.TheVariants.{Made, Merged, Dropped, Text}
+use Rattle.html_ledger.specs.declared.fate.Fate.TheVariants.{Foreign, Made, Merged, Dropped, Text}
 use Rattle.html_ledger.specs.Entries.{ended, given, number_of}
-use Rattle.html_ledger.specs.Symbols.{symbol_of}
+use Rattle.html_ledger.specs.Flags.{may_misplace_tag}
+use Rattle.html_ledger.specs.MayDrop.{is_outside_column_group}
+use Rattle.html_ledger.specs.Spaces.{is_space}
+use Rattle.html_ledger.specs.Symbols.{is_char, is_space_char, symbol_of}
 use Rattle.html_open.specs.declared.entry.Entry.TheVariants.{Marker}
 use Rattle.html_open.specs.Entries.{is_marker}
 use Rattle.html_open.specs.Lists.{below, up_to}
@@ -30,10 +39,13 @@ use Rattle.html_tree.specs.Seats.{has_seat}
 use Rattle.html_tree.specs.States.{State as Tree}
 use Rattle.html_tree.specs.Texts.{text_node, with_text}
 use Rattle.html_construction.specs.declared.mode.Mode.{Mode}
-use Rattle.html_construction.specs.Calls.{comment_of, counting, doctype_of, element_of, form_closed, implied_of, is_unmoved, listed_at, opened_at, placed_at, root_of, void_of}
+use Rattle.html_construction.specs.declared.mode.Mode.TheVariants.{InTable, InCaption, InTableBody, InRow, InCell}
+use Rattle.html_construction.specs.Calls.{comment_of, counting, doctype_of, element_of, foreign_of, form_closed, implied_of, is_unmoved, listed_at, opened_at, placed_at, root_of, void_of}
+use Rattle.html_construction.specs.Modes.{is_of_column_groups}
+use Rattle.html_construction.specs.Quirks.{sets_quirks}
 use Rattle.html_construction.specs.Resetting.{reset_mode}
 use Rattle.html_construction.specs.States.{State}
-use Rattle.html_construction.specs.Tokens.{attrs_of, char_of, tag_name}
+use Rattle.html_construction.specs.Tokens.{attrs_of, char_of, closes_itself, tag_name}
 
 -- ONE THING THAT A RULE DOES
 
@@ -104,6 +116,13 @@ pub data Word : Type 0 where
   -- push onto the stack of template insertion modes; pop off it
   PushTemplate : Mode → Word
   PopTemplate : Word
+  -- insert a foreign element for the token, in this namespace, with its name and attributes adjusted; the same, and pop it at once
+  InsertForeign : Space → Word
+  InsertForeignVoid : Space → Word
+  -- append the character token to the pending table character tokens
+  Keep : Word
+  -- what is closed and made is that of the token itself from here on, and no longer that of the pending table character tokens (own)
+  BeginOwnPart : Word
 
 -- another tree
 abbrev pub with_tree : Tree → State → State
@@ -127,6 +146,14 @@ merging i t a = record a {
   tree = record a.tree { tree = bare (with_merged a.tree.tree (slice_index a.tree.stack i) (attrs_of t)) };
   ledger = given a.ledger (symbol_of t) Merged;
 }
+
+-- an element of foreign content is made of it: its fate is Foreign, of that node
+abbrev pub embedding : Tree → TokenKind → State → State
+embedding u t a = record a { tree = u; ledger = given a.ledger (symbol_of t) (Foreign (length a.tree.tree.labels)) }
+
+-- these are the pending table character tokens
+abbrev pub with_kept : List ℕ → State → State
+with_kept cs a = record a { ledger = record a.ledger { kept = cs } }
 
 -- all but the last
 abbrev pub but_last : List Mode → List Mode
@@ -174,6 +201,10 @@ after (Quirks q) t a = record a { quirks = q }
 after Reset t a = record a { mode = reset_mode a.context a.tree.head a.templates (open_tags a.tree) }
 after (PushTemplate m) t a = record a { templates = a.templates ++ m ∷ [] }
 after PopTemplate t a = record a { templates = but_last a.templates }
+after (InsertForeign s) t a = embedding (opened_at (foreign_of a s t) (target.Current a.fostering) (next_tree a)) t a
+after (InsertForeignVoid s) t a = embedding (placed_at (foreign_of a s t) (target.Current a.fostering) (next_tree a)) t a
+after Keep t a = with_kept (a.ledger.kept ++ char_of t) a
+after BeginOwnPart t a = record a { depth = length a.tree.stack; nodes = length a.tree.tree.labels }
 
 -- The state is this one, but for steps. (The tags of the open elements are those of the tree.)
 pub record Becomes (m b : State) : Type 0 where
@@ -188,6 +219,8 @@ pub data Query : Type 0 where
   IsCurrent : Group → Query
   -- is the current node of the group, and not the first element, which is never closed (own)
   CanPop : Group → Query
+  -- is the current node an option element, and the node immediately before it in the stack of open elements an optgroup element
+  IsOptionInGroup : Query
   -- may the current node hold a part of a table of this name (own)
   HasSeat : Tag → Query
   -- is there a template element on the stack of open elements (none is where none was made)
@@ -204,6 +237,34 @@ pub data Query : Type 0 where
   HasTemplateMode : Query
   -- may a doctype still come (own)
   AwaitsDoctype : Query
+  -- is the form element pointer not null (it is where no form was made, and none is around the fragment)
+  HasForm : Query
+  -- is the second element on the stack of open elements a body element; and was none replaced before (own)
+  HasBody : Query
+  CanReplaceBody : Query
+  -- may a start tag of this name be out of its place, for what was made before and for the context (own)
+  MayMisplace : Tag → Query
+  -- may the token be ignored as outside a column group: it entered in the mode "in column group", where a col was made or a colgroup is the context (own)
+  IsOutsideColumnGroup : Query
+  -- does the token, a doctype, set the Document to quirks mode
+  SetsQuirks : Query
+  -- does the token have an attribute "type" whose value is an ASCII case-insensitive match for "hidden"
+  IsHidden : Query
+  -- does the token have its self-closing flag set
+  ClosesItself : Query
+  -- is the insertion mode one of "in table", "in caption", "in table body", "in row", "in cell"
+  IsInTable : Query
+  -- is the current node a table, tbody, template, tfoot, thead, or tr element
+  CollectsText : Query
+  -- are the pending table character tokens ASCII whitespace (but for those that are U+0000)
+  AreSpacesKept : Query
+  -- is the token U+0000
+  IsNull : Query
+  -- is the token ASCII whitespace before the head; is it a U+000A just after a pre, a listing or a textarea (as the dispatcher asks of each token)
+  IsPrologSpace : Query
+  IsLeadingNewline : Query
+  -- is foreign content parsed, and not refused (own)
+  ParsesForeign : Query
 
 abbrev pub has_any : List Mode → Bool
 has_any [] = false
@@ -213,10 +274,41 @@ has_any (m ∷ ms) = true
 abbrev pub current_or_other : Tree → Tag
 current_or_other u = unwrap_or (current_tag u) tag.Other
 
+-- the second open element is a body
+abbrev pub has_body : Tree → Bool
+has_body u = nat_lt 1 (length u.stack) && named u.tree tag.Body (slice_index u.stack 1)
+
+-- the current node is an option, and the open element before it an optgroup
+abbrev pub is_option_in_group : Tree → Bool
+is_option_in_group u =
+    nat_lt 1 (length u.stack) && (named u.tree tag.Option (slice_index u.stack (length u.stack - 1)) && named u.tree tag.Optgroup (slice_index u.stack (length u.stack - 2)))
+
+-- the attribute "type", if there is one, is "hidden", ASCII case aside
+abbrev pub is_hidden : List Attr → Bool
+is_hidden [] = false
+is_hidden (a ∷ rest) = cond (bytes_eq a.name (codes "type")) (is_lowered a.value (codes "hidden")) (is_hidden rest)
+
+-- the modes in which a select stands in a table
+abbrev pub is_in_table : Mode → Bool
+is_in_table InTable = true
+is_in_table InCaption = true
+is_in_table InTableBody = true
+is_in_table InRow = true
+is_in_table InCell = true
+is_in_table _ = false
+
+-- text in an element of this tag is collected before it is put anywhere
+abbrev pub collects_text : Tag → Bool
+collects_text g = is_fostering g || is_same g tag.Template
+
+abbrev pub is_null_or_space : ℕ → Bool
+is_null_or_space c = (c == 0) || is_space c
+
 abbrev pub answer : Query → TokenKind → State → Bool
 answer (Finds g e) t a = is_some (found a.tree g e)
 answer (IsCurrent g) t a = in_group g (current_or_other a.tree)
 answer (CanPop g) t a = nat_lt 1 (length a.tree.stack) && in_group g (current_or_other a.tree)
+answer IsOptionInGroup t a = is_option_in_group a.tree
 answer (HasSeat n) t a = has_seat a.tree n
 answer HasTemplate t a = a.ledger.history.template && is_some (found a.tree (group.Named tag.Template) stop.Never)
 answer IsFragment t a = is_some a.context
@@ -225,3 +317,18 @@ answer IsFramesetOk t a = a.frameset_ok
 answer IsQuirks t a = a.quirks
 answer HasTemplateMode t a = has_any a.templates
 answer AwaitsDoctype t a = a.ledger.history.awaits_doctype
+answer HasForm t a = (a.outer_form || is_some a.tree.form) && a.ledger.history.form
+answer HasBody t a = has_body a.tree
+answer CanReplaceBody t a = not (is_some a.tree.detached) && has_body a.tree
+answer (MayMisplace n) t a = may_misplace_tag a.ledger.history n
+answer IsOutsideColumnGroup t a = is_of_column_groups a.began && (a.ledger.history.col && is_outside_column_group (symbol_of t))
+answer SetsQuirks t a = sets_quirks t
+answer IsHidden t a = is_hidden (attrs_of t)
+answer ClosesItself t a = closes_itself t
+answer IsInTable t a = is_in_table a.mode
+answer CollectsText t a = collects_text (current_or_other a.tree)
+answer AreSpacesKept t a = list_all is_null_or_space a.ledger.kept
+answer IsNull t a = is_char 0 (symbol_of t)
+answer IsPrologSpace t a = is_space_char (symbol_of t) && a.ledger.history.prolog
+answer IsLeadingNewline t a = is_char 10 (symbol_of t) && a.ledger.history.ignore_line_feed
+answer ParsesForeign t a = a.parses_foreign

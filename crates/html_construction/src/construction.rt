@@ -1,5 +1,5 @@
 // The state of tree construction.
-ghost use Rattle.std.specs.Prelude.{◌≡◌, ◌⊎◌, ◌<◌, ◌≤◌, ◌+◌, ℕ, ◌∷◌, [], IfErr, IfOk, None, OnOk, Option, Some, false, length, true};
+ghost use Rattle.std.specs.Prelude.{◌≡◌, ◌⊎◌, ◌<◌, ◌≤◌, ◌+◌, ℕ, ◌∷◌, [], Bool, IfErr, IfOk, None, OnOk, Option, Some, false, length, true};
 ghost use Rattle.html_arena.specs.declared.arena.Limits.{Limits};
 ghost use Rattle.html_ledger.specs.declared.setting.Setting.TheVariants.{Document, Fragment};
 ghost use Rattle.html_names.specs.declared.tag.Tag.TheVariants as tag;
@@ -14,6 +14,7 @@ ghost use Rattle.html_arena.specs.Weight.{capped, weight};
 ghost use Rattle.html_open.specs.Marking.{bare};
 ghost use Rattle.html_ledger.specs.Errors.{AreErrors};
 ghost use Rattle.html_ledger.specs.Fated.{Fated};
+ghost use Rattle.html_construction.specs.Beginning.{IsFirst, first_mode, first_templates};
 ghost use Rattle.html_construction.specs.Begun.{IsFounded};
 ghost use Rattle.html_construction.specs.Built.{Handed, IsBuilt, Keeps, nothing_of, symbols};
 ghost use Rattle.html_construction.specs.Copies.{implied_count, most_clones};
@@ -88,6 +89,7 @@ impl Construction {
     /// `OutOfMemory`.
     pub fn document(alloc: Global) -> Result<Construction, Refusal>
         ensures built { IfOk result (λ b. IsBuilt (nothing_of Document None) b) }
+        ensures first { IfOk result (λ b. IsFirst Document None b) }
         ensures mode { IfOk result (λ b. b.mode ≡ Mode.Initial) }
         ensures stack { IfOk result (λ b. b.stack ≡ []) }
         ensures quiet { IfOk result (λ b. b.ledger.kept ≡ []) }
@@ -122,6 +124,7 @@ impl Construction {
     /// `NodeBudget` where not even the document is within them; `OutOfMemory`.
     pub fn document_within(alloc: Global, limits: Limits) -> Result<Construction, Refusal>
         ensures built { IfOk result (λ b. IsBuilt (nothing_of Document (Some limits)) b) }
+        ensures first { IfOk result (λ b. IsFirst Document (Some limits) b) }
         ensures mode { IfOk result (λ b. b.mode ≡ Mode.Initial) }
         ensures stack { IfOk result (λ b. b.stack ≡ []) }
         ensures quiet { IfOk result (λ b. b.ledger.kept ≡ []) }
@@ -153,6 +156,7 @@ impl Construction {
         quirks: bool,
     ) -> Result<Construction, Refusal>
         ensures built { IfOk result (λ b. IsBuilt (nothing_of (Fragment context in_form) None) b) }
+        ensures first { IfOk result (λ b. IsFirst (Fragment context in_form) None b) }
         ensures reset { IfOk result (λ b. is_reset b.mode ≡ true) }
         ensures founded { IfOk result (λ b. IsFounded b) }
         ensures stack { IfOk result (λ b. b.stack ≡ tag.Html ∷ []) }
@@ -184,6 +188,7 @@ impl Construction {
         limits: Limits,
     ) -> Result<Construction, Refusal>
         ensures built { IfOk result (λ b. IsBuilt (nothing_of (Fragment context in_form) (Some limits)) b) }
+        ensures first { IfOk result (λ b. IsFirst (Fragment context in_form) (Some limits) b) }
         ensures reset { IfOk result (λ b. is_reset b.mode ≡ true) }
         ensures founded { IfOk result (λ b. IsFounded b) }
         ensures stack { IfOk result (λ b. b.stack ≡ tag.Html ∷ []) }
@@ -259,6 +264,7 @@ impl Construction {
     fn of_document(alloc: Global, tree: OpenTree) -> Construction
         requires begun { (l : Option Limits) × (k : ℕ) × (tree ≡ document_state l k) }
         ensures built { (l : Option Limits) (k : ℕ) → tree ≡ document_state l k → IsBuilt (nothing_of Document l) result }
+        ensures first { (l : Option Limits) (k : ℕ) → tree ≡ document_state l k → IsFirst Document l result }
         ensures mode { result.mode ≡ Mode.Initial }
         ensures stack { result.stack ≡ [] }
         ensures quiet { result.ledger.kept ≡ [] }
@@ -290,6 +296,7 @@ impl Construction {
     ) -> Result<Construction, Refusal>
         requires begun { (l : Option Limits) × (k : ℕ) × (tree ≡ fragment_state l k) }
         ensures built { (l : Option Limits) (k : ℕ) → tree ≡ fragment_state l k → IfOk result (λ b. IsBuilt (nothing_of (Fragment context in_form) l) b) }
+        ensures first { (l : Option Limits) (k : ℕ) → tree ≡ fragment_state l k → IfOk result (λ b. IsFirst (Fragment context in_form) l b) }
         ensures reset { IfOk result (λ b. is_reset b.mode ≡ true) }
         ensures founded { IfOk result (λ b. IsFounded b) }
         ensures stack { IfOk result (λ b. b.stack ≡ tag.Html ∷ []) }
@@ -323,6 +330,8 @@ impl Construction {
         ensures reset { OnOk result (is_reset self.new.mode ≡ true) }
         ensures select { OnOk result (is_of_selects self.new.mode ≡ true → context ≡ tag.Select) }
         ensures frameset { OnOk result (is_of_frames self.new.mode ≡ true → context ≡ tag.Frameset) }
+        ensures entered { (in_form : Bool) → self.old.templates ≡ [] → self.old.tree.head ≡ None → OnOk result (self.new.mode ≡ first_mode (Fragment context in_form)) }
+        ensures pushed { (in_form : Bool) → self.old.templates ≡ [] → OnOk result (self.new.templates ≡ first_templates (Fragment context in_form)) }
         ensures cause { IfErr result (λ e. e ≡ Refusal.OutOfMemory) }
     {
         if context.is_template() {

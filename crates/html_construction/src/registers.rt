@@ -1,5 +1,5 @@
 // What tree construction remembers besides its tree and its ledger.
-ghost use Rattle.std.specs.Prelude.{◌≡◌, [], false};
+ghost use Rattle.std.specs.Prelude.{◌≡◌, [], false, true};
 
 use crate::mode::Mode;
 use html_names::Tag;
@@ -52,6 +52,9 @@ impl Registers {
         ensures outer_form { result.outer_form ≡ outer_form }
         ensures fostering { result.fostering ≡ false }
         ensures refuses { result.parses_foreign ≡ false }
+        ensures original { result.original ≡ Mode.Initial }
+        ensures frameset_ok { result.frameset_ok ≡ true }
+        ensures call { result.call ≡ record { began = Mode.Initial; depth = 0; nodes = 0 } }
     {
         Registers {
             mode: Mode::Initial,

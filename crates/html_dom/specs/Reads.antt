@@ -1,7 +1,7 @@
--- Claimed, but for this crate's own functions: Yields.
+-- Claimed, but for this crate's own functions: Yields, YieldsText.
 -- What is read of a node, whichever it is.
 use Rattle.std.specs.Prelude.{◌≡◌, ℕ, zero, suc, Bool, true, false, cond, ◌&&◌, nat_lt, List, [], ◌∷◌, ◌++◌, length, Option, Some, None}
-use Rattle.std.specs.Str.{bytes_eq}
+use Rattle.std.specs.Str.{bytes_eq, encode_utf8_all}
 use Rattle.html_tokens.specs.declared.attributes.Attr.{Attr}
 use Rattle.html_arena.specs.Below.{above, below}
 use Rattle.html_arena.specs.Data.{name_in}
@@ -84,3 +84,27 @@ text_part (Doctype n p s i) = []
 abbrev pub text_of_all : Tree → List ℕ → List ℕ
 text_of_all t [] = []
 text_of_all t (x ∷ xs) = text_part (label_of t x) ++ text_of_all t xs
+
+-- the text of a text in UTF-8; none of other nodes
+abbrev pub text_of : NodeData → Option (List ℕ)
+text_of (Text s) = Some (encode_utf8_all s)
+text_of Document = None
+text_of (Contents h) = None
+text_of (Element e) = None
+text_of (Comment s i) = None
+text_of (Doctype n p s i) = None
+
+-- before these, where there is one
+abbrev pub put_before : Option (List ℕ) → List (List ℕ) → List (List ℕ)
+put_before None texts = texts
+put_before (Some text) texts = text ∷ texts
+
+-- the texts among these nodes, in order
+abbrev pub texts_among : Tree → List ℕ → List (List ℕ)
+texts_among t [] = []
+texts_among t (x ∷ xs) = put_before (text_of (label_of t x)) (texts_among t xs)
+
+-- the first of the texts `old` was taken, and `new` are left; or there was none
+abbrev pub YieldsText : Option (List ℕ) → List (List ℕ) → List (List ℕ) → Type 0
+YieldsText None old new = (old ≡ []) × (new ≡ [])
+YieldsText (Some text) old new = old ≡ text ∷ new

@@ -1,11 +1,12 @@
 // The nodes around a node, as iterators.
-ghost use Rattle.std.specs.Prelude.{◌≡◌, filter};
+ghost use Rattle.std.specs.Prelude.{◌≡◌, filter, option_map};
 ghost use Rattle.std.specs.Str.{chars};
-ghost use Rattle.html_dom.specs.Reads.{Yields, entered, is_named};
+ghost use Rattle.html_arena.specs.Tree.{label_of};
+ghost use Rattle.html_dom.specs.Reads.{Yields, YieldsText, entered, is_named, text_of, texts_among};
 
 use crate::names::is_same_text;
-use crate::reads::{name, next_sibling, parent};
-use html_arena::{Arena, Event, NodeId, Walk};
+use crate::reads::{get, name, next_sibling, parent};
+use html_arena::{Arena, Event, NodeData, NodeId, Walk};
 use std::marker::Model;
 
 /// The nodes just below a node, seen as the list of those still to come.
@@ -179,5 +180,59 @@ impl<'a> Iterator for ElementsNamed<'a> {
 
     fn next(&mut self) -> Option<NodeId> {
         next_named(self.arena, &mut self.nodes, self.name)
+    }
+}
+
+/// The texts below a node in tree order, seen as the list of those still to come, each in UTF-8.
+#[derive(Drop)]
+pub struct Texts<'a> {
+    pub(crate) arena: &'a Arena,
+    pub(crate) nodes: Descendants<'a>,
+}
+
+impl<'a> Model for Texts<'a> {
+    ghost use Rattle.std.specs.Prelude.{List, ℕ};
+    ghost use Rattle.html_dom.specs.Reads.{texts_among};
+
+    ghost Value = { List (List ℕ) };
+
+    ghost view = { λ t. texts_among t.arena.now t.nodes };
+}
+
+/// The text of a node, where it is a text.
+fn text_at(arena: &Arena, node: NodeId) -> Option<&str>
+    ensures { option_map (λ text. text.now) result ≡ text_of (label_of arena.now node) }
+{
+    match get(arena, node) {
+        Some(NodeData::Text { text }) => Some(text.as_str()),
+        _ => None,
+    }
+}
+
+/// The text of the next node that is a text.
+fn next_text<'a>(arena: &'a Arena, nodes: &mut Descendants<'a>) -> Option<&'a str>
+    ensures { YieldsText (option_map (λ text. text.now) result) (texts_among arena.now nodes.old) (texts_among arena.now nodes.new) }
+{
+    'nodes: while let Some(node) = nodes.next() {
+        if let Some(text) = text_at(arena, node) {
+            return Some(text);
+        }
+    }
+    None
+}
+
+impl<'a> Iterator for Texts<'a> {
+    type Item = &'a str;
+
+    ghost use Rattle.std.specs.Prelude.{option_map};
+    ghost use Rattle.std.specs.Iterator.{item_count};
+    ghost use Rattle.html_dom.specs.Reads.{YieldsText};
+
+    ghost next_gives = { λ a r b. YieldsText (option_map (λ text. text.now) r) a b };
+
+    ghost remaining = { item_count (λ t. t) };
+
+    fn next(&mut self) -> Option<&'a str> {
+        next_text(self.arena, &mut self.nodes)
     }
 }

@@ -5,20 +5,21 @@ mod allowed;
 mod attrs;
 mod error;
 mod iterators;
+mod joined;
 mod links;
 mod making;
 mod names;
 mod parts;
 mod places;
 mod reads;
-mod texts;
 mod unwraps;
 mod walks;
 
 pub use allowed::AllowList;
 pub use attrs::{remove_attr, replace_attrs, set_attr};
 pub use error::EditError;
-pub use iterators::{Ancestors, Children, Descendants, ElementsNamed};
+pub use iterators::{Ancestors, Children, Descendants, ElementsNamed, Texts};
+pub use joined::text_below;
 pub use links::{append, insert_before, remove};
 pub use making::{create_element, create_text};
 pub use names::{is_attr_name, is_element_name};
@@ -27,6 +28,5 @@ pub use places::{is_node, is_placed, would_cycle};
 pub use reads::{
     attr, element, first_child, get, last_child, name, next_sibling, parent, previous_sibling,
 };
-pub use texts::text_below;
 pub use unwraps::unwrap;
-pub use walks::{ancestors, children, descendants, elements_named};
+pub use walks::{ancestors, children, descendants, elements_named, texts};

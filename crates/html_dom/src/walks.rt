@@ -4,9 +4,9 @@ ghost use Rattle.std.specs.Str.{chars};
 ghost use Rattle.html_arena.specs.Below.{kids};
 ghost use Rattle.html_arena.specs.Tree.{children_of};
 ghost use Rattle.html_arena.specs.declared.walk.Show.TheVariants.{All};
-ghost use Rattle.html_dom.specs.Reads.{ancestors_of, descendants_of, is_named};
+ghost use Rattle.html_dom.specs.Reads.{ancestors_of, descendants_of, is_named, texts_among};
 
-use crate::iterators::{Ancestors, Children, Descendants, ElementsNamed};
+use crate::iterators::{Ancestors, Children, Descendants, ElementsNamed, Texts};
 use crate::places::is_placed;
 use crate::reads::{first_child, parent};
 use html_arena::{Arena, NodeId, Show, Walk};
@@ -67,4 +67,12 @@ pub fn elements_named<'a>(arena: &'a Arena, node: NodeId, name: &'a str) -> Elem
         name,
         nodes: descendants(arena, node),
     }
+}
+
+/// The texts below a node, in tree order; comments are none. None where the node has no place (`is_placed`).
+pub fn texts(arena: &Arena, node: NodeId) -> Texts<'_>
+    ensures { result ≡ texts_among arena.now (descendants_of arena.now node) }
+{
+    let nodes = descendants(arena, node);
+    Texts { arena, nodes }
 }

@@ -1,5 +1,5 @@
 -- Which rules an entry follows, and all the entries of a call.
-use Rattle.std.proofs.Common.{◌≡◌, ◌||◌, Bool, true, false, not, cond, Option, Some, None, refl, sym, ap, subst, ◌∙◌}
+use Rattle.std.proofs.Common.{◌≡◌, ◌||◌, Bool, true, false, not, Option, Some, None, refl, sym, ap, subst, ◌∙◌}
 use Rattle.std.specs.Prelude.{if◌then◌else◌}
 use Rattle.std.proofs.lemmas.Bool.{false≢true}
 use Rattle.html_names.specs.declared.tag.Tag.{Tag}
@@ -10,14 +10,14 @@ use Rattle.html_ledger.specs.Flags.{may_select, must_drop}
 use Rattle.html_construction.specs.declared.mode.Mode.{Mode}
 use Rattle.html_construction.specs.declared.mode.Mode.TheVariants as mode
 use Rattle.html_construction.specs.Calls.{IsTree}
-use Rattle.html_construction.specs.Foreign.{adjusted_tag, foreign_tag, if_foreign}
+use Rattle.html_construction.specs.Foreign.{adjusted_tag, if_foreign}
 use Rattle.html_construction.specs.Modes.{is_of_frames, is_of_selects}
-use Rattle.html_construction.specs.Plans.{Do, Ending, Runs, unsaid}
+use Rattle.html_construction.specs.Plans.{Do, Ending, Runs}
 use Rattle.html_construction.specs.States.{State}
 use Rattle.html_construction.specs.Words.{Becomes, Switch, with_stack}
 use Rattle.html_construction.proofs.Doing.{becomes}
 use Rattle.html_modes.specs.Dispatching.{FollowsOn, IsDispatched, IsEntry, is_astray, is_unfounded, settled}
-use Rattle.html_modes.specs.Foreign.{around_foreign, goes_on, stack_after}
+use Rattle.html_modes.specs.Foreign.{Follows as FollowsForeignRules, around_foreign, goes_on, stack_after}
 use Rattle.html_modes.specs.Guards.{is_droppable, is_table_text}
 use Rattle.html_modes.specs.RuleForms.{again, ignored}
 use Rattle.html_modes.specs.Rules.{Follows, plan}
@@ -28,6 +28,7 @@ use Rattle.html_modes.specs.RulesAfterFrameset.{after_frameset}
 use Rattle.html_modes.specs.RulesAfterHead.{after_head}
 use Rattle.html_modes.specs.RulesBeforeHead.{before_head}
 use Rattle.html_modes.specs.RulesBeforeHtml.{before_html}
+use Rattle.html_modes.specs.RulesInBody.{in_body}
 use Rattle.html_modes.specs.RulesInCaption.{in_caption}
 use Rattle.html_modes.specs.RulesInCell.{in_cell}
 use Rattle.html_modes.specs.RulesInColumnGroup.{in_column_group}
@@ -37,7 +38,9 @@ use Rattle.html_modes.specs.RulesInHeadNoscript.{in_head_noscript}
 use Rattle.html_modes.specs.RulesInRow.{in_row}
 use Rattle.html_modes.specs.RulesInSelect.{in_select}
 use Rattle.html_modes.specs.RulesInSelectInTable.{in_select_in_table}
+use Rattle.html_modes.specs.RulesInTable.{in_table}
 use Rattle.html_modes.specs.RulesInTableBody.{in_table_body}
+use Rattle.html_modes.specs.RulesInTableText.{in_table_text}
 use Rattle.html_modes.specs.RulesInTemplate.{in_template}
 use Rattle.html_modes.specs.RulesInitial.{initial}
 use Rattle.html_modes.specs.RulesText.{text}
@@ -127,17 +130,17 @@ pub plan-AfterAfterFrameset : (m : Mode) (y : Symbol) (t : TokenKind) (a : State
 unfolding plan
 plan-AfterAfterFrameset m y t a e z k h = subst (λ (x : Mode). Runs plan (plan x y) t a e z) (sym k) h
 
-pub plan-InBody : (m : Mode) (y : Symbol) (t : TokenKind) (a : State) (e : Ending) (z : State) → m ≡ mode.InBody → Runs plan (plan m y) t a e z
+pub plan-InBody : (m : Mode) (y : Symbol) (t : TokenKind) (a : State) (e : Ending) (z : State) → m ≡ mode.InBody → Runs plan (in_body y) t a e z → Runs plan (plan m y) t a e z
 unfolding plan
-plan-InBody m y t a e z k = subst (λ (x : Mode). Runs plan (plan x y) t a e z) (sym k) (unsaid t a e z)
+plan-InBody m y t a e z k h = subst (λ (x : Mode). Runs plan (plan x y) t a e z) (sym k) h
 
-pub plan-InTable : (m : Mode) (y : Symbol) (t : TokenKind) (a : State) (e : Ending) (z : State) → m ≡ mode.InTable → Runs plan (plan m y) t a e z
+pub plan-InTable : (m : Mode) (y : Symbol) (t : TokenKind) (a : State) (e : Ending) (z : State) → m ≡ mode.InTable → Runs plan (in_table y) t a e z → Runs plan (plan m y) t a e z
 unfolding plan
-plan-InTable m y t a e z k = subst (λ (x : Mode). Runs plan (plan x y) t a e z) (sym k) (unsaid t a e z)
+plan-InTable m y t a e z k h = subst (λ (x : Mode). Runs plan (plan x y) t a e z) (sym k) h
 
-pub plan-InTableText : (m : Mode) (y : Symbol) (t : TokenKind) (a : State) (e : Ending) (z : State) → m ≡ mode.InTableText → Runs plan (plan m y) t a e z
+pub plan-InTableText : (m : Mode) (y : Symbol) (t : TokenKind) (a : State) (e : Ending) (z : State) → m ≡ mode.InTableText → Runs plan (in_table_text y) t a e z → Runs plan (plan m y) t a e z
 unfolding plan
-plan-InTableText m y t a e z k = subst (λ (x : Mode). Runs plan (plan x y) t a e z) (sym k) (unsaid t a e z)
+plan-InTableText m y t a e z k h = subst (λ (x : Mode). Runs plan (plan x y) t a e z) (sym k) h
 
 pub ruleset plans = (plan-Initial, plan-BeforeHtml, plan-BeforeHead, plan-InHead, plan-InHeadNoscript, plan-AfterHead, plan-Text, plan-InCaption, plan-InColumnGroup, plan-InTableBody, plan-InRow, plan-InCell, plan-InSelect, plan-InSelectInTable, plan-InTemplate, plan-AfterBody, plan-InFrameset, plan-AfterFrameset, plan-AfterAfterBody, plan-AfterAfterFrameset, plan-InBody, plan-InTable, plan-InTableText)
 
@@ -159,9 +162,9 @@ none-tag o g n s = let q : None ≡ Some g = sym n ∙ s in cc
 not-both : (b : Bool) → b ≡ false → b ≡ true → ⊥
 not-both b f t = false≢true (sym f ∙ t)
 
-pub entry-kept : (o : Outcome) (y : Symbol) (t : TokenKind) (a z : State) → is_table_text a.mode ≡ true → IsEntry o y t a z
-entry-kept o y t a z k = record {
-  kept = λ m. plan-InTableText a.mode y t a _ z (table_text-is a.mode k);
+pub entry-kept : (o : Outcome) (y : Symbol) (t : TokenKind) (a z : State) → is_table_text a.mode ≡ true → Follows (in_table_text y) t o a z → IsEntry o y t a z
+entry-kept o y t a z k h = record {
+  kept = λ m. plan-InTableText a.mode y t a _ z (table_text-is a.mode k) h;
   ignored_by_all = λ c f d. absurd (not-both (is_table_text a.mode) f k);
   astray = λ f n s. absurd (not-both (is_table_text a.mode) f k);
   dispatched = λ f n s. absurd (not-both (is_table_text a.mode) f k);
@@ -204,15 +207,21 @@ pub dispatched-outside : (o : Outcome) (y : Symbol) (t : TokenKind) (a z : State
 dispatched-outside o y t a z n h = record {
   by_mode = λ e. h;
   handed_on = λ g e k. absurd (none-tag (around_foreign a y t) g n e);
+  stays = λ g e k. absurd (none-tag (around_foreign a y t) g n e);
 }
 
 pub dispatched-native : (o : Outcome) (y : Symbol) (t : TokenKind) (a z : State) → a.ledger.history.foreign ≡ false → Follows (plan a.mode y) t o a z → IsDispatched o y t a z
 dispatched-native o y t a z e h = dispatched-outside o y t a z (native-none a y t e) h
 
-pub dispatched-around : (g : Tag) (o : Outcome) (y : Symbol) (t : TokenKind) (a z : State) → around_foreign a y t ≡ Some g → (goes_on a.tree y t ≡ true → FollowsOn (plan a.mode y) o y t a z) → IsDispatched o y t a z
-dispatched-around g o y t a z s h = record {
+some-tag-is : (g x : Tag) → Some g ≡ Some x → g ≡ x
+some-tag-is g x e = let q : Some g ≡ Some x = e in cc
+
+pub dispatched-around : (g : Tag) (o : Outcome) (y : Symbol) (t : TokenKind) (a z : State) → around_foreign a y t ≡ Some g → (goes_on a.tree y t ≡ true → FollowsOn (plan a.mode y) o y t a z)
+    → (goes_on a.tree y t ≡ false → FollowsForeignRules g o y t a z) → IsDispatched o y t a z
+dispatched-around g o y t a z s h f = record {
   by_mode = λ e. absurd (none-tag (around_foreign a y t) g e s);
   handed_on = λ x e k. h k;
+  stays = λ x e k. subst (λ (v : Tag). FollowsForeignRules v o y t a z) (some-tag-is g x (sym s ∙ e)) (f k);
 }
 
 pub left-on : (o : Outcome) (y : Symbol) (t : TokenKind) (a m z : State) → m ≡ record a { tree = m.tree; stack = m.stack } → IsTree (record a.tree { stack = stack_after a.tree y t }) m → Follows (plan m.mode y) t o m z → FollowsOn (plan a.mode y) o y t a z

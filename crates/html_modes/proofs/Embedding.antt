@@ -35,7 +35,7 @@ use Rattle.html_construction.specs.Foreign.{adjusted_tag, foreign_tag, if_foreig
 use Rattle.html_construction.specs.Grown.{Grown}
 use Rattle.html_construction.specs.Modes.{is_of_frames, is_of_selects}
 use Rattle.html_construction.specs.States.{State}
-use Rattle.html_construction.specs.Tokens.{foreign_name, tag_name}
+use Rattle.html_construction.specs.Tokens.{closes_itself, foreign_name, tag_name}
 use Rattle.html_construction.specs.Weights.{weight, weight_of}
 use Rattle.html_construction.specs.Works.{Works}
 use Rattle.html_construction.proofs.Telling.{any-refused, char-refused}
@@ -45,7 +45,7 @@ use Rattle.html_modes.specs.declared.outcome.Foreign.{Foreign as Root}
 use Rattle.html_modes.specs.declared.outcome.Foreign.TheVariants as root
 use Rattle.html_modes.specs.Begun.{IgnoresIn}
 use Rattle.html_modes.specs.Fitting.{is_loose}
-use Rattle.html_modes.specs.Foreign.{Follows, FollowsForeign, IsCommented, IsEmbedded, IsIgnored, IsInserted, IsRootMade, Stayed, Stays, around_foreign, breaks_out, closed_foreign, closes_itself, ends_any, ends_foreign, frameset_ok_after, goes_by_foreign, goes_on, if_goes, leaves_foreign, stack_after}
+use Rattle.html_modes.specs.Foreign.{Follows, FollowsForeign, IsCommented, IsEmbedded, IsIgnored, IsInserted, IsRootMade, Stayed, Stays, around_foreign, breaks_out, closed_foreign, ends_any, ends_foreign, frameset_ok_after, goes_by_foreign, goes_on, if_goes, leaves_foreign, stack_after}
 use Rattle.html_modes.specs.Guards.{is_table_text}
 use Rattle.html_modes.specs.Ranks.{rank, top_rank}
 use Rattle.html_modes.specs.Plain.{IsNextInBody, TurnsInBody, is_plain_tag}

@@ -13,7 +13,8 @@ use Rattle.html_construction.specs.declared.mode.Mode.{Mode}
 use Rattle.html_construction.specs.Calls.{IsTree}
 use Rattle.html_construction.specs.Modes.{is_of_frames, is_of_selects}
 use Rattle.html_construction.specs.States.{State}
-use Rattle.html_modes.specs.Foreign.{Follows, FollowsForeign, IsEmbedded, Stayed, around_foreign, closes_itself, embedded, frameset_ok_after, goes_on}
+use Rattle.html_construction.specs.Tokens.{closes_itself}
+use Rattle.html_modes.specs.Foreign.{Follows, FollowsForeign, IsEmbedded, Stayed, around_foreign, embedded, frameset_ok_after, goes_on}
 use Rattle.html_modes.specs.declared.outcome.Outcome.{Outcome}
 use Rattle.html_modes.specs.declared.outcome.Outcome.TheVariants.{Done, Reprocess}
 use Rattle.html_modes.proofs.Plain.{IsAlike, later}

@@ -9,13 +9,19 @@ pub mod InBody
 pub mod Current
 pub mod Closing
 pub mod Plain
+pub mod Ids
 pub mod TextRuns
 pub mod RawText
 pub mod Embedding
 pub mod Words
 pub mod Following
 pub mod Ruled
+pub mod RulesInBody
 pub mod RulesInHead
+pub mod RulesInBodyStart
+pub mod RulesInBodyEnd
+pub mod RulesInTable
+pub mod RulesInTableText
 pub mod RulesAfterAfterBody
 pub mod RulesAfterAfterFrameset
 pub mod RulesAfterBody
@@ -36,3 +42,4 @@ pub mod RulesInTemplate
 pub mod RulesInitial
 pub mod RulesText
 pub mod Dispatching
+pub mod Constructing

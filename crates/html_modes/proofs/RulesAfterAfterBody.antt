@@ -1,5 +1,5 @@
 -- The arms of the "after after body" insertion mode, one lemma each: of a token that meets its test and no earlier one, the table has this plan.
-use Rattle.std.proofs.Common.{ℕ, ◌≡◌, true, false, subst, sym, if◌then◌else◌}
+use Rattle.std.proofs.Common.{ℕ, ◌≡◌, true, false, subst, sym}
 use Rattle.html_names.specs.declared.tag.Tag.{Tag}
 use Rattle.html_names.specs.declared.tag.Tag.TheVariants as tag
 use Rattle.html_tokens.specs.declared.token.TokenKind.{TokenKind}
@@ -14,6 +14,7 @@ use Rattle.html_construction.specs.Words.{InsertCommentAt}
 use Rattle.html_modes.specs.RuleForms.{done_with, ignored_doctype, over}
 use Rattle.html_modes.specs.Rules.{plan}
 use Rattle.html_modes.specs.RulesAfterAfterBody.{after_after_body, back_in_body}
+use Rattle.html_modes.proofs.RulesInBody.{by_body_rules}
 use Rattle.html_modes.proofs.Ruled.{other_than, rule_words}
 
 pub after_after_body-comment : (y : Symbol) (t : TokenKind) (a : State) (e : Ending) (z : State) → y ≡ Comment → Runs plan (Do (InsertCommentAt target.Document) over) t a e z → Runs plan (after_after_body y) t a e z
@@ -40,4 +41,4 @@ after_after_body-end y g t a e z k h = subst (λ (x : Symbol). Runs plan (after_
 pub after_after_body-eof : (y : Symbol) (t : TokenKind) (a : State) (e : Ending) (z : State) → y ≡ Eof → Runs plan (done_with) t a e z → Runs plan (after_after_body y) t a e z
 after_after_body-eof y t a e z k h = subst (λ (x : Symbol). Runs plan (after_after_body x) t a e z) (sym k) h
 
-pub ruleset arms = (rule_words, after_after_body-comment, after_after_body-doctype, after_after_body-space, after_after_body-char, after_after_body-start-Html, after_after_body-start-other, after_after_body-end, after_after_body-eof)
+pub ruleset arms = (rule_words, by_body_rules, after_after_body-comment, after_after_body-doctype, after_after_body-space, after_after_body-char, after_after_body-start-Html, after_after_body-start-other, after_after_body-end, after_after_body-eof)

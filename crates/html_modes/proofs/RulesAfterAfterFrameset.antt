@@ -1,5 +1,5 @@
 -- The arms of the "after after frameset" insertion mode, one lemma each: of a token that meets its test and no earlier one, the table has this plan.
-use Rattle.std.proofs.Common.{ℕ, ◌≡◌, true, false, subst, sym, if◌then◌else◌}
+use Rattle.std.proofs.Common.{ℕ, ◌≡◌, true, false, subst, sym}
 use Rattle.html_names.specs.declared.tag.Tag.{Tag}
 use Rattle.html_names.specs.declared.tag.Tag.TheVariants as tag
 use Rattle.html_tokens.specs.declared.token.TokenKind.{TokenKind}
@@ -16,6 +16,7 @@ use Rattle.html_modes.specs.RuleForms.{done_with, ignored, ignored_doctype, over
 use Rattle.html_modes.specs.Rules.{plan}
 use Rattle.html_modes.specs.RulesAfterAfterFrameset.{after_after_frameset, after_after_frameset_start}
 use Rattle.html_modes.proofs.RulesInHead.{by_head_rules}
+use Rattle.html_modes.proofs.RulesInBody.{by_body_rules}
 use Rattle.html_modes.proofs.Ruled.{other_than, rule_words}
 
 pub after_after_frameset_start-Html : (g : Tag) (t : TokenKind) (a : State) (e : Ending) (z : State) → g ≡ tag.Html → Runs plan (after_after_frameset_start tag.Html) t a e z → Runs plan (after_after_frameset_start g) t a e z
@@ -48,4 +49,4 @@ after_after_frameset-end y g t a e z k h = subst (λ (x : Symbol). Runs plan (af
 pub after_after_frameset-eof : (y : Symbol) (t : TokenKind) (a : State) (e : Ending) (z : State) → y ≡ Eof → Runs plan (done_with) t a e z → Runs plan (after_after_frameset y) t a e z
 after_after_frameset-eof y t a e z k h = subst (λ (x : Symbol). Runs plan (after_after_frameset x) t a e z) (sym k) h
 
-pub ruleset arms = (rule_words, by_head_rules, after_after_frameset_start-Html, after_after_frameset_start-Noframes, after_after_frameset_start-other, after_after_frameset-space, after_after_frameset-char, after_after_frameset-comment, after_after_frameset-doctype, after_after_frameset-start, after_after_frameset-end, after_after_frameset-eof)
+pub ruleset arms = (rule_words, by_body_rules, by_head_rules, after_after_frameset_start-Html, after_after_frameset_start-Noframes, after_after_frameset_start-other, after_after_frameset-space, after_after_frameset-char, after_after_frameset-comment, after_after_frameset-doctype, after_after_frameset-start, after_after_frameset-end, after_after_frameset-eof)

@@ -1,5 +1,5 @@
 -- The arms of the "after body" insertion mode, one lemma each: of a token that meets its test and no earlier one, the table has this plan.
-use Rattle.std.proofs.Common.{ℕ, ◌≡◌, true, false, subst, sym, if◌then◌else◌}
+use Rattle.std.proofs.Common.{ℕ, ◌≡◌, true, false, subst, sym}
 use Rattle.html_names.specs.declared.tag.Tag.{Tag}
 use Rattle.html_names.specs.declared.tag.Tag.TheVariants as tag
 use Rattle.html_tokens.specs.declared.token.TokenKind.{TokenKind}
@@ -14,6 +14,7 @@ use Rattle.html_construction.specs.Words.{InsertCommentAt, IsFragment, Switch}
 use Rattle.html_modes.specs.RuleForms.{done_with, ignored_doctype, over}
 use Rattle.html_modes.specs.Rules.{plan}
 use Rattle.html_modes.specs.RulesAfterBody.{after_body, back_to_body}
+use Rattle.html_modes.proofs.RulesInBody.{by_body_rules}
 use Rattle.html_modes.proofs.Ruled.{other_than, rule_words}
 
 pub after_body-space : (y : Symbol) (c : ℕ) (t : TokenKind) (a : State) (e : Ending) (z : State) → y ≡ Char c → (is_space c) ≡ true → Runs plan (By mode.InBody) t a e z → Runs plan (after_body y) t a e z
@@ -43,4 +44,4 @@ after_body-end-other y g t a e z k m h = subst (λ (x : Symbol). Runs plan (afte
 pub after_body-eof : (y : Symbol) (t : TokenKind) (a : State) (e : Ending) (z : State) → y ≡ Eof → Runs plan (done_with) t a e z → Runs plan (after_body y) t a e z
 after_body-eof y t a e z k h = subst (λ (x : Symbol). Runs plan (after_body x) t a e z) (sym k) h
 
-pub ruleset arms = (rule_words, after_body-space, after_body-char, after_body-comment, after_body-doctype, after_body-start-Html, after_body-start-other, after_body-end-Html, after_body-end-other, after_body-eof)
+pub ruleset arms = (rule_words, by_body_rules, after_body-space, after_body-char, after_body-comment, after_body-doctype, after_body-start-Html, after_body-start-other, after_body-end-Html, after_body-end-other, after_body-eof)

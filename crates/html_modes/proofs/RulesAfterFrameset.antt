@@ -1,5 +1,5 @@
 -- The arms of the "after frameset" insertion mode, one lemma each: of a token that meets its test and no earlier one, the table has this plan.
-use Rattle.std.proofs.Common.{ℕ, ◌≡◌, true, false, subst, sym, if◌then◌else◌}
+use Rattle.std.proofs.Common.{ℕ, ◌≡◌, true, false, subst, sym}
 use Rattle.html_names.specs.declared.tag.Tag.{Tag}
 use Rattle.html_names.specs.declared.tag.Tag.TheVariants as tag
 use Rattle.html_tokens.specs.declared.token.TokenKind.{TokenKind}
@@ -15,6 +15,7 @@ use Rattle.html_modes.specs.RuleForms.{done_with, ignored, ignored_doctype, over
 use Rattle.html_modes.specs.Rules.{plan}
 use Rattle.html_modes.specs.RulesAfterFrameset.{after_frameset, after_frameset_start}
 use Rattle.html_modes.proofs.RulesInHead.{by_head_rules}
+use Rattle.html_modes.proofs.RulesInBody.{by_body_rules}
 use Rattle.html_modes.proofs.Ruled.{other_than, rule_words}
 
 pub after_frameset_start-Html : (g : Tag) (t : TokenKind) (a : State) (e : Ending) (z : State) → g ≡ tag.Html → Runs plan (after_frameset_start tag.Html) t a e z → Runs plan (after_frameset_start g) t a e z
@@ -50,4 +51,4 @@ after_frameset-end-other y g t a e z k m h = subst (λ (x : Symbol). Runs plan (
 pub after_frameset-eof : (y : Symbol) (t : TokenKind) (a : State) (e : Ending) (z : State) → y ≡ Eof → Runs plan (done_with) t a e z → Runs plan (after_frameset y) t a e z
 after_frameset-eof y t a e z k h = subst (λ (x : Symbol). Runs plan (after_frameset x) t a e z) (sym k) h
 
-pub ruleset arms = (rule_words, by_head_rules, after_frameset_start-Html, after_frameset_start-Noframes, after_frameset_start-other, after_frameset-space, after_frameset-char, after_frameset-comment, after_frameset-doctype, after_frameset-start, after_frameset-end-Html, after_frameset-end-other, after_frameset-eof)
+pub ruleset arms = (rule_words, by_body_rules, by_head_rules, after_frameset_start-Html, after_frameset_start-Noframes, after_frameset_start-other, after_frameset-space, after_frameset-char, after_frameset-comment, after_frameset-doctype, after_frameset-start, after_frameset-end-Html, after_frameset-end-other, after_frameset-eof)

@@ -1,5 +1,5 @@
 -- The arms of the "after head" insertion mode, one lemma each: of a token that meets its test and no earlier one, the table has this plan.
-use Rattle.std.proofs.Common.{ℕ, ◌≡◌, true, false, refl, subst, sym, if◌then◌else◌}
+use Rattle.std.proofs.Common.{ℕ, ◌≡◌, true, false, refl, subst, sym}
 use Rattle.std.proofs.lemmas.Bool.{false≢true}
 use Rattle.html_names.specs.declared.tag.Tag.{Tag}
 use Rattle.html_names.specs.declared.tag.Tag.TheVariants as tag
@@ -19,6 +19,7 @@ use Rattle.html_modes.specs.Rules.{plan}
 use Rattle.html_modes.specs.RulesInHead.{in_head_part}
 use Rattle.html_modes.specs.RulesAfterHead.{after_head, after_head_end, after_head_start, implying_body}
 use Rattle.html_modes.proofs.RulesInHead.{by_head_rules}
+use Rattle.html_modes.proofs.RulesInBody.{by_body_rules}
 use Rattle.html_modes.proofs.Ruled.{other_than, rule_words}
 
 is_headish-not-Body : (g : Tag) → is_headish g ≡ true → is_same g tag.Body ≡ false
@@ -84,4 +85,4 @@ after_head-end y g t a e z k h = subst (λ (x : Symbol). Runs plan (after_head x
 pub after_head-eof : (y : Symbol) (t : TokenKind) (a : State) (e : Ending) (z : State) → y ≡ Eof → Runs plan (implying_body) t a e z → Runs plan (after_head y) t a e z
 after_head-eof y t a e z k h = subst (λ (x : Symbol). Runs plan (after_head x) t a e z) (sym k) h
 
-pub ruleset arms = (rule_words, by_head_rules, after_head_start-Html, after_head_start-Body, after_head_start-Frameset, after_head_start-is_headish, after_head_start-Head, after_head_start-other, after_head_end-Template, after_head_end-Head, after_head_end-is_page_part, after_head_end-other, after_head-space, after_head-char, after_head-comment, after_head-doctype, after_head-start, after_head-end, after_head-eof)
+pub ruleset arms = (rule_words, by_body_rules, by_head_rules, after_head_start-Html, after_head_start-Body, after_head_start-Frameset, after_head_start-is_headish, after_head_start-Head, after_head_start-other, after_head_end-Template, after_head_end-Head, after_head_end-is_page_part, after_head_end-other, after_head-space, after_head-char, after_head-comment, after_head-doctype, after_head-start, after_head-end, after_head-eof)

@@ -1,5 +1,5 @@
 -- The arms of the "before head" insertion mode, one lemma each: of a token that meets its test and no earlier one, the table has this plan.
-use Rattle.std.proofs.Common.{ℕ, ◌≡◌, ◌⊎◌, true, false, inl, inr, subst, sym, if◌then◌else◌}
+use Rattle.std.proofs.Common.{ℕ, ◌≡◌, ◌⊎◌, true, false, inl, inr, subst, sym}
 use Rattle.html_names.specs.declared.tag.Tag.{Tag}
 use Rattle.html_names.specs.declared.tag.Tag.TheVariants as tag
 use Rattle.html_names.specs.Groups.{is_page_part}
@@ -12,6 +12,7 @@ use Rattle.html_construction.specs.Words.{InsertComment}
 use Rattle.html_modes.specs.RuleForms.{done_with, ignored_doctype, over}
 use Rattle.html_modes.specs.Rules.{plan}
 use Rattle.html_modes.specs.RulesBeforeHead.{before_head, before_head_end, before_head_start, implying_head}
+use Rattle.html_modes.proofs.RulesInBody.{by_body_rules}
 use Rattle.html_modes.proofs.Ruled.{other_than, rule_words}
 
 pub before_head_start-Html : (g : Tag) (t : TokenKind) (a : State) (e : Ending) (z : State) → g ≡ tag.Html → Runs plan (before_head_start tag.Html) t a e z → Runs plan (before_head_start g) t a e z
@@ -45,4 +46,4 @@ pub before_head-rest : (y : Symbol) (t : TokenKind) (a : State) (e : Ending) (z 
 before_head-rest y t a e z (inl m) h = subst (λ (x : Symbol). Runs plan (before_head x) t a e z) (sym m.1) h
 before_head-rest y t a e z (inr m) h = subst (λ (x : Symbol). Runs plan (before_head x) t a e z) (sym m) h
 
-pub ruleset arms = (rule_words, before_head_start-Html, before_head_start-Head, before_head_start-other, before_head_end-is_page_part, before_head_end-other, before_head-doctype, before_head-comment, before_head-start, before_head-end, before_head-rest)
+pub ruleset arms = (rule_words, by_body_rules, before_head_start-Html, before_head_start-Head, before_head_start-other, before_head_end-is_page_part, before_head_end-other, before_head-doctype, before_head-comment, before_head-start, before_head-end, before_head-rest)

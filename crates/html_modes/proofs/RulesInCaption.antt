@@ -1,7 +1,6 @@
 -- The arms of the "in caption" insertion mode, one lemma each: of a token that meets its test and no earlier one, the table has this plan.
-use Rattle.std.proofs.Common.{◌≡◌, true, false, refl, subst, sym, if◌then◌else◌}
+use Rattle.std.proofs.Common.{◌≡◌, true, false, refl, subst, sym}
 use Rattle.std.proofs.lemmas.Bool.{false≢true}
-use Rattle.html_names.specs.declared.sets.Scope.TheVariants as scope
 use Rattle.html_names.specs.declared.tag.Tag.{Tag}
 use Rattle.html_names.specs.declared.tag.Tag.TheVariants as tag
 use Rattle.html_names.specs.Groups.{is_ignored_in_table, is_table_piece}
@@ -10,16 +9,13 @@ use Rattle.html_tokens.specs.declared.token.TokenKind.{TokenKind}
 use Rattle.html_ledger.specs.declared.fate.Cause.TheVariants.{Misplaced}
 use Rattle.html_ledger.specs.declared.symbol.Symbol.{Symbol}
 use Rattle.html_ledger.specs.declared.symbol.Symbol.TheVariants.{Start, End, Char, Comment, Doctype, Eof}
-use Rattle.html_tree.specs.declared.groups.Group.TheVariants as group
-use Rattle.html_tree.specs.declared.groups.Stop.TheVariants as stop
-use Rattle.html_tree.specs.declared.groups.TableContext.TheVariants as context
 use Rattle.html_construction.specs.declared.mode.Mode.TheVariants as mode
-use Rattle.html_construction.specs.Plans.{Ask, By, Do, Ending, Runs, closing, implying_part, inserting_part}
+use Rattle.html_construction.specs.Plans.{By, Ending, Runs}
 use Rattle.html_construction.specs.States.{State}
-use Rattle.html_construction.specs.Words.{AddMarker, ClearTo, ClearToMarker, Finds, Switch}
-use Rattle.html_modes.specs.RuleForms.{again, done_with, ignored, over}
+use Rattle.html_modes.specs.RuleForms.{again, done_with, ignored}
 use Rattle.html_modes.specs.Rules.{plan}
 use Rattle.html_modes.specs.RulesInCaption.{in_caption, in_caption_end, in_caption_start, closing_caption}
+use Rattle.html_modes.proofs.RulesInBody.{by_body_rules}
 use Rattle.html_modes.proofs.Ruled.{is_neither, other_than, rule_words}
 
 is_ignored_in_table-not-Table : (g : Tag) → is_ignored_in_table g ≡ true → is_same g tag.Table ≡ false
@@ -58,4 +54,4 @@ in_caption-neither Comment t a e z k h = h
 in_caption-neither Doctype t a e z k h = h
 in_caption-neither Eof t a e z k h = h
 
-pub ruleset arms = (rule_words, in_caption_start-is_table_piece, in_caption_start-other, in_caption_end-Caption, in_caption_end-Table, in_caption_end-is_ignored_in_table, in_caption_end-other, in_caption-start, in_caption-end, in_caption-neither)
+pub ruleset arms = (rule_words, by_body_rules, in_caption_start-is_table_piece, in_caption_start-other, in_caption_end-Caption, in_caption_end-Table, in_caption_end-is_ignored_in_table, in_caption_end-other, in_caption-start, in_caption-end, in_caption-neither)

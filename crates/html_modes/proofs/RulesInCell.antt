@@ -1,26 +1,25 @@
 -- The arms of the "in cell" insertion mode, one lemma each: of a token that meets its test and no earlier one, the table has this plan.
-use Rattle.std.proofs.Common.{◌≡◌, true, false, refl, subst, sym, if◌then◌else◌}
+use Rattle.std.proofs.Common.{◌≡◌, true, false, refl, subst, sym}
 use Rattle.std.proofs.lemmas.Bool.{false≢true}
 use Rattle.html_names.specs.declared.sets.Scope.TheVariants as scope
 use Rattle.html_names.specs.declared.tag.Tag.{Tag}
 use Rattle.html_names.specs.declared.tag.Tag.TheVariants as tag
 use Rattle.html_names.specs.Groups.{ends_cell, is_ignored_in_table, is_table_piece}
 use Rattle.html_names.specs.Sets.{is_cell}
-use Rattle.html_names.specs.Tags.{is_same}
 use Rattle.html_tokens.specs.declared.token.TokenKind.{TokenKind}
 use Rattle.html_ledger.specs.declared.fate.Cause.TheVariants.{Misplaced}
 use Rattle.html_ledger.specs.declared.symbol.Symbol.{Symbol}
 use Rattle.html_ledger.specs.declared.symbol.Symbol.TheVariants.{Start, End, Char, Comment, Doctype, Eof}
 use Rattle.html_tree.specs.declared.groups.Group.TheVariants as group
 use Rattle.html_tree.specs.declared.groups.Stop.TheVariants as stop
-use Rattle.html_tree.specs.declared.groups.TableContext.TheVariants as context
 use Rattle.html_construction.specs.declared.mode.Mode.TheVariants as mode
-use Rattle.html_construction.specs.Plans.{Ask, By, Do, Ending, Runs, closing, implying_part, inserting_part}
+use Rattle.html_construction.specs.Plans.{Ask, By, Ending, Runs}
 use Rattle.html_construction.specs.States.{State}
-use Rattle.html_construction.specs.Words.{AddMarker, ClearTo, ClearToMarker, Finds, Switch}
-use Rattle.html_modes.specs.RuleForms.{again, done_with, ignored, over}
+use Rattle.html_construction.specs.Words.{Finds}
+use Rattle.html_modes.specs.RuleForms.{again, done_with, ignored}
 use Rattle.html_modes.specs.Rules.{plan}
 use Rattle.html_modes.specs.RulesInCell.{in_cell, in_cell_end, in_cell_start, closing_cell}
+use Rattle.html_modes.proofs.RulesInBody.{by_body_rules}
 use Rattle.html_modes.proofs.Ruled.{is_neither, other_than, rule_words}
 
 ends_cell-not-is_cell : (g : Tag) → ends_cell g ≡ true → is_cell g ≡ false
@@ -60,4 +59,4 @@ in_cell-neither Comment t a e z k h = h
 in_cell-neither Doctype t a e z k h = h
 in_cell-neither Eof t a e z k h = h
 
-pub ruleset arms = (rule_words, in_cell_start-is_table_piece, in_cell_start-other, in_cell_end-is_cell, in_cell_end-ends_cell, in_cell_end-is_ignored_in_table, in_cell_end-other, in_cell-start, in_cell-end, in_cell-neither)
+pub ruleset arms = (rule_words, by_body_rules, in_cell_start-is_table_piece, in_cell_start-other, in_cell_end-is_cell, in_cell_end-ends_cell, in_cell_end-is_ignored_in_table, in_cell_end-other, in_cell-start, in_cell-end, in_cell-neither)

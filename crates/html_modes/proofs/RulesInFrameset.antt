@@ -1,5 +1,5 @@
 -- The arms of the "in frameset" insertion mode, one lemma each: of a token that meets its test and no earlier one, the table has this plan.
-use Rattle.std.proofs.Common.{ℕ, ◌≡◌, ◌==◌, Bool, true, false, refl, subst, sym, if◌then◌else◌}
+use Rattle.std.proofs.Common.{ℕ, ◌≡◌, ◌==◌, Bool, true, false, refl, subst, sym}
 use Rattle.html_names.specs.declared.tag.Tag.{Tag}
 use Rattle.html_names.specs.declared.tag.Tag.TheVariants as tag
 use Rattle.html_tokens.specs.declared.token.TokenKind.{TokenKind}
@@ -16,6 +16,7 @@ use Rattle.html_modes.specs.RulesInFrameset.{closing_frameset, in_frameset, in_f
 use Rattle.html_modes.proofs.RulesInHead.{by_head_rules}
 use Rattle.std.proofs.Common.{length}
 use Rattle.html_construction.proofs.Doing.{asking}
+use Rattle.html_modes.proofs.RulesInBody.{by_body_rules}
 use Rattle.html_modes.proofs.Ruled.{other_than, rule_words}
 
 pub in_frameset_start-Html : (g : Tag) (t : TokenKind) (a : State) (e : Ending) (z : State) → g ≡ tag.Html → Runs plan (in_frameset_start tag.Html) t a e z → Runs plan (in_frameset_start g) t a e z
@@ -61,4 +62,4 @@ in_frameset-eof y t a e z k h = subst (λ (x : Symbol). Runs plan (in_frameset x
 pub alone : (x : Bool) (a : State) → x ≡ (length a.tree.stack == 1) → Asks IsRootAlone x a a
 alone x a k = asking IsRootAlone x a a (λ t. k) refl (record { tree_is = refl })
 
-pub ruleset arms = (rule_words, by_head_rules, in_frameset_start-Html, in_frameset_start-Frameset, in_frameset_start-Frame, in_frameset_start-Noframes, in_frameset_start-other, in_frameset-space, in_frameset-char, in_frameset-comment, in_frameset-doctype, in_frameset-start, in_frameset-end-Frameset, in_frameset-end-other, in_frameset-eof, alone)
+pub ruleset arms = (rule_words, by_body_rules, by_head_rules, in_frameset_start-Html, in_frameset_start-Frameset, in_frameset_start-Frame, in_frameset_start-Noframes, in_frameset_start-other, in_frameset-space, in_frameset-char, in_frameset-comment, in_frameset-doctype, in_frameset-start, in_frameset-end-Frameset, in_frameset-end-other, in_frameset-eof, alone)

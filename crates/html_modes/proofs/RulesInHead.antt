@@ -1,5 +1,5 @@
 -- The arms of the "in head" insertion mode, one lemma each: of a token that meets its test and no earlier one, the table has this plan.
-use Rattle.std.proofs.Common.{ℕ, ◌≡◌, true, false, refl, subst, sym, if◌then◌else◌}
+use Rattle.std.proofs.Common.{ℕ, ◌≡◌, true, false, refl, subst, sym}
 use Rattle.std.proofs.lemmas.Bool.{false≢true}
 use Rattle.html_names.specs.declared.tag.Tag.{Tag}
 use Rattle.html_names.specs.declared.tag.Tag.TheVariants as tag
@@ -20,6 +20,7 @@ use Rattle.html_modes.specs.Rules.{plan}
 use Rattle.html_modes.specs.RulesInHead.{closing_template, holding_text, in_head, in_head_end, in_head_part, in_head_start, leaving_head, opening_template}
 use Rattle.html_construction.specs.Words.{Word}
 use Rattle.html_construction.proofs.Weighing.{same-tag}
+use Rattle.html_modes.proofs.RulesInBody.{by_body_rules}
 use Rattle.html_modes.proofs.Ruled.{other_than, rule_words}
 
 is_headish-not-Html : (g : Tag) → is_headish g ≡ true → is_same g tag.Html ≡ false
@@ -123,4 +124,4 @@ noscript-headish _ e = absurd (false≢true e)
 
 pub ruleset by_head_rules = (by_head-space, by_head-comment, by_head-part, by_head-script, by_head-noframes, by_head-template, by_head-template_end, noscript-headish)
 
-pub ruleset arms = (rule_words, in_head_start-Html, in_head_start-is_headish, in_head_start-Noscript, in_head_start-Head, in_head_start-other, in_head_end-Head, in_head_end-Template, in_head_end-is_page_part, in_head_end-other, part-text, part-template, part-template-is, part-void, in_head-space, in_head-char, in_head-comment, in_head-doctype, in_head-start, in_head-end, in_head-eof)
+pub ruleset arms = (rule_words, by_body_rules, in_head_start-Html, in_head_start-is_headish, in_head_start-Noscript, in_head_start-Head, in_head_start-other, in_head_end-Head, in_head_end-Template, in_head_end-is_page_part, in_head_end-other, part-text, part-template, part-template-is, part-void, in_head-space, in_head-char, in_head-comment, in_head-doctype, in_head-start, in_head-end, in_head-eof)

@@ -1,5 +1,5 @@
 -- The arms of the "in row" insertion mode, one lemma each: of a token that meets its test and no earlier one, the table has this plan.
-use Rattle.std.proofs.Common.{◌≡◌, true, false, refl, subst, sym, if◌then◌else◌}
+use Rattle.std.proofs.Common.{◌≡◌, true, false, refl, subst, sym}
 use Rattle.std.proofs.lemmas.Bool.{false≢true}
 use Rattle.html_names.specs.declared.sets.Scope.TheVariants as scope
 use Rattle.html_names.specs.declared.tag.Tag.{Tag}
@@ -15,12 +15,13 @@ use Rattle.html_tree.specs.declared.groups.Group.TheVariants as group
 use Rattle.html_tree.specs.declared.groups.Stop.TheVariants as stop
 use Rattle.html_tree.specs.declared.groups.TableContext.TheVariants as context
 use Rattle.html_construction.specs.declared.mode.Mode.TheVariants as mode
-use Rattle.html_construction.specs.Plans.{Ask, By, Do, Ending, Runs, closing, implying_part, inserting_part}
+use Rattle.html_construction.specs.Plans.{Ask, By, Do, Ending, Runs, inserting_part}
 use Rattle.html_construction.specs.States.{State}
-use Rattle.html_construction.specs.Words.{AddMarker, ClearTo, ClearToMarker, Finds, Switch}
+use Rattle.html_construction.specs.Words.{AddMarker, ClearTo, Finds, Switch}
 use Rattle.html_modes.specs.RuleForms.{again, done_with, ignored, over}
 use Rattle.html_modes.specs.Rules.{plan}
 use Rattle.html_modes.specs.RulesInRow.{in_row, in_row_end, in_row_start, closing_row}
+use Rattle.html_modes.proofs.RulesInTable.{by_table_rules}
 use Rattle.html_modes.proofs.Ruled.{is_neither, other_than, rule_words}
 
 ends_row-not-is_cell : (g : Tag) → ends_row g ≡ true → is_cell g ≡ false
@@ -78,4 +79,4 @@ in_row-neither Comment t a e z k h = h
 in_row-neither Doctype t a e z k h = h
 in_row-neither Eof t a e z k h = h
 
-pub ruleset arms = (rule_words, in_row_start-is_cell, in_row_start-ends_row, in_row_start-other, in_row_end-Tr, in_row_end-Table, in_row_end-is_section, in_row_end-is_ignored_in_table, in_row_end-other, in_row-start, in_row-end, in_row-neither)
+pub ruleset arms = (rule_words, by_table_rules, in_row_start-is_cell, in_row_start-ends_row, in_row_start-other, in_row_end-Tr, in_row_end-Table, in_row_end-is_section, in_row_end-is_ignored_in_table, in_row_end-other, in_row-start, in_row-end, in_row-neither)

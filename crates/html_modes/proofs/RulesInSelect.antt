@@ -1,5 +1,5 @@
 -- The arms of the "in select" insertion mode, one lemma each: of a token that meets its test and no earlier one, the table has this plan.
-use Rattle.std.proofs.Common.{ℕ, ◌≡◌, Bool, true, false, refl, subst, sym, if◌then◌else◌}
+use Rattle.std.proofs.Common.{ℕ, ◌≡◌, Bool, true, false, refl, subst, sym}
 use Rattle.std.proofs.lemmas.Bool.{false≢true}
 use Rattle.html_names.specs.declared.tag.Tag.{Tag}
 use Rattle.html_names.specs.declared.tag.Tag.TheVariants as tag
@@ -10,15 +10,17 @@ use Rattle.html_ledger.specs.declared.fate.Cause.TheVariants.{InSelect}
 use Rattle.html_ledger.specs.declared.symbol.Symbol.{Symbol}
 use Rattle.html_ledger.specs.declared.symbol.Symbol.TheVariants.{Start, End, Char, Comment, Doctype, Eof}
 use Rattle.html_construction.specs.declared.mode.Mode.TheVariants as mode
-use Rattle.html_construction.specs.Plans.{By, Chooses, Do, Ending, Plan, Runs, Unsaid, popping, unsaid}
+use Rattle.html_construction.specs.Plans.{Asks, By, Chooses, Do, DoesAny, Ending, Passes, Plan, Runs, popping}
 use Rattle.html_construction.specs.States.{State}
-use Rattle.html_construction.specs.Words.{InsertComment}
+use Rattle.html_construction.specs.Words.{InsertComment, IsOptionInGroup, Pop}
 use Rattle.html_modes.specs.RuleForms.{again, done_with, ignored, ignored_doctype, over, popping_any}
 use Rattle.html_modes.specs.Rules.{plan}
-use Rattle.html_modes.specs.RulesInSelect.{closing_select, in_select, in_select_end, in_select_start}
+use Rattle.html_modes.specs.RulesInSelect.{closing_group, closing_grouped_option, closing_select, in_select, in_select_end, in_select_start}
 use Rattle.html_modes.specs.RulesText.{text_char}
 use Rattle.html_modes.proofs.RulesInHead.{by_head_rules}
 use Rattle.html_tree.specs.declared.groups.Group.{Group}
+use Rattle.html_tree.specs.declared.groups.Group.TheVariants as group
+use Rattle.html_modes.proofs.RulesInBody.{by_body_rules}
 use Rattle.html_modes.proofs.Ruled.{either, other_than, rule_words}
 
 ends_select-not-Hr : (g : Tag) → ends_select g ≡ true → is_same g tag.Hr ≡ false
@@ -101,10 +103,18 @@ in_select-end y g t a e z k h = subst (λ (x : Symbol). Runs plan (in_select x) 
 pub in_select-eof : (y : Symbol) (t : TokenKind) (a : State) (e : Ending) (z : State) → y ≡ Eof → Runs plan (By mode.InBody) t a e z → Runs plan (in_select y) t a e z
 in_select-eof y t a e z k h = subst (λ (x : Symbol). Runs plan (in_select x) t a e z) (sym k) h
 
-pub unsaid_here : (t : TokenKind) (a : State) (e : Ending) (z : State) → Runs plan Unsaid t a e z
-unsaid_here t a e z = unsaid t a e z
+-- an option that stands on an optgroup, and the optgroup
+pub grouped-closed : (a b c : State) → Asks IsOptionInGroup true a b → DoesAny Pop b c → Passes closing_grouped_option a c
+grouped-closed a b c f d = λ r t p e z h. f r t (Do Pop p) p e z (d r t p e z h)
+
+pub grouped-kept : (a b : State) → Asks IsOptionInGroup false a b → Passes closing_grouped_option a b
+grouped-kept a b f = λ r t p e z h. f r t (Do Pop p) p e z h
+
+pub group-closed : (x : Bool) (a b c : State) → Passes closing_grouped_option a b → Chooses (λ p n. popping (group.Named tag.Optgroup) p n) x b c → Passes closing_group a c
+group-closed true a b c f g = λ r t p e z h. f r t (popping_any (group.Named tag.Optgroup) p) e z (g r t p p e z h)
+group-closed false a b c f g = λ r t p e z h. f r t (popping_any (group.Named tag.Optgroup) p) e z (g r t p p e z h)
 
 pub popped-any : (g : Group) (x : Bool) (p : Plan) (t : TokenKind) (a b : State) (e : Ending) (z : State) → Chooses (λ p n. popping g p n) x a b → Runs plan p t b e z → Runs plan (popping_any g p) t a e z
 popped-any g x p t a b e z f h = f plan t p p e z (either x p t b e z h)
 
-pub ruleset arms = (rule_words, by_head_rules, either, in_select_start-Html, in_select_start-Option, in_select_start-Optgroup, in_select_start-Hr, in_select_start-Select, in_select_start-ends_select, in_select_start-Script, in_select_start-Template, in_select_start-other, in_select_end-Optgroup, in_select_end-Option, in_select_end-Select, in_select_end-Template, in_select_end-other, in_select-char, in_select-comment, in_select-doctype, in_select-start, in_select-end, in_select-eof, unsaid_here, popped-any)
+pub ruleset arms = (rule_words, by_body_rules, by_head_rules, either, in_select_start-Html, in_select_start-Option, in_select_start-Optgroup, in_select_start-Hr, in_select_start-Select, in_select_start-ends_select, in_select_start-Script, in_select_start-Template, in_select_start-other, in_select_end-Optgroup, in_select_end-Option, in_select_end-Select, in_select_end-Template, in_select_end-other, in_select-char, in_select-comment, in_select-doctype, in_select-start, in_select-end, in_select-eof, grouped-closed, grouped-kept, group-closed, popped-any)

@@ -1,5 +1,5 @@
 -- The arms of the "in table body" insertion mode, one lemma each: of a token that meets its test and no earlier one, the table has this plan.
-use Rattle.std.proofs.Common.{◌≡◌, true, false, refl, subst, sym, if◌then◌else◌}
+use Rattle.std.proofs.Common.{◌≡◌, true, false, refl, subst, sym}
 use Rattle.std.proofs.lemmas.Bool.{false≢true}
 use Rattle.html_names.specs.declared.sets.Scope.TheVariants as scope
 use Rattle.html_names.specs.declared.tag.Tag.{Tag}
@@ -15,12 +15,13 @@ use Rattle.html_tree.specs.declared.groups.Group.TheVariants as group
 use Rattle.html_tree.specs.declared.groups.Stop.TheVariants as stop
 use Rattle.html_tree.specs.declared.groups.TableContext.TheVariants as context
 use Rattle.html_construction.specs.declared.mode.Mode.TheVariants as mode
-use Rattle.html_construction.specs.Plans.{Ask, By, Do, Ending, Runs, closing, implying_part, inserting_part}
+use Rattle.html_construction.specs.Plans.{Ask, By, Do, Ending, Runs, implying_part}
 use Rattle.html_construction.specs.States.{State}
-use Rattle.html_construction.specs.Words.{AddMarker, ClearTo, ClearToMarker, Finds, Switch}
-use Rattle.html_modes.specs.RuleForms.{again, done_with, ignored, over}
+use Rattle.html_construction.specs.Words.{ClearTo, Finds, Switch}
+use Rattle.html_modes.specs.RuleForms.{again, done_with, ignored}
 use Rattle.html_modes.specs.Rules.{plan}
 use Rattle.html_modes.specs.RulesInTableBody.{in_table_body, in_table_body_end, in_table_body_start, closing_section}
+use Rattle.html_modes.proofs.RulesInTable.{by_table_rules}
 use Rattle.html_modes.proofs.Ruled.{is_neither, other_than, rule_words}
 
 ends_section-not-Tr : (g : Tag) → ends_section g ≡ true → is_same g tag.Tr ≡ false
@@ -82,4 +83,4 @@ in_table_body-neither Comment t a e z k h = h
 in_table_body-neither Doctype t a e z k h = h
 in_table_body-neither Eof t a e z k h = h
 
-pub ruleset arms = (rule_words, in_table_body_start-Tr, in_table_body_start-is_cell, in_table_body_start-ends_section, in_table_body_start-other, in_table_body_end-Table, in_table_body_end-is_section, in_table_body_end-is_ignored_in_table, in_table_body_end-other, in_table_body-start, in_table_body-end, in_table_body-neither)
+pub ruleset arms = (rule_words, by_table_rules, in_table_body_start-Tr, in_table_body_start-is_cell, in_table_body_start-ends_section, in_table_body_start-other, in_table_body_end-Table, in_table_body_end-is_section, in_table_body_end-is_ignored_in_table, in_table_body_end-other, in_table_body-start, in_table_body-end, in_table_body-neither)

@@ -1,5 +1,5 @@
 -- The arms of the "in template" insertion mode, one lemma each: of a token that meets its test and no earlier one, the table has this plan.
-use Rattle.std.proofs.Common.{ℕ, ◌≡◌, ◌⊎◌, true, false, inl, inr, subst, sym, if◌then◌else◌}
+use Rattle.std.proofs.Common.{ℕ, ◌≡◌, ◌⊎◌, true, false, inl, inr, subst, sym}
 use Rattle.html_names.specs.declared.tag.Tag.{Tag}
 use Rattle.html_names.specs.declared.tag.Tag.TheVariants as tag
 use Rattle.html_names.specs.Sets.{is_headish}
@@ -14,6 +14,7 @@ use Rattle.html_modes.specs.Rules.{plan}
 use Rattle.html_modes.specs.RulesInHead.{closing_template}
 use Rattle.html_modes.specs.RulesInTemplate.{going_on_in, in_template, mode_in_template}
 use Rattle.html_modes.proofs.RulesInHead.{by_head_rules}
+use Rattle.html_modes.proofs.RulesInBody.{by_body_rules}
 use Rattle.html_modes.proofs.Ruled.{other_than, rule_words}
 
 pub in_template-start : (y : Symbol) (g : Tag) (t : TokenKind) (a : State) (e : Ending) (z : State) → y ≡ Start g → (is_headish g) ≡ true → Runs plan (By mode.InHead) t a e z → Runs plan (in_template y) t a e z
@@ -36,4 +37,4 @@ in_template-rest y t a e z (inl m) h = subst (λ (x : Symbol). Runs plan (in_tem
 in_template-rest y t a e z (inr (inl m)) h = subst (λ (x : Symbol). Runs plan (in_template x) t a e z) (sym m) h
 in_template-rest y t a e z (inr (inr m)) h = subst (λ (x : Symbol). Runs plan (in_template x) t a e z) (sym m) h
 
-pub ruleset arms = (rule_words, by_head_rules, in_template-start, in_template-start-other, in_template-end-Template, in_template-end-other, in_template-eof, in_template-rest)
+pub ruleset arms = (rule_words, by_body_rules, by_head_rules, in_template-start, in_template-start-other, in_template-end-Template, in_template-end-other, in_template-eof, in_template-rest)

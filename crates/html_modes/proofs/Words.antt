@@ -1,10 +1,12 @@
 -- Names of ASCII, by their bytes and by their code points.
-use Rattle.std.proofs.Common.{ℕ, ◌≡◌, ◌||◌, true, List, [], ◌∷◌, refl, ap, ◌∙◌}
+use lib.Utf8.{encode}
+use Rattle.std.proofs.Common.{ℕ, ◌≡◌, ◌||◌, Bool, true, List, [], ◌∷◌, refl, ap, ◌∙◌}
 use Rattle.std.specs.Prelude.{codes}
 use Rattle.std.specs.Str.{IsUtf8, bytes_eq, chars}
-use Rattle.html_names.specs.Foreign.{is_font_attr, is_math_text_part, is_one_of, is_unknown_breakout}
+use Rattle.html_names.specs.Foreign.{is_font_attr, is_lowered, is_math_text_part, is_one_of, is_unknown_breakout}
 use Rattle.html_names.proofs.Adjusted.{same_text}
 use Rattle.html_names.proofs.Known.{is_ascii}
+use Rattle.html_names.proofs.Locals.{is_lowered-chars}
 
 abbrev AreAscii : List (List ℕ) → Type 0
 AreAscii [] = Unit {0}
@@ -22,3 +24,24 @@ is_unknown_breakout-chars bs u = one-of bs (codes "span" ∷ codes "sub" ∷ cod
 
 pub is_font_attr-chars : (bs : List ℕ) → IsUtf8 bs → is_font_attr bs ≡ is_font_attr (chars bs)
 is_font_attr-chars bs u = one-of bs (codes "color" ∷ codes "face" ∷ codes "size" ∷ []) u (refl, (refl, (refl, tt)))
+
+-- the attribute of an input that hides it
+abbrev pub type_name : List ℕ → Bool
+type_name name = bytes_eq name (codes "type")
+
+abbrev pub hidden_value : List ℕ → Bool
+hidden_value value = is_lowered value (codes "hidden")
+
+pub is_type-chars : (bs : List ℕ) → IsUtf8 bs → type_name bs ≡ type_name (chars bs)
+is_type-chars bs u = same_text (codes "type") bs refl u
+
+hidden_chars : chars (codes "hidden") ≡ codes "hidden"
+unfolding chars
+hidden_chars = refl
+
+hidden_utf8 : IsUtf8 (codes "hidden")
+unfolding lib.Utf8.encode
+hidden_utf8 = (codes "hidden", (refl, refl))
+
+pub is_hidden-chars : (bs : List ℕ) → IsUtf8 bs → hidden_value bs ≡ hidden_value (chars bs)
+is_hidden-chars bs u = is_lowered-chars bs (codes "hidden") u hidden_utf8 ∙ ap (is_lowered (chars bs)) hidden_chars

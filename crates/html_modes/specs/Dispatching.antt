@@ -1,18 +1,18 @@
 -- Claimed.
 -- The tree construction dispatcher (13.2.6): which rules an entry of a token follows, and all the entries of a call.
-use Rattle.std.specs.Prelude.{◌≡◌, ◌||◌, Bool, true, false, not, cond, length, Option, Some, None}
+use Rattle.std.specs.Prelude.{◌≡◌, ◌||◌, Bool, true, false, not, cond, List, [], ◌∷◌, length, Some, None}
 use Rattle.html_names.specs.declared.tag.Tag.{Tag}
 use Rattle.html_tokens.specs.declared.token.TokenKind.{TokenKind}
 use Rattle.html_ledger.specs.declared.fate.Cause.{Cause}
 use Rattle.html_ledger.specs.declared.symbol.Symbol.{Symbol}
 use Rattle.html_ledger.specs.Flags.{may_select, must_drop}
-use Rattle.html_construction.specs.declared.mode.Mode.{Mode}
+use Rattle.html_ledger.specs.Symbols.{symbol_of}
 use Rattle.html_construction.specs.declared.mode.Mode.TheVariants as mode
 use Rattle.html_construction.specs.Modes.{is_of_frames, is_of_selects}
 use Rattle.html_construction.specs.Plans.{Do, Plan}
 use Rattle.html_construction.specs.States.{State}
 use Rattle.html_construction.specs.Words.{Becomes, Switch, with_stack}
-use Rattle.html_modes.specs.Foreign.{around_foreign, goes_on, stack_after}
+use Rattle.html_modes.specs.Foreign.{Follows as FollowsForeignRules, around_foreign, goes_on, stack_after}
 use Rattle.html_modes.specs.Guards.{is_droppable, is_table_text}
 use Rattle.html_modes.specs.RuleForms.{again, ignored}
 use Rattle.html_modes.specs.Rules.{Follows, plan}
@@ -45,10 +45,11 @@ pub record FollowsOn (p : Plan) (o : Outcome) (y : Symbol) (t : TokenKind) (a z 
   pub follows : Follows p t o middle z
 
 -- By the dispatcher: a token that does not go by the rules for foreign content goes by those of the insertion mode; and so does one that those rules hand
--- on, after what they close. (Of one that stays in foreign content `FollowsForeign` says what is made.)
+-- on, after what they close. Any other stays in foreign content.
 pub record IsDispatched (o : Outcome) (y : Symbol) (t : TokenKind) (a z : State) : Type 0 where
   pub by_mode : around_foreign a y t ≡ None → Follows (plan a.mode y) t o a z
   pub handed_on : (g : Tag) → around_foreign a y t ≡ Some g → goes_on a.tree y t ≡ true → FollowsOn (plan a.mode y) o y t a z
+  pub stays : (g : Tag) → around_foreign a y t ≡ Some g → goes_on a.tree y t ≡ false → FollowsForeignRules g o y t a z
 
 -- An entry: in the mode in table text a token goes by its rules; else one that is ignored in every mode is ignored, one that is astray goes on in the mode
 -- in body, and any other is dispatched.
@@ -68,3 +69,11 @@ begun a = record a { began = a.mode; depth = length a.stack; nodes = length a.tr
 pub data Entries (y : Symbol) (t : TokenKind) : State → State → Type 0 where
   next : (a b c z : State) → Becomes a b → IsEntry Reprocess y t b c → Entries y t c z → Entries y t a z
   last : (a b c z : State) → Becomes a b → IsEntry Done y t b c → z ≡ settled c → Entries y t a z
+
+-- ALL TOKENS OF A PAGE
+
+-- Tree construction takes these tokens one after another, each through its entries: from the one state to the other. (Between calls, what is noted of a call
+-- is of no account.)
+abbrev pub Constructs : List TokenKind → State → State → Type 0
+Constructs [] a z = begun a ≡ begun z
+Constructs (t ∷ ts) a z = (b : State) × Entries (symbol_of t) t (begun a) b × Constructs ts b z

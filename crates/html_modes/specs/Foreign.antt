@@ -8,7 +8,6 @@ use Rattle.html_names.specs.Foreign.{is_breakout, is_font_attr, is_html_point, i
 use Rattle.html_names.specs.Tags.{is_same}
 use Rattle.html_tokens.specs.declared.attributes.Attr.{Attr}
 use Rattle.html_tokens.specs.declared.token.TokenKind.{TokenKind}
-use Rattle.html_tokens.specs.declared.token.TokenKind.TheVariants as kind
 use Rattle.html_tokens.specs.Cut.{null_replaced}
 use Rattle.html_ledger.specs.declared.fate.Cause.TheVariants.{Misplaced}
 use Rattle.html_ledger.specs.declared.fate.Fate.TheVariants.{Dropped, Foreign, Made, Text}
@@ -28,7 +27,7 @@ use Rattle.html_construction.specs.Calls.{HasFate, IsTree, comment_of, counting,
 use Rattle.html_construction.specs.Foreign.{foreign_tag}
 use Rattle.html_construction.specs.Modes.{is_of_frames, is_of_selects}
 use Rattle.html_construction.specs.States.{State}
-use Rattle.html_construction.specs.Tokens.{attrs_of, tag_name}
+use Rattle.html_construction.specs.Tokens.{attrs_of, closes_itself, tag_name}
 use Rattle.html_modes.specs.Fitting.{is_loose}
 use Rattle.html_modes.specs.declared.outcome.Outcome.{Outcome}
 use Rattle.html_modes.specs.declared.outcome.Outcome.TheVariants.{Done}
@@ -101,11 +100,6 @@ stack_after t y k = cond (leaves_foreign y k) (left_foreign t) (cond (ends_any y
 -- The token goes on by the rules of the insertion mode: after foreign content was left, or where an end tag meets an element of HTML.
 abbrev pub goes_on : Tree → Symbol → TokenKind → Bool
 goes_on t y k = leaves_foreign y k || (ends_any y && (not (length t.stack == 1) && not (is_some (found_foreign t (tag_name k)))))
-
--- the tag closes itself
-abbrev pub closes_itself : TokenKind → Bool
-closes_itself (kind.Start name attrs self_closing) = self_closing
-closes_itself _ = false
 
 -- the tree with an element of this namespace of a start tag, which is opened unless the tag closes itself
 abbrev pub embedded : State → Space → TokenKind → Tree

@@ -1,8 +1,10 @@
--- Claimed, but for this crate's own functions: takes_runs.
+-- Claimed, but for this crate's own functions: takes_runs, is_root_end.
 -- Modes and tokens as the guards tell them apart (13.2.6).
 use Rattle.std.specs.Prelude.{Bool, true, false}
+use Rattle.html_names.specs.declared.tag.Tag.TheVariants as tag
+use Rattle.html_names.specs.Tags.{is_same}
 use Rattle.html_ledger.specs.declared.symbol.Symbol.{Symbol}
-use Rattle.html_ledger.specs.declared.symbol.Symbol.TheVariants.{Start, Char}
+use Rattle.html_ledger.specs.declared.symbol.Symbol.TheVariants.{Start, End, Char}
 use Rattle.html_construction.specs.declared.mode.Mode.{Mode}
 use Rattle.html_construction.specs.declared.mode.Mode.TheVariants.{InBody, Text, InTableText, InCaption, InCell}
 
@@ -29,3 +31,8 @@ is_table_text _ = false
 abbrev pub is_text : Mode → Bool
 is_text Text = true
 is_text _ = false
+
+-- the end tag of the root
+abbrev pub is_root_end : Symbol → Bool
+is_root_end (End t) = is_same t tag.Html
+is_root_end _ = false

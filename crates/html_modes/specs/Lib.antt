@@ -17,6 +17,9 @@ pub mod RulesAfterFrameset
 pub mod RulesAfterHead
 pub mod RulesBeforeHead
 pub mod RulesBeforeHtml
+pub mod RulesInBody
+pub mod RulesInBodyEnd
+pub mod RulesInBodyStart
 pub mod RulesInCaption
 pub mod RulesInCell
 pub mod RulesInColumnGroup
@@ -26,7 +29,9 @@ pub mod RulesInHeadNoscript
 pub mod RulesInRow
 pub mod RulesInSelect
 pub mod RulesInSelectInTable
+pub mod RulesInTable
 pub mod RulesInTableBody
+pub mod RulesInTableText
 pub mod RulesInTemplate
 pub mod RulesInitial
 pub mod RulesText

@@ -1,12 +1,16 @@
 -- Claimed.
 -- How the tables of the rules are written (13.2.6.4), and what it says of an entry that it followed one.
-use Rattle.html_tokens.specs.declared.token.TokenKind.{TokenKind}
+use Rattle.html_names.specs.declared.sets.Scope.TheVariants as scope
+use Rattle.html_names.specs.declared.tag.Tag.TheVariants as tag
 use Rattle.html_ledger.specs.declared.fate.Cause.{Cause}
 use Rattle.html_ledger.specs.declared.fate.Cause.TheVariants.{Misplaced}
 use Rattle.html_tree.specs.declared.groups.Group.{Group}
-use Rattle.html_construction.specs.Plans.{Again, Ask, Do, Ending, Over, Plan, Refused, Stop, popping}
-use Rattle.html_construction.specs.States.{State}
-use Rattle.html_construction.specs.Words.{AwaitsDoctype, Drop, End, InsertDoctype}
+use Rattle.html_tree.specs.declared.groups.Group.TheVariants as group
+use Rattle.html_tree.specs.declared.groups.Stop.{Stop as Ends}
+use Rattle.html_tree.specs.declared.groups.Stop.TheVariants as stop
+use Rattle.html_construction.specs.declared.mode.Mode.TheVariants as mode
+use Rattle.html_construction.specs.Plans.{Again, Ask, By, Do, Ending, Foster, Over, Plan, Refused, Stop, closing, popping}
+use Rattle.html_construction.specs.Words.{AwaitsDoctype, CloseThrough, Drop, End, InsertDoctype}
 use Rattle.html_modes.specs.Steps.{root_space}
 use Rattle.html_modes.specs.declared.outcome.Outcome.{Outcome}
 use Rattle.html_modes.specs.declared.outcome.Outcome.TheVariants.{Done, Reprocess, Foreign}
@@ -44,3 +48,15 @@ ignored_doctype = inserting_doctype over
 -- pop the current node where it is of the group, and not the first element (own)
 abbrev pub popping_any : Group → Plan → Plan
 popping_any g p = popping g p p
+
+-- close through the last element of the group that is found, where one is
+abbrev pub closing_any : Group → Ends → Plan → Plan
+closing_any g e p = closing g e p p
+
+-- If the stack of open elements has a p element in button scope, then close a p element.
+abbrev pub closing_p : Plan → Plan
+closing_p p = Do (CloseThrough (group.Named tag.P) (stop.EndOf scope.Button)) p
+
+-- Enable foster parenting, process the token using the rules for the "in body" insertion mode, and then disable foster parenting.
+abbrev pub fostering : Plan
+fostering = Foster (By mode.InBody)

@@ -11,8 +11,8 @@ use Rattle.html_ledger.specs.declared.symbol.Symbol.TheVariants.{Start, End, Cha
 use Rattle.html_ledger.specs.Spaces.{is_space}
 use Rattle.html_tree.specs.declared.groups.Group.TheVariants as group
 use Rattle.html_construction.specs.declared.mode.Mode.TheVariants as mode
-use Rattle.html_construction.specs.Plans.{By, Do, Plan, Unsaid, popping}
-use Rattle.html_construction.specs.Words.{Switch}
+use Rattle.html_construction.specs.Plans.{Ask, By, Do, Plan, popping}
+use Rattle.html_construction.specs.Words.{MayMisplace, Switch}
 use Rattle.html_modes.specs.RuleForms.{again, done_with, ignored, ignored_doctype}
 
 -- Pop the current node (which will be a noscript element) from the stack of open elements; the new current node will be a head element. Switch the
@@ -27,9 +27,9 @@ in_head_noscript_start g =
     -- A start tag whose tag name is one of: "basefont", "bgsound", "link", "meta", "noframes", "style": process the token using the rules for the "in
     -- head" insertion mode.
     if is_noscript_part g then By mode.InHead else (
-    -- A start tag whose tag name is one of: "head", "noscript": ignore the token. (Not said of noscript: a guard of ours asks whether one was made.)
+    -- A start tag whose tag name is one of: "head", "noscript": ignore the token. (A noscript where one was made, as it was then: own.)
     if is_same g tag.Head then ignored Misplaced else (
-    if is_same g tag.Noscript then Unsaid else
+    if is_same g tag.Noscript then Ask (MayMisplace tag.Noscript) (ignored Misplaced) (leaving_noscript again) else
     -- Anything else: leave the noscript (above), reprocess the token.
     leaving_noscript again)))
 

@@ -12,8 +12,8 @@ use Rattle.html_ledger.specs.declared.symbol.Symbol.TheVariants.{Start, End, Cha
 use Rattle.html_tree.specs.declared.groups.Group.TheVariants as group
 use Rattle.html_tree.specs.declared.groups.Stop.TheVariants as stop
 use Rattle.html_construction.specs.declared.mode.Mode.TheVariants as mode
-use Rattle.html_construction.specs.Plans.{By, Do, Fork, Plan, Unsaid, closing}
-use Rattle.html_construction.specs.Words.{Insert, InsertCharacter, InsertComment, InsertVoid, Reset}
+use Rattle.html_construction.specs.Plans.{Ask, By, Do, Fork, Plan, closing}
+use Rattle.html_construction.specs.Words.{Insert, InsertCharacter, InsertComment, InsertVoid, IsOptionInGroup, Pop, Reset}
 use Rattle.html_modes.specs.RuleForms.{again, done_with, ignored, ignored_doctype, over, popping_any}
 
 -- If the stack of open elements does not have a select element in select scope, the second. Otherwise: pop elements from the stack of open elements until
@@ -24,6 +24,14 @@ closing_select p n = closing (group.Named tag.Select) (stop.EndOf scope.Select) 
 -- If the current node is an option element, pop that node from the stack of open elements. If the current node is an optgroup element, pop that node.
 abbrev pub closing_options : Plan → Plan
 closing_options p = popping_any (group.Named tag.Option) (popping_any (group.Named tag.Optgroup) p)
+
+-- If the current node is an option element, and the node immediately before it in the stack of open elements is an optgroup element, pop the current node.
+abbrev pub closing_grouped_option : Plan → Plan
+closing_grouped_option p = Ask IsOptionInGroup (Do Pop p) p
+
+-- The same; then, if the current node is an optgroup element, pop that node.
+abbrev pub closing_group : Plan → Plan
+closing_group p = closing_grouped_option (popping_any (group.Named tag.Optgroup) p)
 
 abbrev pub in_select_start : Tag → Plan
 in_select_start g =
@@ -48,9 +56,8 @@ in_select_start g =
 
 abbrev pub in_select_end : Tag → Plan
 in_select_end g =
-    -- An end tag whose tag name is "optgroup": if the current node is an option element, and the node immediately before it in the stack of open elements
-    -- is an optgroup element, pop the current node. If the current node is an optgroup element, pop that node. Otherwise, ignore the token. (Not said yet.)
-    if is_same g tag.Optgroup then Unsaid else (
+    -- An end tag whose tag name is "optgroup": close the group (above), or ignore the token.
+    if is_same g tag.Optgroup then closing_group done_with else (
     -- An end tag whose tag name is "option": if the current node is an option element, pop that node. Otherwise, ignore the token.
     if is_same g tag.Option then popping_any (group.Named tag.Option) done_with else (
     -- An end tag whose tag name is "select": close it (above), or ignore the token.

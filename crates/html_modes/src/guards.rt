@@ -1,13 +1,16 @@
 // Guards: tests in place of a proof about the shape of the stack of open elements. In a real run each answers as is said here; where it would
 // not, the token goes on by a rule that asks for nothing.
-ghost use Rattle.std.specs.Prelude.{◌≡◌, ◌≤◌, ◌==◌, IsTrue, None, true, false};
+ghost use Rattle.std.specs.Prelude.{◌≡◌, ◌≤◌, ◌==◌, ◌&&◌, IsTrue, None, true, false};
 ghost use Rattle.html_ledger.specs.Flags.{is_free, may_select, may_drop};
+ghost use Rattle.html_ledger.specs.MayDrop.{is_outside_column_group};
 ghost use Rattle.html_modes.specs.Dispatching.{is_astray, is_unfounded};
 ghost use Rattle.html_modes.specs.Fitting.{is_loose};
 ghost use Rattle.html_modes.specs.Ranks.{rank, top_rank};
 ghost use Rattle.html_ledger.specs.declared.fate.Cause.TheVariants.{InColumnGroup};
 ghost use Rattle.html_construction.specs.Begun.{IsFounded};
 ghost use Rattle.html_construction.specs.Foreign.{foreign_tag};
+ghost use Rattle.html_construction.specs.Plans.{Asks};
+ghost use Rattle.html_construction.specs.Words.{HasForm};
 ghost use Rattle.html_construction.specs.Modes.{is_of_column_groups, is_of_frames, is_of_selects};
 ghost use Rattle.html_modes.specs.Guards.{is_droppable, is_table_text, is_text, takes_runs};
 ghost use Rattle.html_ledger.specs.declared.symbol.Symbol.{Symbol as AnySymbol};
@@ -69,14 +72,17 @@ pub(crate) fn is_unfounded(page: &Construction) -> bool
 pub(crate) fn is_outside_column_group(page: &Construction, symbol: Symbol) -> bool
     ensures may { result ≡ true → IsTrue (may_drop page.now.ledger.history symbol InColumnGroup) }
     ensures began { result ≡ true → is_of_column_groups page.now.began ≡ true }
+    ensures value { result ≡ (is_of_column_groups page.now.began && (page.now.ledger.history.col && is_outside_column_group symbol)) }
 {
     is_of_column_groups(page.began()) && page.history().col && symbol.is_outside_column_group()
 }
 
 /// Whether there is a form that a form would be nested in: the form element pointer is at one. The history says the same: none is where
 /// none was made and none is around the fragment.
+#[tactic(auto, using(crate::proofs::Ruled::asking_rules))]
 pub(crate) fn has_form(page: &Construction) -> bool
     ensures made { result ≡ true → page.now.ledger.history.form ≡ true }
+    ensures follows { Asks HasForm result page.now page.now }
 {
     page.points_to_form() && page.history().form
 }

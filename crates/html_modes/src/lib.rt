@@ -31,6 +31,7 @@
 #![tactic(auto)]
 
 mod guards;
+mod hidden;
 mod modes;
 mod outcome;
 mod plain_text;

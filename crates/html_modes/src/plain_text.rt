@@ -1,12 +1,13 @@
 // Plain text, which is taken in runs (13.2.6.1).
-ghost use Rattle.std.specs.Prelude.{◌≡◌, ◌+◌, ◌<◌, ◌≤◌, ◌==◌, ℕ, IfOk, IfSome, IsTrue, OnOk, Some, [], ◌∷◌, false, length, slice_get, take, true, IfErr};
+ghost use Rattle.std.specs.Prelude.{◌≡◌, ◌+◌, ◌<◌, ◌≤◌, ◌==◌, ℕ, IfOk, IfSome, IsTrue, None, OnOk, Some, [], ◌∷◌, false, length, slice_get, take, true, IfErr};
 ghost use Rattle.std.specs.List.{list_all};
 ghost use Rattle.html_ledger.specs.Flags.{is_not_null, may_text_run};
 ghost use Rattle.html_construction.specs.Budgets.{RefusesAny};
 ghost use Rattle.html_construction.specs.Begun.{IsFounded};
-ghost use Rattle.html_construction.specs.Built.{Accepts, AcceptsRun};
+ghost use Rattle.html_construction.specs.Built.{Accepts, AcceptsRun, chars_of};
 ghost use Rattle.html_construction.specs.Foreign.{foreign_tag};
 ghost use Rattle.html_modes.specs.Begun.{GivesIn, StaysOut};
+ghost use Rattle.html_modes.specs.Dispatching.{Constructs};
 ghost use Rattle.html_modes.specs.Entering.{Enters};
 ghost use Rattle.html_modes.specs.Fitting.{Fits, is_loose};
 ghost use Rattle.html_modes.specs.Guards.{is_text, takes_runs};
@@ -49,6 +50,7 @@ pub fn take_plain_front(
     ensures one { IfOk result (λ n. IfSome (foreign_tag page.old) (λ g. n ≡ 1)) }
     ensures plain { IfOk result (λ n. list_all is_not_null (take n text.now) ≡ true → GoesOnText (take n text.now) page.old page.new) }
     ensures adds { IfOk result (λ n. AddsText (take n text.now) page.old page.new) }
+    ensures constructs { IfOk result (λ n. Constructs (chars_of (take n text.now)) page.old page.new) }
     ensures refuses { IfErr result (λ e. RefusesAny e page.old page.new) }
 {
     let first = text.first();
@@ -68,6 +70,7 @@ fn take_plain(page: &mut Construction, text: &PlainText<'_>) -> Result<usize, Re
     requires mode { takes_runs page.old.mode ≡ true }
     requires some { 0 < length text.now }
     requires may { IsTrue (may_text_run page.old.ledger.history text.now) }
+    requires home { foreign_tag page.old ≡ None }
     ensures fits { OnOk result (Fits page.new) }
     ensures takes { IfOk result (λ n. AcceptsRun (take n text.now) page.old page.new) }
     ensures parses { OnOk result (page.new.parses_foreign ≡ page.old.parses_foreign) }
@@ -80,6 +83,7 @@ fn take_plain(page: &mut Construction, text: &PlainText<'_>) -> Result<usize, Re
     ensures toils { OnOk result (Toils 0 page.old page.new) }
     ensures plain { IfOk result (λ n. GoesOnText (take n text.now) page.old page.new) }
     ensures adds { IfOk result (λ n. AddsText (take n text.now) page.old page.new) }
+    ensures constructs { IfOk result (λ n. Constructs (chars_of (take n text.now)) page.old page.new) }
     ensures refuses { IfErr result (λ e. RefusesAny e page.old page.new) }
 {
     if is_text(page.mode()) {
@@ -97,6 +101,7 @@ fn take_text_plain(page: &mut Construction, text: &PlainText<'_>) -> Result<usiz
     requires mode { is_text page.old.mode ≡ true }
     requires some { 0 < length text.now }
     requires may { IsTrue (may_text_run page.old.ledger.history text.now) }
+    requires home { foreign_tag page.old ≡ None }
     ensures fits { OnOk result (Fits page.new) }
     ensures takes { IfOk result (λ n. AcceptsRun (take n text.now) page.old page.new) }
     ensures parses { OnOk result (page.new.parses_foreign ≡ page.old.parses_foreign) }
@@ -106,6 +111,7 @@ fn take_text_plain(page: &mut Construction, text: &PlainText<'_>) -> Result<usiz
     ensures lighter { OnOk result (weight page.new.stack + top_rank page.new.mode ≤ weight page.old.stack + top_rank page.old.mode) }
     ensures toils { OnOk result (Toils 0 page.old page.new) }
     ensures adds { IfOk result (λ n. AddsText (take n text.now) page.old page.new) }
+    ensures constructs { IfOk result (λ n. Constructs (chars_of (take n text.now)) page.old page.new) }
     ensures refuses { IfErr result (λ e. RefusesAny e page.old page.new) }
 {
     page.begin_call();
@@ -121,6 +127,8 @@ fn take_body_plain(page: &mut Construction, text: &PlainText<'_>) -> Result<usiz
     requires loose { is_loose page.old.mode ≡ true }
     requires some { 0 < length text.now }
     requires may { IsTrue (may_text_run page.old.ledger.history text.now) }
+    requires mode { takes_runs page.old.mode ≡ true }
+    requires home { foreign_tag page.old ≡ None }
     ensures fits { OnOk result (Fits page.new) }
     ensures takes { IfOk result (λ n. AcceptsRun (take n text.now) page.old page.new) }
     ensures parses { OnOk result (page.new.parses_foreign ≡ page.old.parses_foreign) }
@@ -131,6 +139,7 @@ fn take_body_plain(page: &mut Construction, text: &PlainText<'_>) -> Result<usiz
     ensures toils { OnOk result (Toils 0 page.old page.new) }
     ensures plain { IfOk result (λ n. GoesOnText (take n text.now) page.old page.new) }
     ensures adds { IfOk result (λ n. AddsText (take n text.now) page.old page.new) }
+    ensures constructs { IfOk result (λ n. Constructs (chars_of (take n text.now)) page.old page.new) }
     ensures refuses { IfErr result (λ e. RefusesAny e page.old page.new) }
 {
     page.begin_call();

@@ -1,12 +1,13 @@
 // Text that is taken in runs (13.2.6.1).
-ghost use Rattle.std.specs.Prelude.{◌≡◌, ◌+◌, ◌<◌, ◌≤◌, ◌==◌, ℕ, IfOk, IfSome, IsTrue, OnOk, Some, [], ◌∷◌, false, length, slice_get, take, true, IfErr};
+ghost use Rattle.std.specs.Prelude.{◌≡◌, ◌+◌, ◌<◌, ◌≤◌, ◌==◌, ℕ, IfOk, IfSome, IsTrue, None, OnOk, Some, [], ◌∷◌, false, length, slice_get, take, true, IfErr};
 ghost use Rattle.std.specs.List.{list_all};
 ghost use Rattle.html_ledger.specs.Flags.{is_not_null, may_text_run};
 ghost use Rattle.html_construction.specs.Budgets.{RefusesAny};
 ghost use Rattle.html_construction.specs.Begun.{IsFounded};
-ghost use Rattle.html_construction.specs.Built.{Accepts, AcceptsRun};
+ghost use Rattle.html_construction.specs.Built.{Accepts, AcceptsRun, chars_of};
 ghost use Rattle.html_construction.specs.Foreign.{foreign_tag};
 ghost use Rattle.html_modes.specs.Begun.{GivesIn, StaysOut};
+ghost use Rattle.html_modes.specs.Dispatching.{Constructs, Entries, begun};
 ghost use Rattle.html_modes.specs.Entering.{Enters};
 ghost use Rattle.html_modes.specs.Fitting.{Fits, is_loose};
 ghost use Rattle.html_modes.specs.Guards.{is_text, takes_runs};
@@ -50,6 +51,7 @@ pub fn take_front(
     ensures one { IfOk result (λ n. IfSome (foreign_tag page.old) (λ g. n ≡ 1)) }
     ensures plain { IfOk result (λ n. list_all is_not_null (take n text.now) ≡ true → GoesOnText (take n text.now) page.old page.new) }
     ensures adds { IfOk result (λ n. AddsText (take n text.now) page.old page.new) }
+    ensures constructs { IfOk result (λ n. Constructs (chars_of (take n text.now)) page.old page.new) }
     ensures refuses { IfErr result (λ e. RefusesAny e page.old page.new) }
 {
     if takes_run(page, text[0]) {
@@ -77,6 +79,7 @@ pub(crate) fn take_char(page: &mut Construction, c: char, entries: &mut u64) -> 
     ensures toils { OnOk result (Toils 0 page.old page.new) }
     ensures plain { (c == 0) ≡ false → OnOk result (GoesOnText (c ∷ []) page.old page.new) }
     ensures adds { OnOk result (AddsText (c ∷ []) page.old page.new) }
+    ensures entries { OnOk result (Entries (Symbol.Char c) (TokenKind.Char c) (begun page.old) page.new) }
     ensures refuses { IfErr result (λ e. RefusesAny e page.old page.new) }
 {
     let token = TokenKind::Char(c);
@@ -91,6 +94,7 @@ fn take_run(page: &mut Construction, run: &[char]) -> Result<usize, Refusal>
     requires mode { takes_runs page.old.mode ≡ true }
     requires some { 0 < length run.now }
     requires may { IsTrue (may_text_run page.old.ledger.history run.now) }
+    requires home { foreign_tag page.old ≡ None }
     ensures fits { OnOk result (Fits page.new) }
     ensures takes { IfOk result (λ n. AcceptsRun (take n run.now) page.old page.new) }
     ensures parses { OnOk result (page.new.parses_foreign ≡ page.old.parses_foreign) }
@@ -103,6 +107,7 @@ fn take_run(page: &mut Construction, run: &[char]) -> Result<usize, Refusal>
     ensures toils { OnOk result (Toils 0 page.old page.new) }
     ensures plain { IfOk result (λ n. GoesOnText (take n run.now) page.old page.new) }
     ensures adds { IfOk result (λ n. AddsText (take n run.now) page.old page.new) }
+    ensures constructs { IfOk result (λ n. Constructs (chars_of (take n run.now)) page.old page.new) }
     ensures refuses { IfErr result (λ e. RefusesAny e page.old page.new) }
 {
     if is_text(page.mode()) {
@@ -120,6 +125,7 @@ fn take_text_run(page: &mut Construction, run: &[char]) -> Result<usize, Refusal
     requires mode { is_text page.old.mode ≡ true }
     requires some { 0 < length run.now }
     requires may { IsTrue (may_text_run page.old.ledger.history run.now) }
+    requires home { foreign_tag page.old ≡ None }
     ensures fits { OnOk result (Fits page.new) }
     ensures takes { IfOk result (λ n. AcceptsRun (take n run.now) page.old page.new) }
     ensures parses { OnOk result (page.new.parses_foreign ≡ page.old.parses_foreign) }
@@ -129,6 +135,7 @@ fn take_text_run(page: &mut Construction, run: &[char]) -> Result<usize, Refusal
     ensures lighter { OnOk result (weight page.new.stack + top_rank page.new.mode ≤ weight page.old.stack + top_rank page.old.mode) }
     ensures toils { OnOk result (Toils 0 page.old page.new) }
     ensures adds { IfOk result (λ n. AddsText (take n run.now) page.old page.new) }
+    ensures constructs { IfOk result (λ n. Constructs (chars_of (take n run.now)) page.old page.new) }
     ensures refuses { IfErr result (λ e. RefusesAny e page.old page.new) }
 {
     page.begin_call();
@@ -144,6 +151,8 @@ fn take_body_run(page: &mut Construction, run: &[char]) -> Result<usize, Refusal
     requires loose { is_loose page.old.mode ≡ true }
     requires some { 0 < length run.now }
     requires may { IsTrue (may_text_run page.old.ledger.history run.now) }
+    requires mode { takes_runs page.old.mode ≡ true }
+    requires home { foreign_tag page.old ≡ None }
     ensures fits { OnOk result (Fits page.new) }
     ensures takes { IfOk result (λ n. AcceptsRun (take n run.now) page.old page.new) }
     ensures parses { OnOk result (page.new.parses_foreign ≡ page.old.parses_foreign) }
@@ -154,6 +163,7 @@ fn take_body_run(page: &mut Construction, run: &[char]) -> Result<usize, Refusal
     ensures toils { OnOk result (Toils 0 page.old page.new) }
     ensures plain { IfOk result (λ n. GoesOnText (take n run.now) page.old page.new) }
     ensures adds { IfOk result (λ n. AddsText (take n run.now) page.old page.new) }
+    ensures constructs { IfOk result (λ n. Constructs (chars_of (take n run.now)) page.old page.new) }
     ensures refuses { IfErr result (λ e. RefusesAny e page.old page.new) }
 {
     page.begin_call();

@@ -29,6 +29,7 @@ use Rattle.html_tokens.specs.declared.token.Token.{Token}
 use Rattle.html_tokens.specs.declared.token.TokenKind.{TokenKind}
 use Rattle.html_tokens.specs.declared.tokenizer.Tokenizer.{Tokenizer}
 use Rattle.html_builder.specs.Builders.{BuilderState}
+use Rattle.html_builder.specs.Built.{IsBuiltByRules}
 use Rattle.html_builder.specs.Handed.{CostAtMost, EndsAtEof, Handed, fates_of, parses_foreign}
 use Rattle.html_construction.specs.Built.{is_native, symbols}
 use Rattle.html_ledger.specs.Settings.{is_foreign_context}
@@ -97,6 +98,7 @@ pub record Ended (d : Decoder) (t : Tokenizer) (b : BuilderState) (starts : List
   pub outcome : (s : Setting) (l : Option Limits) (tokens : List TokenKind) → Handed s l tokens b → EndsAtEof tokens → IsOutcome s tokens fates numbers arena
   pub plain : (l : Option Limits) (tokens : List TokenKind) → Handed Document l tokens b → (page : Forest Label) → IsPlainPage page → tokens ≡ page_kinds page → Shows arena (0 ∷ []) page
   pub native : (s : Setting) (l : Option Limits) (tokens : List TokenKind) → Handed s l tokens b → parses_foreign b ≡ false → is_foreign_context s ≡ false → list_all is_native fates ≡ true
+  pub built : (s : Setting) (l : Option Limits) (tokens : List TokenKind) → Handed s l tokens b → IsBuiltByRules s l (parses_foreign b) tokens fates arena
   pub plain_fates : (l : Option Limits) (tokens : List TokenKind) → Handed Document l tokens b → (page : Forest Label) → IsPlainPage page → tokens ≡ page_kinds page → HavePlainFates tokens fates
   pub within : (s : Setting) (l : Option Limits) (tokens : List TokenKind) → Handed s l tokens b → AreWithin l (length arena.labels) arena.held
   pub own_is : own ≡ steps_taken t
@@ -195,6 +197,7 @@ made start bytes run d t b starts told numbers fates arena errors n own steps e 
       numbers = numbers;
       outcome = outcome;
       root_is = refl;
+      built = subst (λ f. IsBuiltByRules start.setting start.limits f (kinds run.given) fates arena) w.foreign (e.built start.setting start.limits (kinds run.given) w.handed);
       faults = record {
         told = told;
         are = faults;

@@ -19,6 +19,7 @@ use Rattle.html_arena.specs.Weight.{weight}
 use Rattle.html_ledger.specs.declared.fate.Fate.{Fate}
 use Rattle.html_ledger.specs.Settings.{is_foreign_context}
 use Rattle.html_construction.specs.Built.{is_native}
+use Rattle.html_builder.specs.Built.{IsBuiltByRules}
 use Rattle.html_builder.specs.Outcome.{IsOutcome, most_held}
 use Rattle.html_builder.specs.Plain.{HavePlainFates}
 use Rattle.html_ledger.specs.declared.setting.Setting.TheVariants.{Document}
@@ -32,7 +33,7 @@ use Rattle.html_page.specs.Shows.{Shows}
 use Rattle.html_parser.specs.Faults.{fault_list, places_of}
 use Rattle.html_parser.specs.Kinds.{kinds, starts_of}
 use Rattle.html_parser.specs.Said.{AreSaid, AreSaidByFates}
-use Rattle.html_parser.specs.Start.{Start, most_input, text_start}
+use Rattle.html_parser.specs.Start.{Start, most_input, parses, text_start}
 use Rattle.html_parser.specs.declared.faults.PageFault.{PageFault}
 use Rattle.html_parser.specs.declared.options.Foreign.TheVariants.{Refuse}
 use Rattle.html_parser.specs.declared.page.Page.{Page}
@@ -82,6 +83,8 @@ pub record Headline (start : Start) (bytes : List ℕ) (tokens : List Token) (fa
   pub numbers : List ℕ
   pub outcome : IsOutcome start.setting (kinds tokens) fates numbers t
   pub root_is : root ≡ 0
+  -- they are those to which the rules of tree construction lead, through these tokens
+  pub built : IsBuiltByRules start.setting start.limits (parses start.foreign) (kinds tokens) fates t
   -- where a document's text is that of a plain page, in either profile, and the table has the five core rows: the page's own tree, and of its tokens each
   -- but the end tags and the end of the page made a node or is text
   pub plain : IsDocument start → HasCore start.rows → (p : Profile) (page : Forest Label) → IsPlainPage page → html_of p false page ≡ decode bytes

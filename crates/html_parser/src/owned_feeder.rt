@@ -1,6 +1,6 @@
 //! The stages of parsing with the table that they go by, so that they can be kept where nothing is borrowed.
 
-ghost use Rattle.std.specs.Prelude.{◌≡◌, ◌≢◌, ◌↔◌, ◌++◌, ◌≤◌, ◌^◌, ℕ, List, false, Some, Err, IfErr, IfOk, IfSome, OnErr, OnOk, length};
+ghost use Rattle.std.specs.Prelude.{◌≡◌, ◌≢◌, ◌↔◌, ◌++◌, ◌≤◌, ◌^◌, ℕ, List, false, Some, Err, IfErr, IfOk, OnErr, OnOk, IsSomeAnd, length};
 ghost use Rattle.std.specs.Arc.{arc_value};
 ghost use Rattle.html_tokens.specs.declared.token.Token.{Token};
 ghost use Rattle.html_parser.specs.Causes.{IsFeedCause, IsToldIn};
@@ -46,12 +46,12 @@ impl OwnedFeeder {
         ensures few { OnOk result ((start : Start) (bytes : List ℕ) → IsOwnedFed start self.old bytes → length (bytes ++ piece.now) ≤ 2 ^ 33) }
         ensures keeps { OnOk result (KeepsOwned self.old → KeepsOwned self.new) }
         ensures prompt { OnOk result ((start : Start) (bytes : List ℕ) → IsOwnedFed start self.old bytes
-            → IfSome self.new.stages (λ s. (tokens : List Token) × AreHandedOn start s.builder (bytes ++ piece.now) tokens)) }
+            → IsSomeAnd self.new.stages (λ s. (tokens : List Token) × AreHandedOn start s.builder (bytes ++ piece.now) tokens)) }
         ensures kept { OnOk result ((start : Start) (bytes : List ℕ) → IsOwnedFed start self.old bytes → KeepsOwned self.old
-            → IfSome self.new.stages (λ s. AreHandedOn start s.builder (bytes ++ piece.now) s.kept.tokens)) }
+            → IsSomeAnd self.new.stages (λ s. AreHandedOn start s.builder (bytes ++ piece.now) s.kept.tokens)) }
         ensures cause { IfErr result (λ e. (start : Start) (bytes : List ℕ) → IsOwnedFed start self.old bytes → IsFeedCause start (bytes ++ piece.now) e) }
         ensures told { IfErr result (λ e. (start : Start) (bytes : List ℕ) → IsOwnedFed start self.old bytes
-            → IfSome self.new.stages (λ s. IsToldIn start.limits s.builder.page e)) }
+            → IsSomeAnd self.new.stages (λ s. IsToldIn start.limits s.builder.page e)) }
         ensures refused { OnErr result (IsOwnedStopped self.new) }
         ensures stopped { (result ≡ Err ParseError.Stopped) ↔ IsOwnedStopped self.old }
     {

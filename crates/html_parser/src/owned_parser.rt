@@ -1,6 +1,6 @@
 //! Bytes in pieces to a page, by a parser that borrows nothing.
 
-ghost use Rattle.std.specs.Prelude.{◌≡◌, ◌↔◌, ◌++◌, ◌≤◌, ◌^◌, ℕ, List, [], Err, IfErr, IfOk, IfSome, OnErr, OnOk, length};
+ghost use Rattle.std.specs.Prelude.{◌≡◌, ◌↔◌, ◌++◌, ◌≤◌, ◌^◌, ℕ, List, [], Err, IfErr, IfOk, OnErr, OnOk, IsSomeAnd, length};
 ghost use Rattle.std.specs.Arc.{arc_value};
 ghost use Rattle.html_arena.specs.Walking.{IsRoot};
 ghost use Rattle.html_parser.specs.Causes.{IsCause, IsFeedCause, IsToldIn};
@@ -61,10 +61,10 @@ impl OwnedParser {
 
         // At most three bytes are undecoded, and each token that ends far enough before the end of the decoded text was handed to tree construction and is among the tokens.
         ensures prompt { OnOk result ((start : Start) (bytes : List ℕ) → IsOwnedFed start self.old.feeder bytes
-            → IfSome self.new.feeder.stages (λ s. AreHandedOn start s.builder (bytes ++ piece.now) s.kept.tokens)) }
+            → IsSomeAnd self.new.feeder.stages (λ s. AreHandedOn start s.builder (bytes ++ piece.now) s.kept.tokens)) }
         ensures cause { IfErr result (λ e. (start : Start) (bytes : List ℕ) → IsOwnedFed start self.old.feeder bytes → IsFeedCause start (bytes ++ piece.now) e) }
         ensures told { IfErr result (λ e. (start : Start) (bytes : List ℕ) → IsOwnedFed start self.old.feeder bytes
-            → IfSome self.new.feeder.stages (λ s. IsToldIn start.limits s.builder.page e)) }
+            → IsSomeAnd self.new.feeder.stages (λ s. IsToldIn start.limits s.builder.page e)) }
         ensures refused { OnErr result (IsOwnedStopped self.new.feeder) }
         ensures stopped { (result ≡ Err ParseError.Stopped) ↔ IsOwnedStopped self.old.feeder }
     {

@@ -12,6 +12,7 @@ pub mod Listed
 pub mod Merged
 pub mod Replaced
 pub mod Texted
+pub mod TextTwice
 pub mod Clones
 pub mod Adopted
 pub mod Roots

@@ -1,11 +1,11 @@
 -- Claimed, but for this crate's own functions: IsNewTextLack, IsNewTextRefused, IsFree.
 -- Inserting characters (13.2.6.1).
-use Rattle.std.specs.Prelude.{◌≡◌, ℕ, ◌⊎◌, Bool, false, cond, List, length, Option, Some, None}
+use Rattle.std.specs.Prelude.{◌≡◌, ℕ, ◌⊎◌, Bool, false, cond, List, ◌++◌, length, Option, Some, None}
 use Rattle.html_arena.specs.declared.data.NewNode.TheVariants.{Text}
 use Rattle.html_arena.specs.Budget.{budget}
 use Rattle.html_arena.specs.Data.{is_text}
 use Rattle.html_arena.specs.Siblings.{before, has, last_of}
-use Rattle.html_arena.specs.Tree.{Tree, children_of, label_of, parent_of, sibling, texted_run}
+use Rattle.html_arena.specs.Tree.{Tree, children_of, label_of, parent_of, sibling, tag_at, texted_run}
 use Rattle.html_open.specs.declared.error.OpenError.{OpenError}
 use Rattle.html_open.specs.declared.places.Place.{Place}
 use Rattle.html_open.specs.declared.places.Place.TheVariants.{Before, Last}
@@ -54,6 +54,12 @@ with_text_node a foster = tree_or_new a.tree (place_here a foster) (text_before 
 -- the tree where a run was added to it
 abbrev pub with_text : State → Bool → List ℕ → Tree
 with_text a foster run = bare (texted_run (with_text_node a foster) (text_node a foster) run)
+
+-- Code points that come after others go to the text to which those went, so that a run is its code points one by one; and text changes no element's tag.
+pub record TextGoesOn (a : State) (foster : Bool) : Type 0 where
+  pub node_same : (front : List ℕ) → text_node (record a { tree = with_text a foster front }) foster ≡ text_node a foster
+  pub text_same : (front run : List ℕ) → with_text (record a { tree = with_text a foster front }) foster run ≡ with_text a foster (front ++ run)
+  pub tags_same : (front : List ℕ) (x : ℕ) → tag_at (with_text a foster front) x ≡ tag_at a.tree x
 
 -- a budget is told where the text or its first code point would pass it; of a text that is there, want of memory only where it would not
 abbrev pub IsTextLack : Tree → Option ℕ → OpenError → Type 0

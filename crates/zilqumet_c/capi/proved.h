@@ -16,9 +16,11 @@ uint32_t proved_entities_read(const uint8_t *json, size_t len, proved_slot *enti
 uint32_t proved_parse(proved_slot *entities, const proved_limits *limits, const uint8_t *bytes, size_t len, proved_slot *page, uint64_t *place);
 uint32_t proved_parse_fragment(proved_slot *entities, const proved_limits *limits, const uint8_t *context, size_t context_len, bool in_form, bool quirks,
                                const uint8_t *bytes, size_t len, proved_slot *page, uint64_t *place);
-uint32_t proved_parser_new(const proved_limits *limits, proved_slot *parser);
-uint32_t proved_parser_feed(proved_slot *parser, const uint8_t *piece, size_t len);
-uint32_t proved_parser_finish(proved_slot *parser, proved_slot *entities, proved_slot *page, uint64_t *place);
+uint32_t proved_parser_new(proved_slot *entities, const proved_limits *limits, proved_slot *parser);
+uint32_t proved_parser_new_fragment(proved_slot *entities, const proved_limits *limits, const uint8_t *context, size_t context_len, bool in_form, bool quirks,
+                                    proved_slot *parser);
+uint32_t proved_parser_feed(proved_slot *parser, const uint8_t *piece, size_t len, uint64_t *place);
+uint32_t proved_parser_finish(proved_slot *parser, proved_slot *page, uint64_t *place);
 uint32_t proved_counts_of(proved_slot *page, zq_counts *counts);
 uint64_t proved_root(proved_slot *page);
 uint32_t proved_kind_of(proved_slot *page, uint64_t node);
@@ -29,6 +31,8 @@ uint32_t proved_copy(proved_slot *page, uint32_t part, uint64_t node, uint64_t i
 size_t proved_rows(proved_slot *page, uint64_t from, zq_row *rows, size_t len);
 uint32_t proved_all_texts(proved_slot *page, proved_slot *buffer, zq_texts *texts);
 uint32_t proved_error(proved_slot *page, uint64_t index, proved_slot *name, uint64_t *place);
+size_t proved_positions(const uint8_t *bytes, size_t len, const uint64_t *places, size_t count, zq_position *positions, size_t room);
+uint32_t proved_text_below(proved_slot *page, uint64_t node, proved_slot *buffer);
 uint32_t proved_serialise(proved_slot *page, bool angles, proved_slot *buffer);
 uint32_t proved_normalise(proved_slot *entities, const proved_limits *limits, const uint8_t *bytes, size_t len, bool angles, proved_slot *buffer,
                           uint64_t *place);

@@ -8,6 +8,7 @@ _Static_assert(sizeof(proved_slot) == 8 && sizeof(proved_limits) == 40, "what is
 _Static_assert(sizeof(zq_span) == 16 && offsetof(zq_span, len) == 8, "spans");
 _Static_assert(sizeof(zq_counts) == 48 && offsetof(zq_counts, errors) == 40, "counts");
 _Static_assert(sizeof(zq_row) == 80 && offsetof(zq_row, attrs) == 32 && offsetof(zq_row, name) == 40 && offsetof(zq_row, kind) == 72, "rows");
+_Static_assert(sizeof(zq_position) == 24 && offsetof(zq_position, line) == 8 && offsetof(zq_position, column) == 16, "positions");
 _Static_assert(sizeof(zq_texts) == 24 && offsetof(zq_texts, ends) == 8 && offsetof(zq_texts, count) == 16, "texts");
 
 #define KNOWN_FLAGS (ZQ_IN_FORM | ZQ_QUIRKS | ZQ_FOREIGN)
@@ -116,31 +117,45 @@ uint32_t zq_parse_fragment(zq_entities *entities, const zq_options *options, con
                                  some(bytes), len, slot(page), it.place);
 }
 
-uint32_t zq_parser_new(const zq_options *options, zq_parser *parser)
+uint32_t zq_parser_new(zq_entities *entities, const zq_options *options, zq_parser *parser)
 {
     call it;
-    uint32_t status = begin(&it, NULL, options, parser, NULL);
-    return status != ZQ_OK ? status : proved_parser_new(&it.limits, slot(parser));
+    uint32_t status = begin(&it, entities, options, parser, NULL);
+    return status != ZQ_OK ? status : proved_parser_new(it.entities, &it.limits, slot(parser));
 }
 
-uint32_t zq_parser_feed(zq_parser *parser, const void *piece, size_t len)
-{
-    if (parser == NULL || !are_bytes(piece, len))
-        return ZQ_BAD_POINTER;
-    return proved_parser_feed(slot(parser), some(piece), len);
-}
-
-uint32_t zq_parser_finish(zq_parser *parser, zq_entities *entities, zq_page *page, uint64_t *place)
+uint32_t zq_parser_new_fragment(zq_entities *entities, const zq_options *options, const void *context, size_t context_len, zq_parser *parser)
 {
     call it;
-    uint32_t status = begin(&it, entities, NULL, page, place);
+    uint32_t status = begin(&it, entities, options, parser, NULL);
     if (status != ZQ_OK)
         return status;
-    if (parser == NULL)
+    if (!are_bytes(context, context_len))
         return ZQ_BAD_POINTER;
-    if ((void *)parser == (void *)page || (void *)parser == (void *)entities)
+    return proved_parser_new_fragment(it.entities, &it.limits, some(context), context_len, (it.flags & ZQ_IN_FORM) != 0, (it.flags & ZQ_QUIRKS) != 0,
+                                      slot(parser));
+}
+
+uint32_t zq_parser_feed(zq_parser *parser, const void *piece, size_t len, uint64_t *place)
+{
+    uint64_t unused;
+    uint64_t *at = place != NULL ? place : &unused;
+    *at = 0;
+    if (parser == NULL || !are_bytes(piece, len))
+        return ZQ_BAD_POINTER;
+    return proved_parser_feed(slot(parser), some(piece), len, at);
+}
+
+uint32_t zq_parser_finish(zq_parser *parser, zq_page *page, uint64_t *place)
+{
+    uint64_t unused;
+    uint64_t *at = place != NULL ? place : &unused;
+    *at = 0;
+    if (parser == NULL || page == NULL)
+        return ZQ_BAD_POINTER;
+    if ((void *)parser == (void *)page)
         return ZQ_BAD_HANDLE;
-    return proved_parser_finish(slot(parser), it.entities, slot(page), it.place);
+    return proved_parser_finish(slot(parser), slot(page), at);
 }
 
 uint32_t zq_counts_of(zq_page *page, zq_counts *counts)
@@ -220,6 +235,24 @@ uint32_t zq_error(zq_page *page, uint64_t index, zq_buffer *name, uint64_t *plac
     if ((void *)page == (void *)name)
         return ZQ_BAD_HANDLE;
     return proved_error(slot(page), index, slot(name), place);
+}
+
+uint32_t zq_positions(const void *bytes, size_t len, const uint64_t *places, size_t count, zq_position *positions)
+{
+    if (!are_bytes(bytes, len) || (count != 0 && (places == NULL || positions == NULL)) || count > PTRDIFF_MAX / sizeof *positions)
+        return ZQ_BAD_POINTER;
+    if (count != 0)
+        proved_positions(some(bytes), len, places, count, positions, count);
+    return ZQ_OK;
+}
+
+uint32_t zq_text_below(zq_page *page, uint64_t node, zq_buffer *buffer)
+{
+    if (page == NULL || buffer == NULL)
+        return ZQ_BAD_POINTER;
+    if ((void *)page == (void *)buffer)
+        return ZQ_BAD_HANDLE;
+    return proved_text_below(slot(page), node, slot(buffer));
 }
 
 uint32_t zq_serialise(zq_page *page, int angles, zq_buffer *buffer)

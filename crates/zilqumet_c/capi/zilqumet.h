@@ -23,12 +23,13 @@
  * POINTERS. What zq_text, zq_rows, zq_all_texts and zq_bytes hand out points into the handle. It stays there, unchanged, until that handle is freed or filled
  * again, and is only read. Texts are UTF-8, with their length beside them; no zero byte ends them.
  *
- * THREADS. The library has no state of its own. Threads that use handles of their own need nothing. A handle is in one call at a time, reading
- * included, and a page stays with the thread that made it.
+ * THREADS. The library has no state of its own. Threads that use handles of their own need nothing; that a parser shares its table with the handle
+ * that the table was read into is no exception. A handle is in one call at a time, reading included, and a page or a parser stays with the thread that
+ * made it.
  *
  * ANSWERS. A call that can fail answers an enum zq_status as a uint32_t: ZQ_OK, which is 0, or why not. A null pointer, an empty handle, one that
- * holds something else, and a node or an index out of range are such answers, and change nothing. Only these are not answered: a pointer to what is
- * not there, a handle that was copied, and two calls at once on one handle.
+ * holds something else, and a node or an index out of range are such answers, and change nothing, but that a handle which was to be filled may be empty.
+ * Only these are not answered: a pointer to what is not there, a handle that was copied, and two calls at once on one handle.
  *
  * MEMORY comes from malloc, realloc and free. Where it is refused the call answers ZQ_OUT_OF_MEMORY, and nothing leaks.
  */
@@ -56,7 +57,7 @@ enum zq_status {
     ZQ_NODE_BUDGET = 6,    /* the token at a place would make more nodes than max_nodes */
     ZQ_HELD_BUDGET = 7,    /* the token at a place would have the nodes hold more code points than max_held */
     ZQ_STEP_BUDGET = 8,    /* more steps than max_steps were counted before the token at a place */
-    ZQ_STOPPED = 9,        /* (no call of this version answers it) */
+    ZQ_STOPPED = 9,        /* an earlier piece was refused: the parser takes no more */
     ZQ_READ = 10,          /* (no call of this version answers it) */
     ZQ_WRITE = 11,         /* the function that zq_serialise_to was handed answered other than 0 */
     ZQ_BAD_HANDLE = 12,    /* the handle is empty, or holds something else, or one handle was passed twice */
@@ -123,6 +124,11 @@ typedef struct zq_row {
     uint32_t kind;
 } zq_row;
 
+/* Where a place stands: how many bytes are before it, the number of its line, and its column in code points; both begin at 1. */
+typedef struct zq_position {
+    uint64_t offset, line, column;
+} zq_position;
+
 /* All texts of a page: count of them, one behind the other at `at`; ends[i] is how many bytes there are up to the end of text i. */
 typedef struct zq_texts {
     const uint8_t *at;
@@ -159,12 +165,22 @@ uint32_t zq_parse(zq_entities *entities, const zq_options *options, const void *
 uint32_t zq_parse_fragment(zq_entities *entities, const zq_options *options, const void *context, size_t context_len, const void *bytes, size_t len,
                            zq_page *page, uint64_t *place);
 
-/* A document in pieces, cut anywhere. zq_parser_new fills parser with an input of no bytes; zq_parser_feed adds a piece, and where it fails the
- * input is as it was; zq_parser_finish parses all of it as zq_parse would, and leaves the parser empty whatever it answers. The pieces are kept until
- * then: with max_input code points of at most four bytes that is at most 4 * max_input bytes, if the caller stops there. */
-uint32_t zq_parser_new(const zq_options *options, zq_parser *parser);
-uint32_t zq_parser_feed(zq_parser *parser, const void *piece, size_t len);
-uint32_t zq_parser_finish(zq_parser *parser, zq_entities *entities, zq_page *page, uint64_t *place);
+/* A document or a fragment in pieces, cut anywhere, which are parsed as they come: the parser keeps the tree so far and what is undecided yet.
+ *
+ * zq_parser_new fills parser with one that was fed nothing, and zq_parser_new_fragment with one of a fragment, as zq_parse_fragment has it. entities and
+ * options may be null. The parser shares the table: that handle may be freed, or filled again, while the parser goes on by the table as it was. A
+ * context that no element has is ZQ_BAD_CONTEXT, and limits that not even an empty page keeps are ZQ_NODE_BUDGET or ZQ_HELD_BUDGET, at place 0.
+ * zq_parser_feed takes len bytes at piece, which are not looked at afterwards, and parses what they decide: all but at most three bytes of a code point
+ * that is not whole, and the tokens that more bytes may change. place may be null, and is told as by zq_parse. A refusal is told with the piece in which
+ * it is met (ZQ_INPUT_TOO_LONG, ZQ_FOREIGN_.., ZQ_.._BUDGET, ZQ_OUT_OF_MEMORY); from then on each call answers ZQ_STOPPED, and all that is left is to
+ * free.
+ * zq_parser_finish ends the input: it fills page with the page of all bytes fed, the very one that zq_parse makes of them, or answers why not, and
+ * leaves the parser empty whatever it answers.
+ * zq_free ends a parser that is not finished. */
+uint32_t zq_parser_new(zq_entities *entities, const zq_options *options, zq_parser *parser);
+uint32_t zq_parser_new_fragment(zq_entities *entities, const zq_options *options, const void *context, size_t context_len, zq_parser *parser);
+uint32_t zq_parser_feed(zq_parser *parser, const void *piece, size_t len, uint64_t *place);
+uint32_t zq_parser_finish(zq_parser *parser, zq_page *page, uint64_t *place);
 
 /* ---- reading a page ---- */
 
@@ -213,6 +229,15 @@ uint32_t zq_all_texts(zq_page *page, zq_buffer *buffer, zq_texts *texts);
 /* The parse error of a number, from 0: fills name with the standard's name of it ("tree-construction" stands for all that tree construction finds), and
  * tells its place, as in zq_parse. ZQ_BAD_INDEX behind the last. */
 uint32_t zq_error(zq_page *page, uint64_t index, zq_buffer *name, uint64_t *place);
+
+/* Tells of count places of an input where they stand, in the len bytes at bytes that were parsed: positions[i] is that of places[i], and a place behind
+ * the end stands at the end. CR, LF and CR LF end a line. It goes through the bytes once where the places never fall, as those of zq_error. Both arrays
+ * have count elements, and do not overlap. */
+uint32_t zq_positions(const void *bytes, size_t len, const uint64_t *places, size_t count, zq_position *positions);
+
+/* Fills buffer with the text below a node: its texts in tree order, one behind the other, those in templates with them, comments not. ZQ_BAD_INDEX where there
+ * is no such node. */
+uint32_t zq_text_below(zq_page *page, uint64_t node, zq_buffer *buffer);
 
 /* ---- writing ---- */
 

@@ -2,3 +2,4 @@ pub mod Values
 pub mod SlotValues
 pub mod Gathering
 pub mod Filling
+pub mod Pushed

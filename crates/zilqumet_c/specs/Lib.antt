@@ -1,6 +1,8 @@
 -- Claimed.
 pub mod Causes
 pub mod Kept
+pub mod Pieces
+pub mod Places
 pub mod Reads
 pub mod Status
 pub mod Texts

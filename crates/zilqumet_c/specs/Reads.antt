@@ -1,6 +1,7 @@
 -- Claimed.
 -- What is read of a handle.
-use Rattle.std.specs.Prelude.{◌≡◌, ℕ, ◌+◌, ◌==◌, Bool, true, false, if◌then◌else◌, ◌<◌, List, Option, None, Some, length, IfSome, MatchOption, slice_get}
+use Rattle.std.specs.Prelude.{◌≡◌, ℕ, ◌+◌, ◌==◌, Bool, true, false, if◌then◌else◌, ◌<◌, List, Option, None, Some, length, IfSome, IsSomeAnd, MatchOption, slice_get}
+use Rattle.std.specs.Arc.{arc_value}
 use Rattle.std.specs.Str.{chars, encode_utf8_all}
 use Rattle.html_arena.specs.Data.{attrs_in, contents_in, host_in, kind_in, name_in, text_in}
 use Rattle.html_arena.specs.Siblings.{after, before, first_of, last_of}
@@ -17,11 +18,12 @@ use Rattle.html_builder.specs.declared.context.Context.{Context}
 use Rattle.html_parser.specs.declared.options.Foreign.{Foreign}
 use Rattle.html_parser.specs.declared.options.Foreign.TheVariants.{Refuse, Parse}
 use Rattle.html_parser.specs.declared.options.Options.{Options}
+use Rattle.html_dom.specs.Reads.{descendants_of, text_of_all}
+use Rattle.html_parser.specs.declared.owned_tree_parser.OwnedTreeParser.{OwnedTreeParser}
 use Rattle.html_parser.specs.declared.page.Tree.{Tree}
 use Rattle.zilqumet_c.specs.declared.held.Held.{Held}
 use Rattle.zilqumet_c.specs.declared.held.Held.TheVariants.{Page, Entities, Parser, Buffer, Texts}
 use Rattle.zilqumet_c.specs.declared.held.Gathered.{Gathered}
-use Rattle.zilqumet_c.specs.declared.held.Pushed.{Pushed}
 use Rattle.zilqumet_c.specs.declared.numbers.ZqLimits.{ZqLimits}
 use Rattle.zilqumet_c.specs.declared.rows.ZqRow.{ZqRow}
 
@@ -31,6 +33,10 @@ limits_in l = record { nodes = l.nodes; held = l.held; code_points = l.code_poin
 -- what is done with foreign content
 abbrev pub foreign_in : ℕ → Foreign
 foreign_in n = if n == 0 then Refuse else Parse
+
+-- a context by its name
+abbrev pub context_in : List ℕ → Bool → Bool → Context
+context_in name in_form quirks = record { name = chars name; in_form = in_form; quirks = quirks; encoding = None }
 
 -- what is asked of parsing, of a document, or of a fragment in a context
 abbrev pub options_in : ZqLimits → Option Context → Options
@@ -44,23 +50,24 @@ tree_in _ = None
 abbrev pub IfPage : Option Held → (Tree → Type 0) → Type 0
 IfPage held P = IfSome (tree_in held) P
 
+-- there is a page, and this of it
+abbrev pub HasPage : Option Held → (Tree → Type 0) → Type 0
+HasPage held P = IsSomeAnd (tree_in held) P
+
 -- the rows of a table
 abbrev pub table_in : Option Held → Option (List Row)
-table_in (Some (Entities t)) = Some t
+table_in (Some (Entities t)) = Some (arc_value t)
 table_in _ = None
 
 -- the rows that a call goes by: those of the table that it was given, or the core five
 abbrev pub rows_in : Option Held → List Row
-rows_in (Some (Entities t)) = t
+rows_in (Some (Entities t)) = arc_value t
 rows_in _ = core_rows
 
--- the input so far
-abbrev pub input_in : Option Held → Option Pushed
-input_in (Some (Parser p)) = Some p
-input_in _ = None
-
-abbrev pub IfParser : Option Held → (Pushed → Type 0) → Type 0
-IfParser held P = IfSome (input_in held) P
+-- the parser in a handle
+abbrev pub parser_in : Option Held → Option OwnedTreeParser
+parser_in (Some (Parser p)) = Some p
+parser_in _ = None
 
 -- what holds of a node of a page, and what holds where there is no such node
 abbrev pub IfNode : Option Held → ℕ → Type 0 → (Tree → Type 0) → Type 0
@@ -107,16 +114,22 @@ abbrev pub bytes_in : Option Held → Option (List ℕ)
 bytes_in (Some (Buffer v)) = Some v.items
 bytes_in _ = None
 
-abbrev pub IfBuffer : Option Held → (List ℕ → Type 0) → Type 0
-IfBuffer held P = IfSome (bytes_in held) P
+-- there is a buffer, and this of its bytes
+abbrev pub HasBuffer : Option Held → (List ℕ → Type 0) → Type 0
+HasBuffer held P = IsSomeAnd (bytes_in held) P
+
+-- all texts below a node, in UTF-8
+abbrev pub text_below : Nodes → ℕ → List ℕ
+text_below t x = encode_utf8_all (text_of_all t (descendants_of t x))
 
 -- the texts in a handle
 abbrev pub gathered_in : Option Held → Option Gathered
 gathered_in (Some (Texts g)) = Some g
 gathered_in _ = None
 
-abbrev pub IfTexts : Option Held → (Gathered → Type 0) → Type 0
-IfTexts held P = IfSome (gathered_in held) P
+-- there are texts, and this of them
+abbrev pub HasTexts : Option Held → (Gathered → Type 0) → Type 0
+HasTexts held P = IsSomeAnd (gathered_in held) P
 
 -- what a row says of a node: its links, how many attributes it has, its kind, and how long its name and its text are
 pub record IsRow (t : Nodes) (x : ℕ) (r : ZqRow) : Type 0 where

@@ -1,7 +1,7 @@
 //! The parse errors of a page.
 
-ghost use Rattle.std.specs.Prelude.{◌≡◌, Some, IfSome, slice_get};
-ghost use Rattle.zilqumet_c.specs.Reads.{IfPage};
+ghost use Rattle.std.specs.Prelude.{◌≡◌, Some, IsSomeAnd, slice_get};
+ghost use Rattle.zilqumet_c.specs.Reads.{HasPage};
 
 use crate::held::Held;
 use crate::slot::Slot;
@@ -19,7 +19,7 @@ pub extern "C" fn proved_error(
     place: &mut u64,
 ) -> u32
     ensures kept { page.new.value ≡ page.old.value }
-    ensures place { result ≡ 0 → IfPage page.old.value (λ t. IfSome (slice_get t.errors.items index) (λ f. place.new ≡ f.place)) }
+    ensures place { result ≡ 0 → HasPage page.old.value (λ t. IsSomeAnd (slice_get t.errors.items index) (λ f. place.new ≡ f.place)) }
 {
     let held = page.take(alloc);
     let said = match &held {
@@ -32,7 +32,7 @@ pub extern "C" fn proved_error(
 
 /// Writes the name of a parse error to a buffer.
 fn error_in(alloc: Global, held: &Held, index: u64, name: &mut Slot, place: &mut u64) -> u32
-    ensures place { result ≡ 0 → IfPage (Some held.now) (λ t. IfSome (slice_get t.errors.items index) (λ f. place.new ≡ f.place)) }
+    ensures place { result ≡ 0 → HasPage (Some held.now) (λ t. IsSomeAnd (slice_get t.errors.items index) (λ f. place.new ≡ f.place)) }
 {
     let Held::Page(page) = held else {
         return BAD_HANDLE;

@@ -2,14 +2,15 @@
 
 ghost use Rattle.html_arena.specs.Walking.{IsRoot};
 
-use html_parser::{EntityTable, Options, Tree};
+use html_parser::{EntityTable, OwnedTreeParser, Tree};
+use std::sync::Arc;
 
-/// What a handle holds: a page, a table of references, an input that is not at its end, bytes, or texts.
+/// What a handle holds: a page, a table of references, which parsers share, a parser of an input that is not at its end, bytes, or texts.
 #[derive(Drop)]
 pub enum Held {
     Page(Rooted),
-    Entities(EntityTable),
-    Parser(Pushed),
+    Entities(Arc<EntityTable>),
+    Parser(OwnedTreeParser),
     Buffer(Vec<u8>),
     Texts(Gathered),
 }
@@ -26,11 +27,4 @@ pub struct Rooted {
 pub struct Gathered {
     pub bytes: Vec<u8>,
     pub ends: Vec<u64>,
-}
-
-/// An input so far.
-#[derive(Drop)]
-pub struct Pushed {
-    pub bytes: Vec<u8>,
-    pub options: Options,
 }

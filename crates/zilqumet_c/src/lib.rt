@@ -1,6 +1,7 @@
 //! The parser for programs in C: handles that C keeps, and the calls on them.
 #![tactic(auto)]
 
+mod below;
 mod entities;
 mod errors;
 mod held;
@@ -9,6 +10,7 @@ mod loose;
 mod numbers;
 mod parsing;
 mod parts;
+mod places;
 mod pushing;
 mod rows;
 mod slot;
@@ -17,8 +19,9 @@ mod text;
 mod texts;
 mod writing;
 
-pub use held::{Gathered, Held, Pushed, Rooted};
+pub use held::{Gathered, Held, Rooted};
 pub use numbers::{ZqCounts, ZqLimits};
+pub use places::ZqPosition;
 pub use rows::ZqRow;
 pub use slot::Slot;
 pub use text::Text;

@@ -2,7 +2,7 @@
 
 ghost use Rattle.std.specs.Prelude.{◌≡◌, ◌-◌, ◌^◌, Option, None, Some, MatchOption, length, min};
 ghost use Rattle.html_arena.specs.declared.arena.Limits.{Limits};
-ghost use Rattle.zilqumet_c.specs.Reads.{foreign_in, limits_in, options_in, tree_in, IfPage};
+ghost use Rattle.zilqumet_c.specs.Reads.{foreign_in, limits_in, options_in, tree_in};
 
 use crate::held::Held;
 use crate::slot::Slot;
@@ -78,7 +78,7 @@ fn few(count: u128) -> u64
 #[unsafe(no_mangle)]
 pub extern "C" fn proved_counts_of(alloc: Global, page: &mut Slot, counts: &mut ZqCounts) -> u32
     ensures kept { page.new.value ≡ page.old.value }
-    ensures told { IfPage page.old.value (λ t. (result ≡ 0) × (counts.new.code_points ≡ t.n) × (counts.new.nodes ≡ length t.arena.labels)
+    ensures told { MatchOption (tree_in page.old.value) (result ≡ 12) (λ t. (result ≡ 0) × (counts.new.code_points ≡ t.n) × (counts.new.nodes ≡ length t.arena.labels)
         × (counts.new.held ≡ min t.arena.held (2 ^ 64 - 1)) × (counts.new.steps ≡ min t.steps (2 ^ 64 - 1))
         × (counts.new.tokens ≡ t.token_count) × (counts.new.errors ≡ length t.errors.items)) }
 {
@@ -93,7 +93,7 @@ pub extern "C" fn proved_counts_of(alloc: Global, page: &mut Slot, counts: &mut 
 
 /// What a page counts.
 fn count(held: &Held, counts: &mut ZqCounts) -> u32
-    ensures { IfPage (Some held.now) (λ t. (result ≡ 0) × (counts.new.code_points ≡ t.n) × (counts.new.nodes ≡ length t.arena.labels)
+    ensures { MatchOption (tree_in (Some held.now)) (result ≡ 12) (λ t. (result ≡ 0) × (counts.new.code_points ≡ t.n) × (counts.new.nodes ≡ length t.arena.labels)
         × (counts.new.held ≡ min t.arena.held (2 ^ 64 - 1)) × (counts.new.steps ≡ min t.steps (2 ^ 64 - 1))
         × (counts.new.tokens ≡ t.token_count) × (counts.new.errors ≡ length t.errors.items)) }
 {

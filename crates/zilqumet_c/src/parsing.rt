@@ -1,12 +1,11 @@
 //! Pages from bytes.
 
-ghost use Rattle.std.specs.Prelude.{◌≡◌, ◌≢◌, ◌⊎◌, ◌<◌, Option, None, Some, IfOk, IfErr, MatchOption};
-ghost use Rattle.std.specs.Str.{IsUtf8, chars};
-ghost use Rattle.html_builder.specs.declared.context.Context.{Context};
+ghost use Rattle.std.specs.Prelude.{◌≡◌, ◌≢◌, ◌⊎◌, ◌<◌, Option, None, Some, IfOk, IfErr, MatchOption, OnOk};
+ghost use Rattle.std.specs.Str.{IsUtf8};
 ghost use Rattle.html_parser.specs.Parsed.{IsTreeOf};
 ghost use Rattle.html_parser.specs.Options.{start_of};
 ghost use Rattle.zilqumet_c.specs.Kept.{unboxed};
-ghost use Rattle.zilqumet_c.specs.Reads.{options_in, rows_in};
+ghost use Rattle.zilqumet_c.specs.Reads.{context_in, options_in, rows_in};
 ghost use Rattle.zilqumet_c.specs.Causes.{IsPageCause, IsToldBy};
 ghost use Rattle.html_charref.specs.Entities.{core_rows};
 
@@ -14,7 +13,7 @@ use crate::entities::table_of;
 use crate::held::{Held, Rooted};
 use crate::numbers::{ZqLimits, options_of};
 use crate::slot::Slot;
-use crate::status::{BAD_CONTEXT, OUT_OF_MEMORY, keep};
+use crate::status::keep;
 use html_parser::{Context, EntityTable, Options, ParseError, Str, parse_tree_with};
 use std::alloc::Global;
 
@@ -56,32 +55,48 @@ pub extern "C" fn proved_parse_fragment(
     at: &mut u64,
 ) -> u32
     ensures entities { entities.new.value ≡ entities.old.value }
-    ensures parsed { result ≡ 0 → (r : Rooted) × (c : Context) × (page.new.value ≡ Some (Held.Page r))
-        × (c.name ≡ chars context.now) × (c.in_form ≡ in_form) × (c.quirks ≡ quirks) × (c.encoding ≡ None)
-        × IsTreeOf (start_of (rows_in entities.old.value) (options_in limits.now (Some c))) bytes.now r.tree }
+    ensures parsed { result ≡ 0 → (r : Rooted) × (page.new.value ≡ Some (Held.Page r))
+        × IsTreeOf (start_of (rows_in entities.old.value) (options_in limits.now (Some (context_in context.now in_form quirks)))) bytes.now r.tree }
+    ensures good { result ≡ 0 → IsUtf8 context.now }
     ensures empty { result ≢ 0 → page.new.value ≡ None }
-    ensures cause { result ≢ 0 → ((result ≡ 5) × (IsUtf8 context.now → ⊥)) ⊎ (result ≡ 1) ⊎ ((c : Context) × (c.name ≡ chars context.now)
-        × (c.in_form ≡ in_form) × (c.quirks ≡ quirks) × (c.encoding ≡ None) × IsToldBy (IsPageCause (rows_in entities.old.value) (options_in limits.now (Some c)) bytes.now) result at.new) }
+    ensures cause { result ≢ 0 → ((result ≡ 5) × (IsUtf8 context.now → ⊥))
+        ⊎ IsToldBy (IsPageCause (rows_in entities.old.value) (options_in limits.now (Some (context_in context.now in_form quirks))) bytes.now) result at.new }
 {
-    let _old = page.take(alloc);
-    *at = 0;
-    let Ok(name) = std::str::from_utf8(context) else {
-        return BAD_CONTEXT;
+    match context_of(alloc, context, in_form, quirks) {
+        Ok(context) => {
+            let options = options_of(limits, Some(context));
+            let held = entities.take(alloc);
+            let parsed = parsed_by(alloc, &held, &options, bytes);
+            entities.restore(alloc, held);
+            keep(alloc, parsed, page, at)
+        }
+        Err(error) => keep(alloc, Err(error), page, at),
+    }
+}
+
+/// The context of a fragment by its name.
+pub(crate) fn context_of(
+    alloc: Global,
+    name: &[u8],
+    in_form: bool,
+    quirks: bool,
+) -> Result<Context, ParseError>
+    ensures value { IfOk result (λ c. c ≡ context_in name.now in_form quirks) }
+    ensures good { OnOk result (IsUtf8 name.now) }
+    ensures cause { IfErr result (λ e. ((e ≡ ParseError.BadContext) × (IsUtf8 name.now → ⊥)) ⊎ (e ≡ ParseError.OutOfMemory)) }
+{
+    let Ok(name) = std::str::from_utf8(name) else {
+        return Err(ParseError::BadContext);
     };
     let Ok(name) = Str::of(alloc, name) else {
-        return OUT_OF_MEMORY;
+        return Err(ParseError::OutOfMemory);
     };
-    let context = Context {
+    Ok(Context {
         name,
         in_form,
         quirks,
         encoding: None,
-    };
-    let options = options_of(limits, Some(context));
-    let held = entities.take(alloc);
-    let parsed = parsed_by(alloc, &held, &options, bytes);
-    entities.restore(alloc, held);
-    keep(alloc, parsed, page, at)
+    })
 }
 
 /// The tree of an input as options ask for it, by the table that is held, or by the core five.

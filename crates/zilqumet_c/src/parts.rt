@@ -1,7 +1,7 @@
 //! The texts of nodes.
 
 ghost use Rattle.std.specs.Prelude.{◌≡◌, ◌<◌, ◌≤◌, ℕ, List, Some, IfSome, length, take};
-ghost use Rattle.zilqumet_c.specs.Reads.{IfPage, IsPart};
+ghost use Rattle.zilqumet_c.specs.Reads.{HasPage, IsPart};
 
 use crate::held::Held;
 use crate::slot::Slot;
@@ -36,7 +36,7 @@ pub extern "C" fn proved_text(
     text: &mut Text,
 ) -> u32
     ensures kept { page.new.value ≡ page.old.value }
-    ensures len { result ≡ 0 → IfPage page.old.value (λ t. (bytes : List ℕ) × (text.new.len ≡ length bytes) × IsPart t.arena part node index bytes) }
+    ensures len { result ≡ 0 → HasPage page.old.value (λ t. (bytes : List ℕ) × (text.new.len ≡ length bytes) × IsPart t.arena part node index bytes) }
 {
     let held = page.take(alloc);
     let said = match &held {
@@ -59,7 +59,7 @@ pub extern "C" fn proved_copy(
     len: &mut usize,
 ) -> u32
     ensures kept { page.new.value ≡ page.old.value }
-    ensures text { result ≡ 0 → len.new ≤ length out.new → IfPage page.old.value (λ t. IsPart t.arena part node index (take len.new out.new)) }
+    ensures text { result ≡ 0 → len.new ≤ length out.new → HasPage page.old.value (λ t. IsPart t.arena part node index (take len.new out.new)) }
 {
     let held = page.take(alloc);
     let said = match &held {
@@ -72,7 +72,7 @@ pub extern "C" fn proved_copy(
 
 /// Copies a text of a node.
 fn copy_in(held: &Held, part: u32, node: u64, index: u64, out: &mut [u8], len: &mut usize) -> u32
-    ensures text { result ≡ 0 → len.new ≤ length out.new → IfPage (Some held.now) (λ t. IsPart t.arena part node index (take len.new out.new)) }
+    ensures text { result ≡ 0 → len.new ≤ length out.new → HasPage (Some held.now) (λ t. IsPart t.arena part node index (take len.new out.new)) }
 {
     let Held::Page(page) = held else {
         return BAD_HANDLE;
@@ -101,7 +101,7 @@ fn copy_front(out: &mut [u8], bytes: &[u8])
 
 /// A text of a node.
 fn text_in(held: &Held, part: u32, node: u64, index: u64, text: &mut Text) -> u32
-    ensures len { result ≡ 0 → IfPage (Some held.now) (λ t. (bytes : List ℕ) × (text.new.len ≡ length bytes) × IsPart t.arena part node index bytes) }
+    ensures len { result ≡ 0 → HasPage (Some held.now) (λ t. (bytes : List ℕ) × (text.new.len ≡ length bytes) × IsPart t.arena part node index bytes) }
 {
     let Held::Page(page) = held else {
         return BAD_HANDLE;

@@ -1,8 +1,8 @@
 //! Many nodes in one call.
 
-ghost use Rattle.std.specs.Prelude.{◌≡◌, ◌≤◌, ◌<◌, ◌-◌, Some, length, min};
+ghost use Rattle.std.specs.Prelude.{◌≡◌, ◌≤◌, ◌<◌, ◌-◌, Some, MatchOption, length, min};
 ghost use Rattle.zilqumet_c.specs.Kept.{unboxed};
-ghost use Rattle.zilqumet_c.specs.Reads.{AreRows, IfPage, IsRow};
+ghost use Rattle.zilqumet_c.specs.Reads.{AreRows, IfPage, IsRow, tree_in};
 
 use crate::held::Held;
 use crate::links::{kind_number, number};
@@ -35,7 +35,7 @@ pub extern "C" fn proved_rows(
 ) -> usize
     ensures kept { page.new.value ≡ page.old.value }
     ensures few { result ≤ length rows.new }
-    ensures count { IfPage page.old.value (λ t. result ≡ min (length t.arena.labels - from) (length rows.new)) }
+    ensures count { MatchOption (tree_in page.old.value) (result ≡ 0) (λ t. result ≡ min (length t.arena.labels - from) (length rows.new)) }
     ensures rows { IfPage page.old.value (λ t. AreRows t.arena from result rows.new) }
 {
     let held = page.take(alloc);
@@ -47,7 +47,7 @@ pub extern "C" fn proved_rows(
 /// Writes rows of the nodes from a number on, if a page is held.
 fn rows_held(held: &Option<Box<Held>>, from: u64, rows: &mut [ZqRow]) -> usize
     ensures few { result ≤ length rows.new }
-    ensures count { IfPage (unboxed held.now) (λ t. result ≡ min (length t.arena.labels - from) (length rows.new)) }
+    ensures count { MatchOption (tree_in (unboxed held.now)) (result ≡ 0) (λ t. result ≡ min (length t.arena.labels - from) (length rows.new)) }
     ensures rows { IfPage (unboxed held.now) (λ t. AreRows t.arena from result rows.new) }
 {
     match held {
@@ -59,7 +59,7 @@ fn rows_held(held: &Option<Box<Held>>, from: u64, rows: &mut [ZqRow]) -> usize
 /// Writes rows of the nodes from a number on.
 fn rows_of(held: &Held, from: u64, rows: &mut [ZqRow]) -> usize
     ensures few { result ≤ length rows.new }
-    ensures count { IfPage (Some held.now) (λ t. result ≡ min (length t.arena.labels - from) (length rows.new)) }
+    ensures count { MatchOption (tree_in (Some held.now)) (result ≡ 0) (λ t. result ≡ min (length t.arena.labels - from) (length rows.new)) }
     ensures rows { IfPage (Some held.now) (λ t. AreRows t.arena from result rows.new) }
 {
     let Held::Page(page) = held else {

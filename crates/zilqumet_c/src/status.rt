@@ -1,6 +1,6 @@
 //! What a call answers: 0, or why not.
 
-ghost use Rattle.std.specs.Prelude.{◌≡◌, ◌≢◌, ◌⊎◌, Option, None, Some, Ok, Err};
+ghost use Rattle.std.specs.Prelude.{◌≡◌, ◌≢◌, ◌⊎◌, Option, None, Some, Ok, Err, IfErr};
 ghost use Rattle.zilqumet_c.specs.Status.{status_of, place_of};
 
 use crate::held::{Held, Rooted};
@@ -86,6 +86,7 @@ pub(crate) fn keep(
     ensures ok { result ≡ 0 → (r : Rooted) × (parsed ≡ Ok r) × (page.new.value ≡ Some (Held.Page r)) }
     ensures empty { result ≢ 0 → page.new.value ≡ None }
     ensures cause { result ≢ 0 → (result ≡ 1) ⊎ ((e : ParseError) × (parsed ≡ Err e) × (result ≡ status_of e) × (at.new ≡ place_of e)) }
+    ensures told { IfErr parsed (λ e. result ≡ status_of e) }
 {
     let _old = page.take(alloc);
     *at = 0;

@@ -3,7 +3,7 @@
 ghost use Rattle.std.specs.Prelude.{◌≡◌, ◌≢◌, ◌<◌, ◌∷◌, [], None, Some, IfSome, OnOk, length};
 ghost use Rattle.std.specs.Str.{chars};
 ghost use Rattle.html_arena.specs.Tree.{label_of};
-ghost use Rattle.zilqumet_c.specs.Reads.{IfPage, IfTexts};
+ghost use Rattle.zilqumet_c.specs.Reads.{HasPage, HasTexts};
 ghost use Rattle.zilqumet_c.specs.Texts.{Adds, AreTexts, all_texts, attr_texts, node_texts};
 
 use crate::held::{Gathered, Held};
@@ -32,7 +32,7 @@ pub extern "C" fn proved_all_texts(
     texts: &mut ZqTexts,
 ) -> u32
     ensures kept { page.new.value ≡ page.old.value }
-    ensures texts { result ≡ 0 → IfPage page.old.value (λ t. IfTexts buffer.new.value (λ g. AreTexts g.bytes.items g.ends.items (all_texts t.arena.labels)
+    ensures texts { result ≡ 0 → HasPage page.old.value (λ t. HasTexts buffer.new.value (λ g. AreTexts g.bytes.items g.ends.items (all_texts t.arena.labels)
         × (texts.new.count ≡ length g.ends.items))) }
     ensures empty { result ≢ 0 → buffer.new.value ≡ None }
 {
@@ -48,7 +48,7 @@ pub extern "C" fn proved_all_texts(
 
 /// Fills a handle with all texts of a page.
 fn texts_in(alloc: Global, held: &Held, buffer: &mut Slot, texts: &mut ZqTexts) -> u32
-    ensures texts { result ≡ 0 → IfPage (Some held.now) (λ t. IfTexts buffer.new.value (λ g. AreTexts g.bytes.items g.ends.items (all_texts t.arena.labels)
+    ensures texts { result ≡ 0 → HasPage (Some held.now) (λ t. HasTexts buffer.new.value (λ g. AreTexts g.bytes.items g.ends.items (all_texts t.arena.labels)
         × (texts.new.count ≡ length g.ends.items))) }
     ensures empty { result ≢ 0 → buffer.new.value ≡ buffer.old.value }
 {

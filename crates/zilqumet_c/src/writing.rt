@@ -1,13 +1,13 @@
 //! Pages as text.
 
-ghost use Rattle.std.specs.Prelude.{◌≡◌, ◌≢◌, ◌⊎◌, Option, None, Some, IfOk, IfErr, List, length};
+ghost use Rattle.std.specs.Prelude.{◌≡◌, ◌≢◌, ◌⊎◌, Option, None, Some, IfOk, IfErr, List, MatchOption, length};
 ghost use Rattle.std.specs.Str.{encode_utf8_all};
 ghost use Rattle.html_page.specs.Serialised.{html_below};
 ghost use Rattle.html_page.specs.declared.profile.Profile.{Profile};
 ghost use Rattle.html_parser.specs.Parsed.{IsTreeOf};
 ghost use Rattle.html_parser.specs.Options.{start_of};
 ghost use Rattle.html_parser.specs.declared.page.Tree.{Tree};
-ghost use Rattle.zilqumet_c.specs.Reads.{IfBuffer, IfPage, options_in, profile_of, rows_in, written};
+ghost use Rattle.zilqumet_c.specs.Reads.{HasBuffer, HasPage, bytes_in, options_in, profile_of, rows_in, written};
 ghost use Rattle.zilqumet_c.specs.Causes.{IsPageCause, IsToldBy};
 
 use crate::held::{Held, Rooted};
@@ -28,7 +28,8 @@ pub extern "C" fn proved_serialise(
     buffer: &mut Slot,
 ) -> u32
     ensures kept { page.new.value ≡ page.old.value }
-    ensures text { result ≡ 0 → IfPage page.old.value (λ t. IfBuffer buffer.new.value (λ b. b ≡ written (profile_of angles) t)) }
+    ensures text { result ≡ 0 → HasPage page.old.value (λ t. HasBuffer buffer.new.value (λ b. b ≡ written (profile_of angles) t)) }
+    ensures empty { result ≢ 0 → buffer.new.value ≡ None }
 {
     let _old = buffer.take(alloc);
     let held = page.take(alloc);
@@ -53,7 +54,8 @@ pub extern "C" fn proved_normalise(
 ) -> u32
     ensures entities { entities.new.value ≡ entities.old.value }
     ensures text { result ≡ 0 → (t : Tree) × IsTreeOf (start_of (rows_in entities.old.value) (options_in limits.now None)) bytes.now t
-        × IfBuffer buffer.new.value (λ b. b ≡ written (profile_of angles) t) }
+        × HasBuffer buffer.new.value (λ b. b ≡ written (profile_of angles) t) }
+    ensures empty { result ≢ 0 → buffer.new.value ≡ None }
     ensures cause { result ≢ 0 → IsToldBy (IsPageCause (rows_in entities.old.value) (options_in limits.now None) bytes.now) result at.new }
 {
     let _old = buffer.take(alloc);
@@ -75,7 +77,7 @@ pub extern "C" fn proved_normalise(
 #[unsafe(no_mangle)]
 pub extern "C" fn proved_bytes(alloc: Global, buffer: &mut Slot, bytes: &mut Text) -> u32
     ensures kept { buffer.new.value ≡ buffer.old.value }
-    ensures len { IfBuffer buffer.old.value (λ b. (result ≡ 0) × (bytes.new.len ≡ length b)) }
+    ensures len { MatchOption (bytes_in buffer.old.value) (result ≡ 12) (λ b. (result ≡ 0) × (bytes.new.len ≡ length b)) }
 {
     let held = buffer.take(alloc);
     let said = match &held {
@@ -88,7 +90,7 @@ pub extern "C" fn proved_bytes(alloc: Global, buffer: &mut Slot, bytes: &mut Tex
 
 /// The bytes of a buffer.
 fn bytes_of(held: &Held, bytes: &mut Text) -> u32
-    ensures len { IfBuffer (Some held.now) (λ b. (result ≡ 0) × (bytes.new.len ≡ length b)) }
+    ensures len { MatchOption (bytes_in (Some held.now)) (result ≡ 12) (λ b. (result ≡ 0) × (bytes.new.len ≡ length b)) }
 {
     let Held::Buffer(buffer) = held else {
         return BAD_HANDLE;
@@ -106,7 +108,8 @@ fn profile(angles: bool) -> Profile
 
 /// Writes what a handle holds to a buffer.
 fn write_held(alloc: Global, held: &Held, angles: bool, buffer: &mut Slot) -> u32
-    ensures text { result ≡ 0 → IfPage (Some held.now) (λ t. IfBuffer buffer.new.value (λ b. b ≡ written (profile_of angles) t)) }
+    ensures text { result ≡ 0 → HasPage (Some held.now) (λ t. HasBuffer buffer.new.value (λ b. b ≡ written (profile_of angles) t)) }
+    ensures same { result ≢ 0 → buffer.new.value ≡ buffer.old.value }
 {
     let Held::Page(page) = held else {
         return BAD_HANDLE;
@@ -116,7 +119,8 @@ fn write_held(alloc: Global, held: &Held, angles: bool, buffer: &mut Slot) -> u3
 
 /// Writes a tree to a buffer. Only memory can be refused.
 fn write_tree(alloc: Global, page: &Rooted, angles: bool, buffer: &mut Slot) -> u32
-    ensures text { result ≡ 0 → IfBuffer buffer.new.value (λ b. b ≡ written (profile_of angles) page.now.tree) }
+    ensures text { result ≡ 0 → HasBuffer buffer.new.value (λ b. b ≡ written (profile_of angles) page.now.tree) }
+    ensures same { result ≢ 0 → buffer.new.value ≡ buffer.old.value }
     ensures cause { result ≢ 0 → result ≡ 1 }
 {
     let mut out = OverWrite::new(Vec::new(alloc));

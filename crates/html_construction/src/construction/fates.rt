@@ -16,7 +16,7 @@ ghost use Rattle.html_construction.specs.Works.{Works};
 ghost use Rattle.html_ledger.specs.declared.fate.Fate.TheVariants.{Dropped, Made};
 ghost use Rattle.html_construction.specs.Calls.{HasFate, is_idle};
 ghost use Rattle.html_construction.specs.Plans.{Does};
-ghost use Rattle.html_construction.specs.Words.{Drop as DropFor, End};
+ghost use Rattle.html_construction.specs.Words.{Drop as DropFor, End, Keep, with_kept};
 
 use super::Construction;
 use crate::refusal::Refusal;
@@ -113,6 +113,7 @@ impl Construction {
     }
 
     /// Keeps a code point of a table's text, without a fate.
+    #[tactic(auto, using(crate::proofs::Doing::kept_rules))]
     pub fn keep(&mut self, token: &TokenKind, c: char) -> Result<(), Refusal>
         requires symbol { symbol_of token.now ≡ Char c }
         ensures rest { OnOk result (self.new ≡ record self.old { ledger = self.new.ledger }) }
@@ -120,6 +121,7 @@ impl Construction {
         ensures grown { OnOk result (Grown 0 0 0 0 0 self.old self.new) }
         ensures works { OnOk result (Works 0 0 0 self.old self.new) }
         ensures kept { OnOk result (self.new.ledger.kept ≡ self.old.ledger.kept ++ c ∷ []) }
+        ensures follows { OnOk result (Does Keep token.now self.old self.new) }
         ensures memory { IfErr result (λ e. e ≡ Refusal.OutOfMemory) }
         ensures refuses { IfErr result (λ e. RefusesAny e self.old self.new) }
     {
@@ -135,6 +137,7 @@ impl Construction {
         ensures grown { Grown 0 0 0 0 0 self.old self.new }
         ensures works { Works 0 0 0 self.old self.new }
         ensures taken { result.items ≡ self.old.ledger.kept }
+        ensures exact { self.new ≡ with_kept [] self.old }
     {
         self.ledger.take_kept()
     }

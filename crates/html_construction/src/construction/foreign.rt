@@ -19,8 +19,10 @@ ghost use Rattle.html_construction.specs.Built.{Keeps, Takes};
 ghost use Rattle.html_construction.specs.Calls.{HasFate, IsTree, counting, foreign_of, opened_at, placed_at};
 ghost use Rattle.html_construction.specs.Foreign.{adjusted_tag, foreign_tag};
 ghost use Rattle.html_construction.specs.Grown.{Grown};
+ghost use Rattle.html_construction.specs.Plans.{Does};
 ghost use Rattle.html_construction.specs.Tokens.{foreign_name, tag_name};
 ghost use Rattle.html_construction.specs.Weights.{weight};
+ghost use Rattle.html_construction.specs.Words.{InsertForeign, InsertForeignVoid};
 ghost use Rattle.html_construction.specs.Works.{Works};
 
 use super::Construction;
@@ -89,6 +91,7 @@ impl Construction {
 
     /// Makes the element of foreign content of a start tag, in a namespace, puts it at the place for the current node and opens it. Its fate is
     /// Foreign, of that node.
+    #[tactic(auto, using(crate::proofs::Doing::doing_rules))]
     pub fn insert_foreign(
         &mut self,
         token: &TokenKind,
@@ -108,6 +111,7 @@ impl Construction {
         ensures works { OnOk result (Works 1 0 0 self.old self.new) }
         ensures exact { OnOk result (IsTree (opened_at (foreign_of self.old space token.now) (Current self.old.fostering) (counting (number_of self.old.ledger + 1) self.old.tree)) self.new) }
         ensures fate { OnOk result (HasFate (Start tag) (Foreign (length self.old.tree.tree.labels)) self.old self.new) }
+        ensures follows { OnOk result (Does (InsertForeign space) token.now self.old self.new) }
         ensures refuses { IfErr result (λ e. Refuses token.now e self.old self.new) }
     {
         let target = self.here();
@@ -116,6 +120,7 @@ impl Construction {
     }
 
     /// The same for a start tag that closes itself: the element is not opened.
+    #[tactic(auto, using(crate::proofs::Doing::doing_rules))]
     pub fn insert_foreign_void(
         &mut self,
         token: &TokenKind,
@@ -135,6 +140,7 @@ impl Construction {
         ensures works { OnOk result (Works 1 0 0 self.old self.new) }
         ensures exact { OnOk result (IsTree (placed_at (foreign_of self.old space token.now) (Current self.old.fostering) (counting (number_of self.old.ledger + 1) self.old.tree)) self.new) }
         ensures fate { OnOk result (HasFate (Start tag) (Foreign (length self.old.tree.tree.labels)) self.old self.new) }
+        ensures follows { OnOk result (Does (InsertForeignVoid space) token.now self.old self.new) }
         ensures refuses { IfErr result (λ e. Refuses token.now e self.old self.new) }
     {
         let target = self.here();

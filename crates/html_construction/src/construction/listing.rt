@@ -1,5 +1,5 @@
 // The list of active formatting elements (13.2.4.3). No call gives a token its fate.
-ghost use Rattle.std.specs.Prelude.{◌≡◌, ℕ, ◌*◌, ◌<◌, ◌≤◌, IfSome, OnOk, length, true, ◌++◌, ◌∷◌, [], IfOk, IfErr};
+ghost use Rattle.std.specs.Prelude.{◌≡◌, ℕ, ◌*◌, ◌<◌, ◌≤◌, IfSome, None, OnOk, length, true, ◌++◌, ◌∷◌, [], IfOk, IfErr};
 ghost use Rattle.html_names.specs.Sets.{is_formatting};
 ghost use Rattle.html_arena.specs.Tree.{more, tag_at};
 ghost use Rattle.html_construction.specs.Budgets.{RefusesAny};
@@ -14,8 +14,9 @@ ghost use Rattle.html_tree.specs.Listing.{IsAdopted, IsReopened};
 ghost use Rattle.html_open.specs.Reopening.{look_steps};
 ghost use Rattle.html_tree.specs.OpenTags.{open_tags};
 ghost use Rattle.html_tree.specs.Steps.{CountsReopening};
-ghost use Rattle.html_construction.specs.Calls.{HasEnded, IsTree};
-ghost use Rattle.html_construction.specs.Plans.{Adopt, DoesAny, Passes, Reconstruct};
+ghost use Rattle.html_construction.specs.Calls.{HasEnded, IsLinkClosed, IsTree};
+ghost use Rattle.html_construction.specs.Foreign.{foreign_tag};
+ghost use Rattle.html_construction.specs.Plans.{Adopt, CloseLink, DoesAny, Passes, Reconstruct};
 ghost use Rattle.html_construction.specs.Words.{AddMarker, ClearToMarker};
 
 use super::Construction;
@@ -61,12 +62,14 @@ impl Construction {
         requires opened { 0 < length self.old.stack }
         requires listed { length self.old.tree.list ≤ length self.old.ledger.fates }
         ensures rest { OnOk result (self.new ≡ record self.old { tree = self.new.tree; stack = self.new.stack }) }
+        ensures pointers { OnOk result (self.new.tree ≡ record self.old.tree { stack = self.new.tree.stack; list = self.new.tree.list; tree = self.new.tree.tree; steps = self.new.tree.steps }) }
         ensures keeps { OnOk result (Keeps self.old self.new) }
         ensures grown { OnOk result (Grown 0 (length self.old.ledger.fates) 0 1 0 self.old self.new) }
         ensures works { OnOk result (Works 0 1 0 self.old self.new) }
         ensures lighter { OnOk result (weight self.new.stack ≤ weight self.old.stack) }
         ensures opened { OnOk result (0 < length self.new.stack) }
         ensures tags { OnOk result (self.new.stack ≡ open_tags self.new.tree) }
+        ensures home { OnOk result (foreign_tag self.old ≡ None → foreign_tag self.new ≡ None) }
         ensures exact { OnOk result (IsReopened self.old.fostering self.old.tree self.new.tree) }
         ensures counted { OnOk result (CountsReopening self.old.fostering self.old.tree self.new.tree) }
         ensures refuses { IfErr result (λ e. RefusesAny e self.old self.new) }
@@ -96,6 +99,7 @@ impl Construction {
         requires formatting { is_formatting tag ≡ true }
         requires listed { length self.old.tree.list ≤ length self.old.ledger.fates }
         ensures rest { OnOk result (self.new ≡ record self.old { tree = self.new.tree; stack = self.new.stack }) }
+        ensures pointers { OnOk result (self.new.tree ≡ record self.old.tree { stack = self.new.tree.stack; list = self.new.tree.list; tree = self.new.tree.tree; steps = self.new.tree.steps }) }
         ensures keeps { OnOk result (Keeps self.old self.new) }
         ensures grown { OnOk result (Grown 0 32 0 8 0 self.old self.new) }
         ensures works { OnOk result (Works 2 8 0 self.old self.new) }
@@ -120,6 +124,7 @@ impl Construction {
         requires formatting { is_formatting tag ≡ true }
         requires listed { length self.old.tree.list ≤ length self.old.ledger.fates }
         ensures rest { OnOk result (self.new ≡ record self.old { tree = self.new.tree; stack = self.new.stack }) }
+        ensures pointers { OnOk result (self.new.tree ≡ record self.old.tree { stack = self.new.tree.stack; list = self.new.tree.list; tree = self.new.tree.tree; steps = self.new.tree.steps }) }
         ensures keeps { OnOk result (Keeps self.old self.new) }
         ensures grown { OnOk result (Grown 0 32 0 8 0 self.old self.new) }
         ensures works { OnOk result (Works 0 8 0 self.old self.new) }
@@ -136,15 +141,19 @@ impl Construction {
     }
 
     /// Closes a link that is listed after the last marker, and takes it out of the list and off the stack where it is still there.
+    #[tactic(auto, using(crate::proofs::Doing::doing_rules, crate::proofs::Doing::link_rules))]
     pub fn close_link(&mut self) -> Result<(), Refusal>
         requires opened { 0 < length self.old.stack }
         requires listed { length self.old.tree.list ≤ length self.old.ledger.fates }
         ensures rest { OnOk result (self.new ≡ record self.old { tree = self.new.tree; stack = self.new.stack }) }
+        ensures pointers { OnOk result (self.new.tree ≡ record self.old.tree { stack = self.new.tree.stack; list = self.new.tree.list; tree = self.new.tree.tree; steps = self.new.tree.steps }) }
         ensures keeps { OnOk result (Keeps self.old self.new) }
         ensures grown { OnOk result (Grown 0 32 0 8 0 self.old self.new) }
         ensures works { OnOk result (Works 5 8 0 self.old self.new) }
         ensures lighter { OnOk result (weight self.new.stack ≤ weight self.old.stack) }
         ensures opened { OnOk result (0 < length self.new.stack) }
+        ensures exact { OnOk result (IsLinkClosed self.old.fostering self.old.tree self.new.tree) }
+        ensures follows { OnOk result (Passes (λ p. CloseLink p) self.old self.new) }
         ensures refuses { IfErr result (λ e. RefusesAny e self.old self.new) }
     {
         if let Some(link) = self.last_listed(Tag::A) {

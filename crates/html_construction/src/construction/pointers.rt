@@ -16,8 +16,8 @@ ghost use Rattle.html_open.specs.AdoptFinding.{element_in_scope};
 ghost use Rattle.html_tree.specs.Closing.{bodiless};
 ghost use Rattle.html_tree.specs.declared.groups.Target.TheVariants.{Current, First};
 ghost use Rattle.html_construction.specs.Calls.{HasFate, IsTree, counting, element_of, form_closed, implied_of, is_idle, is_unmoved, opened_at, placed_at, void_of};
-ghost use Rattle.html_construction.specs.Plans.{Does, DoesAny};
-ghost use Rattle.html_construction.specs.Words.{CloseForm, ImplyHead, InsertClosedForm, InsertForm, InsertHead, ReplaceBody};
+ghost use Rattle.html_construction.specs.Plans.{Asks, Does, DoesAny};
+ghost use Rattle.html_construction.specs.Words.{BeginOwnPart, CanReplaceBody, CloseForm, HasBody, ImplyHead, InsertClosedForm, InsertForm, InsertHead, ReplaceBody, has_body};
 
 use super::Construction;
 use crate::mode::Mode;
@@ -199,6 +199,7 @@ impl Construction {
     }
 
     /// Whether the second open element is a body.
+    #[tactic(auto, using(crate::proofs::Doing::doing_rules, crate::proofs::Doing::body_rules))]
     pub fn has_body(&mut self) -> bool
         ensures rest { self.new ≡ record self.old { tree = self.new.tree } }
         ensures keeps { Keeps self.old self.new }
@@ -210,11 +211,14 @@ impl Construction {
         ensures other { result ≡ false → 1 < length self.old.stack → named self.new.tree.tree tag.Body (slice_index self.new.tree.stack 1) ≡ false }
         ensures detached { self.new.tree.detached ≡ self.old.tree.detached }
         ensures same { IsTree self.old.tree self.new }
+        ensures value { result ≡ has_body self.old.tree }
+        ensures follows { Asks HasBody result self.old self.new }
     {
         self.depth() > 1 && self.tag_at(1).is(Tag::Body)
     }
 
     /// Whether a frameset may take the place of the body: the second open element is one, and no body was replaced before.
+    #[tactic(auto, using(crate::proofs::Doing::doing_rules, crate::proofs::Doing::body_rules))]
     pub fn can_replace_body(&mut self) -> bool
         ensures rest { self.new ≡ record self.old { tree = self.new.tree } }
         ensures keeps { Keeps self.old self.new }
@@ -226,6 +230,7 @@ impl Construction {
         ensures other { result ≡ false → self.old.tree.detached ≡ None → 1 < length self.old.stack
             → named self.new.tree.tree tag.Body (slice_index self.new.tree.stack 1) ≡ false }
         ensures same { IsTree self.old.tree self.new }
+        ensures follows { Asks CanReplaceBody result self.old self.new }
     {
         !self.has_detached_body() && self.has_body()
     }
@@ -278,9 +283,11 @@ impl Construction {
     }
 
     /// Begins the rules for a token's own part, after the kept text of a table was settled.
+    #[tactic(auto, using(crate::proofs::Doing::own_part))]
     pub fn begin_own_part(&mut self)
         ensures rest { self.new ≡ record self.old { depth = length self.old.stack; nodes = length self.old.tree.tree.labels } }
         ensures keeps { Keeps self.old self.new }
+        ensures follows { DoesAny BeginOwnPart self.old self.new }
     {
         self.registers.call = Call {
             began: self.registers.call.began,

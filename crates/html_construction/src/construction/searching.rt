@@ -12,7 +12,7 @@ ghost use Rattle.html_tree.specs.Searching.{found};
 ghost use Rattle.html_tree.specs.Seats.{has_seat};
 ghost use Rattle.html_construction.specs.Calls.{IsTree, is_first};
 ghost use Rattle.html_construction.specs.Plans.{Asks};
-ghost use Rattle.html_construction.specs.Words.{Finds, HasSeat, HasTemplate, IsCurrent, current_or_other};
+ghost use Rattle.html_construction.specs.Words.{Finds, HasSeat, HasTemplate, IsCurrent, IsOptionInGroup, current_or_other, is_option_in_group};
 ghost use Rattle.html_tree.specs.declared.groups.Group.{Group as AnyGroup};
 ghost use Rattle.html_tree.specs.Groups.{in_group};
 
@@ -152,6 +152,7 @@ impl Construction {
     }
 
     /// Whether the current node is an option that stands on an optgroup.
+    #[tactic(auto, using(crate::proofs::Doing::doing_rules, crate::proofs::Doing::option_rules))]
     pub fn is_option_in_group(&mut self) -> bool
         ensures rest { self.new ≡ record self.old { tree = self.new.tree } }
         ensures keeps { Keeps self.old self.new }
@@ -159,6 +160,8 @@ impl Construction {
         ensures works { Works 0 0 2 self.old self.new }
         ensures second { result ≡ true → 1 < length self.new.stack }
         ensures same { IsTree self.old.tree self.new }
+        ensures answer { result ≡ is_option_in_group self.old.tree }
+        ensures follows { Asks IsOptionInGroup result self.old self.new }
     {
         let depth = self.depth();
         depth > 1

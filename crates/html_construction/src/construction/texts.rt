@@ -9,7 +9,7 @@ ghost use Rattle.html_construction.specs.Grown.{Grown};
 ghost use Rattle.html_construction.specs.Works.{Works};
 ghost use Rattle.html_arena.specs.Tree.{more};
 ghost use Rattle.html_tree.specs.Steps.{text_steps};
-ghost use Rattle.html_tree.specs.Texts.{text_node, with_text};
+ghost use Rattle.html_tree.specs.Texts.{TextGoesOn, text_node, with_text};
 ghost use Rattle.html_ledger.specs.declared.fate.Fate.TheVariants.{Text};
 ghost use Rattle.html_ledger.specs.Entries.{given_run};
 ghost use Rattle.html_construction.specs.Calls.{HasFate, IsTree};
@@ -67,6 +67,7 @@ impl Construction {
         ensures counted { IfOk result (λ n. self.new.tree.steps ≡ more self.old.tree.steps (text_steps self.old.tree self.old.fostering n)) }
         ensures exact { IfOk result (λ n. IsTree (record self.old.tree { tree = with_text self.old.tree self.old.fostering (take n run.now) }) self.new) }
         ensures fate { IfOk result (λ n. self.new.ledger ≡ given_run self.old.ledger (take n run.now) (Text (text_node self.old.tree self.old.fostering))) }
+        ensures goes_on { OnOk result (TextGoesOn self.old.tree self.old.fostering) }
         ensures refuses { IfErr result (λ e. RefusesAny e self.old self.new) }
     {
         self.tree.laws();
@@ -91,6 +92,7 @@ impl Construction {
         ensures counted { IfOk result (λ n. self.new.tree.steps ≡ more self.old.tree.steps (text_steps self.old.tree self.old.fostering n)) }
         ensures exact { IfOk result (λ n. IsTree (record self.old.tree { tree = with_text self.old.tree self.old.fostering (take n text.now) }) self.new) }
         ensures fate { IfOk result (λ n. self.new.ledger ≡ given_run self.old.ledger (take n text.now) (Text (text_node self.old.tree self.old.fostering))) }
+        ensures goes_on { OnOk result (TextGoesOn self.old.tree self.old.fostering) }
         ensures refuses { IfErr result (λ e. RefusesAny e self.old self.new) }
     {
         self.tree.laws();

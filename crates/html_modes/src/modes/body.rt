@@ -1,5 +1,8 @@
 // The mode in body (13.2.6.4.7): what a token meets there, its text and its end.
 ghost use Rattle.std.specs.Prelude.{◌≡◌, ◌+◌, ◌*◌, ◌<◌, ◌≤◌, [], IfOk, IfSome, None, OnOk, IsTrue, false, length, take, true, IfErr};
+ghost use Rattle.std.specs.List.{list_all};
+ghost use Rattle.std.specs.Str.{chars};
+ghost use Rattle.html_ledger.specs.Spaces.{is_space};
 ghost use Rattle.html_ledger.specs.Symbols.{symbol_of};
 ghost use Rattle.html_ledger.specs.Flags.{is_free, may_text_run};
 ghost use Rattle.html_construction.specs.Budgets.{Refuses, RefusesAny};
@@ -9,8 +12,12 @@ ghost use Rattle.html_construction.specs.Works.{Works};
 ghost use Rattle.html_construction.specs.Weights.{weight};
 ghost use Rattle.html_modes.specs.Begun.{TextStays};
 ghost use Rattle.html_modes.specs.Fitting.{Fits, Calls};
+ghost use Rattle.html_modes.specs.Guards.{is_root_end};
+ghost use Rattle.html_modes.specs.Rules.{Follows};
+ghost use Rattle.html_modes.specs.RulesInBody.{in_body, in_body_char};
+ghost use Rattle.html_modes.specs.RulesInBodyStart.{in_body_start};
 ghost use Rattle.html_modes.specs.Plain.{IsPlainState, IsRunTurn, Turns, TurnsInBody};
-ghost use Rattle.html_modes.specs.Runs.{CountsRun};
+ghost use Rattle.html_modes.specs.Runs.{CountsRun, IsTextRun};
 ghost use Rattle.html_modes.specs.Steps.{Falls, Grows, Steps, Worked, root_of, root_space};
 ghost use Rattle.html_tree.specs.Proper.{is_foreign_root};
 ghost use Rattle.html_modes.specs.Foreign.{IsRootMade};
@@ -31,7 +38,7 @@ use html_names::{Space, Tag};
 use html_tokens::TokenKind;
 
 /// The rules for the "in body" insertion mode (13.2.6.4.7).
-#[tactic(auto, using(crate::proofs::Settled::mode_rules, crate::proofs::RawText::open_rules, crate::proofs::Begun::text_stays))]
+#[tactic(auto, using(crate::proofs::Settled::mode_rules, crate::proofs::RawText::open_rules, crate::proofs::Begun::text_stays, crate::proofs::RulesInBody::arms))]
 pub(crate) fn in_body(
     page: &mut Construction,
     token: &TokenKind,
@@ -52,6 +59,7 @@ pub(crate) fn in_body(
     ensures plain { IfOk result (λ o. Turns o symbol token.now page.old page.new) }
     ensures opens { IfOk result (λ o. Opens o symbol page.new) }
     ensures refuses { IfErr result (λ e. Refuses token.now e page.old page.new) }
+    ensures follows { IfOk result (λ o. Follows (in_body symbol) token.now o page.old page.new) }
 {
     match symbol {
         // An end tag whose tag name is "html".
@@ -72,7 +80,7 @@ pub(crate) fn in_body(
 }
 
 /// The rules of the mode in body that other modes share: all but those for the end tag of the root, which no other mode takes from it.
-#[tactic(auto, using(crate::proofs::Settled::body_rules, crate::proofs::RawText::open_rules, crate::proofs::Begun::text_stays))]
+#[tactic(auto, using(crate::proofs::Settled::body_rules, crate::proofs::RawText::open_rules, crate::proofs::Begun::text_stays, crate::proofs::RulesInBody::arms))]
 pub(crate) fn body_rules(
     page: &mut Construction,
     token: &TokenKind,
@@ -91,6 +99,7 @@ pub(crate) fn body_rules(
     ensures plain { IfOk result (λ o. TurnsInBody o symbol token.now page.old page.new) }
     ensures opens { IfOk result (λ o. Opens o symbol page.new) }
     ensures refuses { IfErr result (λ e. Refuses token.now e page.old page.new) }
+    ensures follows { IfOk result (λ o. is_root_end symbol ≡ false → Follows (in_body symbol) token.now o page.old page.new) }
 {
     match symbol {
         // A character token.
@@ -116,7 +125,7 @@ pub(crate) fn body_rules(
 }
 
 /// A start tag.
-#[tactic(auto, using(crate::proofs::Settled::body_rules, crate::proofs::RawText::open_rules))]
+#[tactic(auto, using(crate::proofs::Settled::body_rules, crate::proofs::RawText::open_rules, crate::proofs::RulesInBodyStart::arms))]
 fn any_start(page: &mut Construction, token: &TokenKind, tag: Tag) -> Result<Outcome, Refusal>
     requires symbol { symbol_of token.now ≡ Symbol.Start tag }
     requires calls { Calls page.old }
@@ -129,6 +138,7 @@ fn any_start(page: &mut Construction, token: &TokenKind, tag: Tag) -> Result<Out
     ensures plain { IfOk result (λ o. TurnsInBody o (Symbol.Start tag) token.now page.old page.new) }
     ensures opens { IfOk result (λ o. Opens o (Symbol.Start tag) page.new) }
     ensures refuses { IfErr result (λ e. Refuses token.now e page.old page.new) }
+    ensures follows { IfOk result (λ o. Follows (in_body_start tag) token.now o page.old page.new) }
 {
     // A start tag whose tag name is "math", or "svg".
     if let Some(name) = foreign_root(tag) {
@@ -141,7 +151,7 @@ fn any_start(page: &mut Construction, token: &TokenKind, tag: Tag) -> Result<Out
 }
 
 /// The start tag of a root of foreign content, which is refused or parsed.
-#[tactic(auto, using(crate::proofs::Settled::body_rules, crate::proofs::RawText::open_rules, crate::proofs::Embedding::body_roots))]
+#[tactic(auto, using(crate::proofs::Settled::body_rules, crate::proofs::RawText::open_rules, crate::proofs::Embedding::body_roots, crate::proofs::RulesInBodyStart::root_arms))]
 fn any_root_start(
     page: &mut Construction,
     token: &TokenKind,
@@ -162,6 +172,7 @@ fn any_root_start(
     ensures refused { IfOk result (λ o. page.old.parses_foreign ≡ false → o ≡ outcome.Foreign name) }
     ensures parsed { IfOk result (λ o. page.old.parses_foreign ≡ true → IsRootMade (root_space name) (Symbol.Start tag) token.now page.old page.new) }
     ensures refuses { IfErr result (λ e. Refuses token.now e page.old page.new) }
+    ensures follows { IfOk result (λ o. Follows (in_body_start tag) token.now o page.old page.new) }
 {
     if !page.parses_foreign() {
         return Ok(Outcome::Foreign(name));
@@ -195,7 +206,7 @@ fn foreign_root(tag: Tag) -> Option<Foreign>
 }
 
 /// The end of the page.
-#[tactic(auto, using(crate::proofs::Settled::body_rules))]
+#[tactic(auto, using(crate::proofs::Settled::body_rules, crate::proofs::RulesInBody::arms))]
 fn body_eof(page: &mut Construction, token: &TokenKind) -> Result<Outcome, Refusal>
     requires symbol { symbol_of token.now ≡ Symbol.Eof }
     requires calls { Calls page.old }
@@ -207,6 +218,7 @@ fn body_eof(page: &mut Construction, token: &TokenKind) -> Result<Outcome, Refus
     ensures works { IfOk result (λ o. Worked o token.now page.old page.new) }
     ensures plain { IfOk result (λ o. TurnsInBody o Symbol.Eof token.now page.old page.new) }
     ensures refuses { IfErr result (λ e. Refuses token.now e page.old page.new) }
+    ensures follows { IfOk result (λ o. Follows (in_body Symbol.Eof) token.now o page.old page.new) }
 {
     if page.has_template_mode() {
         let outcome = template_eof(page, token)?;
@@ -217,6 +229,7 @@ fn body_eof(page: &mut Construction, token: &TokenKind) -> Result<Outcome, Refus
 }
 
 /// A code point.
+#[tactic(auto, using(crate::proofs::RulesInBody::arms))]
 pub(crate) fn body_char(page: &mut Construction, token: &TokenKind, c: char) -> Result<(), Refusal>
     requires symbol { symbol_of token.now ≡ Symbol.Char c }
     requires opened { 0 < length page.old.stack }
@@ -232,6 +245,7 @@ pub(crate) fn body_char(page: &mut Construction, token: &TokenKind, c: char) -> 
     ensures opened { OnOk result (0 < length page.new.stack) }
     ensures plain { OnOk result (TurnsInBody Done (Symbol.Char c) token.now page.old page.new) }
     ensures refuses { IfErr result (λ e. RefusesAny e page.old page.new) }
+    ensures follows { OnOk result (Follows (in_body_char c) token.now Done page.old page.new) }
 {
     if c == '\0' {
         return page.drop_token(token, Symbol::Char(c), Cause::Null);
@@ -261,6 +275,7 @@ pub(crate) fn body_run(page: &mut Construction, run: &[char]) -> Result<usize, R
     ensures lighter { OnOk result (weight page.new.stack ≤ weight page.old.stack) }
     ensures opened { OnOk result (0 < length page.new.stack) }
     ensures plain { IfOk result (λ n. IsPlainState page.old → page.old.mode ≡ Mode.InBody → IsRunTurn (take n run.now) page.old page.new) }
+    ensures run { IfOk result (λ n. IsTextRun (take n run.now) page.old page.new) }
     ensures refuses { IfErr result (λ e. RefusesAny e page.old page.new) }
 {
     page.reconstruct()?;
@@ -289,6 +304,7 @@ pub(crate) fn body_plain(page: &mut Construction, text: &PlainText<'_>) -> Resul
     ensures lighter { OnOk result (weight page.new.stack ≤ weight page.old.stack) }
     ensures opened { OnOk result (0 < length page.new.stack) }
     ensures plain { IfOk result (λ n. IsPlainState page.old → page.old.mode ≡ Mode.InBody → IsRunTurn (take n text.now) page.old page.new) }
+    ensures run { IfOk result (λ n. IsTextRun (take n text.now) page.old page.new) }
     ensures refuses { IfErr result (λ e. RefusesAny e page.old page.new) }
 {
     page.reconstruct()?;
@@ -301,11 +317,15 @@ pub(crate) fn body_plain(page: &mut Construction, text: &PlainText<'_>) -> Resul
 }
 
 /// Whether all of these are white space.
-fn are_spaces(run: &[char]) -> bool {
+fn are_spaces(run: &[char]) -> bool
+    ensures value { result ≡ list_all is_space run.now }
+{
     run.iter().all(|c| is_space(*c))
 }
 
 /// Whether this is white space.
-fn is_space_text(text: &str) -> bool {
+fn is_space_text(text: &str) -> bool
+    ensures value { result ≡ list_all is_space (chars text.now) }
+{
     text.chars().all(|c| is_space(c))
 }

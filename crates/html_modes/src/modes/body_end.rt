@@ -18,6 +18,12 @@ ghost use Rattle.html_tree.specs.declared.groups.Group.TheVariants as group;
 ghost use Rattle.html_tree.specs.declared.groups.Stop.TheVariants as stop;
 ghost use Rattle.html_tree.specs.Searching.{found};
 ghost use Rattle.html_construction.specs.Calls.{IsTree};
+ghost use Rattle.html_construction.specs.Plans.{Adopt, Chooses, Do, Passes, closing};
+ghost use Rattle.html_construction.specs.Words.{ClearToMarker, CloseNamed};
+ghost use Rattle.html_modes.specs.Guards.{is_root_end};
+ghost use Rattle.html_modes.specs.RuleForms.{again, done_with};
+ghost use Rattle.html_modes.specs.Rules.{Follows, FollowsPart};
+ghost use Rattle.html_modes.specs.RulesInBodyEnd.{closing_block, closing_body, in_body_closing, in_body_end};
 ghost use Rattle.html_modes.specs.declared.outcome.Outcome.TheVariants.{Done};
 
 use crate::modes::template::template_end;
@@ -29,7 +35,7 @@ use html_tokens::TokenKind;
 use html_tree::Group;
 
 /// An end tag, but that of the root.
-#[tactic(auto, using(crate::proofs::Settled::body_rules))]
+#[tactic(auto, using(crate::proofs::Settled::body_rules, crate::proofs::RulesInBodyEnd::arms))]
 pub(crate) fn body_end(page: &mut Construction, token: &TokenKind, tag: Tag) -> Result<(), Refusal>
     requires symbol { symbol_of token.now ≡ Symbol.End tag }
     requires calls { Calls page.old }
@@ -41,6 +47,7 @@ pub(crate) fn body_end(page: &mut Construction, token: &TokenKind, tag: Tag) -> 
     ensures works { OnOk result (Worked Done token.now page.old page.new) }
     ensures plain { OnOk result (TurnsInBody Done (Symbol.End tag) token.now page.old page.new) }
     ensures refuses { IfErr result (λ e. Refuses token.now e page.old page.new) }
+    ensures follows { OnOk result (is_root_end (Symbol.End tag) ≡ false → Follows (in_body_end tag) token.now Done page.old page.new) }
 {
     match tag {
         // An end tag whose tag name is "template": process the token using the rules for "in head".
@@ -55,7 +62,7 @@ pub(crate) fn body_end(page: &mut Construction, token: &TokenKind, tag: Tag) -> 
 }
 
 /// The end tag of an element in the body.
-#[tactic(auto, using(crate::proofs::Settled::body_rules))]
+#[tactic(auto, using(crate::proofs::Settled::body_rules, crate::proofs::Ruled::rule_words))]
 fn current_end(page: &mut Construction, token: &TokenKind, tag: Tag) -> Result<(), Refusal>
     requires symbol { symbol_of token.now ≡ Symbol.End tag }
     requires calls { Calls page.old }
@@ -67,13 +74,14 @@ fn current_end(page: &mut Construction, token: &TokenKind, tag: Tag) -> Result<(
     ensures works { OnOk result (Worked Done token.now page.old page.new) }
     ensures plain { same_tag tag Tag.Body ≡ false → OnOk result (TurnsInBody Done (Symbol.End tag) token.now page.old page.new) }
     ensures refuses { IfErr result (λ e. Refuses token.now e page.old page.new) }
+    ensures follows { OnOk result (Follows (in_body_closing tag done_with) token.now Done page.old page.new) }
 {
     element_end(page, token, tag)?;
     page.end(token, Symbol::End(tag))
 }
 
 /// The end tag of the root.
-#[tactic(auto, using(crate::proofs::Settled::body_rules))]
+#[tactic(auto, using(crate::proofs::Settled::body_rules, crate::proofs::RulesInBodyEnd::arms))]
 pub(crate) fn html_end(page: &mut Construction, token: &TokenKind) -> Result<Outcome, Refusal>
     requires mode { page.old.mode ≡ Mode.InBody }
     requires symbol { symbol_of token.now ≡ Symbol.End Tag.Html }
@@ -86,6 +94,7 @@ pub(crate) fn html_end(page: &mut Construction, token: &TokenKind) -> Result<Out
     ensures works { IfOk result (λ o. Worked o token.now page.old page.new) }
     ensures plain { IfOk result (λ o. TurnsInBody o (Symbol.End Tag.Html) token.now page.old page.new) }
     ensures refuses { IfErr result (λ e. Refuses token.now e page.old page.new) }
+    ensures follows { IfOk result (λ o. Follows (closing_body again done_with) token.now o page.old page.new) }
 {
     if close_body(page) {
         return Ok(Outcome::Reprocess);
@@ -107,6 +116,7 @@ fn close_body(page: &mut Construction) -> bool
     ensures closed { result ≡ true → page.new.mode ≡ Mode.AfterBody }
     ensures same { IsTree page.old.tree page.new }
     ensures scope { result ≡ is_some (found page.old.tree (group.Named Tag.Body) (stop.EndOf scope.Default)) }
+    ensures follows { Chooses closing_body result page.old page.new }
 {
     if page.has_in_scope(Tag::Body, Scope::Default) {
         page.set_mode(Mode::AfterBody);
@@ -116,7 +126,7 @@ fn close_body(page: &mut Construction) -> bool
 }
 
 /// What the end tag of an element in the body closes or makes.
-#[tactic(auto, using(crate::proofs::Settled::told_rules))]
+#[tactic(auto, using(crate::proofs::Settled::told_rules, crate::proofs::RulesInBodyEnd::arms))]
 fn element_end(page: &mut Construction, token: &TokenKind, tag: Tag) -> Result<(), Refusal>
     requires opened { 0 < length page.old.stack }
     requires listed { length page.old.tree.list ≤ length page.old.ledger.fates }
@@ -128,6 +138,7 @@ fn element_end(page: &mut Construction, token: &TokenKind, tag: Tag) -> Result<(
     ensures heavier { OnOk result (weight page.new.stack ≤ weight page.old.stack + 4) }
     ensures plain { symbol_of token.now ≡ Symbol.End tag → OnOk result (IsCurrent tag page.old → EndsCurrent Mode.InBody (Symbol.End tag) token.now page.old → IsClosed tag page.old page.new) }
     ensures refuses { IfErr result (λ e. Refuses token.now e page.old page.new) }
+    ensures follows { symbol_of token.now ≡ Symbol.End tag → OnOk result (FollowsPart (λ p. in_body_closing tag p) token.now page.old page.new) }
 {
     match tag {
         // An end tag whose tag name is "form".
@@ -156,11 +167,13 @@ fn formatting_end(page: &mut Construction, tag: Tag) -> Result<(), Refusal>
     ensures opened { OnOk result (0 < length page.new.stack) }
     ensures plain { OnOk result (IsCurrent tag page.old → IsClosed tag page.old page.new) }
     ensures refuses { IfErr result (λ e. RefusesAny e page.old page.new) }
+    ensures follows { OnOk result (Passes (λ p. Adopt tag p) page.old page.new) }
 {
     page.end_formatting(tag)
 }
 
 /// What the end tag of an element in the body closes, where no more is to be done.
+#[tactic(auto, using(crate::proofs::RulesInBodyEnd::arms))]
 fn plain_end(page: &mut Construction, token: &TokenKind, tag: Tag)
     requires opened { 0 < length page.old.stack }
     requires listed { length page.old.tree.list ≤ length page.old.ledger.fates }
@@ -171,16 +184,19 @@ fn plain_end(page: &mut Construction, token: &TokenKind, tag: Tag)
     ensures lighter { weight page.new.stack ≤ weight page.old.stack }
     ensures opened { 0 < length page.new.stack }
     ensures plain { symbol_of token.now ≡ Symbol.End tag → is_formatting tag ≡ false → IsCurrent tag page.old → EndsCurrent Mode.InBody (Symbol.End tag) token.now page.old → IsClosed tag page.old page.new }
+    ensures follows { symbol_of token.now ≡ Symbol.End tag → (tag ≡ Tag.Form → ⊥) → (tag ≡ Tag.P → ⊥) → (tag ≡ Tag.Br → ⊥) → is_formatting tag ≡ false → FollowsPart (λ p. in_body_closing tag p) token.now page.old page.new }
 {
     match tag {
         // An end tag whose tag name is "li".
         Tag::Li => {
-            let _ = page.close_in_scope(tag, Scope::ListItem);
+            let _ = page.close_in_scope(Tag::Li, Scope::ListItem);
         }
-        // An end tag whose tag name is one of: "dd", "dt"; "button".
-        Tag::Dd | Tag::Dt | Tag::Button => block_end(page, tag),
-        // An end tag whose tag name is one of: "address", "article", "aside", .., "listing", .., "pre", .., "ul".
-        _ if tag.is_block() || tag.is_preformatted() => block_end(page, tag),
+        // An end tag whose tag name is one of: "address", "article", "aside", .., "button", .., "listing", .., "pre", .., "ul".
+        Tag::Button => block_end(page, Tag::Button),
+        _ if tag.is_block() => block_end(page, tag),
+        _ if tag.is_preformatted() => block_end(page, tag),
+        // An end tag whose tag name is one of: "dd", "dt".
+        _ if tag.is_definition() => block_end(page, tag),
         // An end tag whose tag name is one of: "h1", "h2", "h3", "h4", "h5", "h6".
         _ if tag.is_heading() => {
             let _ = page.close_group_in_scope(Group::Heading, Scope::Default);
@@ -193,6 +209,7 @@ fn plain_end(page: &mut Construction, token: &TokenKind, tag: Tag)
 }
 
 /// The end tag of a block, or of what is closed like one.
+#[tactic(auto, using(crate::proofs::RulesInBodyEnd::arms))]
 fn block_end(page: &mut Construction, tag: Tag)
     requires opened { 0 < length page.old.stack }
     ensures rest { page.new ≡ record page.old { tree = page.new.tree; stack = page.new.stack } }
@@ -202,10 +219,12 @@ fn block_end(page: &mut Construction, tag: Tag)
     ensures lighter { weight page.new.stack ≤ weight page.old.stack }
     ensures opened { 0 < length page.new.stack }
     ensures plain { is_formatting tag ≡ false → IsCurrent tag page.old → IsClosed tag page.old page.new }
+    ensures follows { Passes (λ p. closing_block tag p) page.old page.new }
 {
     let _ = page.close_in_scope(tag, Scope::Default);
 }
 
+#[tactic(auto, using(crate::proofs::RulesInBodyEnd::arms))]
 fn form_end(page: &mut Construction)
     requires opened { 0 < length page.old.stack }
     ensures rest { page.new ≡ record page.old { tree = page.new.tree; stack = page.new.stack; outer_form = page.new.outer_form } }
@@ -214,6 +233,7 @@ fn form_end(page: &mut Construction)
     ensures works { Works 6 0 6 page.old page.new }
     ensures lighter { weight page.new.stack ≤ weight page.old.stack }
     ensures opened { 0 < length page.new.stack }
+    ensures follows { Passes (λ p. in_body_closing Tag.Form p) page.old page.new }
 {
     if page.has_template() {
         block_end(page, Tag::Form);
@@ -223,6 +243,7 @@ fn form_end(page: &mut Construction)
 }
 
 /// The end tag of a paragraph, which is made where none is open.
+#[tactic(auto, using(crate::proofs::RulesInBodyEnd::arms))]
 fn paragraph_end(page: &mut Construction) -> Result<(), Refusal>
     requires opened { 0 < length page.old.stack }
     requires listed { length page.old.tree.list ≤ length page.old.ledger.fates }
@@ -233,6 +254,7 @@ fn paragraph_end(page: &mut Construction) -> Result<(), Refusal>
     ensures opened { OnOk result (0 < length page.new.stack) }
     ensures heavier { OnOk result (weight page.new.stack ≤ weight page.old.stack + 4) }
     ensures refuses { IfErr result (λ e. RefusesAny e page.old page.new) }
+    ensures follows { OnOk result (Passes (λ p. in_body_closing Tag.P p) page.old page.new) }
 {
     if !page.has_in_scope(Tag::P, Scope::Button) {
         page.insert_implied(Tag::P)?;
@@ -242,6 +264,7 @@ fn paragraph_end(page: &mut Construction) -> Result<(), Refusal>
 }
 
 /// The end tag of a br, which makes one.
+#[tactic(auto, using(crate::proofs::RulesInBodyEnd::arms))]
 fn break_end(page: &mut Construction) -> Result<(), Refusal>
     requires opened { 0 < length page.old.stack }
     requires listed { length page.old.tree.list ≤ length page.old.ledger.fates }
@@ -252,6 +275,7 @@ fn break_end(page: &mut Construction) -> Result<(), Refusal>
     ensures opened { OnOk result (0 < length page.new.stack) }
     ensures lighter { OnOk result (weight page.new.stack ≤ weight page.old.stack) }
     ensures refuses { IfErr result (λ e. RefusesAny e page.old page.new) }
+    ensures follows { OnOk result (Passes (λ p. in_body_closing Tag.Br p) page.old page.new) }
 {
     page.reconstruct()?;
     page.insert_implied_void(Tag::Br)?;
@@ -260,6 +284,7 @@ fn break_end(page: &mut Construction) -> Result<(), Refusal>
 }
 
 /// The end tag of an element that put a marker into the list.
+#[tactic(auto, using(crate::proofs::RulesInBodyEnd::arms))]
 fn marker_end(page: &mut Construction, tag: Tag)
     requires opened { 0 < length page.old.stack }
     requires listed { length page.old.tree.list ≤ length page.old.ledger.fates }
@@ -269,6 +294,7 @@ fn marker_end(page: &mut Construction, tag: Tag)
     ensures works { Works 6 0 6 page.old page.new }
     ensures lighter { weight page.new.stack ≤ weight page.old.stack }
     ensures opened { 0 < length page.new.stack }
+    ensures follows { Passes (λ p. closing (group.Named tag) (stop.EndOf scope.Default) (Do ClearToMarker p) p) page.old page.new }
 {
     if page.close_in_scope(tag, Scope::Default) {
         page.clear_to_marker();
@@ -276,6 +302,7 @@ fn marker_end(page: &mut Construction, tag: Tag)
 }
 
 /// Any other end tag.
+#[tactic(auto, using(crate::proofs::RulesInBodyEnd::arms))]
 fn other_end(page: &mut Construction, token: &TokenKind)
     requires opened { 0 < length page.old.stack }
     ensures rest { page.new ≡ record page.old { tree = page.new.tree; stack = page.new.stack } }
@@ -285,6 +312,7 @@ fn other_end(page: &mut Construction, token: &TokenKind)
     ensures lighter { weight page.new.stack ≤ weight page.old.stack }
     ensures opened { 0 < length page.new.stack }
     ensures plain { (t : AnyTag) → symbol_of token.now ≡ Symbol.End t → is_formatting t ≡ false → IsCurrent t page.old → EndsCurrent Mode.InBody (Symbol.End t) token.now page.old → IsClosed t page.old page.new }
+    ensures follows { (t : AnyTag) → symbol_of token.now ≡ Symbol.End t → FollowsPart (λ p. Do CloseNamed p) token.now page.old page.new }
 {
     if let TokenKind::End { name } = token {
         page.close_named(name.as_str());

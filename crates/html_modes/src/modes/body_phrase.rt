@@ -14,20 +14,29 @@ ghost use Rattle.html_modes.specs.RawText.{HasOpened, holds_text_alone, is_body_
 ghost use Rattle.html_names.specs.Sets.{is_formatting, is_headish};
 ghost use Rattle.html_names.specs.Tags.{is_same as same_tag};
 ghost use Rattle.html_construction.specs.Tokens.{opens_own};
+ghost use Rattle.html_construction.specs.Plans.{Ask, Do, Passes, Reconstruct};
+ghost use Rattle.html_construction.specs.Words.{AddMarker, Finds, FramesetOff, Implied, Insert, InsertVoid, IsHidden, is_in_table};
+ghost use Rattle.html_names.specs.declared.sets.Scope.TheVariants as scope;
+ghost use Rattle.html_tree.specs.declared.groups.Group.TheVariants as group;
+ghost use Rattle.html_tree.specs.declared.groups.Stop.TheVariants as stop;
+ghost use Rattle.html_modes.specs.RuleForms.{closing_any, over, popping_any};
+ghost use Rattle.html_modes.specs.Rules.{Follows};
+ghost use Rattle.html_modes.specs.RulesInBodyStart.{among_text, in_body_start_phrase, in_body_start_rest, opening_select, void_among_text};
 ghost use Rattle.html_tree.specs.Proper.{is_foreign_root};
 ghost use Rattle.html_tree.specs.Seats.{is_part};
 
+use crate::hidden::is_hidden;
+use crate::modes::body_start::{rule_start, table_start};
 use crate::modes::body_text::{body_text_start, is_body_text};
 use crate::modes::formatting::{formatting_start, link_start, nobr_start};
-use crate::quirks::is_same;
 use html_construction::{Construction, Mode, Refusal};
 use html_ledger::{Cause, Symbol};
 use html_names::{Scope, Tag};
-use html_tokens::{Attr, TokenKind};
+use html_tokens::TokenKind;
 use html_tree::Group;
 
 /// A start tag: what stands among text.
-#[tactic(auto, using(crate::proofs::Settled::body_rules, crate::proofs::RawText::body_names))]
+#[tactic(auto, using(crate::proofs::Settled::body_rules, crate::proofs::RawText::body_names, crate::proofs::RulesInBodyStart::phrase_arms))]
 pub(crate) fn phrase_start(
     page: &mut Construction,
     token: &TokenKind,
@@ -47,24 +56,21 @@ pub(crate) fn phrase_start(
     ensures plain { OnOk result (TurnsInBody Done (Symbol.Start tag) token.now page.old page.new) }
     ensures opens { OnOk result (HasOpened tag page.new) }
     ensures refuses { IfErr result (λ e. Refuses token.now e page.old page.new) }
+    ensures follows { OnOk result (Follows (in_body_start_phrase tag) token.now Done page.old page.new) }
 {
     match tag {
         // A start tag whose tag name is "a".
         Tag::A => link_start(page, token),
         // A start tag whose tag name is "nobr".
         Tag::Nobr => nobr_start(page, token),
-        // A start tag whose tag name is "button".
-        Tag::Button => button_start(page, token),
+        // A start tag whose tag name is "table".
+        Tag::Table => table_start(page, token),
         // A start tag whose tag name is "input".
         Tag::Input => input_start(page, token),
+        // A start tag whose tag name is "hr".
+        Tag::Hr => rule_start(page, token),
         // A start tag whose tag name is "image": change the token's tag name to "img" and reprocess it.
         _ if tag.is(Tag::Image) => void_start(page, token, tag),
-        // A start tag whose tag name is one of: "rb", "rtc".
-        Tag::Rb => ruby_start(page, token, Tag::Rb, None),
-        Tag::Rtc => ruby_start(page, token, Tag::Rtc, None),
-        // A start tag whose tag name is one of: "rp", "rt".
-        Tag::Rp => ruby_start(page, token, Tag::Rp, Some(Tag::Rtc)),
-        Tag::Rt => ruby_start(page, token, Tag::Rt, Some(Tag::Rtc)),
         // A start tag whose tag name is one of: "b", "big", "code", .., "tt", "u".
         _ if tag.is_formatting() => formatting_start(page, token, tag),
         // A start tag whose tag name is one of: "applet", "marquee", "object".
@@ -83,7 +89,7 @@ pub(crate) fn phrase_start(
 }
 
 /// A start tag: selects, what is ignored, and all others.
-#[tactic(auto, using(crate::proofs::Settled::body_rules, crate::proofs::RawText::body_names))]
+#[tactic(auto, using(crate::proofs::Settled::body_rules, crate::proofs::RawText::body_names, crate::proofs::RulesInBodyStart::rest_arms))]
 fn other_start(page: &mut Construction, token: &TokenKind, tag: Tag) -> Result<(), Refusal>
     requires small { weight_of tag ≤ 4 }
     requires named { same_tag tag Tag.Image ≡ false }
@@ -99,6 +105,7 @@ fn other_start(page: &mut Construction, token: &TokenKind, tag: Tag) -> Result<(
     ensures works { OnOk result (Worked Done token.now page.old page.new) }
     ensures plain { is_formatting tag ≡ false → OnOk result (TurnsInBody Done (Symbol.Start tag) token.now page.old page.new) }
     ensures refuses { IfErr result (λ e. Refuses token.now e page.old page.new) }
+    ensures follows { OnOk result (Follows (in_body_start_rest tag) token.now Done page.old page.new) }
 {
     match tag {
         // A start tag whose tag name is "select".
@@ -106,6 +113,12 @@ fn other_start(page: &mut Construction, token: &TokenKind, tag: Tag) -> Result<(
         // A start tag whose tag name is one of: "optgroup", "option".
         Tag::Optgroup => option_start(page, token, Tag::Optgroup),
         Tag::Option => option_start(page, token, Tag::Option),
+        // A start tag whose tag name is one of: "rb", "rtc".
+        Tag::Rb => ruby_start(page, token, Tag::Rb, None),
+        Tag::Rtc => ruby_start(page, token, Tag::Rtc, None),
+        // A start tag whose tag name is one of: "rp", "rt".
+        Tag::Rp => ruby_start(page, token, Tag::Rp, Some(Tag::Rtc)),
+        Tag::Rt => ruby_start(page, token, Tag::Rt, Some(Tag::Rtc)),
         // A start tag whose tag name is one of: "caption", "col", "colgroup", "frame", "head", "tbody", "td",
         // "tfoot", "th", "thead", "tr": ignore the token.
         _ if tag.is_placed() => page.drop_token(token, Symbol::Start(tag), Cause::Misplaced),
@@ -117,7 +130,7 @@ fn other_start(page: &mut Construction, token: &TokenKind, tag: Tag) -> Result<(
 }
 
 /// An element among text.
-#[tactic(auto, using(crate::proofs::Settled::body_rules))]
+#[tactic(auto, using(crate::proofs::Settled::body_rules, crate::proofs::Ruled::rule_words))]
 pub(crate) fn plain_start(
     page: &mut Construction,
     token: &TokenKind,
@@ -136,13 +149,14 @@ pub(crate) fn plain_start(
     ensures works { OnOk result (Works 2 1 0 page.old page.new) }
     ensures plain { is_formatting tag ≡ false → OnOk result (TurnsInBody Done (Symbol.Start tag) token.now page.old page.new) }
     ensures refuses { IfErr result (λ e. Refuses token.now e page.old page.new) }
+    ensures follows { OnOk result (Follows (among_text) token.now Done page.old page.new) }
 {
     page.reconstruct()?;
     page.insert(token, tag)
 }
 
 /// A void element among text.
-#[tactic(auto, using(crate::proofs::Settled::body_rules))]
+#[tactic(auto, using(crate::proofs::Settled::body_rules, crate::proofs::Ruled::rule_words))]
 fn void_start(page: &mut Construction, token: &TokenKind, tag: Tag) -> Result<(), Refusal>
     requires symbol { symbol_of token.now ≡ Symbol.Start tag }
     requires part { is_part tag ≡ false }
@@ -155,6 +169,7 @@ fn void_start(page: &mut Construction, token: &TokenKind, tag: Tag) -> Result<()
     ensures grows { OnOk result (Grows Done page.old page.new) }
     ensures works { OnOk result (Worked Done token.now page.old page.new) }
     ensures refuses { IfErr result (λ e. Refuses token.now e page.old page.new) }
+    ensures follows { OnOk result (Follows (void_among_text tag) token.now Done page.old page.new) }
 {
     page.reconstruct()?;
     page.insert_void(token, tag)?;
@@ -162,7 +177,7 @@ fn void_start(page: &mut Construction, token: &TokenKind, tag: Tag) -> Result<()
     Ok(())
 }
 
-#[tactic(auto, using(crate::proofs::Settled::body_rules))]
+#[tactic(auto, using(crate::proofs::Settled::body_rules, crate::proofs::RulesInBodyStart::hiding))]
 fn input_start(page: &mut Construction, token: &TokenKind) -> Result<(), Refusal>
     requires symbol { symbol_of token.now ≡ Symbol.Start Tag.Input }
     requires calls { Calls page.old }
@@ -173,6 +188,7 @@ fn input_start(page: &mut Construction, token: &TokenKind) -> Result<(), Refusal
     ensures grows { OnOk result (Grows Done page.old page.new) }
     ensures works { OnOk result (Worked Done token.now page.old page.new) }
     ensures refuses { IfErr result (λ e. Refuses token.now e page.old page.new) }
+    ensures follows { OnOk result (Follows (Reconstruct (Do (InsertVoid Tag.Input) (Ask IsHidden over (Do FramesetOff over)))) token.now Done page.old page.new) }
 {
     page.reconstruct()?;
     page.insert_void(token, Tag::Input)?;
@@ -182,8 +198,8 @@ fn input_start(page: &mut Construction, token: &TokenKind) -> Result<(), Refusal
     Ok(())
 }
 
-#[tactic(auto, using(crate::proofs::Settled::body_rules))]
-fn button_start(page: &mut Construction, token: &TokenKind) -> Result<(), Refusal>
+#[tactic(auto, using(crate::proofs::Settled::body_rules, crate::proofs::Ruled::rule_words))]
+pub(crate) fn button_start(page: &mut Construction, token: &TokenKind) -> Result<(), Refusal>
     requires symbol { symbol_of token.now ≡ Symbol.Start Tag.Button }
     requires calls { Calls page.old }
     ensures fits { OnOk result (Fits page.new) }
@@ -193,6 +209,7 @@ fn button_start(page: &mut Construction, token: &TokenKind) -> Result<(), Refusa
     ensures grows { OnOk result (Grows Done page.old page.new) }
     ensures works { OnOk result (Worked Done token.now page.old page.new) }
     ensures refuses { IfErr result (λ e. Refuses token.now e page.old page.new) }
+    ensures follows { OnOk result (Follows (closing_any (group.Named Tag.Button) (stop.EndOf scope.Default) (Reconstruct (Do Insert (Do FramesetOff over)))) token.now Done page.old page.new) }
 {
     let _ = page.close_in_scope(Tag::Button, Scope::Default);
     page.reconstruct()?;
@@ -202,7 +219,7 @@ fn button_start(page: &mut Construction, token: &TokenKind) -> Result<(), Refusa
 }
 
 /// An element that puts a marker into the list.
-#[tactic(auto, using(crate::proofs::Settled::body_rules))]
+#[tactic(auto, using(crate::proofs::Settled::body_rules, crate::proofs::Ruled::rule_words))]
 fn marker_start(page: &mut Construction, token: &TokenKind, tag: Tag) -> Result<(), Refusal>
     requires small { weight_of tag ≤ 4 }
     requires named { opens_own tag ≡ true }
@@ -216,6 +233,7 @@ fn marker_start(page: &mut Construction, token: &TokenKind, tag: Tag) -> Result<
     ensures grows { OnOk result (Grows Done page.old page.new) }
     ensures works { OnOk result (Worked Done token.now page.old page.new) }
     ensures refuses { IfErr result (λ e. Refuses token.now e page.old page.new) }
+    ensures follows { OnOk result (Follows (Reconstruct (Do Insert (Do AddMarker (Do FramesetOff over)))) token.now Done page.old page.new) }
 {
     page.reconstruct()?;
     page.insert(token, tag)?;
@@ -225,7 +243,7 @@ fn marker_start(page: &mut Construction, token: &TokenKind, tag: Tag) -> Result<
 }
 
 /// A part of a ruby annotation.
-#[tactic(auto, using(crate::proofs::Settled::body_rules))]
+#[tactic(auto, using(crate::proofs::Settled::body_rules, crate::proofs::Ruled::rule_words))]
 fn ruby_start(
     page: &mut Construction,
     token: &TokenKind,
@@ -244,6 +262,7 @@ fn ruby_start(
     ensures grows { OnOk result (Grows Done page.old page.new) }
     ensures works { OnOk result (Worked Done token.now page.old page.new) }
     ensures refuses { IfErr result (λ e. Refuses token.now e page.old page.new) }
+    ensures follows { OnOk result (Follows (Ask (Finds (group.Named Tag.Ruby) (stop.EndOf scope.Default)) (Do (Implied except) (Do Insert over)) (Do Insert over)) token.now Done page.old page.new) }
 {
     close_ruby_part(page, except);
     page.insert(token, tag)
@@ -258,13 +277,14 @@ fn close_ruby_part(page: &mut Construction, except: Option<Tag>)
     ensures works { Works 6 0 6 page.old page.new }
     ensures lighter { weight page.new.stack ≤ weight page.old.stack }
     ensures opened { 0 < length page.new.stack }
+    ensures follows { Passes (λ p. Ask (Finds (group.Named Tag.Ruby) (stop.EndOf scope.Default)) (Do (Implied except) p) p) page.old page.new }
 {
     if page.has_in_scope(Tag::Ruby, Scope::Default) {
         page.implied(except);
     }
 }
 
-#[tactic(auto, using(crate::proofs::Settled::body_rules))]
+#[tactic(auto, using(crate::proofs::Settled::body_rules, crate::proofs::RulesInBodyStart::selecting))]
 fn select_start(page: &mut Construction, token: &TokenKind) -> Result<(), Refusal>
     requires symbol { symbol_of token.now ≡ Symbol.Start Tag.Select }
     requires calls { Calls page.old }
@@ -275,6 +295,7 @@ fn select_start(page: &mut Construction, token: &TokenKind) -> Result<(), Refusa
     ensures grows { OnOk result (Grows Done page.old page.new) }
     ensures works { OnOk result (Worked Done token.now page.old page.new) }
     ensures refuses { IfErr result (λ e. Refuses token.now e page.old page.new) }
+    ensures follows { OnOk result (Follows (opening_select) token.now Done page.old page.new) }
 {
     page.reconstruct()?;
     page.insert(token, Tag::Select)?;
@@ -288,7 +309,9 @@ fn select_start(page: &mut Construction, token: &TokenKind) -> Result<(), Refusa
 }
 
 /// A mode in which a select stands in a table.
-fn is_in_table(mode: Mode) -> bool {
+fn is_in_table(mode: Mode) -> bool
+    ensures value { result ≡ is_in_table mode }
+{
     matches!(
         mode,
         Mode::InTable | Mode::InCaption | Mode::InTableBody | Mode::InRow | Mode::InCell
@@ -296,7 +319,7 @@ fn is_in_table(mode: Mode) -> bool {
 }
 
 /// An option, or a group of them, outside a select.
-#[tactic(auto, using(crate::proofs::Settled::body_rules))]
+#[tactic(auto, using(crate::proofs::Settled::body_rules, crate::proofs::Ruled::rule_words))]
 fn option_start(page: &mut Construction, token: &TokenKind, tag: Tag) -> Result<(), Refusal>
     requires small { weight_of tag ≤ 4 }
     requires named { opens_own tag ≡ true }
@@ -310,28 +333,8 @@ fn option_start(page: &mut Construction, token: &TokenKind, tag: Tag) -> Result<
     ensures grows { OnOk result (Grows Done page.old page.new) }
     ensures works { OnOk result (Worked Done token.now page.old page.new) }
     ensures refuses { IfErr result (λ e. Refuses token.now e page.old page.new) }
+    ensures follows { OnOk result (Follows (popping_any (group.Named Tag.Option) among_text) token.now Done page.old page.new) }
 {
     let _ = page.pop_if(Group::Named(Tag::Option));
     plain_start(page, token, tag)
-}
-
-/// Whether a start tag has the type `hidden`, ASCII case aside.
-pub(crate) fn is_hidden(token: &TokenKind) -> bool {
-    match token {
-        TokenKind::Start { attrs, .. } => has_hidden_type(attrs.as_slice()),
-        TokenKind::End { .. }
-        | TokenKind::Char(_)
-        | TokenKind::Comment(_)
-        | TokenKind::Doctype { .. }
-        | TokenKind::Eof => false,
-    }
-}
-
-fn has_hidden_type(attrs: &[Attr]) -> bool {
-    for attr in attrs {
-        if attr.name.as_str() == "type" {
-            return is_same(attr.value.as_str(), "hidden");
-        }
-    }
-    false
 }

@@ -11,13 +11,20 @@ ghost use Rattle.html_modes.specs.Plain.{TurnsInBody};
 ghost use Rattle.html_modes.specs.Steps.{Falls, Grows, Worked, compared};
 ghost use Rattle.html_modes.specs.declared.outcome.Outcome.TheVariants.{Done};
 ghost use Rattle.html_modes.specs.RawText.{HasOpened};
+ghost use Rattle.html_construction.specs.Calls.{item_group};
+ghost use Rattle.html_construction.specs.Plans.{Ask, Do, Passes};
+ghost use Rattle.html_construction.specs.Words.{FramesetOff, Insert, InsertVoid, IsQuirks};
+ghost use Rattle.html_tree.specs.declared.groups.Group.TheVariants as group;
+ghost use Rattle.html_modes.specs.RuleForms.{closing_p, over, popping_any};
+ghost use Rattle.html_modes.specs.Rules.{Follows};
+ghost use Rattle.html_modes.specs.RulesInBodyStart.{in_body_start, merging_body, opening_form, opening_item, opening_table, replacing_body};
 ghost use Rattle.html_names.specs.Sets.{is_formatting};
 ghost use Rattle.html_construction.specs.Tokens.{opens_own};
 ghost use Rattle.html_tree.specs.Proper.{is_foreign_root};
 ghost use Rattle.html_tree.specs.Seats.{is_part};
 
 use crate::guards::has_form;
-use crate::modes::body_phrase::{phrase_start, plain_start};
+use crate::modes::body_phrase::{button_start, phrase_start, plain_start};
 use crate::modes::head::head_start;
 use html_construction::{Construction, Mode, Refusal};
 use html_ledger::{Cause, Symbol};
@@ -26,7 +33,7 @@ use html_tokens::TokenKind;
 use html_tree::Group;
 
 /// A start tag: the parts of a page, and blocks.
-#[tactic(auto, using(crate::proofs::Settled::body_rules, crate::proofs::RawText::body_names))]
+#[tactic(auto, using(crate::proofs::Settled::body_rules, crate::proofs::RawText::body_names, crate::proofs::RulesInBodyStart::arms))]
 pub(crate) fn body_start(
     page: &mut Construction,
     token: &TokenKind,
@@ -44,6 +51,7 @@ pub(crate) fn body_start(
     ensures plain { OnOk result (TurnsInBody Done (Symbol.Start tag) token.now page.old page.new) }
     ensures opens { OnOk result (HasOpened tag page.new) }
     ensures refuses { IfErr result (λ e. Refuses token.now e page.old page.new) }
+    ensures follows { OnOk result (Follows (in_body_start tag) token.now Done page.old page.new) }
 {
     match tag {
         // A start tag whose tag name is "html".
@@ -63,10 +71,8 @@ pub(crate) fn body_start(
         // A start tag whose tag name is one of: "dd", "dt".
         Tag::Dd => item_start(page, token, Tag::Dd),
         Tag::Dt => item_start(page, token, Tag::Dt),
-        // A start tag whose tag name is "table".
-        Tag::Table => table_start(page, token),
-        // A start tag whose tag name is "hr".
-        Tag::Hr => rule_start(page, token),
+        // A start tag whose tag name is "button".
+        Tag::Button => button_start(page, token),
         // A start tag whose tag name is one of: "base", "basefont", "bgsound", "link", "meta", "noframes",
         // "script", "style", "template", "title".
         _ if tag.is_headish() => head_start(page, token, tag),
@@ -81,6 +87,7 @@ pub(crate) fn body_start(
 }
 
 /// A root after the first: its attributes are merged, unless a template is open.
+#[tactic(auto, using(crate::proofs::Ruled::rule_words))]
 pub(crate) fn html_start(page: &mut Construction, token: &TokenKind) -> Result<(), Refusal>
     requires opened { 0 < length page.old.stack }
     requires symbol { symbol_of token.now ≡ Symbol.Start Tag.Html }
@@ -91,6 +98,7 @@ pub(crate) fn html_start(page: &mut Construction, token: &TokenKind) -> Result<(
     ensures grown { OnOk result (Grown 1 0 0 0 0 page.old page.new) }
     ensures works { OnOk result (Works 6 0 (compared token.now page.new + 6) page.old page.new) }
     ensures refuses { IfErr result (λ e. Refuses token.now e page.old page.new) }
+    ensures follows { OnOk result (Follows (in_body_start Tag.Html) token.now Done page.old page.new) }
 {
     if page.has_template() {
         return page.drop_token(token, Symbol::Start(Tag::Html), Cause::Misplaced);
@@ -100,7 +108,7 @@ pub(crate) fn html_start(page: &mut Construction, token: &TokenKind) -> Result<(
 
 /// A body after the first: its attributes are merged, unless a template is open or none is the second open element. (In a document
 /// without templates one is.)
-#[tactic(auto, using(crate::proofs::Settled::body_rules))]
+#[tactic(auto, using(crate::proofs::Settled::body_rules, crate::proofs::Ruled::rule_words, crate::proofs::RulesInBodyStart::misplacing))]
 fn second_body_start(page: &mut Construction, token: &TokenKind) -> Result<(), Refusal>
     requires symbol { symbol_of token.now ≡ Symbol.Start Tag.Body }
     requires calls { Calls page.old }
@@ -111,6 +119,7 @@ fn second_body_start(page: &mut Construction, token: &TokenKind) -> Result<(), R
     ensures grows { OnOk result (Grows Done page.old page.new) }
     ensures works { OnOk result (Worked Done token.now page.old page.new) }
     ensures refuses { IfErr result (λ e. Refuses token.now e page.old page.new) }
+    ensures follows { OnOk result (Follows (merging_body) token.now Done page.old page.new) }
 {
     if !page.has_template() && page.has_body() {
         page.frameset_off();
@@ -123,7 +132,7 @@ fn second_body_start(page: &mut Construction, token: &TokenKind) -> Result<(), R
 }
 
 /// A frameset, which may take the place of the body.
-#[tactic(auto, using(crate::proofs::Settled::body_rules))]
+#[tactic(auto, using(crate::proofs::Settled::body_rules, crate::proofs::Ruled::rule_words))]
 fn late_frameset_start(page: &mut Construction, token: &TokenKind) -> Result<(), Refusal>
     requires symbol { symbol_of token.now ≡ Symbol.Start Tag.Frameset }
     requires calls { Calls page.old }
@@ -135,6 +144,7 @@ fn late_frameset_start(page: &mut Construction, token: &TokenKind) -> Result<(),
     ensures works { OnOk result (Worked Done token.now page.old page.new) }
     ensures replaces { OnOk result ((page.new.stack ≡ page.old.stack) ⊎ (page.new.stack ≡ Tag.Frameset ∷ Tag.Html ∷ [])) }
     ensures refuses { IfErr result (λ e. Refuses token.now e page.old page.new) }
+    ensures follows { OnOk result (Follows (replacing_body) token.now Done page.old page.new) }
 {
     if !page.is_frameset_ok() || !page.can_replace_body() {
         return page.drop_token(token, Symbol::Start(Tag::Frameset), Cause::Misplaced);
@@ -145,7 +155,7 @@ fn late_frameset_start(page: &mut Construction, token: &TokenKind) -> Result<(),
 }
 
 /// A block or a paragraph.
-#[tactic(auto, using(crate::proofs::Settled::body_rules))]
+#[tactic(auto, using(crate::proofs::Settled::body_rules, crate::proofs::Ruled::rule_words))]
 fn block_start(page: &mut Construction, token: &TokenKind, tag: Tag) -> Result<(), Refusal>
     requires small { weight_of tag ≤ 4 }
     requires named { opens_own tag ≡ true }
@@ -160,12 +170,13 @@ fn block_start(page: &mut Construction, token: &TokenKind, tag: Tag) -> Result<(
     ensures works { OnOk result (Worked Done token.now page.old page.new) }
     ensures plain { is_formatting tag ≡ false → OnOk result (TurnsInBody Done (Symbol.Start tag) token.now page.old page.new) }
     ensures refuses { IfErr result (λ e. Refuses token.now e page.old page.new) }
+    ensures follows { OnOk result (Follows (closing_p (Do Insert over)) token.now Done page.old page.new) }
 {
     page.close_p();
     page.insert(token, tag)
 }
 
-#[tactic(auto, using(crate::proofs::Settled::body_rules))]
+#[tactic(auto, using(crate::proofs::Settled::body_rules, crate::proofs::Ruled::rule_words))]
 fn heading_start(page: &mut Construction, token: &TokenKind, tag: Tag) -> Result<(), Refusal>
     requires small { weight_of tag ≤ 4 }
     requires named { opens_own tag ≡ true }
@@ -179,13 +190,14 @@ fn heading_start(page: &mut Construction, token: &TokenKind, tag: Tag) -> Result
     ensures grows { OnOk result (Grows Done page.old page.new) }
     ensures works { OnOk result (Worked Done token.now page.old page.new) }
     ensures refuses { IfErr result (λ e. Refuses token.now e page.old page.new) }
+    ensures follows { OnOk result (Follows (closing_p (popping_any group.Heading (Do Insert over))) token.now Done page.old page.new) }
 {
     page.close_p();
     let _ = page.pop_if(Group::Heading);
     page.insert(token, tag)
 }
 
-#[tactic(auto, using(crate::proofs::Settled::body_rules))]
+#[tactic(auto, using(crate::proofs::Settled::body_rules, crate::proofs::Ruled::rule_words))]
 fn preformatted_start(page: &mut Construction, token: &TokenKind, tag: Tag) -> Result<(), Refusal>
     requires small { weight_of tag ≤ 4 }
     requires named { opens_own tag ≡ true }
@@ -199,6 +211,7 @@ fn preformatted_start(page: &mut Construction, token: &TokenKind, tag: Tag) -> R
     ensures grows { OnOk result (Grows Done page.old page.new) }
     ensures works { OnOk result (Worked Done token.now page.old page.new) }
     ensures refuses { IfErr result (λ e. Refuses token.now e page.old page.new) }
+    ensures follows { OnOk result (Follows (closing_p (Do Insert (Do FramesetOff over))) token.now Done page.old page.new) }
 {
     page.close_p();
     page.insert(token, tag)?;
@@ -206,7 +219,7 @@ fn preformatted_start(page: &mut Construction, token: &TokenKind, tag: Tag) -> R
     Ok(())
 }
 
-#[tactic(auto, using(crate::proofs::Settled::body_rules))]
+#[tactic(auto, using(crate::proofs::Settled::body_rules, crate::proofs::Ruled::rule_words))]
 fn form_start(page: &mut Construction, token: &TokenKind) -> Result<(), Refusal>
     requires symbol { symbol_of token.now ≡ Symbol.Start Tag.Form }
     requires calls { Calls page.old }
@@ -217,6 +230,7 @@ fn form_start(page: &mut Construction, token: &TokenKind) -> Result<(), Refusal>
     ensures grows { OnOk result (Grows Done page.old page.new) }
     ensures works { OnOk result (Worked Done token.now page.old page.new) }
     ensures refuses { IfErr result (λ e. Refuses token.now e page.old page.new) }
+    ensures follows { OnOk result (Follows (opening_form) token.now Done page.old page.new) }
 {
     let inside = page.has_template();
     if !inside && has_form(page) {
@@ -230,7 +244,7 @@ fn form_start(page: &mut Construction, token: &TokenKind) -> Result<(), Refusal>
 }
 
 /// An item of a list.
-#[tactic(auto, using(crate::proofs::Settled::body_rules))]
+#[tactic(auto, using(crate::proofs::Settled::body_rules, crate::proofs::Ruled::rule_words))]
 fn item_start(page: &mut Construction, token: &TokenKind, tag: Tag) -> Result<(), Refusal>
     requires small { weight_of tag ≤ 4 }
     requires named { opens_own tag ≡ true }
@@ -244,6 +258,7 @@ fn item_start(page: &mut Construction, token: &TokenKind, tag: Tag) -> Result<()
     ensures grows { OnOk result (Grows Done page.old page.new) }
     ensures works { OnOk result (Worked Done token.now page.old page.new) }
     ensures refuses { IfErr result (λ e. Refuses token.now e page.old page.new) }
+    ensures follows { OnOk result (Follows (opening_item (item_group tag)) token.now Done page.old page.new) }
 {
     page.frameset_off();
     page.close_item(tag);
@@ -251,8 +266,8 @@ fn item_start(page: &mut Construction, token: &TokenKind, tag: Tag) -> Result<()
     page.insert(token, tag)
 }
 
-#[tactic(auto, using(crate::proofs::Settled::body_rules))]
-fn table_start(page: &mut Construction, token: &TokenKind) -> Result<(), Refusal>
+#[tactic(auto, using(crate::proofs::Settled::body_rules, crate::proofs::Ruled::rule_words))]
+pub(crate) fn table_start(page: &mut Construction, token: &TokenKind) -> Result<(), Refusal>
     requires symbol { symbol_of token.now ≡ Symbol.Start Tag.Table }
     requires calls { Calls page.old }
     ensures fits { OnOk result (Fits page.new) }
@@ -262,6 +277,7 @@ fn table_start(page: &mut Construction, token: &TokenKind) -> Result<(), Refusal
     ensures grows { OnOk result (Grows Done page.old page.new) }
     ensures works { OnOk result (Worked Done token.now page.old page.new) }
     ensures refuses { IfErr result (λ e. Refuses token.now e page.old page.new) }
+    ensures follows { OnOk result (Follows (Ask IsQuirks opening_table (closing_p opening_table)) token.now Done page.old page.new) }
 {
     close_p_before_table(page);
     page.insert(token, Tag::Table)?;
@@ -279,6 +295,7 @@ fn close_p_before_table(page: &mut Construction)
     ensures works { Works 6 0 6 page.old page.new }
     ensures lighter { weight page.new.stack ≤ weight page.old.stack }
     ensures opened { 0 < length page.new.stack }
+    ensures follows { Passes (λ p. Ask IsQuirks p (closing_p p)) page.old page.new }
 {
     if !page.is_quirks() {
         page.close_p();
@@ -286,8 +303,8 @@ fn close_p_before_table(page: &mut Construction)
 }
 
 /// A thematic break.
-#[tactic(auto, using(crate::proofs::Settled::body_rules))]
-fn rule_start(page: &mut Construction, token: &TokenKind) -> Result<(), Refusal>
+#[tactic(auto, using(crate::proofs::Settled::body_rules, crate::proofs::Ruled::rule_words))]
+pub(crate) fn rule_start(page: &mut Construction, token: &TokenKind) -> Result<(), Refusal>
     requires symbol { symbol_of token.now ≡ Symbol.Start Tag.Hr }
     requires calls { Calls page.old }
     ensures fits { OnOk result (Fits page.new) }
@@ -297,6 +314,7 @@ fn rule_start(page: &mut Construction, token: &TokenKind) -> Result<(), Refusal>
     ensures grows { OnOk result (Grows Done page.old page.new) }
     ensures works { OnOk result (Worked Done token.now page.old page.new) }
     ensures refuses { IfErr result (λ e. Refuses token.now e page.old page.new) }
+    ensures follows { OnOk result (Follows (closing_p (Do (InsertVoid Tag.Hr) (Do FramesetOff over))) token.now Done page.old page.new) }
 {
     page.close_p();
     page.insert_void(token, Tag::Hr)?;

@@ -9,6 +9,12 @@ ghost use Rattle.html_modes.specs.Steps.{Falls, Grows, Worked};
 ghost use Rattle.html_modes.specs.declared.outcome.Outcome.TheVariants.{Done};
 ghost use Rattle.html_modes.specs.RawText.{HasOpened, is_body_text};
 ghost use Rattle.html_construction.specs.Tokens.{opens_own};
+ghost use Rattle.html_construction.specs.Plans.{Do, Reconstruct};
+ghost use Rattle.html_construction.specs.Words.{FramesetOff, Insert};
+ghost use Rattle.html_modes.specs.RuleForms.{closing_p};
+ghost use Rattle.html_modes.specs.Rules.{Follows};
+ghost use Rattle.html_modes.specs.RulesInBodyStart.{in_body_start_phrase};
+ghost use Rattle.html_modes.specs.RulesInHead.{holding_text};
 
 use crate::modes::text::text_start;
 use html_construction::{Construction, Refusal};
@@ -17,7 +23,7 @@ use html_names::Tag;
 use html_tokens::TokenKind;
 
 /// An element of the body that holds text alone.
-#[tactic(auto, using(crate::proofs::Settled::text_rules, crate::proofs::RawText::body_names))]
+#[tactic(auto, using(crate::proofs::Settled::text_rules, crate::proofs::RawText::body_names, crate::proofs::RulesInBodyStart::text_arms))]
 pub(crate) fn body_text_start(
     page: &mut Construction,
     token: &TokenKind,
@@ -36,6 +42,7 @@ pub(crate) fn body_text_start(
     ensures works { OnOk result (Worked Done token.now page.old page.new) }
     ensures opens { OnOk result (HasOpened tag page.new) }
     ensures refuses { IfErr result (λ e. Refuses token.now e page.old page.new) }
+    ensures follows { OnOk result (Follows (in_body_start_phrase tag) token.now Done page.old page.new) }
 {
     match tag {
         // A start tag whose tag name is "textarea".
@@ -56,7 +63,7 @@ pub(crate) fn is_body_text(tag: Tag) -> bool
     matches!(tag, Tag::Textarea | Tag::Xmp | Tag::Iframe | Tag::Noembed)
 }
 
-#[tactic(auto, using(crate::proofs::Settled::text_rules))]
+#[tactic(auto, using(crate::proofs::Settled::text_rules, crate::proofs::Ruled::rule_words))]
 fn textarea_start(page: &mut Construction, token: &TokenKind) -> Result<(), Refusal>
     requires symbol { symbol_of token.now ≡ Symbol.Start Tag.Textarea }
     requires calls { Calls page.old }
@@ -68,12 +75,13 @@ fn textarea_start(page: &mut Construction, token: &TokenKind) -> Result<(), Refu
     ensures works { OnOk result (Worked Done token.now page.old page.new) }
     ensures opens { OnOk result (HasOpened Tag.Textarea page.new) }
     ensures refuses { IfErr result (λ e. Refuses token.now e page.old page.new) }
+    ensures follows { OnOk result (Follows (Do FramesetOff (holding_text Insert)) token.now Done page.old page.new) }
 {
     page.frameset_off();
     text_start(page, token, Tag::Textarea)
 }
 
-#[tactic(auto, using(crate::proofs::Settled::text_rules))]
+#[tactic(auto, using(crate::proofs::Settled::text_rules, crate::proofs::Ruled::rule_words))]
 fn xmp_start(page: &mut Construction, token: &TokenKind) -> Result<(), Refusal>
     requires symbol { symbol_of token.now ≡ Symbol.Start Tag.Xmp }
     requires calls { Calls page.old }
@@ -85,6 +93,7 @@ fn xmp_start(page: &mut Construction, token: &TokenKind) -> Result<(), Refusal>
     ensures works { OnOk result (Worked Done token.now page.old page.new) }
     ensures opens { OnOk result (HasOpened Tag.Xmp page.new) }
     ensures refuses { IfErr result (λ e. Refuses token.now e page.old page.new) }
+    ensures follows { OnOk result (Follows (closing_p (Reconstruct (Do FramesetOff (holding_text Insert)))) token.now Done page.old page.new) }
 {
     page.close_p();
     page.reconstruct()?;
@@ -92,7 +101,7 @@ fn xmp_start(page: &mut Construction, token: &TokenKind) -> Result<(), Refusal>
     text_start(page, token, Tag::Xmp)
 }
 
-#[tactic(auto, using(crate::proofs::Settled::text_rules))]
+#[tactic(auto, using(crate::proofs::Settled::text_rules, crate::proofs::Ruled::rule_words))]
 fn iframe_start(page: &mut Construction, token: &TokenKind) -> Result<(), Refusal>
     requires symbol { symbol_of token.now ≡ Symbol.Start Tag.Iframe }
     requires calls { Calls page.old }
@@ -104,6 +113,7 @@ fn iframe_start(page: &mut Construction, token: &TokenKind) -> Result<(), Refusa
     ensures works { OnOk result (Worked Done token.now page.old page.new) }
     ensures opens { OnOk result (HasOpened Tag.Iframe page.new) }
     ensures refuses { IfErr result (λ e. Refuses token.now e page.old page.new) }
+    ensures follows { OnOk result (Follows (Do FramesetOff (holding_text Insert)) token.now Done page.old page.new) }
 {
     page.frameset_off();
     text_start(page, token, Tag::Iframe)

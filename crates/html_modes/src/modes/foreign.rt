@@ -10,11 +10,15 @@ ghost use Rattle.html_construction.specs.Built.{Keeps, Takes};
 ghost use Rattle.html_construction.specs.Calls.{IsTree};
 ghost use Rattle.html_construction.specs.Foreign.{foreign_tag};
 ghost use Rattle.html_construction.specs.Grown.{Grown};
-ghost use Rattle.html_construction.specs.Tokens.{attrs_of, tag_name};
+ghost use Rattle.html_construction.specs.Plans.{Ask, Do, Reconstruct};
+ghost use Rattle.html_construction.specs.Words.{ClosesItself, InsertForeign, InsertForeignVoid};
+ghost use Rattle.html_modes.specs.RuleForms.{over};
+ghost use Rattle.html_modes.specs.Rules.{Follows as FollowsPlan};
+ghost use Rattle.html_construction.specs.Tokens.{attrs_of, closes_itself, tag_name};
 ghost use Rattle.html_construction.specs.Weights.{weight};
 ghost use Rattle.html_construction.specs.Works.{Works};
 ghost use Rattle.html_modes.specs.Fitting.{Calls, Fits};
-ghost use Rattle.html_modes.specs.Foreign.{IsEmbedded, IsInserted, IsRootMade, Stays, around_foreign, breaks_out, closed_foreign, closes_itself, ends_any, ends_foreign, frameset_ok_after, goes_by_foreign, goes_on, has_font_attr, is_html_point_here, stack_after, takes_char, takes_start};
+ghost use Rattle.html_modes.specs.Foreign.{IsEmbedded, IsInserted, IsRootMade, Stays, around_foreign, breaks_out, closed_foreign, ends_any, ends_foreign, frameset_ok_after, goes_by_foreign, goes_on, has_font_attr, is_html_point_here, stack_after, takes_char, takes_start};
 ghost use Rattle.html_modes.specs.RawText.{HasOpened, Opens};
 ghost use Rattle.html_modes.specs.Steps.{Falls, Grows, Worked};
 ghost use Rattle.html_modes.specs.declared.outcome.Outcome.TheVariants.{Done};
@@ -239,7 +243,7 @@ fn insert_foreign_char(page: &mut Construction, token: &TokenKind, c: char) -> R
 }
 
 /// The start tag of a root of foreign content, in the body.
-#[tactic(auto, using(crate::proofs::Settled::body_rules, crate::proofs::Embedding::root_rules))]
+#[tactic(auto, using(crate::proofs::Settled::body_rules, crate::proofs::Embedding::root_rules, crate::proofs::Ruled::rule_words))]
 pub(crate) fn root_start(
     page: &mut Construction,
     token: &TokenKind,
@@ -259,6 +263,7 @@ pub(crate) fn root_start(
     ensures works { OnOk result (Worked Done token.now page.old page.new) }
     ensures made { OnOk result (IsRootMade space (Symbol.Start tag) token.now page.old page.new) }
     ensures refuses { IfErr result (λ e. Refuses token.now e page.old page.new) }
+    ensures follows { OnOk result (FollowsPlan (Reconstruct (Ask ClosesItself (Do (InsertForeignVoid space) over) (Do (InsertForeign space) over))) token.now Done page.old page.new) }
 {
     page.reconstruct()?;
     embed(page, token, tag, space)?;
@@ -266,7 +271,7 @@ pub(crate) fn root_start(
 }
 
 /// An element of foreign content of a start tag, which is opened unless the tag closes itself.
-#[tactic(auto, using(crate::proofs::Embedding::embed_rules))]
+#[tactic(auto, using(crate::proofs::Embedding::embed_rules, crate::proofs::Ruled::rule_words, crate::proofs::RulesInBodyStart::closing_itself))]
 fn embed(page: &mut Construction, token: &TokenKind, tag: Tag, space: Space) -> Result<(), Refusal>
     requires symbol { symbol_of token.now ≡ Symbol.Start tag }
     requires outside { is_html_space space ≡ false }
@@ -284,6 +289,7 @@ fn embed(page: &mut Construction, token: &TokenKind, tag: Tag, space: Space) -> 
     ensures embedded { OnOk result (IsEmbedded space (Symbol.Start tag) token.now page.old page.new) }
     ensures opens { OnOk result (HasOpened tag page.new) }
     ensures refuses { IfErr result (λ e. Refuses token.now e page.old page.new) }
+    ensures follows { OnOk result (FollowsPlan (Ask ClosesItself (Do (InsertForeignVoid space) over) (Do (InsertForeign space) over)) token.now Done page.old page.new) }
 {
     if closes_itself(token) {
         page.insert_foreign_void(token, tag, space)?;

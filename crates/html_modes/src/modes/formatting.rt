@@ -11,13 +11,20 @@ ghost use Rattle.html_modes.specs.Fitting.{Fits, Calls};
 ghost use Rattle.html_modes.specs.Plain.{TurnsInBody};
 ghost use Rattle.html_modes.specs.Steps.{Falls, Grows, Worked};
 ghost use Rattle.html_modes.specs.declared.outcome.Outcome.TheVariants.{Done};
+ghost use Rattle.html_construction.specs.Plans.{Adopt, Ask, CloseLink, Passes, Reconstruct};
+ghost use Rattle.html_construction.specs.Words.{Finds};
+ghost use Rattle.html_names.specs.declared.sets.Scope.TheVariants as scope;
+ghost use Rattle.html_tree.specs.declared.groups.Group.TheVariants as group;
+ghost use Rattle.html_tree.specs.declared.groups.Stop.TheVariants as stop;
+ghost use Rattle.html_modes.specs.Rules.{Follows};
+ghost use Rattle.html_modes.specs.RulesInBodyStart.{formatting, in_body_start_phrase};
 
 use html_construction::{Construction, Refusal};
 use html_ledger::Symbol;
 use html_names::{Scope, Tag};
 use html_tokens::TokenKind;
 
-#[tactic(auto, using(crate::proofs::Settled::body_rules))]
+#[tactic(auto, using(crate::proofs::Settled::body_rules, crate::proofs::Ruled::rule_words))]
 pub(crate) fn formatting_start(
     page: &mut Construction,
     token: &TokenKind,
@@ -34,13 +41,14 @@ pub(crate) fn formatting_start(
     ensures works { OnOk result (Worked Done token.now page.old page.new) }
     ensures plain { OnOk result (TurnsInBody Done (Symbol.Start tag) token.now page.old page.new) }
     ensures refuses { IfErr result (λ e. Refuses token.now e page.old page.new) }
+    ensures follows { OnOk result (Follows (formatting) token.now Done page.old page.new) }
 {
     page.reconstruct()?;
     page.insert_listed(token, tag)
 }
 
 /// A link, which closes one that is listed.
-#[tactic(auto, using(crate::proofs::Settled::body_rules))]
+#[tactic(auto, using(crate::proofs::Settled::body_rules, crate::proofs::Ruled::rule_words))]
 pub(crate) fn link_start(page: &mut Construction, token: &TokenKind) -> Result<(), Refusal>
     requires symbol { symbol_of token.now ≡ Symbol.Start Tag.A }
     requires calls { Calls page.old }
@@ -51,6 +59,7 @@ pub(crate) fn link_start(page: &mut Construction, token: &TokenKind) -> Result<(
     ensures grows { OnOk result (Grows Done page.old page.new) }
     ensures works { OnOk result (Worked Done token.now page.old page.new) }
     ensures refuses { IfErr result (λ e. Refuses token.now e page.old page.new) }
+    ensures follows { OnOk result (Follows (CloseLink formatting) token.now Done page.old page.new) }
 {
     page.close_link()?;
     page.reconstruct()?;
@@ -58,7 +67,7 @@ pub(crate) fn link_start(page: &mut Construction, token: &TokenKind) -> Result<(
 }
 
 /// A nobr, which closes one that is in scope.
-#[tactic(auto, using(crate::proofs::Settled::body_rules))]
+#[tactic(auto, using(crate::proofs::Settled::body_rules, crate::proofs::Ruled::rule_words))]
 pub(crate) fn nobr_start(page: &mut Construction, token: &TokenKind) -> Result<(), Refusal>
     requires symbol { symbol_of token.now ≡ Symbol.Start Tag.Nobr }
     requires calls { Calls page.old }
@@ -69,6 +78,7 @@ pub(crate) fn nobr_start(page: &mut Construction, token: &TokenKind) -> Result<(
     ensures grows { OnOk result (Grows Done page.old page.new) }
     ensures works { OnOk result (Worked Done token.now page.old page.new) }
     ensures refuses { IfErr result (λ e. Refuses token.now e page.old page.new) }
+    ensures follows { OnOk result (Follows (in_body_start_phrase Tag.Nobr) token.now Done page.old page.new) }
 {
     page.reconstruct()?;
     close_nobr(page)?;
@@ -86,6 +96,7 @@ fn close_nobr(page: &mut Construction) -> Result<(), Refusal>
     ensures opened { OnOk result (0 < length page.new.stack) }
     ensures lighter { OnOk result (weight page.new.stack ≤ weight page.old.stack) }
     ensures refuses { IfErr result (λ e. RefusesAny e page.old page.new) }
+    ensures follows { OnOk result (Passes (λ p. Ask (Finds (group.Named Tag.Nobr) (stop.EndOf scope.Default)) (Adopt Tag.Nobr (Reconstruct p)) p) page.old page.new) }
 {
     if !page.has_in_scope(Tag::Nobr, Scope::Default) {
         return Ok(());

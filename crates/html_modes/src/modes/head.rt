@@ -333,8 +333,9 @@ fn start_in_noscript(
         Tag::Html => html_start(page, token)?,
         // A start tag whose tag name is one of: "head", "noscript": ignore the token.
         Tag::Head => page.drop_token(token, Symbol::Start(Tag::Head), Cause::Misplaced)?,
-        Tag::Noscript if page.history().noscript => {
-            page.drop_token(token, Symbol::Start(Tag::Noscript), Cause::Misplaced)?;
+        Tag::Noscript => {
+            let outcome = noscript_in_noscript(page, token)?;
+            return Ok(outcome);
         }
         // A start tag whose tag name is one of: "basefont", "bgsound", "link", "meta", "noframes", "style".
         _ if tag.is_noscript_part() => head_start(page, token, tag)?,
@@ -345,6 +346,30 @@ fn start_in_noscript(
         }
     }
     Ok(Outcome::Done)
+}
+
+/// A noscript in a noscript. (One was made; where not, the rules of the head go on.)
+#[tactic(auto, using(crate::proofs::Settled::mode_rules, crate::proofs::RawText::head_names, crate::proofs::RulesInHeadNoscript::inner))]
+fn noscript_in_noscript(page: &mut Construction, token: &TokenKind) -> Result<Outcome, Refusal>
+    requires mode { page.old.mode ≡ Mode.InHeadNoscript }
+    requires symbol { symbol_of token.now ≡ Symbol.Start Tag.Noscript }
+    requires calls { Calls page.old }
+    ensures fits { OnOk result (Fits page.new) }
+    ensures takes { IfOk result (λ o. Steps o token.now page.old page.new) }
+    ensures parses { OnOk result (page.new.parses_foreign ≡ page.old.parses_foreign) }
+    ensures falls { IfOk result (λ o. Falls o (Symbol.Start Tag.Noscript) page.old page.new) }
+    ensures grows { IfOk result (λ o. Grows o page.old page.new) }
+    ensures works { IfOk result (λ o. Worked o token.now page.old page.new) }
+    ensures opens { IfOk result (λ o. Opens o (Symbol.Start Tag.Noscript) page.new) }
+    ensures refuses { IfErr result (λ e. Refuses token.now e page.old page.new) }
+    ensures follows { IfOk result (λ o. Follows (in_head_noscript_start Tag.Noscript) token.now o page.old page.new) }
+{
+    if page.history().may_misplace(Tag::Noscript) {
+        page.drop_token(token, Symbol::Start(Tag::Noscript), Cause::Misplaced)?;
+        return Ok(Outcome::Done);
+    }
+    leave_noscript(page);
+    Ok(Outcome::Reprocess)
 }
 
 /// Closes the noscript and goes on in the head. (In a real run the noscript is the current node; else the rules of the body go on.)

@@ -6,9 +6,10 @@ ghost use Rattle.html_ledger.specs.Entries.{number_of};
 ghost use Rattle.html_ledger.specs.declared.fate.Fate.TheVariants.{Made};
 ghost use Rattle.html_tree.specs.declared.groups.Target.TheVariants.{Document};
 ghost use Rattle.html_construction.specs.Budgets.{Refuses};
-ghost use Rattle.html_construction.specs.Built.{Takes};
+ghost use Rattle.html_construction.specs.Built.{Keeps, Takes};
 ghost use Rattle.html_construction.specs.Calls.{HasFate, IsTree, counting, doctype_of, placed_at};
 ghost use Rattle.html_construction.specs.Grown.{Grown};
+ghost use Rattle.html_construction.specs.Quirks.{sets_quirks};
 ghost use Rattle.html_construction.specs.Works.{Works};
 ghost use Rattle.html_modes.specs.Begun.{TextStays};
 ghost use Rattle.html_modes.specs.Fitting.{Fits};
@@ -21,7 +22,7 @@ ghost use Rattle.html_modes.specs.RuleForms.{inserting_doctype};
 ghost use Rattle.html_modes.specs.Rules.{Follows};
 ghost use Rattle.html_modes.specs.RulesBeforeHead.{before_head};
 ghost use Rattle.html_modes.specs.RulesBeforeHtml.{before_html};
-ghost use Rattle.html_modes.specs.RulesInitial.{initial};
+ghost use Rattle.html_modes.specs.RulesInitial.{initial, setting_quirks};
 
 use crate::modes::body_start::html_start;
 use crate::outcome::Outcome;
@@ -59,10 +60,10 @@ pub(crate) fn initial(
     match symbol {
         // A comment token: insert a comment as the last child of the Document object.
         Symbol::Comment => page.insert_comment_at(token, Target::Document)?,
-        // A DOCTYPE token: append a DocumentType node to the Document node.
+        // A DOCTYPE token: append a DocumentType node to the Document node, set the Document to quirks mode, or not.
         Symbol::Doctype => {
             doctype(page, token)?;
-            page.set_quirks(sets_quirks(token));
+            set_quirks(page, token);
             page.set_mode(Mode::BeforeHtml);
         }
         // Anything else: set the Document to quirks mode, switch the insertion mode to "before html", reprocess.
@@ -73,6 +74,16 @@ pub(crate) fn initial(
         }
     }
     Ok(Outcome::Done)
+}
+
+/// Sets the document to quirks mode where the doctype does so, and else not.
+#[tactic(auto, using(crate::proofs::RulesInitial::quirks))]
+fn set_quirks(page: &mut Construction, token: &TokenKind)
+    ensures rest { page.new ≡ record page.old { quirks = sets_quirks token.now } }
+    ensures keeps { Keeps page.old page.new }
+    ensures follows { PassesFor setting_quirks token.now page.old page.new }
+{
+    page.set_quirks(sets_quirks(token));
 }
 
 /// The rules for the "before html" insertion mode (13.2.6.4.2).

@@ -21,7 +21,7 @@ ghost use Rattle.html_ledger.specs.declared.fate.Cause.TheVariants.{InSelect};
 ghost use Rattle.html_construction.specs.Plans.{Chooses, Passes};
 ghost use Rattle.html_modes.specs.RuleForms.{again, ignored};
 ghost use Rattle.html_modes.specs.Rules.{Follows};
-ghost use Rattle.html_modes.specs.RulesInSelect.{closing_options, closing_select, in_select, in_select_end, in_select_start};
+ghost use Rattle.html_modes.specs.RulesInSelect.{closing_group, closing_grouped_option, closing_options, closing_select, in_select, in_select_end, in_select_start};
 ghost use Rattle.html_modes.specs.RulesInSelectInTable.{in_select_in_table};
 
 use crate::modes::body::body_rules;
@@ -227,6 +227,7 @@ fn close_options(page: &mut Construction)
 }
 
 /// Closes a current group of options, and the current option in it.
+#[tactic(auto, using(crate::proofs::RulesInSelect::arms))]
 fn close_group(page: &mut Construction)
     requires opened { 0 < length page.old.stack }
     ensures rest { page.new ≡ record page.old { tree = page.new.tree; stack = page.new.stack } }
@@ -235,12 +236,14 @@ fn close_group(page: &mut Construction)
     ensures works { Works 6 0 6 page.old page.new }
     ensures lighter { weight page.new.stack ≤ weight page.old.stack }
     ensures opened { 0 < length page.new.stack }
+    ensures follows { Passes closing_group page.old page.new }
 {
     close_grouped_option(page);
     let _ = page.pop_if(Group::Named(Tag::Optgroup));
 }
 
 /// Closes a current option that stands on a group of options.
+#[tactic(auto, using(crate::proofs::RulesInSelect::arms))]
 fn close_grouped_option(page: &mut Construction)
     requires opened { 0 < length page.old.stack }
     ensures rest { page.new ≡ record page.old { tree = page.new.tree; stack = page.new.stack } }
@@ -249,6 +252,7 @@ fn close_grouped_option(page: &mut Construction)
     ensures works { Works 1 0 2 page.old page.new }
     ensures lighter { weight page.new.stack ≤ weight page.old.stack }
     ensures opened { 0 < length page.new.stack }
+    ensures follows { Passes closing_grouped_option page.old page.new }
 {
     if page.is_option_in_group() {
         page.pop();

@@ -1,5 +1,5 @@
 // The mode in table (13.2.6.4.9).
-ghost use Rattle.std.specs.Prelude.{◌≡◌, ◌+◌, ◌<◌, ◌≤◌, [], IfOk, OnOk, IsTrue, length, true, IfErr};
+ghost use Rattle.std.specs.Prelude.{◌≡◌, ◌+◌, ◌<◌, ◌≤◌, [], IfOk, OnOk, IsTrue, false, length, true, IfErr};
 ghost use Rattle.html_ledger.specs.Symbols.{symbol_of};
 ghost use Rattle.html_ledger.specs.Flags.{is_free};
 ghost use Rattle.html_construction.specs.Budgets.{Refuses, RefusesAny};
@@ -13,10 +13,17 @@ ghost use Rattle.html_modes.specs.Fitting.{Fits, Calls, is_loose, is_table_mode}
 ghost use Rattle.html_modes.specs.Steps.{Falls, Grows, Steps, Worked};
 ghost use Rattle.html_modes.specs.declared.outcome.Outcome.TheVariants.{Done};
 ghost use Rattle.html_modes.specs.RawText.{Opens};
+ghost use Rattle.html_construction.specs.Plans.{Asks, Chooses, Do, Passes, implying_part};
+ghost use Rattle.html_construction.specs.Words.{ClearTo, CollectsText, Switch};
+ghost use Rattle.html_tree.specs.declared.groups.TableContext.TheVariants as context;
+ghost use Rattle.html_modes.specs.Guards.{is_root_end};
+ghost use Rattle.html_modes.specs.RuleForms.{fostering};
+ghost use Rattle.html_modes.specs.Rules.{Follows};
+ghost use Rattle.html_modes.specs.RulesInTable.{closing_table, in_table, in_table_end, in_table_other, in_table_other_start, in_table_start};
 
 use crate::guards::has_form;
+use crate::hidden::is_hidden;
 use crate::modes::body::body_rules;
-use crate::modes::body_phrase::is_hidden;
 use crate::modes::head::head_start;
 use crate::modes::initial::doctype;
 use crate::modes::table_text::foster_char;
@@ -29,7 +36,7 @@ use html_tokens::TokenKind;
 use html_tree::TableContext;
 
 /// The rules for the "in table" insertion mode (13.2.6.4.9).
-#[tactic(auto, using(crate::proofs::Settled::table_rules, crate::proofs::RawText::table_names, crate::proofs::Begun::text_stays))]
+#[tactic(auto, using(crate::proofs::Settled::table_rules, crate::proofs::RawText::table_names, crate::proofs::Begun::text_stays, crate::proofs::RulesInTable::arms))]
 pub(crate) fn in_table(
     page: &mut Construction,
     token: &TokenKind,
@@ -49,50 +56,73 @@ pub(crate) fn in_table(
     ensures works { IfOk result (λ o. Worked o token.now page.old page.new) }
     ensures opens { IfOk result (λ o. Opens o symbol page.new) }
     ensures refuses { IfErr result (λ e. Refuses token.now e page.old page.new) }
+    ensures follows { IfOk result (λ o. Follows (in_table symbol) token.now o page.old page.new) }
 {
     match symbol {
+        Symbol::Start(tag) => {
+            let outcome = start_in_table(page, token, tag)?;
+            Ok(outcome)
+        }
+        Symbol::End(_) | Symbol::Char(_) | Symbol::Comment | Symbol::Doctype | Symbol::Eof => {
+            let outcome = table_rules(page, token, symbol)?;
+            Ok(outcome)
+        }
+    }
+}
+
+#[tactic(auto, using(crate::proofs::Settled::table_rules, crate::proofs::RawText::table_names, crate::proofs::RulesInTable::arms))]
+fn start_in_table(page: &mut Construction, token: &TokenKind, tag: Tag) -> Result<Outcome, Refusal>
+    requires symbol { symbol_of token.now ≡ Symbol.Start tag }
+    requires mode { page.old.mode ≡ Mode.InTable }
+    requires calls { Calls page.old }
+    ensures fits { OnOk result (Fits page.new) }
+    ensures takes { IfOk result (λ o. Steps o token.now page.old page.new) }
+    ensures parses { OnOk result (page.new.parses_foreign ≡ page.old.parses_foreign) }
+    ensures falls { IfOk result (λ o. Falls o (Symbol.Start tag) page.old page.new) }
+    ensures grows { IfOk result (λ o. Grows o page.old page.new) }
+    ensures works { IfOk result (λ o. Worked o token.now page.old page.new) }
+    ensures opens { IfOk result (λ o. Opens o (Symbol.Start tag) page.new) }
+    ensures refuses { IfErr result (λ e. Refuses token.now e page.old page.new) }
+    ensures follows { IfOk result (λ o. Follows (in_table_start tag) token.now o page.old page.new) }
+{
+    match tag {
         // A start tag whose tag name is "caption".
-        Symbol::Start(Tag::Caption) => {
+        Tag::Caption => {
             page.clear_to(TableContext::Table);
             page.add_marker()?;
             page.insert_part(token, Tag::Caption)?;
             page.set_mode(Mode::InCaption);
         }
         // A start tag whose tag name is "colgroup": clear the stack back to a table context.
-        Symbol::Start(Tag::Colgroup) => {
+        Tag::Colgroup => {
             page.clear_to(TableContext::Table);
             page.insert_part(token, Tag::Colgroup)?;
             page.set_mode(Mode::InColumnGroup);
         }
         // A start tag whose tag name is "col": insert a "colgroup" without attributes, reprocess.
-        Symbol::Start(Tag::Col) => {
+        Tag::Col => {
             page.clear_to(TableContext::Table);
             page.insert_implied_part(Tag::Colgroup)?;
             page.set_mode(Mode::InColumnGroup);
             return Ok(Outcome::Reprocess);
         }
         // A start tag whose tag name is one of: "tbody", "tfoot", "thead".
-        Symbol::Start(tag) if tag.is_section() => {
+        _ if tag.is_section() => {
             page.clear_to(TableContext::Table);
             page.insert_part(token, tag)?;
             page.set_mode(Mode::InTableBody);
         }
         // A start tag whose tag name is one of: "td", "th", "tr": insert a "tbody" without attributes, reprocess.
-        Symbol::Start(tag) if tag.is_cell() => {
+        _ if tag.is_cell() => {
             imply_section(page)?;
             return Ok(Outcome::Reprocess);
         }
-        Symbol::Start(Tag::Tr) => {
+        Tag::Tr => {
             imply_section(page)?;
             return Ok(Outcome::Reprocess);
         }
-        Symbol::Start(_)
-        | Symbol::End(_)
-        | Symbol::Char(_)
-        | Symbol::Comment
-        | Symbol::Doctype
-        | Symbol::Eof => {
-            let outcome = table_rules(page, token, symbol)?;
+        _ => {
+            let outcome = table_rules(page, token, Symbol::Start(tag))?;
             return Ok(outcome);
         }
     }
@@ -110,6 +140,7 @@ fn imply_section(page: &mut Construction) -> Result<(), Refusal>
     ensures opened { OnOk result (0 < length page.new.stack) }
     ensures heavier { OnOk result (weight page.new.stack ≤ weight page.old.stack + 4) }
     ensures refuses { IfErr result (λ e. RefusesAny e page.old page.new) }
+    ensures follows { OnOk result (Passes (λ p. Do (ClearTo context.Table) (implying_part Tag.Tbody (Do (Switch Mode.InTableBody) p))) page.old page.new) }
 {
     page.clear_to(TableContext::Table);
     page.insert_implied_part(Tag::Tbody)?;
@@ -118,7 +149,7 @@ fn imply_section(page: &mut Construction) -> Result<(), Refusal>
 }
 
 /// The rules of the mode in table that the modes in table body and in row share.
-#[tactic(auto, using(crate::proofs::Settled::table_rules, crate::proofs::RawText::table_names, crate::proofs::Begun::text_stays))]
+#[tactic(auto, using(crate::proofs::Settled::table_rules, crate::proofs::RawText::table_names, crate::proofs::Begun::text_stays, crate::proofs::RulesInTable::arms))]
 pub(crate) fn table_rules(
     page: &mut Construction,
     token: &TokenKind,
@@ -137,6 +168,7 @@ pub(crate) fn table_rules(
     ensures works { IfOk result (λ o. Worked o token.now page.old page.new) }
     ensures opens { IfOk result (λ o. Opens o symbol page.new) }
     ensures refuses { IfErr result (λ e. Refuses token.now e page.old page.new) }
+    ensures follows { IfOk result (λ o. Follows (in_table_other symbol) token.now o page.old page.new) }
 {
     match symbol {
         // A character token.
@@ -167,7 +199,7 @@ pub(crate) fn table_rules(
     Ok(Outcome::Done)
 }
 
-#[tactic(auto, using(crate::proofs::Settled::table_rules, crate::proofs::Begun::text_stays))]
+#[tactic(auto, using(crate::proofs::Settled::table_rules, crate::proofs::Begun::text_stays, crate::proofs::RulesInTable::arms))]
 fn table_rules_char(page: &mut Construction, token: &TokenKind, c: char) -> Result<Outcome, Refusal>
     requires mode { is_table_mode page.old.mode ≡ true }
     requires free { IsTrue (is_free page.old.ledger.history (Symbol.Char c)) }
@@ -181,6 +213,7 @@ fn table_rules_char(page: &mut Construction, token: &TokenKind, c: char) -> Resu
     ensures grows { IfOk result (λ o. Grows o page.old page.new) }
     ensures works { IfOk result (λ o. Worked o token.now page.old page.new) }
     ensures refuses { IfErr result (λ e. Refuses token.now e page.old page.new) }
+    ensures follows { IfOk result (λ o. Follows (in_table_other (Symbol.Char c)) token.now o page.old page.new) }
 {
     if collects_text(page) {
         page.enter(Mode::InTableText);
@@ -191,17 +224,19 @@ fn table_rules_char(page: &mut Construction, token: &TokenKind, c: char) -> Resu
 }
 
 /// Whether text in the current node is collected before it is put anywhere.
+#[tactic(auto, using(crate::proofs::Ruled::asking_rules))]
 fn collects_text(page: &mut Construction) -> bool
     ensures rest { page.new ≡ record page.old { tree = page.new.tree } }
     ensures keeps { Keeps page.old page.new }
     ensures grown { Grown 0 0 0 0 0 page.old page.new }
     ensures works { Works 6 0 6 page.old page.new }
+    ensures follows { Asks CollectsText result page.old page.new }
 {
     let tag = page.current();
     tag.is_fostering() || tag.is(Tag::Template)
 }
 
-#[tactic(auto, using(crate::proofs::Settled::table_rules, crate::proofs::RawText::table_names))]
+#[tactic(auto, using(crate::proofs::Settled::table_rules, crate::proofs::RawText::table_names, crate::proofs::RulesInTable::arms))]
 fn table_rules_start(
     page: &mut Construction,
     token: &TokenKind,
@@ -218,6 +253,7 @@ fn table_rules_start(
     ensures works { IfOk result (λ o. Worked o token.now page.old page.new) }
     ensures opens { IfOk result (λ o. Opens o (Symbol.Start tag) page.new) }
     ensures refuses { IfErr result (λ e. Refuses token.now e page.old page.new) }
+    ensures follows { IfOk result (λ o. Follows (in_table_other_start tag) token.now o page.old page.new) }
 {
     match tag {
         // A start tag whose tag name is "table".
@@ -226,7 +262,10 @@ fn table_rules_start(
             return Ok(outcome);
         }
         // A start tag whose tag name is "input", with a type attribute "hidden": insert an HTML element.
-        Tag::Input if is_hidden(token) => page.insert_void(token, Tag::Input)?,
+        Tag::Input => {
+            let outcome = input_in_table(page, token)?;
+            return Ok(outcome);
+        }
         // A start tag whose tag name is "form".
         Tag::Form => form_in_table(page, token)?,
         // A start tag whose tag name is one of: "style", "script", "template": process the token using the rules for "in head".
@@ -240,7 +279,7 @@ fn table_rules_start(
     Ok(Outcome::Done)
 }
 
-#[tactic(auto, using(crate::proofs::Settled::table_rules))]
+#[tactic(auto, using(crate::proofs::Settled::table_rules, crate::proofs::RulesInTable::arms))]
 fn table_rules_end(page: &mut Construction, token: &TokenKind, tag: Tag) -> Result<Outcome, Refusal>
     requires mode { is_table_mode page.old.mode ≡ true }
     requires symbol { symbol_of token.now ≡ Symbol.End tag }
@@ -252,6 +291,7 @@ fn table_rules_end(page: &mut Construction, token: &TokenKind, tag: Tag) -> Resu
     ensures grows { IfOk result (λ o. Grows o page.old page.new) }
     ensures works { IfOk result (λ o. Worked o token.now page.old page.new) }
     ensures refuses { IfErr result (λ e. Refuses token.now e page.old page.new) }
+    ensures follows { IfOk result (λ o. Follows (in_table_end tag) token.now o page.old page.new) }
 {
     match tag {
         // An end tag whose tag name is "table".
@@ -275,7 +315,7 @@ fn table_rules_end(page: &mut Construction, token: &TokenKind, tag: Tag) -> Resu
 
 /// A table in a table, which closes the outer one. None is in scope in a template or a fragment alone. (There a table may be misplaced;
 /// where not, it would be inserted.)
-#[tactic(auto, using(crate::proofs::Settled::table_rules))]
+#[tactic(auto, using(crate::proofs::Settled::table_rules, crate::proofs::RulesInTable::arms))]
 fn table_in_table(page: &mut Construction, token: &TokenKind) -> Result<Outcome, Refusal>
     requires mode { is_table_mode page.old.mode ≡ true }
     requires symbol { symbol_of token.now ≡ Symbol.Start Tag.Table }
@@ -287,6 +327,7 @@ fn table_in_table(page: &mut Construction, token: &TokenKind) -> Result<Outcome,
     ensures grows { IfOk result (λ o. Grows o page.old page.new) }
     ensures works { IfOk result (λ o. Worked o token.now page.old page.new) }
     ensures refuses { IfErr result (λ e. Refuses token.now e page.old page.new) }
+    ensures follows { IfOk result (λ o. Follows (in_table_other_start Tag.Table) token.now o page.old page.new) }
 {
     if close_table(page) {
         return Ok(Outcome::Reprocess);
@@ -313,6 +354,7 @@ fn close_table(page: &mut Construction) -> bool
     ensures loose { is_loose page.new.mode ≡ true }
     ensures found { result ≡ true → weight page.new.stack + 4 ≤ weight page.old.stack }
     ensures reset { result ≡ true → is_reset page.new.mode ≡ true }
+    ensures follows { Chooses closing_table result page.old page.new }
 {
     if !page.close_in_scope(Tag::Table, Scope::Table) {
         return false;
@@ -321,8 +363,31 @@ fn close_table(page: &mut Construction) -> bool
     true
 }
 
+/// An input in a table, which stays there where it is hidden.
+#[tactic(auto, using(crate::proofs::Settled::table_rules, crate::proofs::RulesInTable::arms))]
+fn input_in_table(page: &mut Construction, token: &TokenKind) -> Result<Outcome, Refusal>
+    requires mode { is_table_mode page.old.mode ≡ true }
+    requires symbol { symbol_of token.now ≡ Symbol.Start Tag.Input }
+    requires calls { Calls page.old }
+    ensures fits { OnOk result (Fits page.new) }
+    ensures takes { IfOk result (λ o. Steps o token.now page.old page.new) }
+    ensures parses { OnOk result (page.new.parses_foreign ≡ page.old.parses_foreign) }
+    ensures falls { IfOk result (λ o. Falls o (Symbol.Start Tag.Input) page.old page.new) }
+    ensures grows { IfOk result (λ o. Grows o page.old page.new) }
+    ensures works { IfOk result (λ o. Worked o token.now page.old page.new) }
+    ensures refuses { IfErr result (λ e. Refuses token.now e page.old page.new) }
+    ensures follows { IfOk result (λ o. Follows (in_table_other_start Tag.Input) token.now o page.old page.new) }
+{
+    if is_hidden(token) {
+        page.insert_void(token, Tag::Input)?;
+        return Ok(Outcome::Done);
+    }
+    let outcome = foster_rules(page, token, Symbol::Start(Tag::Input))?;
+    Ok(outcome)
+}
+
 /// A form in a table, which can't have content.
-#[tactic(auto, using(crate::proofs::Settled::body_rules))]
+#[tactic(auto, using(crate::proofs::Settled::body_rules, crate::proofs::Ruled::rule_words))]
 fn form_in_table(page: &mut Construction, token: &TokenKind) -> Result<(), Refusal>
     requires symbol { symbol_of token.now ≡ Symbol.Start Tag.Form }
     requires calls { Calls page.old }
@@ -333,6 +398,7 @@ fn form_in_table(page: &mut Construction, token: &TokenKind) -> Result<(), Refus
     ensures grows { OnOk result (Grows Done page.old page.new) }
     ensures works { OnOk result (Worked Done token.now page.old page.new) }
     ensures refuses { IfErr result (λ e. Refuses token.now e page.old page.new) }
+    ensures follows { OnOk result (Follows (in_table_other_start Tag.Form) token.now Done page.old page.new) }
 {
     if page.has_template() {
         return page.drop_token(token, Symbol::Start(Tag::Form), Cause::Misplaced);
@@ -344,7 +410,7 @@ fn form_in_table(page: &mut Construction, token: &TokenKind) -> Result<(), Refus
 }
 
 /// The rules of the mode in body for what can't stand in a table: it is put before the table.
-#[tactic(auto, using(crate::proofs::Settled::foster_rules, crate::proofs::RawText::table_names, crate::proofs::Begun::text_stays))]
+#[tactic(auto, using(crate::proofs::Settled::foster_rules, crate::proofs::RawText::table_names, crate::proofs::Begun::text_stays, crate::proofs::RulesInTable::arms))]
 fn foster_rules(
     page: &mut Construction,
     token: &TokenKind,
@@ -362,6 +428,7 @@ fn foster_rules(
     ensures works { IfOk result (λ o. Worked o token.now page.old page.new) }
     ensures opens { IfOk result (λ o. Opens o symbol page.new) }
     ensures refuses { IfErr result (λ e. Refuses token.now e page.old page.new) }
+    ensures follows { IfOk result (λ o. is_root_end symbol ≡ false → Follows fostering token.now o page.old page.new) }
 {
     page.foster_on();
     let outcome = body_rules(page, token, symbol)?;

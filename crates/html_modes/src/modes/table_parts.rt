@@ -12,11 +12,10 @@ ghost use Rattle.html_modes.specs.Fitting.{Fits, Calls};
 ghost use Rattle.html_modes.specs.Steps.{Falls, Grows, Steps, Worked};
 ghost use Rattle.html_modes.specs.Ranks.{rank};
 ghost use Rattle.html_modes.specs.RawText.{Opens};
-ghost use Rattle.html_construction.specs.Plans.{Chooses, Unsaid};
-ghost use Rattle.html_modes.specs.RuleForms.{again};
+ghost use Rattle.html_construction.specs.Plans.{Chooses};
 ghost use Rattle.html_modes.specs.Rules.{Follows};
 ghost use Rattle.html_modes.specs.RulesInCaption.{closing_caption, in_caption, in_caption_end, in_caption_start};
-ghost use Rattle.html_modes.specs.RulesInColumnGroup.{closing_column_group, in_column_group, in_column_group_end};
+ghost use Rattle.html_modes.specs.RulesInColumnGroup.{closing_column_group, in_column_group, in_column_group_end, leaving_column_group};
 
 use crate::guards::is_outside_column_group;
 use crate::modes::body::body_rules;
@@ -310,7 +309,7 @@ fn leave_column_group(
     ensures works { IfOk result (λ o. Worked o token.now page.old page.new) }
     ensures opens { IfOk result (λ o. Opens o symbol page.new) }
     ensures refuses { IfErr result (λ e. Refuses token.now e page.old page.new) }
-    ensures follows { IfOk result (λ o. Follows (closing_column_group again Unsaid) token.now o page.old page.new) }
+    ensures follows { IfOk result (λ o. Follows leaving_column_group token.now o page.old page.new) }
 {
     if close_column_group(page) {
         return Ok(Outcome::Reprocess);

@@ -1,5 +1,5 @@
 // The mode in table text (13.2.6.4.10).
-ghost use Rattle.std.specs.Prelude.{◌≡◌, ◌+◌, ◌<◌, ◌≤◌, [], IfOk, IsTrue, OnOk, length, IfErr};
+ghost use Rattle.std.specs.Prelude.{◌≡◌, ◌+◌, ◌<◌, ◌≤◌, [], IfOk, IsTrue, OnOk, length, IfErr, if◌then◌else◌};
 ghost use Rattle.html_ledger.specs.Flags.{is_free};
 ghost use Rattle.html_ledger.specs.Symbols.{symbol_of};
 ghost use Rattle.html_construction.specs.Budgets.{Refuses, RefusesAny};
@@ -11,6 +11,13 @@ ghost use Rattle.html_modes.specs.Begun.{TextStays};
 ghost use Rattle.html_modes.specs.Fitting.{Fits};
 ghost use Rattle.html_modes.specs.Steps.{Counted, Counts, Falls, Settles, Spends, Steps};
 ghost use Rattle.html_modes.specs.RawText.{Opens};
+ghost use Rattle.html_modes.specs.declared.outcome.Outcome.TheVariants.{Done};
+ghost use Rattle.html_construction.specs.Plans.{Do};
+ghost use Rattle.html_construction.specs.Words.{InsertCharacter, is_null_or_space};
+ghost use Rattle.std.specs.List.{list_all};
+ghost use Rattle.html_modes.specs.RuleForms.{fostering, over};
+ghost use Rattle.html_modes.specs.Rules.{Follows, FollowsPart};
+ghost use Rattle.html_modes.specs.RulesInTableText.{in_table_text, settled_by, settling};
 
 use crate::modes::body::body_char;
 use crate::outcome::Outcome;
@@ -19,7 +26,7 @@ use html_ledger::{Cause, Symbol, is_space};
 use html_tokens::TokenKind;
 
 /// The rules for the "in table text" insertion mode (13.2.6.4.10): code points are kept until another token comes.
-#[tactic(auto, using(crate::proofs::Settled::table_text_rules, crate::proofs::RawText::open_rules, crate::proofs::Begun::text_stays))]
+#[tactic(auto, using(crate::proofs::Settled::table_text_rules, crate::proofs::RawText::open_rules, crate::proofs::Begun::text_stays, crate::proofs::RulesInTableText::arms))]
 pub(crate) fn in_table_text(
     page: &mut Construction,
     token: &TokenKind,
@@ -38,6 +45,7 @@ pub(crate) fn in_table_text(
     ensures settles { IfOk result (λ o. Settles o symbol page.old page.new) }
     ensures opens { IfOk result (λ o. Opens o symbol page.new) }
     ensures refuses { IfErr result (λ e. Refuses token.now e page.old page.new) }
+    ensures follows { IfOk result (λ o. Follows (in_table_text symbol) token.now o page.old page.new) }
 {
     match symbol {
         // A character token: append the character token to the pending table character tokens list.
@@ -69,13 +77,32 @@ fn flush(page: &mut Construction) -> Result<(), Refusal>
     ensures lighter { OnOk result (weight page.new.stack ≤ weight page.old.stack) }
     ensures opened { OnOk result (0 < length page.new.stack) }
     ensures refuses { IfErr result (λ e. RefusesAny e page.old page.new) }
+    ensures follows { OnOk result ((t : _) → FollowsPart settling t page.old page.new) }
 {
     let kept = page.take_kept();
-    let stays = kept.iter().all(|c| *c == '\0' || is_space(*c));
+    let stays = are_kept_spaces(&kept);
     'flushing: for c in &kept {
         settle_kept(page, *c, stays)?;
     }
     Ok(())
+}
+
+/// Whether all of these are white space, but for U+0000.
+fn are_kept_spaces(kept: &[char]) -> bool
+    ensures { result ≡ list_all is_null_or_space kept.now }
+{
+    for c in kept {
+        if !is_null_or_space(*c) {
+            return false;
+        }
+    }
+    true
+}
+
+fn is_null_or_space(c: char) -> bool
+    ensures { result ≡ is_null_or_space c }
+{
+    c == '\0' || is_space(c)
 }
 
 /// Gives one kept code point its fate.
@@ -91,6 +118,7 @@ fn settle_kept(page: &mut Construction, c: char, stays: bool) -> Result<(), Refu
     ensures lighter { OnOk result (weight page.new.stack ≤ weight page.old.stack) }
     ensures opened { OnOk result (0 < length page.new.stack) }
     ensures refuses { IfErr result (λ e. RefusesAny e page.old page.new) }
+    ensures follows { OnOk result (Follows (settled_by (if stays then Do InsertCharacter over else fostering)) (TokenKind.Char c) Done page.old page.new) }
 {
     let token = TokenKind::Char(c);
     settle_char(page, &token, c, stays)?;
@@ -98,6 +126,7 @@ fn settle_kept(page: &mut Construction, c: char, stays: bool) -> Result<(), Refu
 }
 
 /// Gives a kept code point, as a token, its fate.
+#[tactic(auto, using(crate::proofs::RulesInTableText::arms))]
 fn settle_char(
     page: &mut Construction,
     token: &TokenKind,
@@ -116,6 +145,7 @@ fn settle_char(
     ensures lighter { OnOk result (weight page.new.stack ≤ weight page.old.stack) }
     ensures opened { OnOk result (0 < length page.new.stack) }
     ensures refuses { IfErr result (λ e. RefusesAny e page.old page.new) }
+    ensures follows { OnOk result (Follows (settled_by (if stays then Do InsertCharacter over else fostering)) token.now Done page.old page.new) }
 {
     if let Some(cause) = page.must_drop(Symbol::Char(c)) {
         return page.drop_token(token, Symbol::Char(c), cause);
@@ -130,6 +160,7 @@ fn settle_char(
 }
 
 /// Puts a code point before the table, by the rules of the mode in body.
+#[tactic(auto, using(crate::proofs::RulesInTable::foster_plans))]
 pub(crate) fn foster_char(
     page: &mut Construction,
     token: &TokenKind,
@@ -148,6 +179,7 @@ pub(crate) fn foster_char(
     ensures lighter { OnOk result (weight page.new.stack ≤ weight page.old.stack) }
     ensures opened { OnOk result (0 < length page.new.stack) }
     ensures refuses { IfErr result (λ e. RefusesAny e page.old page.new) }
+    ensures follows { OnOk result (Follows (fostering) token.now Done page.old page.new) }
 {
     page.foster_on();
     body_char(page, token, c)?;

@@ -12,7 +12,7 @@ ghost use Rattle.html_tree.specs.Inserting.{IsLack, IsNodePassed, IsPassed, IsRe
 ghost use Rattle.html_tree.specs.OpenTags.{open_tags};
 ghost use Rattle.html_tree.specs.Since.{Grown, Keeps};
 ghost use Rattle.html_tree.specs.Steps.{here_steps, new_text_steps, text_steps};
-ghost use Rattle.html_tree.specs.Texts.{IsFree, IsNewTextRefused, IsTextPassed, IsTextRefused, place_here, text_before, text_node, with_text, with_text_node};
+ghost use Rattle.html_tree.specs.Texts.{IsFree, IsNewTextRefused, IsTextPassed, IsTextRefused, TextGoesOn, place_here, text_before, text_node, with_text, with_text_node};
 
 use super::OpenTree;
 use crate::groups::Target;
@@ -46,6 +46,7 @@ impl OpenTree {
         ensures tags { open_tags self.new ≡ open_tags self.old }
         ensures rest { self.new ≡ record self.old { tree = self.new.tree; steps = self.new.steps } }
         ensures tokens { self.new.tokens ≡ self.old.tokens }
+        ensures goes_on { OnOk result (TextGoesOn self.old foster) }
         ensures cause { IfErr result (λ e. IsTextRefused self.old foster e) }
         ensures told { IfErr result (λ e. IsTextPassed self.old self.new e) }
     {
@@ -82,6 +83,7 @@ impl OpenTree {
         ensures tags { open_tags self.new ≡ open_tags self.old }
         ensures rest { self.new ≡ record self.old { tree = self.new.tree; steps = self.new.steps } }
         ensures tokens { self.new.tokens ≡ self.old.tokens }
+        ensures goes_on { OnOk result (TextGoesOn self.old foster) }
         ensures cause { IfErr result (λ e. IsTextRefused self.old foster e) }
         ensures told { IfErr result (λ e. IsTextPassed self.old self.new e) }
     {
@@ -150,6 +152,7 @@ impl OpenTree {
         ensures grown { OnOk result (Grown 1 0 0 0 self.old self.new) }
         ensures tags { open_tags self.new ≡ open_tags self.old }
         ensures rest { self.new ≡ record self.old { tree = self.new.tree; steps = self.new.steps } }
+        ensures goes_on { OnOk result (TextGoesOn self.old foster) }
         ensures cause { IfErr result (λ e. IsNewTextRefused self.old foster e) }
         ensures told { IfErr result (λ e. IsNodePassed self.old self.new Text e) }
     {
@@ -171,6 +174,7 @@ impl OpenTree {
         ensures keeps { Keeps self.old self.new }
         ensures grown { Grown 0 0 0 0 self.old self.new }
         ensures tags { open_tags self.new ≡ open_tags self.old }
+        ensures goes_on { TextGoesOn self.old foster }
     {
         self.arena.forest();
         let place = place(&self.stack, &mut self.arena, None, foster);

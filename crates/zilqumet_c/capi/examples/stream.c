@@ -1,4 +1,4 @@
-/* Reads a page from a socket (here one end of a pair, whose other end a child writes to), piece by piece, and prints it normalised. */
+/* Parses a page from a socket as it comes (here one end of a pair, whose other end a child writes to), and prints it normalised. */
 #include <stdio.h>
 #include <sys/socket.h>
 #include <unistd.h>
@@ -25,11 +25,11 @@ int main(void)
     if (fork() == 0)
         return dprintf(ends[1], "<p>One<p>Tw%s", "o") < 0;
     close(ends[1]);
-    status = zq_parser_new(&options, &parser);
+    status = zq_parser_new(NULL, &options, &parser);
     while (status == ZQ_OK && (got = read(ends[0], piece, sizeof piece)) > 0)
-        status = zq_parser_feed(&parser, piece, (size_t)got);
+        status = zq_parser_feed(&parser, piece, (size_t)got, NULL);
     if (status == ZQ_OK)
-        status = zq_parser_finish(&parser, NULL, &page, NULL);
+        status = zq_parser_finish(&parser, &page, NULL);
     if (status == ZQ_OK)
         status = zq_serialise_to(&page, 0, to_stdout, NULL);
     if (status != ZQ_OK)

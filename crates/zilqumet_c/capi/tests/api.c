@@ -144,30 +144,133 @@ static void test_fragment(void)
 static void test_parser(void)
 {
     zq_parser parser = ZQ_EMPTY;
-    zq_page page = ZQ_EMPTY;
+    zq_page page = ZQ_EMPTY, other = ZQ_EMPTY;
     zq_options options = ZQ_DEFAULTS;
     const char *text = "<p>\xc3\xa9<p>";
-    uint64_t place;
+    uint64_t place = 7;
     size_t i;
-    CHECK(zq_parser_new(NULL, &parser) == ZQ_OK);
+    CHECK(zq_parser_new(NULL, NULL, &parser) == ZQ_OK);
     for (i = 0; i < strlen(text); i++)
-        CHECK(zq_parser_feed(&parser, text + i, 1) == ZQ_OK);
-    CHECK(zq_parser_feed(&parser, NULL, 0) == ZQ_OK);
-    CHECK(zq_parser_finish(&parser, NULL, &page, &place) == ZQ_OK && writes(&page, "<html><head></head><body><p>\xc3\xa9</p><p></p></body></html>"));
+        CHECK(zq_parser_feed(&parser, text + i, 1, &place) == ZQ_OK && place == 0);
+    CHECK(zq_parser_feed(&parser, NULL, 0, NULL) == ZQ_OK);
+    CHECK(zq_parser_finish(&parser, &page, &place) == ZQ_OK && writes(&page, "<html><head></head><body><p>\xc3\xa9</p><p></p></body></html>"));
     CHECK(parser.held == NULL);
-    CHECK(zq_parser_feed(&parser, "x", 1) == ZQ_BAD_HANDLE);
-    CHECK(zq_parser_finish(&parser, NULL, &page, &place) == ZQ_BAD_HANDLE);
+    CHECK(zq_parser_feed(&parser, "x", 1, &place) == ZQ_BAD_HANDLE);
+    CHECK(zq_parser_finish(&parser, &page, &place) == ZQ_BAD_HANDLE);
+    /* what a piece decides is refused with that piece, and then all is */
+    CHECK(zq_parser_new(NULL, NULL, &parser) == ZQ_OK && zq_parser_feed(&parser, "<p>x<sv", 7, &place) == ZQ_OK);
+    CHECK(zq_parser_feed(&parser, "g>", 2, &place) == ZQ_FOREIGN_SVG && place == 4);
+    CHECK(zq_parser_feed(&parser, "x", 1, &place) == ZQ_STOPPED && place == 0);
+    CHECK(zq_parser_finish(&parser, &page, &place) == ZQ_STOPPED && page.held == NULL && parser.held == NULL);
     options.max_nodes = 3;
-    CHECK(zq_parser_new(&options, &parser) == ZQ_OK && zq_parser_feed(&parser, "<p>", 3) == ZQ_OK);
-    CHECK(zq_parser_finish(&parser, NULL, &page, &place) == ZQ_NODE_BUDGET && page.held == NULL && parser.held == NULL);
-    CHECK(zq_parser_new(NULL, &parser) == ZQ_OK);
-    CHECK(zq_parser_finish(&parser, NULL, (zq_page *)&parser, &place) == ZQ_BAD_HANDLE);
-    CHECK(zq_parser_finish(NULL, NULL, &page, &place) == ZQ_BAD_POINTER && zq_parser_finish(&parser, NULL, NULL, &place) == ZQ_BAD_POINTER);
-    CHECK(zq_parser_new(NULL, NULL) == ZQ_BAD_POINTER && zq_parser_feed(NULL, "", 0) == ZQ_BAD_POINTER);
-    CHECK(zq_parser_feed(&parser, NULL, 1) == ZQ_BAD_POINTER);
-    /* a page is no parser */
-    CHECK(parse("x", &page, NULL) == ZQ_OK && zq_parser_feed((zq_parser *)&page, "x", 1) == ZQ_BAD_HANDLE && zq_root(&page) == 0);
+    CHECK(zq_parser_new(NULL, &options, &parser) == ZQ_OK && zq_parser_feed(&parser, "<p>", 3, &place) == ZQ_NODE_BUDGET && place == 0);
+    CHECK(zq_parser_new(NULL, &options, &parser) == ZQ_OK && zq_parser_finish(&parser, &page, &place) == ZQ_NODE_BUDGET && parser.held == NULL);
+    options.max_nodes = 0;
+    CHECK(zq_parser_new(NULL, &options, &parser) == ZQ_NODE_BUDGET && parser.held == NULL);
+    options.max_nodes = UINT64_MAX, options.max_input = 3;
+    CHECK(zq_parser_new(NULL, &options, &parser) == ZQ_OK && zq_parser_feed(&parser, "abc", 3, &place) == ZQ_OK);
+    CHECK(zq_parser_feed(&parser, "d", 1, &place) == ZQ_INPUT_TOO_LONG);
+    options.max_input = UINT64_MAX, options.flags = ZQ_FOREIGN;
+    CHECK(zq_parser_new(NULL, &options, &parser) == ZQ_OK && zq_parser_feed(&parser, "<svg>", 5, &place) == ZQ_OK);
+    CHECK(zq_parser_finish(&parser, &page, &place) == ZQ_OK && writes(&page, "<html><head></head><body><svg></svg></body></html>"));
+    options.flags = 8;
+    CHECK(zq_parser_new(NULL, &options, &parser) == ZQ_BAD_FLAGS);
+    /* the page is the one of the whole, the errors with it */
+    {
+        zq_counts counts;
+        CHECK(zq_parser_new(NULL, NULL, &parser) == ZQ_OK && zq_parser_feed(&parser, "<p a=b>", 7, NULL) == ZQ_OK && zq_parser_feed(&parser, "x", 1, NULL) == ZQ_OK);
+        CHECK(zq_parser_finish(&parser, &page, NULL) == ZQ_OK && zq_counts_of(&page, &counts) == ZQ_OK);
+        CHECK(counts.code_points == 8 && counts.nodes == 6 && counts.held == 16 && counts.tokens == 3 && counts.errors == 1);
+    }
+    /* a piece is not looked at afterwards */
+    {
+        char piece[3] = "<p>";
+        CHECK(zq_parser_new(NULL, NULL, &parser) == ZQ_OK && zq_parser_feed(&parser, piece, 2, NULL) == ZQ_OK);
+        memset(piece, 'x', sizeof piece);
+        CHECK(zq_parser_feed(&parser, ">", 1, NULL) == ZQ_OK && zq_parser_finish(&parser, &page, NULL) == ZQ_OK);
+        CHECK(writes(&page, "<html><head></head><body><p></p></body></html>"));
+    }
+    CHECK(zq_parser_new(NULL, NULL, &parser) == ZQ_OK);
+    CHECK(zq_parser_finish(&parser, (zq_page *)&parser, &place) == ZQ_BAD_HANDLE);
+    CHECK(zq_parser_finish(NULL, &page, &place) == ZQ_BAD_POINTER && zq_parser_finish(&parser, NULL, &place) == ZQ_BAD_POINTER);
+    CHECK(zq_parser_new(NULL, NULL, NULL) == ZQ_BAD_POINTER && zq_parser_feed(NULL, "", 0, NULL) == ZQ_BAD_POINTER);
+    CHECK(zq_parser_new((zq_entities *)&parser, NULL, &parser) == ZQ_BAD_HANDLE);
+    CHECK(zq_parser_feed(&parser, NULL, 1, NULL) == ZQ_BAD_POINTER && parser.held != NULL);
+    /* a page is no parser, and a parser that is not finished is freed */
+    CHECK(parse("x", &page, NULL) == ZQ_OK && zq_parser_feed((zq_parser *)&page, "x", 1, NULL) == ZQ_BAD_HANDLE && zq_root(&page) == 0);
+    CHECK(zq_parser_finish((zq_parser *)&page, &other, NULL) == ZQ_BAD_HANDLE && other.held == NULL && zq_root(&page) == 0);
+    CHECK(zq_parser_feed(&parser, "<table><b>x", 11, NULL) == ZQ_OK);
     zq_free(&parser);
+    CHECK(parser.held == NULL);
+    zq_free(&page);
+}
+
+/* Feeds a fragment byte by byte, and says whether it is written so. */
+static int pieces_write(const zq_options *options, const char *context, const char *text, const char *want)
+{
+    zq_parser parser = ZQ_EMPTY;
+    zq_page page = ZQ_EMPTY;
+    size_t i;
+    int is_so;
+    if (zq_parser_new_fragment(NULL, options, context, strlen(context), &parser) != ZQ_OK)
+        return 0;
+    for (i = 0; i < strlen(text); i++)
+        if (zq_parser_feed(&parser, text + i, 1, NULL) != ZQ_OK)
+            return 0;
+    is_so = zq_parser_finish(&parser, &page, NULL) == ZQ_OK && writes(&page, want);
+    zq_free(&page);
+    return is_so;
+}
+
+static void test_parser_of_a_fragment(void)
+{
+    zq_parser parser = ZQ_EMPTY;
+    zq_page page = ZQ_EMPTY;
+    zq_options options = ZQ_DEFAULTS;
+    CHECK(pieces_write(NULL, "tr", "<td>x", "<td>x</td>") && pieces_write(NULL, "div", "<td>x", "x") && pieces_write(NULL, "textarea", "<p>", "&lt;p&gt;"));
+    options.flags = ZQ_IN_FORM;
+    CHECK(pieces_write(&options, "div", "<form>x", "x") && pieces_write(NULL, "div", "<form>x", "<form>x</form>"));
+    options.flags = ZQ_QUIRKS;
+    CHECK(pieces_write(&options, "div", "<p><table>", "<p><table></table></p>") && pieces_write(NULL, "div", "<p><table>", "<p></p><table></table>"));
+    options.flags = ZQ_FOREIGN;
+    CHECK(pieces_write(&options, "svg path", "<g/><p>x", "<g></g><p>x</p>"));
+    CHECK(zq_parser_new_fragment(NULL, NULL, "svg path", 8, &parser) == ZQ_BAD_CONTEXT && parser.held == NULL);
+    CHECK(zq_parser_new_fragment(NULL, NULL, "Q", 1, &parser) == ZQ_BAD_CONTEXT && zq_parser_new_fragment(NULL, NULL, "", 0, &parser) == ZQ_BAD_CONTEXT);
+    CHECK(zq_parser_new_fragment(NULL, NULL, "a\xff", 2, &parser) == ZQ_BAD_CONTEXT && zq_parser_new_fragment(NULL, NULL, NULL, 1, &parser) == ZQ_BAD_POINTER);
+    CHECK(zq_parser_new_fragment(NULL, NULL, "p", 1, NULL) == ZQ_BAD_POINTER);
+    CHECK(zq_parser_new_fragment((zq_entities *)&parser, NULL, "p", 1, &parser) == ZQ_BAD_HANDLE);
+    options.flags = 0, options.max_held = 3;
+    CHECK(zq_parser_new_fragment(NULL, &options, "p", 1, &parser) == ZQ_HELD_BUDGET && parser.held == NULL);
+    options.max_held = UINT64_MAX, options.max_nodes = 2;
+    CHECK(zq_parser_new_fragment(NULL, &options, "p", 1, &parser) == ZQ_OK && zq_parser_feed(&parser, "a<b>", 4, NULL) == ZQ_NODE_BUDGET);
+    options.flags = 8;
+    CHECK(zq_parser_new_fragment(NULL, &options, "p", 1, &parser) == ZQ_BAD_FLAGS && parser.held != NULL);
+    /* a parser is filled again, and its old input is let go */
+    CHECK(zq_parser_new_fragment(NULL, NULL, "p", 1, &parser) == ZQ_OK && zq_parser_finish(&parser, &page, NULL) == ZQ_OK && writes(&page, ""));
+    zq_free(&page);
+}
+
+/* A parser goes on by its table, whatever becomes of the handle that the table was read into. */
+static void test_shared_table(void)
+{
+    zq_entities entities = ZQ_EMPTY;
+    zq_parser first = ZQ_EMPTY, second = ZQ_EMPTY;
+    zq_page page = ZQ_EMPTY;
+    const char *json = "{\"&eacute;\": {\"codepoints\": [233], \"characters\": \"\\u00e9\"}}";
+    const char *other = "{\"&x;\": {\"codepoints\": [120], \"characters\": \"x\"}}";
+    CHECK(zq_entities_read(json, strlen(json), &entities) == ZQ_OK);
+    CHECK(zq_parser_new(&entities, NULL, &first) == ZQ_OK && zq_parser_new(&entities, NULL, &second) == ZQ_OK && entities.held != NULL);
+    CHECK(zq_parser_feed(&first, "&eac", 4, NULL) == ZQ_OK && zq_parser_feed(&second, "&", 1, NULL) == ZQ_OK);
+    zq_free(&entities);
+    CHECK(zq_parser_feed(&first, "ute;", 4, NULL) == ZQ_OK && zq_parser_finish(&first, &page, NULL) == ZQ_OK);
+    CHECK(writes(&page, "<html><head></head><body>\xc3\xa9</body></html>"));
+    CHECK(zq_entities_read(other, strlen(other), &entities) == ZQ_OK);
+    CHECK(zq_parser_feed(&second, "eacute;&x;", 10, NULL) == ZQ_OK && zq_parser_finish(&second, &page, NULL) == ZQ_OK);
+    CHECK(writes(&page, "<html><head></head><body>\xc3\xa9&amp;x;</body></html>"));
+    /* an empty handle is the same as none */
+    zq_free(&entities);
+    CHECK(zq_parser_new(&entities, NULL, &first) == ZQ_OK && zq_parser_feed(&first, "&lt;", 4, NULL) == ZQ_OK && zq_parser_finish(&first, &page, NULL) == ZQ_OK);
+    CHECK(writes(&page, "<html><head></head><body>&lt;</body></html>"));
     zq_free(&page);
 }
 
@@ -292,6 +395,38 @@ static void test_errors(void)
     zq_free(&name);
 }
 
+static void test_positions(void)
+{
+    const char *text = "\xef\xbb\xbf\xc3\xa9x\r\ny\rz\n";
+    static const uint64_t places[] = { 0, 1, 2, 3, 4, 5, 6, 7, 99, 1 };
+    static const uint64_t want[][3] = { { 3, 1, 1 }, { 5, 1, 2 }, { 6, 1, 3 }, { 8, 2, 1 }, { 9, 2, 2 }, { 10, 3, 1 }, { 11, 3, 2 }, { 12, 4, 1 },
+                                        { 12, 4, 1 }, { 5, 1, 2 } };
+    zq_position at[10];
+    size_t i;
+    CHECK(zq_positions(text, strlen(text), places, 10, at) == ZQ_OK);
+    for (i = 0; i < 10; i++)
+        CHECK(at[i].offset == want[i][0] && at[i].line == want[i][1] && at[i].column == want[i][2]);
+    CHECK(zq_positions("", 0, places, 1, at) == ZQ_OK && at[0].offset == 0 && at[0].line == 1 && at[0].column == 1);
+    CHECK(zq_positions(NULL, 0, NULL, 0, NULL) == ZQ_OK && zq_positions(NULL, 1, places, 1, at) == ZQ_BAD_POINTER);
+    CHECK(zq_positions("", 0, NULL, 1, at) == ZQ_BAD_POINTER && zq_positions("", 0, places, 1, NULL) == ZQ_BAD_POINTER);
+    CHECK(zq_positions("", 0, places, SIZE_MAX, at) == ZQ_BAD_POINTER);
+}
+
+static void test_text_below(void)
+{
+    zq_page page = ZQ_EMPTY;
+    zq_buffer buffer = ZQ_EMPTY;
+    zq_span span;
+    CHECK(parse("<p>One<!--c--> <b>two</b><template>T</template>", &page, NULL) == ZQ_OK);
+    CHECK(zq_text_below(&page, zq_root(&page), &buffer) == ZQ_OK && zq_bytes(&buffer, &span) == ZQ_OK && is(span, "One twoT"));
+    CHECK(zq_text_below(&page, 999, &buffer) == ZQ_BAD_INDEX && buffer.held == NULL);
+    CHECK(zq_text_below(NULL, 0, &buffer) == ZQ_BAD_POINTER && zq_text_below(&page, 0, NULL) == ZQ_BAD_POINTER);
+    CHECK(zq_text_below(&page, 0, (zq_buffer *)&page) == ZQ_BAD_HANDLE);
+    zq_free(&page);
+    CHECK(zq_text_below(&page, 0, &buffer) == ZQ_BAD_HANDLE);
+    zq_free(&buffer);
+}
+
 static int takes(void *context, const uint8_t *bytes, size_t len)
 {
     *(int *)context += len == 39 && memcmp(bytes, "<html>", 6) == 0;
@@ -338,11 +473,15 @@ int main(void)
     test_parse();
     test_fragment();
     test_parser();
+    test_parser_of_a_fragment();
+    test_shared_table();
     test_nodes();
     test_copy();
     test_rows();
     test_texts();
     test_errors();
+    test_positions();
+    test_text_below();
     test_writing();
     printf("api: %d passed, %d failed\n", passed, failed);
     return failed != 0;

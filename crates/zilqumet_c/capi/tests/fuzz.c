@@ -197,19 +197,23 @@ static seen parsed(const task *it, const zq_options *options)
     return made;
 }
 
-/* A document in pieces, whose lengths go by turns. */
-static seen parsed_in_pieces(const task *it)
+/* The same in pieces, whose lengths go by turns. A parser that refused a piece takes no more. */
+static seen parsed_in_pieces(const task *it, const zq_options *options)
 {
     seen made = { .page = ZQ_EMPTY, .held = ZQ_EMPTY };
     zq_parser parser = ZQ_EMPTY;
-    made.status = zq_parser_new(&it->options, &parser);
+    if (*it->context)
+        made.status = zq_parser_new_fragment(it->entities, options, it->context, strlen(it->context), &parser);
+    else
+        made.status = zq_parser_new(it->entities, options, &parser);
     for (size_t from = 0, turn = 0; made.status == ZQ_OK && from < it->len; turn++) {
         size_t most = it->cuts[turn % 2], len = it->len - from < most ? it->len - from : most;
-        made.status = zq_parser_feed(&parser, it->bytes + from, len ? len : 1);
+        made.status = zq_parser_feed(&parser, it->bytes + from, len ? len : 1, &made.place);
         from += len ? len : 1;
+        MUST(made.status == ZQ_OK || zq_parser_feed(&parser, it->bytes, 1, NULL) == ZQ_STOPPED);
     }
     if (made.status == ZQ_OK)
-        made.status = zq_parser_finish(&parser, it->entities, &made.page, &made.place);
+        made.status = zq_parser_finish(&parser, &made.page, &made.place);
     zq_free(&parser);
     read_page(&made);
     return made;
@@ -265,6 +269,7 @@ static void check_limit(const task *it, seen *whole, int which)
         *limits[which] = counts[which] - 1;
         seen refused = parsed(it, &within);
         MUST(refused.status == causes[which] && refused.place <= whole->counts.code_points);
+        check_same(&refused, parsed_in_pieces(it, &within));
         let_go(&refused);
     }
 }
@@ -316,8 +321,7 @@ int LLVMFuzzerTestOneInput(const uint8_t *data, size_t size)
     it.entities = flags & TABLE ? &table : NULL;
     it.options.flags = (flags & FOREIGN ? ZQ_FOREIGN : 0) | (flags & IN_FORM ? ZQ_IN_FORM : 0) | (flags & QUIRKS ? ZQ_QUIRKS : 0);
     seen whole = parsed(&it, &it.options);
-    if (!*it.context)
-        check_same(&whole, parsed_in_pieces(&it));
+    check_same(&whole, parsed_in_pieces(&it, &it.options));
     if (!(flags & FOREIGN))
         check_foreign(&it, &whole);
     if (whole.status == ZQ_OK && whole.counts.nodes <= MOST_NODES) {

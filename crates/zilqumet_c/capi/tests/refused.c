@@ -57,13 +57,21 @@ static uint32_t run(void) {
             r = ZQ_OK;
     }
     if (!r)
-        r = zq_parser_new(&options, &parser);
+        r = zq_parser_new(&entities, &options, &parser);
     if (!r)
-        r = zq_parser_feed(&parser, page_bytes, half);
+        r = zq_parser_feed(&parser, page_bytes, half, &at);
     if (!r)
-        r = zq_parser_feed(&parser, page_bytes + half, page_len - half);
+        r = zq_parser_feed(&parser, page_bytes + half, page_len - half, &at);
     if (!r)
-        r = zq_parser_finish(&parser, &entities, &page, &at);
+        r = zq_parser_finish(&parser, &page, &at);
+    if (!r)
+        r = zq_text_below(&page, zq_root(&page), &name);
+    if (!r)
+        r = zq_parser_new_fragment(&entities, &options, "div", 3, &parser);
+    if (!r)
+        r = zq_parser_feed(&parser, page_bytes, half, &at);
+    if (!r)
+        r = zq_parser_finish(&parser, &fragment, &at);
     if (!r)
         r = zq_parse_fragment(&entities, &options, "div", 3, page_bytes, page_len, &fragment, &at);
     if (!r)

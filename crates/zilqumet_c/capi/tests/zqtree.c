@@ -1,4 +1,5 @@
-/* A tool of the tests: zqtree [-e ENTITIES] [-f CONTEXT] [-p PIECE] tree|normalise|counts|errors FILE */
+/* A tool of the tests: zqtree [-e ENTITIES] [-f CONTEXT] [-p PIECE] tree|normalise|counts|errors FILE. With -p pieces of that length are parsed as they are
+ * read, and of the file no more is kept. */
 #include "zilqumet.h"
 
 #include <stdio.h>
@@ -28,6 +29,28 @@ static int read_all(const char *name, uint8_t **bytes, size_t *len) {
     if (file != stdin)
         fclose(file);
     return failed ? -1 : 0;
+}
+
+/* Parses a file, or a fragment, as it is read. */
+static uint32_t parse_pieces(const char *name, size_t room, const char *context, zq_entities *entities, const zq_options *options, zq_page *page,
+                             uint64_t *at) {
+    FILE *file = strcmp(name, "-") == 0 ? stdin : fopen(name, "rb");
+    uint8_t *piece = malloc(room);
+    zq_parser parser = ZQ_EMPTY;
+    uint32_t status = file == NULL || piece == NULL ? ZQ_READ : ZQ_OK;
+    if (status == ZQ_OK)
+        status = context != NULL ? zq_parser_new_fragment(entities, options, context, strlen(context), &parser) : zq_parser_new(entities, options, &parser);
+    for (size_t got = 1; status == ZQ_OK && got > 0;) {
+        got = fread(piece, 1, room, file);
+        status = ferror(file) ? ZQ_READ : zq_parser_feed(&parser, piece, got, at);
+    }
+    if (status == ZQ_OK)
+        status = zq_parser_finish(&parser, page, at);
+    if (file != NULL && file != stdin)
+        fclose(file);
+    free(piece);
+    zq_free(&parser);
+    return status;
 }
 
 static void put(zq_span s) { fwrite(s.at, 1, s.len, stdout); }
@@ -159,7 +182,6 @@ static int refused(uint32_t status, uint64_t at) {
 
 int main(int argc, char **argv) {
     zq_page page = ZQ_EMPTY;
-    zq_parser parser = ZQ_EMPTY;
     zq_entities entities = ZQ_EMPTY;
     zq_buffer buffer = ZQ_EMPTY;
     zq_options options = ZQ_DEFAULTS;
@@ -187,20 +209,18 @@ int main(int argc, char **argv) {
     }
     if (i + 2 != argc)
         return 2;
-    if (read_all(argv[i + 1], &bytes, &len) != 0)
+    bytes = NULL;
+    if (piece == 0 && read_all(argv[i + 1], &bytes, &len) != 0)
         return 3;
-    if (context != NULL) {
+    if (piece != 0)
+        status = parse_pieces(argv[i + 1], piece, context, &entities, &options, &page, &at);
+    else if (context != NULL)
         status = zq_parse_fragment(&entities, &options, context, strlen(context), bytes, len, &page, &at);
-    } else if (piece != 0) {
-        status = zq_parser_new(&options, &parser);
-        for (size_t from = 0; status == ZQ_OK && from < len; from += piece)
-            status = zq_parser_feed(&parser, bytes + from, len - from < piece ? len - from : piece);
-        if (status == ZQ_OK)
-            status = zq_parser_finish(&parser, &entities, &page, &at);
-    } else {
+    else
         status = zq_parse(&entities, &options, bytes, len, &page, &at);
-    }
-    if (status != ZQ_OK) {
+    if (status == ZQ_READ) {
+        answer = 3;
+    } else if (status != ZQ_OK) {
         answer = refused(status, at);
     } else if (strcmp(argv[i], "tree") == 0) {
         answer = print_tree(&page) == 0 ? 0 : 3;
@@ -224,7 +244,6 @@ int main(int argc, char **argv) {
     free(bytes);
     zq_free(&buffer);
     zq_free(&page);
-    zq_free(&parser);
     zq_free(&entities);
     return fflush(stdout) == 0 ? answer : 3;
 }

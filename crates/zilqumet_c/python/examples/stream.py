@@ -1,4 +1,4 @@
-"""Reads a page from a socket (here one end of a pair, whose other end a thread writes to), piece by piece, and prints it normalised."""
+"""Parses a page from a socket as it comes (here one end of a pair, whose other end a thread writes to), and prints it normalised."""
 import socket
 import sys
 import threading
@@ -13,11 +13,11 @@ def send(end: socket.socket) -> None:
 
 ours, theirs = socket.socketpair()
 threading.Thread(target=send, args=(theirs,)).start()
-parser = zilqumet.Parser(max_input=1 << 20)
 try:
-    while piece := ours.recv(7):
-        parser.feed(piece)
-    print(parser.finish().serialise(), end="")
+    with zilqumet.Parser(max_input=1 << 20) as parser:
+        while piece := ours.recv(7):
+            parser.feed(piece)
+        print(parser.finish().serialise(), end="")
 except zilqumet.Refused as refused:
     sys.exit(f"stream: {refused}")
 finally:

@@ -1,4 +1,4 @@
-"""compare.py PROGRAM ZQTREE TREE_LINES SUITES [COUNT]: trees by C, Python and Rust against html_cmd's.
+"""compare.py PROGRAM ZQTREE TREE_LINES SUITES [COUNT]: trees by C, Python and Rust against html_cmd's, by C and Python in pieces too.
 
 PROGRAM is html_cmd, ZQTREE the tool in C, TREE_LINES that in Rust; SUITES has entities.json and, in any folders, files of cases (.dat). The pages: the
 inputs of all cases of tree construction, documents and fragments, and COUNT (1,000) that are cut out of them at random. Refusals are compared by their
@@ -45,9 +45,16 @@ def lines(root):
         stack += [(child, depth + 1) for child in ([node.contents] if node.contents else []) + [*node.children]][::-1]
 
 
-def by_python(data, context):
+def in_pieces(data, context, size):
+    with zilqumet.Parser(context) as parser:
+        for start in range(0, len(data), size):
+            parser.feed(data[start : start + size])
+        return parser.finish()
+
+
+def by_python(make):
     try:
-        page = zilqumet.parse(data) if context is None else zilqumet.parse_fragment(data, context)
+        page = make()
     except zilqumet.Refused as refused:
         return 1, "", str(refused).replace("zilqumet", "refused") + "\n"
     return 0, "".join(line + "\n" for line in lines(page.root)), ""
@@ -73,9 +80,12 @@ def main():
     for data, context in pages:
         name = [] if context is None else [context]
         want = by_program([program, "tree", "--entities", entities, *(["--fragment", *name] if name else [])], data)
+        size, fragment = chance.randrange(1, 9), ["-f", *name] if name else []
         told = {
-            "Python": by_python(data, context),
-            "C": by_program([zqtree, "-e", entities, *(["-f", *name] if name else []), "tree", "-"], data),
+            "Python": by_python(lambda: zilqumet.parse(data) if context is None else zilqumet.parse_fragment(data, context)),
+            "Python in pieces": by_python(lambda: in_pieces(data, context, size)),
+            "C": by_program([zqtree, "-e", entities, *fragment, "tree", "-"], data),
+            "C in pieces": by_program([zqtree, "-e", entities, *fragment, "-p", str(size), "tree", "-"], data),
             "Rust": by_program([tree_lines, entities, *name], data),
         }
         refused += want[0] != 0

@@ -104,9 +104,62 @@ class Texts(unittest.TestCase):
         with self.assertRaises(ValueError):
             parser.finish()
 
+    def test_pieces_are_parsed_as_they_come(self):
+        with zilqumet.Parser() as parser:
+            parser.feed("<p>x<sv")
+            with self.assertRaises(zilqumet.ForeignContent) as told:
+                parser.feed(b"g>")
+            self.assertEqual(told.exception.place, 4)
+            with self.assertRaises(zilqumet.Stopped):
+                parser.feed(b"x")
+            with self.assertRaises(zilqumet.Stopped):
+                parser.finish()
+        with zilqumet.Parser(foreign=True) as parser:
+            parser.feed(b"<table><svg>")
+        with self.assertRaises(ValueError):
+            parser.feed(b"x")
+        # of a page in pieces no bytes are there
+        with zilqumet.Parser() as parser:
+            parser.feed(b"<p>")
+            self.assertEqual(parser.finish().errors[0], (0, "tree-construction", None, None, None))
+
+    def test_pieces_of_a_fragment(self):
+        def written(pieces, context, **options):
+            with zilqumet.Parser(context, **options) as parser:
+                for piece in pieces:
+                    parser.feed(piece)
+                return parser.finish().serialise()
+
+        self.assertEqual(written("<td>x", "tr"), "<td>x</td>")
+        self.assertEqual(written("<p>&eacute;", "textarea"), "&lt;p&gt;é")
+        self.assertEqual(written("<form>x", "div", in_form=True), "x")
+        self.assertEqual(written("<p><table>", "div", quirks=True), "<p><table></table></p>")
+        self.assertEqual(written("<g/><p>x", "svg path", foreign=True), "<g></g><p>x</p>")
+        self.assertEqual(written([], "p"), "")
+        for context in ("svg", "Q", "a b", ""):
+            with self.assertRaises(zilqumet.BadContext):
+                zilqumet.Parser(context)
+        with self.assertRaises(zilqumet.NodeBudget) as told:
+            written(["a", "<b>"], "p", max_nodes=2)
+        self.assertEqual(told.exception.place, 1)
+
+    def test_table_of_a_parser(self):
+        table = zilqumet.Entities(b'{"&eacute;": {"codepoints": [233], "characters": "\\u00e9"}}')
+        parsers = [zilqumet.Parser(entities=table) for _ in range(3)]
+        del table
+        for parser in parsers:
+            parser.feed(b"&eac")
+            parser.feed(b"ute;")
+            self.assertEqual(parser.finish().root.text_below, "é")
+
     def test_errors_and_counts(self):
-        self.assertEqual(zilqumet.parse(b"<!DOCTYPE html><p a a>").errors, [(21, "duplicate-attribute")])
-        self.assertEqual(zilqumet.parse(b"<p>").errors[0], zilqumet.ParseError(0, "tree-construction"))
+        self.assertEqual(zilqumet.parse(b"<!DOCTYPE html><p a a>").errors, [(21, "duplicate-attribute", 21, 1, 22)])
+        self.assertEqual(zilqumet.parse(b"<p>").errors[0], zilqumet.ParseError(0, "tree-construction", 0, 1, 1))
+        error = zilqumet.parse("<!DOCTYPE html>\r\né<p a a>".encode()).errors[0]
+        self.assertEqual((error.place, error.offset, error.line, error.column), (23, 25, 2, 8))
+        self.assertEqual(zilqumet.parse_fragment(b"x\n</b>").errors, [(2, "tree-construction", 2, 2, 1)])
+        self.assertEqual(zilqumet.positions("é\n", (0, 1, 2, 9)), [(0, 1, 1), (2, 1, 2), (3, 2, 1), (3, 2, 1)])
+        self.assertEqual(zilqumet.positions(b"", ()), [])
         counts = zilqumet.parse(b"<p a=b>x").counts
         self.assertEqual((counts.code_points, counts.nodes, counts.held, counts.tokens, counts.errors), (8, 6, 16, 3, 1))
 
@@ -143,8 +196,9 @@ class Refusals(unittest.TestCase):
             zilqumet.parse(b"<p>" * 99, max_steps=100)
         self.assertEqual(zilqumet.parse(b"<p>", max_nodes=5, max_held=None).counts.nodes, 5)
         parser = zilqumet.Parser(max_nodes=3)
-        parser.feed(b"<p>")
-        self.refused(zilqumet.NodeBudget, 0, "zilqumet: node budget at 0", parser.finish)
+        self.refused(zilqumet.NodeBudget, 0, "zilqumet: node budget at 0", parser.feed, b"<p>")
+        self.refused(zilqumet.Stopped, None, "zilqumet: stopped", parser.finish)
+        self.refused(zilqumet.NodeBudget, 0, "zilqumet: node budget at 0", zilqumet.Parser, max_nodes=0)
         with self.assertRaises(TypeError):
             zilqumet.parse(b"", max_node=3)
 

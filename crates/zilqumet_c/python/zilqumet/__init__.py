@@ -8,6 +8,10 @@
     page.serialise()                            # '<html><head></head><body><p class="a">One</p><p>Two</p></body></html>'
     zilqumet.normalise(b"<p>One<p>Two")         # the same in one call
     zilqumet.parse(data, max_nodes=100_000)     # NodeBudget where a page would have more
+    with zilqumet.Parser() as parser:           # in pieces, which are parsed as they come
+        for piece in stream:
+            parser.feed(piece)
+        page = parser.finish()
 
 Where there is no page, an exception says why: `Refused` is above all of them, and has the place. The work is done by libzilqumet, whose calls are proved;
 this module holds its handles, and copies names and texts into Python's strings.
@@ -22,11 +26,11 @@ import os
 import threading
 from itertools import accumulate
 from pathlib import Path
-from typing import Any, Iterator, NamedTuple, Optional, Union
+from typing import Any, Iterable, Iterator, NamedTuple, Optional, Union
 
 __all__ = [
     "BadContext", "BadEntities", "Counts", "Entities", "ForeignContent", "HeldBudget", "InputTooLong", "Node", "NodeBudget", "Page", "ParseError", "Parser",
-    "Refused", "StepBudget", "library_version", "normalise", "parse", "parse_counts", "parse_fragment",
+    "Position", "Refused", "StepBudget", "Stopped", "library_version", "normalise", "parse", "parse_counts", "parse_fragment", "positions",
 ]
 __version__ = "0.1.0"
 
@@ -60,6 +64,10 @@ class _Counts(ctypes.Structure):
 class _Row(ctypes.Structure):
     _fields_ = [(name, ctypes.c_uint64) for name in ("parent", "first_child", "next", "contents", "attrs")] + [
         ("name", _Span), ("text", _Span), ("kind", ctypes.c_uint32)]
+
+
+class _Position(ctypes.Structure):
+    _fields_ = [(name, ctypes.c_uint64) for name in ("offset", "line", "column")]
 
 
 class _Texts(ctypes.Structure):
@@ -99,15 +107,17 @@ _entities_read = _call(_slow, "zq_entities_read", _U32, _BYTES, _SIZE, _H)
 _parse = _call(_slow, "zq_parse", _U32, _H, _O, _BYTES, _SIZE, _H, _PLACE)
 _parse_fragment = _call(_slow, "zq_parse_fragment", _U32, _H, _O, _BYTES, _SIZE, _BYTES, _SIZE, _H, _PLACE)
 _normalise = _call(_slow, "zq_normalise", _U32, _H, _O, _BYTES, _SIZE, _INT, _H, _PLACE)
-_parser_new = _call(_quick, "zq_parser_new", _U32, _O, _H)
-_parser_feed = _call(_quick, "zq_parser_feed", _U32, _H, _BYTES, _SIZE)
-_parser_finish = _call(_quick, "zq_parser_finish", _U32, _H, _H, _H, _PLACE)
+_parser_new = _call(_quick, "zq_parser_new", _U32, _H, _O, _H)
+_parser_new_fragment = _call(_quick, "zq_parser_new_fragment", _U32, _H, _O, _BYTES, _SIZE, _H)
+_parser_feed = _call(_slow, "zq_parser_feed", _U32, _H, _BYTES, _SIZE, _PLACE)
+_parser_finish = _call(_slow, "zq_parser_finish", _U32, _H, _H, _PLACE)
 _counts_of = _call(_quick, "zq_counts_of", _U32, _H, ctypes.POINTER(_Counts))
 _root = _call(_quick, "zq_root", _U64, _H)
 _rows = _call(_quick, "zq_rows", _SIZE, _H, _U64, ctypes.POINTER(_Row), _SIZE)
 _all_texts = _call(_quick, "zq_all_texts", _U32, _H, _H, ctypes.POINTER(_Texts))
 _text_of = _call(_quick, "zq_text", _U32, _H, _U32, _U64, _U64, ctypes.POINTER(_Span))
 _error = _call(_quick, "zq_error", _U32, _H, _U64, _H, _PLACE)
+_positions = _call(_slow, "zq_positions", _U32, _BYTES, _SIZE, _PLACE, _SIZE, ctypes.POINTER(_Position))
 _serialise = _call(_quick, "zq_serialise", _U32, _H, _INT, _H)
 _bytes = _call(_quick, "zq_bytes", _U32, _H, ctypes.POINTER(_Span))
 _strerror = _call(_quick, "zq_strerror", _BYTES, _U32)
@@ -152,12 +162,16 @@ class StepBudget(Refused):
     """More counted steps than `max_steps`."""
 
 
+class Stopped(Refused):
+    """The parser refused an earlier piece, and takes no more."""
+
+
 class BadEntities(Refused):
     """Not a table of named character references."""
 
 
 _CAUSES = {
-    2: InputTooLong, 3: ForeignContent, 4: ForeignContent, 5: BadContext, 6: NodeBudget, 7: HeldBudget, 8: StepBudget, 14: BadEntities,
+    2: InputTooLong, 3: ForeignContent, 4: ForeignContent, 5: BadContext, 6: NodeBudget, 7: HeldBudget, 8: StepBudget, 9: Stopped, 14: BadEntities,
 }
 _OUT_OF_MEMORY, _BAD_HANDLE, _BAD_INDEX = 1, 12, 13
 _PLACED = (ForeignContent, NodeBudget, HeldBudget, StepBudget)
@@ -241,11 +255,23 @@ class Counts(NamedTuple):
     errors: int
 
 
+class Position(NamedTuple):
+    """Where a place stands: how many bytes are before it, its line, and its column in code points; both begin at 1."""
+
+    offset: int
+    line: int
+    column: int
+
+
 class ParseError(NamedTuple):
-    """A parse error: how many code points of the text are before it, and the standard's name of it (`tree-construction` for all of tree construction)."""
+    """A parse error: how many code points of the text are before it, the standard's name of it (`tree-construction` for all of tree construction), and
+    where that is in the bytes that were parsed; None of a page that came in pieces (`positions` tells it, by the bytes)."""
 
     place: int
     name: str
+    offset: Optional[int] = None
+    line: Optional[int] = None
+    column: Optional[int] = None
 
 
 class Node:
@@ -346,6 +372,8 @@ class Node:
 class Page(_Owner):
     """A parsed page, which its nodes keep. `for node in page` goes over all of them, in tree order."""
 
+    _data: Optional[bytes] = None
+
     def _read(self) -> Page:
         """Reads all links and texts, in two calls."""
         count = self.counts.nodes
@@ -387,17 +415,19 @@ class Page(_Owner):
     def __iter__(self) -> Iterator[Node]:
         return iter(self.root)
 
+    def _errors(self) -> Iterator[ParseError]:
+        buffer, place = _Buffer(), _U64(0)
+        for number in range(self.counts.errors):
+            _check(_error(self._handle, number, buffer._handle, place))
+            yield ParseError(place.value, buffer.text())
+
     @property
     def errors(self) -> list[ParseError]:
-        """The parse errors, in order."""
-        told: list[ParseError] = []
-        buffer, place = _Buffer(), _U64(0)
-        while True:
-            status = _error(self._handle, len(told), buffer._handle, place)
-            if status == _BAD_INDEX:
-                return told
-            _check(status)
-            told.append(ParseError(place.value, buffer.text()))
+        """The parse errors, in order, with byte, line and column."""
+        told = list(self._errors())
+        if self._data is None:
+            return told
+        return [ParseError(*error[:2], *at) for error, at in zip(told, positions(self._data, (error.place for error in told)))]
 
     def serialise(self, *, escape_angles: bool = False) -> str:
         """The page as the standard writes it. escape_angles: `<` and `>` in values of attributes are escaped too."""
@@ -459,7 +489,9 @@ def parse(data: Data, *, foreign: bool = False, entities: Optional[Entities] = N
     """The page of a document in UTF-8 (a str is encoded). Where foreign is true SVG and MathML are parsed, with names as "svg path"; else they are refused.
     Limits, each None or a number: max_nodes, max_held (code points in names, texts and attributes), max_input (code points) and max_steps."""
     data = _data(data)
-    return _run(entities, _parse, Page(), _limits(limits, _FOREIGN * foreign), data, len(data))._read()
+    page: Page = _run(entities, _parse, Page(), _limits(limits, _FOREIGN * foreign), data, len(data))._read()
+    page._data = data
+    return page
 
 
 def parse_counts(
@@ -485,7 +517,18 @@ def parse_fragment(
     are the children of the element html that is the root."""
     data, name = _data(data), context.encode()
     options = _limits(limits, _IN_FORM * in_form | _QUIRKS * quirks | _FOREIGN * foreign)
-    return _run(entities, _parse_fragment, Page(), options, name, len(name), data, len(data))._read()
+    page: Page = _run(entities, _parse_fragment, Page(), options, name, len(name), data, len(data))._read()
+    page._data = data
+    return page
+
+
+def positions(data: Data, places: Iterable[int]) -> list[Position]:
+    """Where places of an input stand in its bytes (a str is encoded): by one pass where they never fall, as those of a page's errors."""
+    data, numbers = _data(data), list(places)
+    count = len(numbers)
+    told = (_Position * count)()
+    _check(_positions(data, len(data), (_U64 * count)(*numbers), count, told))
+    return [Position(at.offset, at.line, at.column) for at in told]
 
 
 def normalise(
@@ -497,26 +540,53 @@ def normalise(
 
 
 class Parser(_Owner):
-    """A document in pieces: `feed` each, then `finish`. The pieces are kept, and parsed at the end."""
+    """A document in pieces, cut anywhere, which are parsed as they come, or a fragment in a context: `feed` each, then `finish`, which answers the page.
+    A refusal is told with the piece in which it is met, and after it each call raises `Stopped`. At the end of a `with` the parser lets go of all it has."""
 
-    def __init__(self, *, foreign: bool = False, entities: Optional[Entities] = None, **limits: Optional[int]) -> None:
+    def __init__(
+        self,
+        context: Optional[str] = None,
+        *,
+        in_form: bool = False,
+        quirks: bool = False,
+        foreign: bool = False,
+        entities: Optional[Entities] = None,
+        **limits: Optional[int],
+    ) -> None:
         super().__init__()
-        self._entities = entities
-        _check(_parser_new(_limits(limits, _FOREIGN * foreign), self._handle))
-
-    def feed(self, piece: Data) -> None:
-        data = _data(piece)
-        status = _parser_feed(self._handle, data, len(data))
-        if status == _BAD_HANDLE:
-            raise ValueError("zilqumet: the parser is finished")
+        self._lock = threading.Lock()
+        table = Entities.standard() if entities is None else entities
+        options = _limits(limits, _IN_FORM * in_form | _QUIRKS * quirks | _FOREIGN * foreign)
+        name = None if context is None else context.encode()
+        with table._lock:
+            if name is None:
+                status = _parser_new(table._handle, options, self._handle)
+            else:
+                status = _parser_new_fragment(table._handle, options, name, len(name), self._handle)
         _check(status)
 
-    def finish(self) -> Page:
-        page, place = Page(), _U64(0)
-        table = Entities.standard() if self._entities is None else self._entities
-        with table._lock:
-            status = _parser_finish(self._handle, table._handle, page._handle, place)
+    def _run(self, function: Any, *arguments: Any) -> None:
+        place = _U64(0)
+        with self._lock:
+            status = function(self._handle, *arguments, place)
         if status == _BAD_HANDLE:
             raise ValueError("zilqumet: the parser is finished")
         _check(status, place.value)
+
+    def feed(self, piece: Data) -> None:
+        """Takes a piece (a str is encoded), and parses what it decides."""
+        data = _data(piece)
+        self._run(_parser_feed, data, len(data))
+
+    def finish(self) -> Page:
+        """Ends the input: the page of all that was fed, as `parse` or `parse_fragment` makes it of the whole."""
+        page = Page()
+        self._run(_parser_finish, page._handle)
         return page._read()
+
+    def __enter__(self) -> Parser:
+        return self
+
+    def __exit__(self, *_: Any) -> None:
+        with self._lock:
+            _free(self._handle)

@@ -2,13 +2,13 @@ use Rattle.std.proofs.Common.{ℕ, ◌==◌, ◌≡◌, ◌∷◌, [], List, Boo
 use Rattle.std.specs.Prelude.{slice_get, Some}
 use Rattle.std.specs.List.{list_all}
 use Rattle.std.proofs.lemmas.Bool.{false≢true}
-use Rattle.std.proofs.lemmas.Bool.Decides.{nat_tests}
 use Rattle.html_charref.specs.Plain.{is_plain_char}
 use Rattle.html_ledger.specs.declared.history.History.{History}
 use Rattle.html_ledger.specs.declared.symbol.Symbol.TheVariants.{Char}
 use Rattle.html_ledger.specs.Flags.{is_free, is_not_null, may_text_run}
 use Rattle.html_modes.specs.Plain.{GoesOnText}
 use Rattle.html_modes.specs.RawText.{AddsText}
+use Rattle.html_modes.proofs.Constructing.{char-taken}
 use Rattle.html_modes.proofs.plain_text.take_plain_front.Goals as goal
 
 three : (a b c : Bool) → a ≡ false → b ≡ true → IsTrue c → IsTrue (not a && (b && c))
@@ -67,3 +67,6 @@ pub returns-clause-adds : goal.returns-clause-adds
 returns-clause-adds c =
     let x = c.first-first.result in
     subst (λ run. AddsText run c.args.page.now c.take_char.new.page) (sym (first-taken c.args.text.now x c.first-first.ensures.first)) c.in_ok-take_char.ensures.adds
+
+pub returns-clause-constructs : goal.returns-clause-constructs
+returns-clause-constructs c = char-taken c.args.text.now c.first-first.result c.args.page.now c.take_char.new.page (first-taken c.args.text.now c.first-first.result c.first-first.ensures.first) c.in_ok-take_char.ensures.entries

@@ -22,3 +22,6 @@ returns-clause-out c = (c.in_ok-take.ensures.out (char-foreign c.args.c c.in_ok-
 
 pub returns-clause-founded : goal.returns-clause-founded
 returns-clause-founded c = c.in_ok-take.ensures.founded (char-foreign c.args.c c.in_ok-take.field-0 c.in_ok-take.ensures.foreign)
+
+pub returns-clause-entries : goal.returns-clause-entries
+returns-clause-entries c = c.in_ok-take.ensures.entries (char-foreign c.args.c c.in_ok-take.field-0 c.in_ok-take.ensures.foreign)

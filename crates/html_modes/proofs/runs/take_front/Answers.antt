@@ -7,6 +7,7 @@ use Rattle.html_ledger.specs.declared.symbol.Symbol.TheVariants.{Char}
 use Rattle.html_ledger.specs.Flags.{is_free, is_not_null, may_text_run}
 use Rattle.html_modes.specs.Plain.{GoesOnText}
 use Rattle.html_modes.specs.RawText.{AddsText}
+use Rattle.html_modes.proofs.Constructing.{char-taken}
 use Rattle.html_modes.proofs.runs.take_front.Goals as goal
 
 three : (a b c : Bool) → a ≡ false → b ≡ true → IsTrue c → IsTrue (not a && (b && c))
@@ -55,3 +56,6 @@ pub returns-clause-adds : goal.returns-clause-adds
 returns-clause-adds c =
     let x = c.index-text-0-2.result in
     subst (λ run. AddsText run c.args.page.now c.take_char.new.page) (sym (first-taken c.args.text.now x c.requires.some c.index-text-0-2.is)) c.in_ok-take_char.ensures.adds
+
+pub returns-clause-constructs : goal.returns-clause-constructs
+returns-clause-constructs c = char-taken c.args.text.now c.index-text-0-2.result c.args.page.now c.take_char.new.page (first-taken c.args.text.now c.index-text-0-2.result c.requires.some c.index-text-0-2.is) c.in_ok-take_char.ensures.entries

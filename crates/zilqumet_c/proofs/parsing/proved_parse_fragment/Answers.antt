@@ -1,7 +1,5 @@
-use Rattle.std.proofs.Common.{◌∙◌, None, Some, ap, inl, inr, refl, subst}
+use Rattle.std.proofs.Common.{◌∙◌, Some, ap, inl, inr, subst}
 use Rattle.std.specs.Prelude.{IfErr, IfOk}
-use Rattle.std.specs.Str.{chars}
-use Rattle.html_builder.specs.declared.context.Context.{Context}
 use Rattle.html_parser.specs.Parsed.{IsTreeOf}
 use Rattle.html_parser.specs.Options.{start_of}
 use Rattle.zilqumet_c.specs.Causes.{IsPageCause}
@@ -9,30 +7,21 @@ use Rattle.zilqumet_c.specs.Kept.{unboxed}
 use Rattle.zilqumet_c.specs.Reads.{options_in, rows_in}
 use Rattle.zilqumet_c.proofs.parsing.proved_parse_fragment.Goals as goal
 
-pub returns-clause-parsed : goal.returns-clause-parsed
-returns-clause-parsed c = λ is_ok.
+pub returns-in-Ok-clause-parsed : goal.returns-in-Ok-clause-parsed
+returns-in-Ok-clause-parsed c = λ is_ok.
     let k = c.keep.ensures.ok is_ok in
-    let around : Context = record { name = c.in-Ok-of.name; in_form = c.args.in_form; quirks = c.args.quirks; encoding = None } in
+    let is = c.options_of-options.ensures ∙ ap (λ x. options_in c.args.limits.now (Some x)) c.in-Ok.ensures.value in
     let tree = subst (λ v. IfOk v (λ r. IsTreeOf (start_of (rows_in (unboxed c.take-held.result)) c.options_of-options.result) c.args.bytes.now r.tree)) k.1
-    c.parsed_by-parsed.ensures.tree in (
-      k.0,
-      around,
-      k.2,
-      c.in-Ok-of.ensures ∙ ap (λ b. chars b) c.in-Ok.ensures.cases.0,
-      refl,
-      refl,
-      refl,
-      subst (λ v. IsTreeOf (start_of (rows_in v) (options_in c.args.limits.now (Some around))) c.args.bytes.now k.0.tree) c.take-held.ensures.value
-          (subst (λ l. IsTreeOf (start_of (rows_in (unboxed c.take-held.result)) l) c.args.bytes.now k.0.tree) c.options_of-options.ensures tree),
-    )
+    c.parsed_by-parsed.ensures.tree in
+    let of_rows = subst (λ v. IsTreeOf (start_of (rows_in v) c.options_of-options.result) c.args.bytes.now k.0.tree) c.take-held.ensures.value tree in
+    (k.0, k.2, subst (λ o. IsTreeOf (start_of (rows_in c.args.entities.now.value) o) c.args.bytes.now k.0.tree) is of_rows)
 
-pub returns-clause-cause : goal.returns-clause-cause
-returns-clause-cause c = λ bad. elim (c.keep.ensures.cause bad) [
+pub returns-in-Ok-clause-cause : goal.returns-in-Ok-clause-cause
+returns-in-Ok-clause-cause c = λ bad. elim (c.keep.ensures.cause bad) [
   | inl m ↦ inr (inl m)
   | inr t ↦
-      let around : Context = record { name = c.in-Ok-of.name; in_form = c.args.in_form; quirks = c.args.quirks; encoding = None } in
+      let is = c.options_of-options.ensures ∙ ap (λ x. options_in c.args.limits.now (Some x)) c.in-Ok.ensures.value in
       let cause = subst (λ v. IfErr v (IsPageCause (rows_in (unboxed c.take-held.result)) c.options_of-options.result c.args.bytes.now)) t.1 c.parsed_by-parsed.ensures.cause in
       let of_rows = subst (λ v. IsPageCause (rows_in v) c.options_of-options.result c.args.bytes.now t.0) c.take-held.ensures.value cause in
-      let of_limits = subst (λ l. IsPageCause (rows_in c.args.entities.now.value) l c.args.bytes.now t.0) c.options_of-options.ensures of_rows in
-      inr (inr (around, c.in-Ok-of.ensures ∙ ap (λ b. chars b) c.in-Ok.ensures.cases.0, refl, refl, refl, inr (t.0, of_limits, t.2, t.3)))
+      inr (inr (t.0, subst (λ o. IsPageCause (rows_in c.args.entities.now.value) o c.args.bytes.now t.0) is of_rows, t.2, t.3))
 ]

@@ -1,20 +1,27 @@
-use Rattle.std.proofs.Common.{◌≡◌, ◌∙◌, Some, ap, subst, sym}
-use Rattle.std.specs.Prelude.{IfOk}
+use Rattle.std.proofs.Common.{◌≡◌, ◌∙◌, ℕ, List, inl, inr, subst, sym}
+use Rattle.std.specs.Prelude.{IfErr, IfOk, IsSomeAnd}
+use Rattle.html_parser.specs.Causes.{IsCause}
+use Rattle.html_parser.specs.Owned.{IsOwnedFed, IsOwnedStopped}
 use Rattle.html_parser.specs.Parsed.{IsTreeOf}
-use Rattle.html_parser.specs.Options.{start_of}
-use Rattle.zilqumet_c.specs.Kept.{unboxed}
-use Rattle.zilqumet_c.specs.Reads.{IfParser, rows_in}
-use Rattle.zilqumet_c.specs.declared.held.Held.TheVariants.{Parser}
+use Rattle.html_parser.specs.Start.{Start}
+use Rattle.zilqumet_c.specs.Status.{status_of}
 use Rattle.zilqumet_c.proofs.pushing.proved_parser_finish.Goals as goal
 
-pub returns-clause-parsed : goal.returns-clause-parsed
-returns-clause-parsed c = λ is_ok.
+pub returns-in-Some-clause-parsed : goal.returns-in-Some-clause-parsed
+returns-in-Some-clause-parsed c = λ is_ok.
     let k = c.keep.ensures.ok is_ok in
-    let p = c.in-Parser.pushed in
-    let is : Some (Parser p) ≡ c.args.parser.now.value =
-    ap (λ h. Some h) (sym c.in-Parser.is ∙ c.as_ref.ensures) ∙ ap (λ b. unboxed b) (sym c.in-Some.is) ∙ c.take.ensures.value in
-    let of_slice = subst (λ v. IfOk v (λ r. IsTreeOf (start_of (rows_in (unboxed c.take-table.result)) p.options) c.as_slice.result.now r.tree)) k.1
-    c.parsed_by-parsed.ensures.tree in
-    let of_bytes = subst (λ xs. IsTreeOf (start_of (rows_in (unboxed c.take-table.result)) p.options) xs k.0.tree) c.as_slice.ensures.value of_slice in
-    let of_rows = subst (λ v. IsTreeOf (start_of (rows_in v) p.options) p.bytes.items k.0.tree) c.take-table.ensures.value of_bytes in
-    (k.0, k.2, subst (λ v. IfParser v (λ q. IsTreeOf (start_of (rows_in c.args.entities.now.value) q.options) q.bytes.items k.0.tree)) is of_rows)
+    let tree = subst (λ v. IfOk v (λ r. (start : Start) (bytes : List ℕ) → IsOwnedFed start c.in-Some.parser.feeder bytes → IsTreeOf start bytes r.tree)) k.1 c.end.ensures.tree in
+    (k.0, k.2, λ start bytes fed. tree start bytes (subst (λ o. IsSomeAnd o (λ p. IsOwnedFed start p.feeder bytes)) (sym c.taken.ensures.parser ∙ c.in-Some.is) fed))
+
+pub returns-in-Some-clause-cause : goal.returns-in-Some-clause-cause
+returns-in-Some-clause-cause c = λ bad start bytes fed. elim (c.keep.ensures.cause bad) [
+  | inl m ↦ inl m
+  | inr t ↦
+      let cause = subst (λ v. IfErr v (λ e. (start : Start) (bytes : List ℕ) → IsOwnedFed start c.in-Some.parser.feeder bytes → IsCause start bytes e)) t.1 c.end.ensures.cause in
+      inr (t.0, cause start bytes (subst (λ o. IsSomeAnd o (λ p. IsOwnedFed start p.feeder bytes)) (sym c.taken.ensures.parser ∙ c.in-Some.is) fed), t.2, t.3)
+]
+
+pub returns-in-Some-clause-stopped : goal.returns-in-Some-clause-stopped
+returns-in-Some-clause-stopped c = λ was.
+    subst (λ v. IfErr v (λ e. c.keep.result ≡ status_of e)) (c.end.ensures.stopped (subst (λ o. IsSomeAnd o (λ p. IsOwnedStopped p.feeder)) (sym c.taken.ensures.parser ∙ c.in-Some.is) was))
+    c.keep.ensures.told

@@ -37,6 +37,14 @@ pub struct zq_counts {
     pub errors: u64,
 }
 
+#[repr(C)]
+#[derive(Clone, Copy)]
+pub struct zq_position {
+    pub offset: u64,
+    pub line: u64,
+    pub column: u64,
+}
+
 pub const ZQ_OK: u32 = 0;
 pub const ZQ_OUT_OF_MEMORY: u32 = 1;
 pub const ZQ_INPUT_TOO_LONG: u32 = 2;
@@ -46,6 +54,7 @@ pub const ZQ_BAD_CONTEXT: u32 = 5;
 pub const ZQ_NODE_BUDGET: u32 = 6;
 pub const ZQ_HELD_BUDGET: u32 = 7;
 pub const ZQ_STEP_BUDGET: u32 = 8;
+pub const ZQ_STOPPED: u32 = 9;
 pub const ZQ_BAD_HANDLE: u32 = 12;
 pub const ZQ_BAD_INDEX: u32 = 13;
 pub const ZQ_BAD_ENTITIES: u32 = 14;
@@ -95,9 +104,16 @@ extern "C" {
         page: *mut zq_handle,
         place: *mut u64,
     ) -> u32;
-    pub fn zq_parser_new(options: *const zq_options, parser: *mut zq_handle) -> u32;
-    pub fn zq_parser_feed(parser: *mut zq_handle, piece: *const u8, len: usize) -> u32;
-    pub fn zq_parser_finish(parser: *mut zq_handle, entities: *mut zq_handle, page: *mut zq_handle, place: *mut u64) -> u32;
+    pub fn zq_parser_new(entities: *mut zq_handle, options: *const zq_options, parser: *mut zq_handle) -> u32;
+    pub fn zq_parser_new_fragment(
+        entities: *mut zq_handle,
+        options: *const zq_options,
+        context: *const u8,
+        context_len: usize,
+        parser: *mut zq_handle,
+    ) -> u32;
+    pub fn zq_parser_feed(parser: *mut zq_handle, piece: *const u8, len: usize, place: *mut u64) -> u32;
+    pub fn zq_parser_finish(parser: *mut zq_handle, page: *mut zq_handle, place: *mut u64) -> u32;
     pub fn zq_counts_of(page: *mut zq_handle, counts: *mut zq_counts) -> u32;
     pub fn zq_root(page: *mut zq_handle) -> u64;
     pub fn zq_kind_of(page: *mut zq_handle, node: u64) -> u32;
@@ -105,6 +121,8 @@ extern "C" {
     pub fn zq_attr_count(page: *mut zq_handle, node: u64) -> u64;
     pub fn zq_text(page: *mut zq_handle, part: u32, node: u64, index: u64, text: *mut zq_span) -> u32;
     pub fn zq_error(page: *mut zq_handle, index: u64, name: *mut zq_handle, place: *mut u64) -> u32;
+    pub fn zq_positions(bytes: *const u8, len: usize, places: *const u64, count: usize, positions: *mut zq_position) -> u32;
+    pub fn zq_text_below(page: *mut zq_handle, node: u64, buffer: *mut zq_handle) -> u32;
     pub fn zq_serialise(page: *mut zq_handle, angles: c_int, buffer: *mut zq_handle) -> u32;
     pub fn zq_normalise(
         entities: *mut zq_handle,

@@ -14,6 +14,7 @@
 use std::cell::UnsafeCell;
 use std::ffi::CStr;
 use std::fmt;
+use std::io;
 use std::marker::PhantomData;
 use zilqumet_sys as sys;
 
@@ -41,6 +42,8 @@ pub enum Error {
     HeldBudget { at: u64 },
     /// More steps than `max_steps` were counted before the token at a place.
     StepBudget { at: u64 },
+    /// The parser refused an earlier piece.
+    Stopped,
     /// Not a table of named character references.
     BadEntities,
     /// Another answer of the library, by its number.
@@ -58,6 +61,7 @@ impl Error {
             sys::ZQ_NODE_BUDGET => Error::NodeBudget { at },
             sys::ZQ_HELD_BUDGET => Error::HeldBudget { at },
             sys::ZQ_STEP_BUDGET => Error::StepBudget { at },
+            sys::ZQ_STOPPED => Error::Stopped,
             sys::ZQ_BAD_ENTITIES => Error::BadEntities,
             other => Error::Other(other),
         }
@@ -74,6 +78,7 @@ impl Error {
             Error::NodeBudget { .. } => sys::ZQ_NODE_BUDGET,
             Error::HeldBudget { .. } => sys::ZQ_HELD_BUDGET,
             Error::StepBudget { .. } => sys::ZQ_STEP_BUDGET,
+            Error::Stopped => sys::ZQ_STOPPED,
             Error::BadEntities => sys::ZQ_BAD_ENTITIES,
             Error::Other(status) => status,
         }
@@ -105,6 +110,16 @@ impl fmt::Display for Error {
 }
 
 impl std::error::Error for Error {}
+
+impl From<Error> for io::Error {
+    /// A piece that was refused, as a failed write.
+    fn from(error: Error) -> io::Error {
+        match error {
+            Error::OutOfMemory => io::Error::new(io::ErrorKind::OutOfMemory, error),
+            _ => io::Error::new(io::ErrorKind::InvalidData, error),
+        }
+    }
+}
 
 fn check(status: u32, place: u64) -> Result<(), Error> {
     if status == sys::ZQ_OK {
@@ -267,16 +282,29 @@ impl Options {
         text_in(&buffer)
     }
 
-    /// A parser of a document in pieces.
+    /// A parser of a document in pieces. It shares the table of references, and lives as long as it likes.
     ///
     /// # Errors
     ///
-    /// `OutOfMemory`.
-    pub fn parser(&self) -> Result<Parser<'_>, Error> {
+    /// `NodeBudget` where not even an empty page is within the limits; `OutOfMemory`.
+    pub fn parser(&self) -> Result<Parser, Error> {
         let handle = Handle::new();
-        // SAFETY: a handle of our own.
-        check(unsafe { sys::zq_parser_new(&self.raw, handle.get()) }, 0)?;
-        Ok(Parser { handle, options: self })
+        // SAFETY: two handles of our own.
+        check(unsafe { sys::zq_parser_new(self.entities.get(), &self.raw, handle.get()) }, 0)?;
+        Ok(Parser { handle })
+    }
+
+    /// The same of a fragment in a context, as `parse_fragment` has it.
+    ///
+    /// # Errors
+    ///
+    /// `BadContext`, and those of `parser`; `HeldBudget` where the root alone passes that limit.
+    pub fn fragment_parser(&self, context: &str) -> Result<Parser, Error> {
+        let handle = Handle::new();
+        // SAFETY: a text's bytes, and two handles of our own.
+        let status = unsafe { sys::zq_parser_new_fragment(self.entities.get(), &self.raw, context.as_ptr(), context.len(), handle.get()) };
+        check(status, 0)?;
+        Ok(Parser { handle })
     }
 }
 
@@ -313,35 +341,71 @@ pub fn library_version() -> &'static str {
     unsafe { CStr::from_ptr(sys::zq_version()) }.to_str().unwrap_or("")
 }
 
-/// A document in pieces, cut anywhere. They are kept, and parsed at the end.
-pub struct Parser<'a> {
+/// A document or a fragment in pieces, cut anywhere, which are parsed as they come. It is a writer too: `std::io::copy(&mut stream, &mut parser)`.
+///
+/// ```
+/// let mut parser = zilqumet::Options::new().parser()?;
+/// std::io::copy(&mut &b"<p>One<p>Two"[..], &mut parser)?;
+/// assert_eq!(parser.finish()?.serialise()?, "<html><head></head><body><p>One</p><p>Two</p></body></html>");
+/// # Ok::<(), Box<dyn std::error::Error>>(())
+/// ```
+pub struct Parser {
     handle: Handle,
-    options: &'a Options,
 }
 
-impl Parser<'_> {
-    /// Takes a piece. Where memory is refused the parser is as it was.
+impl Parser {
+    /// Takes a piece. What it decides is parsed.
     ///
     /// # Errors
     ///
-    /// `OutOfMemory`.
+    /// Those of `Options::parse`, with the piece in which they are met; after one of them each call answers `Stopped`.
     pub fn feed(&mut self, piece: &[u8]) -> Result<(), Error> {
+        let mut place = 0;
         // SAFETY: a slice's bytes, and a handle of our own.
-        check(unsafe { sys::zq_parser_feed(self.handle.get(), piece.as_ptr(), piece.len()) }, 0)
+        let status = unsafe { sys::zq_parser_feed(self.handle.get(), piece.as_ptr(), piece.len(), &mut place) };
+        check(status, place)
     }
 
     /// The page of all that was fed.
     ///
     /// # Errors
     ///
-    /// Those of `Options::parse`.
+    /// Those of `Options::parse`; `Stopped` after a refused piece.
     pub fn finish(self) -> Result<Page, Error> {
         let (page, mut place) = (Handle::new(), 0);
-        // SAFETY: three handles of our own.
-        let status = unsafe { sys::zq_parser_finish(self.handle.get(), self.options.entities.get(), page.get(), &mut place) };
+        // SAFETY: two handles of our own.
+        let status = unsafe { sys::zq_parser_finish(self.handle.get(), page.get(), &mut place) };
         check(status, place)?;
         Ok(Page { handle: page })
     }
+}
+
+impl io::Write for Parser {
+    /// Takes all of the piece, as `feed`.
+    fn write(&mut self, piece: &[u8]) -> io::Result<usize> {
+        self.feed(piece)?;
+        Ok(piece.len())
+    }
+
+    fn flush(&mut self) -> io::Result<()> {
+        Ok(())
+    }
+}
+
+/// Where a place stands: how many bytes are before it, its line, and its column in code points; both begin at 1.
+#[derive(Clone, Copy, Debug, PartialEq, Eq)]
+pub struct Position {
+    pub offset: u64,
+    pub line: u64,
+    pub column: u64,
+}
+
+/// Where places of an input stand in its bytes, one for one: by one pass where they never fall, as those of a page's errors.
+pub fn positions(bytes: &[u8], places: &[u64]) -> Vec<Position> {
+    let mut told = vec![sys::zq_position { offset: 0, line: 1, column: 1 }; places.len()];
+    // SAFETY: a slice's bytes, and two arrays of this many elements.
+    let _ok = unsafe { sys::zq_positions(bytes.as_ptr(), bytes.len(), places.as_ptr(), places.len(), told.as_mut_ptr()) };
+    told.into_iter().map(|sys::zq_position { offset, line, column }| Position { offset, line, column }).collect()
 }
 
 /// What a page counts.

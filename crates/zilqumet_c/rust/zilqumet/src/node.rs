@@ -1,6 +1,6 @@
 //! Nodes, and the ways from one to others.
 
-use crate::{bytes_in, Page};
+use crate::{bytes_in, check, text_in, Error, Handle, Page};
 use std::fmt;
 use zilqumet_sys as sys;
 
@@ -109,6 +109,18 @@ impl<'a> Node<'a> {
     /// The text of a text or of a comment, else an empty one.
     pub fn text(self) -> &'a str {
         self.part(sys::ZQ_DATA, 0).unwrap_or("")
+    }
+
+    /// All texts below this node, in tree order, those in templates with them; comments are none.
+    ///
+    /// # Errors
+    ///
+    /// `OutOfMemory`.
+    pub fn text_below(self) -> Result<String, Error> {
+        let buffer = Handle::new();
+        // SAFETY: the page's own handle, and another of our own.
+        check(unsafe { sys::zq_text_below(self.page.handle.get(), self.number, buffer.get()) }, 0)?;
+        text_in(&buffer)
     }
 
     /// The attributes of an element, as names and values, in the order of its tag.

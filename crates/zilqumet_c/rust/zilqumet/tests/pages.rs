@@ -1,5 +1,6 @@
 //! What the crate answers.
 
+use std::io::{ErrorKind, Write};
 use zilqumet::{normalise, parse, parse_fragment, Error, Kind, Options};
 
 fn written(bytes: &[u8]) -> String {
@@ -72,6 +73,55 @@ fn pieces() {
     }
     parser.feed(b"").unwrap();
     assert_eq!(parser.finish().unwrap().serialise().unwrap(), "<html><head></head><body><p>é</p></body></html>");
+}
+
+#[test]
+fn pieces_as_they_come() {
+    let mut parser = Options::new().parser().unwrap();
+    assert_eq!(parser.feed(b"<p>x<sv"), Ok(()));
+    assert_eq!(parser.feed(b"g>"), Err(Error::ForeignSvg { at: 4 }));
+    assert_eq!(parser.feed(b"x"), Err(Error::Stopped));
+    assert_eq!(parser.finish().err(), Some(Error::Stopped));
+    assert_eq!(Options::new().max_nodes(0).parser().err(), Some(Error::NodeBudget { at: 0 }));
+    // by the table of options that are gone
+    let json = br#"{"&eacute;": {"codepoints": [233], "characters": "\u00e9"}}"#;
+    let mut parser = Options::new().entities(json).unwrap().parser().unwrap();
+    parser.write_all(b"&eac").unwrap();
+    parser.write_all(b"ute;").unwrap();
+    parser.flush().unwrap();
+    assert_eq!(parser.finish().unwrap().root().text_below().unwrap(), "é");
+    let mut parser = Options::new().max_input(2).parser().unwrap();
+    let refused = std::io::copy(&mut &b"abc"[..], &mut parser).unwrap_err();
+    assert_eq!((refused.kind(), refused.to_string().as_str()), (ErrorKind::InvalidData, "input too long"));
+}
+
+#[test]
+fn pieces_of_a_fragment() {
+    let written = |options: Options, context: &str, text: &str| {
+        let mut parser = options.fragment_parser(context).unwrap();
+        for byte in text.bytes() {
+            parser.feed(&[byte]).unwrap();
+        }
+        parser.finish().unwrap().serialise().unwrap()
+    };
+    assert_eq!(written(Options::new(), "tr", "<td>x"), "<td>x</td>");
+    assert_eq!(written(Options::new().in_form(true), "div", "<form>x"), "x");
+    assert_eq!(written(Options::new().foreign(true), "svg path", "<g/><p>x"), "<g></g><p>x</p>");
+    assert_eq!(Options::new().fragment_parser("svg").err(), Some(Error::BadContext));
+    assert_eq!(Options::new().max_held(3).fragment_parser("p").err(), Some(Error::HeldBudget { at: 0 }));
+}
+
+#[test]
+fn places() {
+    let text = "é\r\nx<p a a>".as_bytes();
+    let page = parse(text).unwrap();
+    let places: Vec<_> = page.errors().unwrap().iter().map(|it| it.place).collect();
+    let at = zilqumet::positions(text, &places);
+    let last = at.last().unwrap();
+    assert_eq!((last.offset, last.line, last.column), (11, 2, 8));
+    assert_eq!(zilqumet::positions(b"", &[]), []);
+    let page = parse(b"<p>One<!--c--><b>two</b><template>T").unwrap();
+    assert_eq!(page.root().text_below().unwrap(), "OnetwoT");
 }
 
 #[test]

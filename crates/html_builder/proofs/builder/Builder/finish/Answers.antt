@@ -1,11 +1,12 @@
-use Rattle.std.proofs.Common.{false, subst, sym, true, ◌≡◌}
+use Rattle.std.proofs.Common.{Bool, ap, false, subst, sym, true, ◌≡◌}
 use Rattle.std.specs.List.{list_all}
 use Rattle.html_construction.specs.Built.{is_native}
 use Rattle.html_ledger.specs.declared.setting.Setting.TheVariants.{Document}
 use Rattle.html_builder.specs.Builders.{BuilderState}
 use Rattle.html_builder.specs.Handed.{Handed, parses_foreign}
 use Rattle.html_builder.specs.Plain.{HavePlainFates}
-use Rattle.html_builder.proofs.Endings.{bounded, entries-most, native, outcome, within}
+use Rattle.html_builder.specs.Built.{IsBuiltByRules}
+use Rattle.html_builder.proofs.Endings.{bounded, built-by-rules, entries-most, native, outcome, within}
 use Rattle.html_builder.proofs.Plainly.{page-fates, page-shown}
 use Rattle.html_builder.proofs.builder.Builder.finish.Goals as goal
 
@@ -42,3 +43,9 @@ pub returns-clause-within : goal.returns-clause-within
 returns-clause-within c = λ s l ts h.
     within s l ts (record { page = c.self.inside.construction; entries = c.self.inside.entries; stopped = c.self.inside.stopped }) c.into_parts.result.0
     (subst (λ b. Handed s l ts b) (sym c.self.view_is) h) c.into_parts.ensures.nodes c.into_parts.ensures.within
+
+pub returns-clause-built : goal.returns-clause-built
+returns-clause-built c = λ s l ts h.
+    subst (λ (f : Bool). IsBuiltByRules s l f ts c.into_parts.result.1 c.into_parts.result.0) (ap (λ (b : BuilderState). parses_foreign b) c.self.view_is)
+    (built-by-rules s l ts (record { page = c.self.inside.construction; entries = c.self.inside.entries; stopped = c.self.inside.stopped }) c.into_parts.result.0 c.into_parts.result.1
+    (subst (λ b. Handed s l ts b) (sym c.self.view_is) h) c.into_parts.ensures.nodes c.into_parts.ensures.fates)

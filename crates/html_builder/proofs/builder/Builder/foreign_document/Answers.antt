@@ -7,4 +7,4 @@ pub returns-clause-begun : goal.returns-clause-begun
 returns-clause-begun c =
     let k = c.in_ok-construction.ensures in
     foreign-document c.args.limits c.in_ok-construction.construction c.parse_foreign.new.self c.parse_foreign.ensures.rest (c.parse_foreign.ensures.keeps (nothing_of Document c.args.limits) k.built)
-    k.mode k.stack k.nodes k.uncloned k.implied k.counted k.tree k.ledger k.fostering k.context
+    k.mode k.stack k.nodes k.uncloned k.implied k.counted k.tree k.ledger k.fostering k.context k.first

@@ -8,4 +8,4 @@ returns-clause-begun c =
     let k = c.in_ok-construction.ensures in
     foreign-fragment (context_tag c.args.context.now) c.args.context.now.in_form c.args.limits c.in_ok-construction.construction c.parse_foreign.new.self c.parse_foreign.ensures.rest
     (c.parse_foreign.ensures.keeps (nothing_of (setting_of c.args.context.now) c.args.limits) k.built)
-    k.reset k.stack k.nodes k.uncloned k.implied k.counted k.founded
+    k.reset k.stack k.nodes k.uncloned k.implied k.counted k.founded k.first

@@ -12,7 +12,7 @@ pub returns-in-Ok-None-clause-takes : goal.returns-in-Ok-None-clause-takes
 returns-in-Ok-None-clause-takes c =
     viewed-token c.args.token.now.kind c.of-symbol.result (record { page = c.self.inside.construction; entries = c.self.inside.entries; stopped = c.self.inside.stopped }) c.args.self.now (record { page = c.take.new.page; entries = c.take.new.entries; stopped = false }) c.self.view_is c.of-symbol.ensures.value
     (c.in-Ok-None.ensures.takes c.in-Ok-None.field-0-is) (c.in-Ok-None.ensures.pays c.in-Ok-None.field-0-is) (c.in-Ok-None.ensures.enters c.in-Ok-None.field-0-is) (c.in-Ok-None.ensures.toils c.in-Ok-None.field-0-is) (c.in-Ok-None.ensures.plain c.in-Ok-None.field-0-is)
-    (c.in-Ok-None.ensures.opens c.in-Ok-None.field-0-is) (c.in-Ok-None.ensures.adds c.in-Ok-None.field-0-is) (c.in-Ok-None.ensures.ends c.in-Ok-None.field-0-is) (c.in-Ok-None.ensures.founded c.in-Ok-None.field-0-is) refl
+    (c.in-Ok-None.ensures.opens c.in-Ok-None.field-0-is) (c.in-Ok-None.ensures.adds c.in-Ok-None.field-0-is) (c.in-Ok-None.ensures.ends c.in-Ok-None.field-0-is) (c.in-Ok-None.ensures.founded c.in-Ok-None.field-0-is) c.in-Ok-None.ensures.parses (c.in-Ok-None.ensures.entries c.in-Ok-None.field-0-is) refl
 
 pub returns-in-Ok-None-clause-grows : goal.returns-in-Ok-None-clause-grows
 returns-in-Ok-None-clause-grows c =

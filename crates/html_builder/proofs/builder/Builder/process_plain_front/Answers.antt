@@ -11,7 +11,7 @@ returns-then-self-clause-cause c = λ s l ts h.
 pub returns-in-Ok-clause-takes : goal.returns-in-Ok-clause-takes
 returns-in-Ok-clause-takes c =
     viewed-run (take c.in-Ok.count c.args.text.now) (record { page = c.self.inside.construction; entries = c.self.inside.entries; stopped = c.self.inside.stopped }) c.args.self.now _ c.self.view_is
-    c.in-Ok.ensures.takes c.in-Ok.ensures.pays (taken-enters c.in-Ok.count c.args.text.now c.self.inside.entries c.take_plain_front.new.entries c.self.inside.construction c.take_plain_front.new.page c.in-Ok.ensures.count.1 c.in-Ok.ensures.enters) c.in-Ok.ensures.toils c.in-Ok.ensures.plain c.in-Ok.ensures.adds (take-some c.in-Ok.count c.args.text.now c.in-Ok.ensures.count.0 c.requires.some) c.in-Ok.ensures.founded refl
+    c.in-Ok.ensures.takes c.in-Ok.ensures.pays (taken-enters c.in-Ok.count c.args.text.now c.self.inside.entries c.take_plain_front.new.entries c.self.inside.construction c.take_plain_front.new.page c.in-Ok.ensures.count.1 c.in-Ok.ensures.enters) c.in-Ok.ensures.toils c.in-Ok.ensures.plain c.in-Ok.ensures.adds (take-some c.in-Ok.count c.args.text.now c.in-Ok.ensures.count.0 c.requires.some) c.in-Ok.ensures.founded c.in-Ok.ensures.parses c.in-Ok.ensures.constructs refl
 
 pub returns-in-Ok-clause-grows : goal.returns-in-Ok-clause-grows
 returns-in-Ok-clause-grows c =

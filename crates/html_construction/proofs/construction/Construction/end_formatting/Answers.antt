@@ -24,7 +24,7 @@ pub returns-in-OtherEndTag-clause-tags_stay : goal.returns-in-OtherEndTag-clause
 returns-in-OtherEndTag-clause-tags_stay c = λ x b. ap (λ (t : Tree). tag_at t.tree x) c.close_named.ensures.exact.tree_is ∙ c.in_ok-adopt.ensures.tags_stay x b
 
 pub returns-in-Done-clause-follows : goal.returns-in-Done-clause-follows
-returns-in-Done-clause-follows c = adopting c.args.tag c.args.self.now _ (search rules) (search rules)
+returns-in-Done-clause-follows c = adopting c.args.tag c.args.self.now _ (search rules) (search rules) (search rules)
 
 pub returns-in-OtherEndTag-clause-follows : goal.returns-in-OtherEndTag-clause-follows
-returns-in-OtherEndTag-clause-follows c = adopting c.args.tag c.args.self.now _ (search rules) (returns-in-OtherEndTag-clause-exact c)
+returns-in-OtherEndTag-clause-follows c = adopting c.args.tag c.args.self.now _ (search rules) (search rules) (returns-in-OtherEndTag-clause-exact c)

@@ -7,6 +7,7 @@ use Rattle.html_construction.proofs.Telling.{handed-on-any, refused-clones}
 use Rattle.html_construction.specs.States.{State}
 use Rattle.std.proofs.Common.{rules}
 use Rattle.html_construction.proofs.Doing.{reconstructing}
+use Rattle.html_construction.proofs.Homing.{homing-seen}
 use Rattle.html_construction.proofs.construction.Construction.reconstruct.Goals as goal
 
 pub returns-clause-keeps : goal.returns-clause-keeps
@@ -29,4 +30,7 @@ returns-in_err-reopen-clause-refuses c =
     (refused-clones c.args.self.now _ c.self.inside.tree c.in_err-reopen.field-0.0 (ap (λ (x : State). x.tree.tree.limits) c.self.view_is) c.in_err-reopen.ensures.told)
 
 pub returns-clause-follows : goal.returns-clause-follows
-returns-clause-follows c = reconstructing c.args.self.now _ (search rules) (search rules)
+returns-clause-follows c = reconstructing c.args.self.now _ (search rules) (search rules) (search rules)
+
+pub returns-clause-home : goal.returns-clause-home
+returns-clause-home c = homing-seen _ c.args.self.now _ c.reopen.new.self c.self.view_is refl refl c.reopen.ensures.opened c.requires.opened

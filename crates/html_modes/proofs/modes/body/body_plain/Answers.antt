@@ -1,7 +1,10 @@
-use Rattle.std.proofs.Common.{false, ap, sym, subst, take, arith, ◌∙◌, ◌+◌, ◌*◌, ◌-◌}
+use Rattle.std.specs.List.{list_all}
+use Rattle.html_ledger.specs.Spaces.{is_space}
+use Rattle.std.proofs.Common.{List, ℕ, refl, true, false, ap, sym, subst, take, arith, ◌∙◌, ◌+◌, ◌*◌, ◌-◌}
 use Rattle.html_construction.specs.Built.{chars_of, with_tokens}
 use Rattle.html_construction.specs.States.{State}
 use Rattle.html_construction.specs.Works.{Works}
+use Rattle.html_modes.proofs.Constructing.{body-made}
 use Rattle.html_modes.proofs.InBody.{reconstructed}
 use Rattle.html_modes.proofs.Settled.{works-run}
 use Rattle.html_modes.proofs.TextRuns.{run-counted, run-flag, run-looked, turn-run}
@@ -52,3 +55,15 @@ pub returns-else-not-is_space_text-clause-takes : goal.returns-else-not-is_space
 returns-else-not-is_space_text-clause-takes c = λ h built.
     let after = with_tokens h (chars_of (take c.in_ok-taken.taken c.args.text.now)) in
     c.look_again.ensures.keeps after (c.in_ok-taken.ensures.takes h (c.in_ok-reconstruct.ensures.keeps h built))
+
+pub returns-then-not-is_space_text-clause-run : goal.returns-then-not-is_space_text-clause-run
+returns-then-not-is_space_text-clause-run c =
+    body-made (take c.in_ok-taken.taken c.args.text.now) c.args.page.now c.reconstruct.new.self c.insert_plain.new.self c.look_again.new.self c.frameset_off.new.self false c.in_ok-reconstruct.ensures.rest c.in_ok-reconstruct.ensures.pointers c.in_ok-reconstruct.ensures.exact
+    c.in_ok-reconstruct.ensures.home c.in_ok-taken.ensures.goes_on c.in_ok-taken.ensures.rest c.in_ok-taken.ensures.exact c.in_ok-taken.ensures.fate c.look_again.ensures.rest c.look_again.ensures.same
+    (sym c.if-not-is_space_text.true ∙ c.is_space_text.ensures.value ∙ ap (λ (cs : List ℕ). list_all is_space cs) (c.as_str.ensures.code_points ∙ c.front.ensures)) c.frameset_off.ensures.rest
+
+pub returns-else-not-is_space_text-clause-run : goal.returns-else-not-is_space_text-clause-run
+returns-else-not-is_space_text-clause-run c =
+    body-made (take c.in_ok-taken.taken c.args.text.now) c.args.page.now c.reconstruct.new.self c.insert_plain.new.self c.look_again.new.self c.look_again.new.self true c.in_ok-reconstruct.ensures.rest c.in_ok-reconstruct.ensures.pointers c.in_ok-reconstruct.ensures.exact
+    c.in_ok-reconstruct.ensures.home c.in_ok-taken.ensures.goes_on c.in_ok-taken.ensures.rest c.in_ok-taken.ensures.exact c.in_ok-taken.ensures.fate c.look_again.ensures.rest c.look_again.ensures.same
+    (sym c.if-not-is_space_text.false ∙ c.is_space_text.ensures.value ∙ ap (λ (cs : List ℕ). list_all is_space cs) (c.as_str.ensures.code_points ∙ c.front.ensures)) refl

@@ -1,6 +1,7 @@
-use Rattle.std.proofs.Common.{false, ap, sym, subst, take, arith, ◌∙◌, ◌+◌, ◌*◌, ◌-◌}
+use Rattle.std.proofs.Common.{refl, true, false, ap, sym, subst, take, arith, ◌∙◌, ◌+◌, ◌*◌, ◌-◌}
 use Rattle.html_construction.specs.States.{State}
 use Rattle.html_construction.specs.Works.{Works}
+use Rattle.html_modes.proofs.Constructing.{body-made}
 use Rattle.html_modes.proofs.InBody.{reconstructed}
 use Rattle.html_modes.proofs.Settled.{works-run}
 use Rattle.html_modes.proofs.TextRuns.{run-counted, run-flag, run-looked, turn-run}
@@ -41,3 +42,21 @@ pub returns-else-not-are_spaces-clause-counted : goal.returns-else-not-are_space
 returns-else-not-are_spaces-clause-counted c =
     run-counted c.in_ok-count.count c.args.page.now c.reconstruct.new.self c.insert_run.new.self c.look_again.new.self c.in_ok-reconstruct.ensures.rest c.in_ok-reconstruct.ensures.exact c.in_ok-reconstruct.ensures.counted
     (take c.in_ok-count.count c.args.run.now) c.in_ok-count.ensures.exact c.in_ok-count.ensures.counted c.look_again.ensures.counted
+
+pub returns-then-not-are_spaces-clause-run : goal.returns-then-not-are_spaces-clause-run
+returns-then-not-are_spaces-clause-run c =
+    body-made (take c.in_ok-count.count c.args.run.now) c.args.page.now c.reconstruct.new.self c.insert_run.new.self c.look_again.new.self c.frameset_off.new.self false c.in_ok-reconstruct.ensures.rest c.in_ok-reconstruct.ensures.pointers c.in_ok-reconstruct.ensures.exact
+    c.in_ok-reconstruct.ensures.home c.in_ok-count.ensures.goes_on c.in_ok-count.ensures.rest c.in_ok-count.ensures.exact c.in_ok-count.ensures.fate c.look_again.ensures.rest c.look_again.ensures.same
+    (sym c.if-not-are_spaces.true ∙ c.are_spaces.ensures.value) c.frameset_off.ensures.rest
+
+pub returns-else-not-are_spaces-clause-run : goal.returns-else-not-are_spaces-clause-run
+returns-else-not-are_spaces-clause-run c =
+    body-made (take c.in_ok-count.count c.args.run.now) c.args.page.now c.reconstruct.new.self c.insert_run.new.self c.look_again.new.self c.look_again.new.self true c.in_ok-reconstruct.ensures.rest c.in_ok-reconstruct.ensures.pointers c.in_ok-reconstruct.ensures.exact
+    c.in_ok-reconstruct.ensures.home c.in_ok-count.ensures.goes_on c.in_ok-count.ensures.rest c.in_ok-count.ensures.exact c.in_ok-count.ensures.fate c.look_again.ensures.rest c.look_again.ensures.same
+    (sym c.if-not-are_spaces.false ∙ c.are_spaces.ensures.value) refl
+
+pub returns-then-not-are_spaces-clause-takes : goal.returns-then-not-are_spaces-clause-takes
+returns-then-not-are_spaces-clause-takes c = λ h w. c.frameset_off.ensures.keeps _ (c.look_again.ensures.keeps _ (c.in_ok-count.ensures.takes h (c.in_ok-reconstruct.ensures.keeps h w)))
+
+pub returns-else-not-are_spaces-clause-takes : goal.returns-else-not-are_spaces-clause-takes
+returns-else-not-are_spaces-clause-takes c = λ h w. c.look_again.ensures.keeps _ (c.in_ok-count.ensures.takes h (c.in_ok-reconstruct.ensures.keeps h w))

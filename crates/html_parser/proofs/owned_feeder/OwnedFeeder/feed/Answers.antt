@@ -1,5 +1,5 @@
 use Rattle.std.proofs.Common.{◌≡◌, ◌∙◌, ◌++◌, ℕ, List, refl, sym, subst}
-use Rattle.std.specs.Prelude.{IfSome}
+use Rattle.std.specs.Prelude.{IsSomeAnd}
 use Rattle.std.specs.Arc.{arc_value}
 use Rattle.html_tokens.specs.declared.token.Token.{Token}
 use Rattle.html_parser.specs.Causes.{IsFeedCause, IsToldIn}
@@ -46,20 +46,20 @@ returns-clause-told c = λ start bytes h.
     (paused_in start c.args.self.now c.in-Some.stages bytes (sym c.take.ensures.value ∙ c.in-Some.is) h) in
     let told = at_err (λ e. (start : Start) (bytes : List ℕ) → HavePaused start c.deref.result.now c.in-Some.stages bytes → IsToldIn start.limits c.fed-stages.result.0.builder.page e)
     c.fed-stages.result.1 c.in-Err.error c.in-Err.is c.fed-stages.ensures.told start bytes lent in
-    subst (λ o. IfSome o (λ s. IsToldIn start.limits s.builder.page c.in-Err.error)) (sym c.replace-none.ensures.after) told
+    subst (λ o. IsSomeAnd o (λ s. IsToldIn start.limits s.builder.page c.in-Err.error)) (sym c.replace-none.ensures.after) told
 
 pub returns-in-Ok-clause-prompt : goal.returns-in-Ok-clause-prompt
 returns-in-Ok-clause-prompt c = λ start bytes h.
     let lent = subst (λ rows. HavePaused start rows c.in-Some.stages bytes) (sym c.deref.ensures)
     (paused_in start c.args.self.now c.in-Some.stages bytes (sym c.take.ensures.value ∙ c.in-Some.is) h) in
-    subst (λ o. IfSome o (λ s. (tokens : List Token) × AreHandedOn start s.builder (bytes ++ c.args.piece.now) tokens)) (sym c.replace-none.ensures.after)
+    subst (λ o. IsSomeAnd o (λ s. (tokens : List Token) × AreHandedOn start s.builder (bytes ++ c.args.piece.now) tokens)) (sym c.replace-none.ensures.after)
     (at_ok c.fed-stages.result.1 c.in-Ok.field-0 c.in-Ok.is c.fed-stages.ensures.prompt start bytes lent)
 
 pub returns-in-Ok-clause-kept : goal.returns-in-Ok-clause-kept
 returns-in-Ok-clause-kept c = λ start bytes h was.
     let lent = subst (λ rows. HavePaused start rows c.in-Some.stages bytes) (sym c.deref.ensures)
     (paused_in start c.args.self.now c.in-Some.stages bytes (sym c.take.ensures.value ∙ c.in-Some.is) h) in
-    subst (λ o. IfSome o (λ s. AreHandedOn start s.builder (bytes ++ c.args.piece.now) s.kept.tokens)) (sym c.replace-none.ensures.after)
+    subst (λ o. IsSomeAnd o (λ s. AreHandedOn start s.builder (bytes ++ c.args.piece.now) s.kept.tokens)) (sym c.replace-none.ensures.after)
     (at_ok c.fed-stages.result.1 c.in-Ok.field-0 c.in-Ok.is c.fed-stages.ensures.kept start bytes lent
     (was c.in-Some.stages (sym c.take.ensures.value ∙ c.in-Some.is)))
 

@@ -32,3 +32,6 @@ pub returns-clause-steps : goal.returns-clause-steps
 returns-clause-steps c =
     run-most c.args.self.now.steps (here_steps c.args.self.now c.args.foster) (new_text_steps (text_before c.args.self.now.tree (place_here c.args.self.now c.args.foster)) (here_steps c.args.self.now c.args.foster)) c.in_ok-count.count
     (length c.args.self.now.stack) c.charge_again.new.self.steps c.in_ok-count.ensures.count.0 (place-most c.args.self.now.tree c.args.self.now.stack c.args.foster) (new-text-most (text_before c.args.self.now.tree (place_here c.args.self.now c.args.foster)) (here_steps c.args.self.now c.args.foster)) (returns-clause-counted c)
+
+pub returns-clause-keeps : goal.returns-clause-keeps
+returns-clause-keeps c = λ s since. c.charge_again.ensures.keeps s (c.in_ok-count.ensures.keeps s (c.in_ok-node.ensures.keeps s since))

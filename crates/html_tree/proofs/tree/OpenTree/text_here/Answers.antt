@@ -1,13 +1,15 @@
 use Rattle.std.proofs.Common.{◌≡◌, ◌≤◌, ◌+◌, ◌<◌, length, subst, ap, sym, ◌∙◌, None, arith, refl}
 use Rattle.html_arena.specs.Tree.{Tree, parent_of, more}
 use Rattle.html_open.specs.Marking.{bare}
-use Rattle.html_open.specs.Placing.{parent_at, place_steps}
-use Rattle.html_tree.specs.States.{State}
+use Rattle.html_open.specs.Placing.{IsPlace, parent_at, place_steps}
+use Rattle.html_open.specs.declared.places.Place.{Place}
+use Rattle.html_tree.specs.States.{State, state_of}
 use Rattle.html_tree.specs.Steps.{here_steps}
-use Rattle.html_tree.specs.Texts.{IsFree, place_here, text_before}
+use Rattle.html_tree.specs.Texts.{IsFree, TextGoesOn, place_here, text_before}
 use Rattle.html_tree.proofs.Inserted.{parent-charged, place-most}
 use Rattle.html_tree.proofs.Kept.{charged-steps, charged-under_way, read-grown, read-keeps, read-rest}
 use Rattle.html_tree.proofs.Texted.{free-here, if-some, text-same}
+use Rattle.html_tree.proofs.TextTwice.{text-goes-on}
 use Rattle.html_tree.proofs.OpenTags.{kept-tags}
 use Rattle.html_tree.proofs.SearchEnds.{ends-labels}
 use Rattle.html_tree.proofs.Standing.{seats-as}
@@ -52,3 +54,9 @@ returns-clause-tags c = kept-tags c.args.self.now _ c.self.inside.stack c.self.i
 pub returns-clause-counted : goal.returns-clause-counted
 returns-clause-counted c =
     subst (λ (a : State). c.place-place.new.arena.steps ≡ more a.steps (here_steps a c.args.foster)) c.self.view_is (ap (λ (v : Tree). v.steps) c.place-place.ensures.steps)
+
+pub returns-clause-goes_on : goal.returns-clause-goes_on
+returns-clause-goes_on c =
+    subst (λ (a : State). TextGoesOn a c.args.foster) c.self.view_is
+    (text-goes-on (state_of c.self.inside.stack c.self.inside.list c.self.inside.arena c.self.inside.tokens c.self.inside.head c.self.inside.form c.self.inside.detached) c.args.foster c.self.inside.arena refl c.forest.ensures.well_formed
+    (subst (λ (p : Place). IsPlace c.self.inside.arena p) c.place-place.ensures.place c.place-place.ensures.there))

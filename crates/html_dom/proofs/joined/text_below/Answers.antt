@@ -5,7 +5,7 @@ use Rattle.std.proofs.lemmas.Str.{encodes-append}
 use Rattle.std.proofs.lemmas.Slice.{pushed}
 use Rattle.html_arena.specs.Tree.{label_of}
 use Rattle.html_dom.specs.Reads.{text_of_all, text_part}
-use Rattle.html_dom.proofs.texts.text_below.Goals as goal
+use Rattle.html_dom.proofs.joined.text_below.Goals as goal
 
 pub nodes-preserved : goal.nodes-preserved
 nodes-preserved c =

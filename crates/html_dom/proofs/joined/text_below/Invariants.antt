@@ -2,7 +2,7 @@ use Rattle.std.proofs.Common.{◌≡◌, ◌++◌, length}
 use Rattle.std.specs.Prelude.{string_bytes}
 use Rattle.std.specs.Str.{encode_utf8_all}
 use Rattle.html_dom.specs.Reads.{descendants_of, text_of_all}
-use Rattle.html_dom.proofs.texts.text_below.Given as goal
+use Rattle.html_dom.proofs.joined.text_below.Given as goal
 
 abbrev pub invariant-nodes : goal.invariant-nodes
 invariant-nodes l =

@@ -1,0 +1,68 @@
+-- Two answers of parsing for one input.
+use Rattle.std.proofs.Common.{◌≡◌, ℕ, suc, zero, Bool, true, false, not, List, [], ◌∷◌, Some, inl, inr, sym, ◌∙◌, ap}
+use Rattle.std.specs.Prelude.{slice_get}
+use Rattle.std.specs.List.{list_all}
+use Rattle.std.proofs.lemmas.Bool.{false≢true}
+use Rattle.html_input.specs.Decode.{decode}
+use Rattle.html_tokens.specs.declared.token.Token.{Token}
+use Rattle.html_arena.specs.Tree.{Tree as Nodes}
+use Rattle.html_ledger.specs.declared.fate.Fate.{Fate}
+use Rattle.html_ledger.specs.declared.setting.Setting.{Setting}
+use Rattle.html_ledger.specs.declared.symbol.Symbol.{Symbol}
+use Rattle.html_ledger.specs.declared.symbol.Symbol.TheVariants as symbol
+use Rattle.html_ledger.specs.Fates.{is_foreign}
+use Rattle.html_ledger.specs.MayDrop.{MayBeForeign, embeds}
+use Rattle.html_ledger.specs.Settings.{is_foreign_context}
+use Rattle.html_construction.specs.Built.{is_native, symbols}
+use Rattle.html_builder.specs.Built.{IsBuiltByRules}
+use Rattle.html_parser.specs.declared.faults.PageFault.{PageFault}
+use Rattle.html_parser.specs.Kinds.{kinds}
+use Rattle.html_parser.specs.Parsed.{Headline}
+use Rattle.html_parser.specs.Start.{Start, parses, text_start}
+use Rattle.html_laws.specs.OnePage.{InputsHaveOnePage, InputsHaveOneTree, IsOnePage, RefusesForeign}
+use Rattle.html_laws.specs.Outcomes.{BeginAlike}
+use Rattle.html_laws.proofs.Conjunctions.{both}
+use Rattle.html_laws.proofs.Texts.{texts-one}
+
+none-at : (p : Fate → Bool) (fs : List Fate) (i : ℕ) (f : Fate) → list_all p fs ≡ true → slice_get fs i ≡ Some f → p f ≡ true
+none-at p [] zero f h e = absurd (let k = e in cc)
+none-at p [] (suc i) f h e = absurd (let k = e in cc)
+none-at p (g ∷ fs) zero f h e = ap p (let k : f ≡ g = cc in k) ∙ (both (p g) (list_all p fs) h).0
+none-at p (g ∷ fs) (suc i) f h e = none-at p fs i f ((both (p g) (list_all p fs) h).1) e
+
+embeds-foreign : (y : Symbol) (f : Fate) → embeds y f ≡ true → is_foreign f ≡ true
+embeds-foreign (symbol.Start g) f h = h
+embeds-foreign (symbol.End g) f h = absurd (false≢true h)
+embeds-foreign (symbol.Char c) f h = absurd (false≢true h)
+embeds-foreign symbol.Comment f h = absurd (false≢true h)
+embeds-foreign symbol.Doctype f h = absurd (false≢true h)
+embeds-foreign symbol.Eof f h = absurd (false≢true h)
+
+-- no element of foreign content was made
+not-foreign : (s : Setting) (ys : List Symbol) (fs : List Fate) → list_all is_native fs ≡ true → is_foreign_context s ≡ false → MayBeForeign s ys fs → ⊥
+not-foreign s ys fs h c (inl k) =
+    let f = embeds-foreign k.token k.fate k.is_such in
+    false≢true (sym (ap not f) ∙ none-at is_native fs k.at k.fate h k.fate_is)
+not-foreign s ys fs h c (inr k) = false≢true (sym c ∙ k)
+
+module _ (start : Start) (bytes : List ℕ) (r : RefusesForeign start) where
+  -- where foreign content is refused
+  abbrev built : (ts : List Token) (fs : List Fate) (t : Nodes) (b : IsBuiltByRules start.setting start.limits (parses start.foreign) (kinds ts) fs t) → IsBuiltByRules start.setting start.limits false (kinds ts) fs t
+  built ts fs t b = record { first = b.first; begins = b.begins; foreign_is = b.foreign_is ∙ ap parses r.refused; last = b.last; constructs = b.constructs; tree_is = b.tree_is; fates_are = b.fates_are }
+
+  headlines-one : (ts us : List Token) (fs gs : List Fate) (t u : Nodes) (root root' n n' steps steps' : ℕ) (errors errors' : List PageFault) → (p : Headline start bytes ts fs t root errors n steps)
+      → (q : Headline start bytes us gs u root' errors' n' steps') → BeginAlike start.setting p.built.first q.built.first → IsOnePage ts us fs gs t u
+  headlines-one ts us fs gs t u root root' n n' steps steps' errors errors' p q e =
+      let k = texts-one start.setting start.limits (decode bytes) (text_start start) ts us p.tokens_are.said q.tokens_are.said fs gs t u r.no_context p.tokens_are.are q.tokens_are.are
+      (p.tokens_are.by_fates (not-foreign start.setting (symbols (kinds ts)) fs (p.native r.refused r.no_context) r.no_context))
+      (q.tokens_are.by_fates (not-foreign start.setting (symbols (kinds us)) gs (q.native r.refused r.no_context) r.no_context))
+      (built ts fs t p.built) (built us gs u q.built) e in
+      record { same_tokens = k.0; outcome = k.1 }
+
+pub inputs-page : InputsHaveOnePage
+inputs-page start bytes page page' r p q e =
+    headlines-one start bytes r page.tokens page'.tokens page.fates page'.fates page.arena page'.arena page.root page'.root page.n page'.n page.steps page'.steps page.errors.items page'.errors.items p q e
+
+pub inputs-tree : InputsHaveOneTree
+inputs-tree start bytes tree tree' r p q e =
+    (headlines-one start bytes r p.tokens q.tokens p.fates q.fates tree.arena tree'.arena tree.root tree'.root tree.n tree'.n tree.steps tree'.steps tree.errors.items tree'.errors.items p.is q.is e).outcome.same_nodes

@@ -1,0 +1,4 @@
+-- Claimed.
+pub mod Likeness
+pub mod OnePage
+pub mod Outcomes

@@ -1,0 +1,22 @@
+// That the rules of tree construction have one outcome (13.2.6), and parsing with them.
+ghost use Rattle.html_laws.specs.OnePage.{InputsHaveOnePage, InputsHaveOneTree};
+ghost use Rattle.html_laws.specs.Outcomes.{PagesHaveOneTree, PlansHaveOneEnd, TokensHaveOneEnd};
+
+/// A law: two runs of one plan for one token, and two runs of the rules over the same tokens where foreign content is refused, end alike, from states that
+/// differ in nothing but marks, counts and what tells errors of end tags.
+pub fn rules_have_one_outcome()
+    ensures plans { PlansHaveOneEnd }
+    ensures tokens { TokensHaveOneEnd }
+{}
+
+/// A law: the tokens of a page have one list of fates and one tree, marks and counts apart, where foreign content is refused and is not the context.
+pub fn construction_has_one_outcome()
+    ensures { PagesHaveOneTree }
+{}
+
+/// A law: an input has one list of tokens, one list of fates and one tree, marks and counts apart, however it was cut, where foreign content is refused and is
+/// not the context.
+pub fn parsing_has_one_outcome()
+    ensures page { InputsHaveOnePage }
+    ensures tree { InputsHaveOneTree }
+{}
