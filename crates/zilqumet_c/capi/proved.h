@@ -33,6 +33,14 @@ uint32_t proved_all_texts(proved_slot *page, proved_slot *buffer, zq_texts *text
 uint32_t proved_error(proved_slot *page, uint64_t index, proved_slot *name, uint64_t *place);
 size_t proved_positions(const uint8_t *bytes, size_t len, const uint64_t *places, size_t count, zq_position *positions, size_t room);
 uint32_t proved_text_below(proved_slot *page, uint64_t node, proved_slot *buffer);
+uint32_t proved_set_attr(proved_slot *page, uint64_t node, const uint8_t *name, size_t name_len, const uint8_t *value, size_t value_len);
+uint32_t proved_remove_attr(proved_slot *page, uint64_t node, const uint8_t *name, size_t name_len);
+uint32_t proved_remove(proved_slot *page, uint64_t node);
+uint32_t proved_unwrap(proved_slot *page, uint64_t node);
+uint32_t proved_append(proved_slot *page, uint64_t parent, uint64_t child);
+uint32_t proved_insert_before(proved_slot *page, uint64_t child, uint64_t next);
+uint32_t proved_make_element(proved_slot *page, const uint8_t *name, size_t len, uint64_t *number);
+uint32_t proved_make_text(proved_slot *page, const uint8_t *text, size_t len, uint64_t *number);
 uint32_t proved_serialise(proved_slot *page, bool angles, proved_slot *buffer);
 uint32_t proved_normalise(proved_slot *entities, const proved_limits *limits, const uint8_t *bytes, size_t len, bool angles, proved_slot *buffer,
                           uint64_t *place);

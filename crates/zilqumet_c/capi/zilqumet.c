@@ -35,6 +35,12 @@ const char *zq_strerror(uint32_t status)
         "bad entities",
         "bad pointer",
         "bad flags",
+        "not an element",
+        "bad name",
+        "not linkable",
+        "no parent",
+        "cycle",
+        "bad text",
     };
     return status < sizeof texts / sizeof texts[0] ? texts[status] : "unknown status";
 }
@@ -255,6 +261,59 @@ uint32_t zq_text_below(zq_page *page, uint64_t node, zq_buffer *buffer)
     return proved_text_below(slot(page), node, slot(buffer));
 }
 
+uint32_t zq_set_attr(zq_page *page, uint64_t node, const void *name, size_t name_len, const void *value, size_t value_len)
+{
+    if (page == NULL || !are_bytes(name, name_len) || !are_bytes(value, value_len))
+        return ZQ_BAD_POINTER;
+    return proved_set_attr(slot(page), node, some(name), name_len, some(value), value_len);
+}
+
+uint32_t zq_remove_attr(zq_page *page, uint64_t node, const void *name, size_t name_len)
+{
+    if (page == NULL || !are_bytes(name, name_len))
+        return ZQ_BAD_POINTER;
+    return proved_remove_attr(slot(page), node, some(name), name_len);
+}
+
+uint32_t zq_remove(zq_page *page, uint64_t node) { return page != NULL ? proved_remove(slot(page), node) : ZQ_BAD_POINTER; }
+
+uint32_t zq_unwrap(zq_page *page, uint64_t node) { return page != NULL ? proved_unwrap(slot(page), node) : ZQ_BAD_POINTER; }
+
+uint32_t zq_append(zq_page *page, uint64_t parent, uint64_t child)
+{
+    return page != NULL ? proved_append(slot(page), parent, child) : ZQ_BAD_POINTER;
+}
+
+uint32_t zq_insert_before(zq_page *page, uint64_t child, uint64_t next)
+{
+    return page != NULL ? proved_insert_before(slot(page), child, next) : ZQ_BAD_POINTER;
+}
+
+/* Tells the number of a node that was made, or that there is none. */
+static uint32_t tell(uint32_t status, uint64_t number, uint64_t *node)
+{
+    *node = status == ZQ_OK ? number : ZQ_NO_NODE;
+    return status;
+}
+
+uint32_t zq_make_element(zq_page *page, const void *name, size_t len, uint64_t *node)
+{
+    uint64_t number = ZQ_NO_NODE;
+    if (page == NULL || node == NULL || !are_bytes(name, len))
+        return ZQ_BAD_POINTER;
+    status = proved_make_element(slot(page), some(name), len, &number);
+    return tell(status, number, node);
+}
+
+uint32_t zq_make_text(zq_page *page, const void *text, size_t len, uint64_t *node)
+{
+    uint64_t number = ZQ_NO_NODE;
+    if (page == NULL || node == NULL || !are_bytes(text, len))
+        return ZQ_BAD_POINTER;
+    status = proved_make_text(slot(page), some(text), len, &number);
+    return tell(status, number, node);
+}
+
 uint32_t zq_serialise(zq_page *page, int angles, zq_buffer *buffer)
 {
     if (page == NULL || buffer == NULL)
@@ -266,6 +325,7 @@ uint32_t zq_serialise(zq_page *page, int angles, zq_buffer *buffer)
 
 uint32_t zq_normalise(zq_entities *entities, const zq_options *options, const void *bytes, size_t len, int angles, zq_buffer *buffer, uint64_t *place)
 {
+    uint32_t status;
     call it;
     uint32_t status = begin(&it, entities, options, buffer, place);
     if (status != ZQ_OK)
@@ -274,6 +334,7 @@ uint32_t zq_normalise(zq_entities *entities, const zq_options *options, const vo
         return ZQ_BAD_POINTER;
     return proved_normalise(it.entities, &it.limits, some(bytes), len, angles != 0, slot(buffer), it.place);
 }
+    uint32_t status;
 
 uint32_t zq_bytes(zq_buffer *buffer, zq_span *bytes)
 {

@@ -21,7 +21,7 @@
  *   - `held` is the library's: it is neither read nor written by the caller.
  *
  * POINTERS. What zq_text, zq_rows, zq_all_texts and zq_bytes hand out points into the handle. It stays there, unchanged, until that handle is freed or filled
- * again, and is only read. Texts are UTF-8, with their length beside them; no zero byte ends them.
+ * again, or, where it is a page, edited, and is only read. Texts are UTF-8, with their length beside them; no zero byte ends them.
  *
  * THREADS. The library has no state of its own. Threads that use handles of their own need nothing; that a parser shares its table with the handle
  * that the table was read into is no exception. A handle is in one call at a time, reading included, and a page or a parser stays with the thread that
@@ -64,7 +64,13 @@ enum zq_status {
     ZQ_BAD_INDEX = 13,     /* there is no such node, text, attribute or error */
     ZQ_BAD_ENTITIES = 14,  /* not a file of named character references */
     ZQ_BAD_POINTER = 15,   /* a pointer is null that must not be */
-    ZQ_BAD_FLAGS = 16      /* a flag that this version does not know */
+    ZQ_BAD_FLAGS = 16,     /* a flag that this version does not know */
+    ZQ_NOT_ELEMENT = 17,   /* the node is no element */
+    ZQ_BAD_NAME = 18,      /* no tag of HTML can have this name */
+    ZQ_NOT_LINKABLE = 19,  /* the root, a document and the contents of a template have no parent */
+    ZQ_NO_PARENT = 20,     /* the node has no parent */
+    ZQ_CYCLE = 21,         /* the node would stand below itself */
+    ZQ_BAD_TEXT = 22       /* the text is not UTF-8 */
 };
 
 /* A parsed page; an input that is not at its end; named character references; bytes. */
@@ -238,6 +244,36 @@ uint32_t zq_positions(const void *bytes, size_t len, const uint64_t *places, siz
 /* Fills buffer with the text below a node: its texts in tree order, one behind the other, those in templates with them, comments not. ZQ_BAD_INDEX where there
  * is no such node. */
 uint32_t zq_text_below(zq_page *page, uint64_t node, zq_buffer *buffer);
+
+/* ---- editing a page ---- */
+
+/* Edits of a page's nodes. One that is refused changes nothing. Nodes keep their numbers: what is taken out stands alone, with all below it, and can be linked
+ * again; it is freed with the page. The limits that the page was parsed within hold for its edits too (ZQ_NODE_BUDGET, ZQ_HELD_BUDGET). zq_counts_of tells
+ * the nodes and the held code points that there are then, and all else of the input. Names, values and texts are so many bytes of UTF-8, else the answer is
+ * ZQ_BAD_TEXT. A node that is not there is ZQ_BAD_INDEX.
+ *
+ * zq_set_attr gives an element an attribute: the one of this name gets the value, or there is a new one behind the others. ZQ_BAD_NAME where the element has
+ * none of this name, and no attribute of HTML can have it (letters in lower case). zq_remove_attr takes the attribute of a name away, if it is there.
+ * ZQ_NOT_ELEMENT where the node is none. */
+uint32_t zq_set_attr(zq_page *page, uint64_t node, const void *name, size_t name_len, const void *value, size_t value_len);
+uint32_t zq_remove_attr(zq_page *page, uint64_t node, const void *name, size_t name_len);
+
+/* zq_remove takes a node out, with all below it; one that has no parent stays as it is. zq_unwrap puts what is below an element in its place, of a template
+ * what it holds; the element then stands alone, and nothing is below it. ZQ_NOT_ELEMENT; ZQ_NO_PARENT; ZQ_CYCLE of a template that stands in what it holds. */
+uint32_t zq_remove(zq_page *page, uint64_t node);
+uint32_t zq_unwrap(zq_page *page, uint64_t node);
+
+/* Both take child, with all below it, from where it stands. zq_append makes it the last node just below parent; below a template, in its contents.
+ * zq_insert_before puts it just before next. ZQ_NOT_LINKABLE where child is the page's root, a document, or the contents of a template; ZQ_NO_PARENT where
+ * next has none; ZQ_CYCLE where child would stand below itself. What is below a text, a comment or a doctype is written behind it. */
+uint32_t zq_append(zq_page *page, uint64_t parent, uint64_t child);
+uint32_t zq_insert_before(zq_page *page, uint64_t child, uint64_t next);
+
+/* Make a node that stands alone, to be linked, and tell its number, or ZQ_NO_NODE: an element of HTML without attributes, whose name is in lower case
+ * (ZQ_BAD_NAME where no start tag can have it, or it is svg or math; a template is made with its contents, the node after it), and a text. Below script,
+ * style and the like a text is written as it is, and may end its element. */
+uint32_t zq_make_element(zq_page *page, const void *name, size_t len, uint64_t *node);
+uint32_t zq_make_text(zq_page *page, const void *text, size_t len, uint64_t *node);
 
 /* ---- writing ---- */
 

@@ -3,3 +3,5 @@ pub mod SlotValues
 pub mod Gathering
 pub mod Filling
 pub mod Pushed
+pub mod Roots
+pub mod Edited

@@ -1,5 +1,6 @@
 -- Claimed.
 pub mod Causes
+pub mod Edits
 pub mod Kept
 pub mod Pieces
 pub mod Places

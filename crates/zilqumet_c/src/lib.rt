@@ -2,11 +2,14 @@
 #![tactic(auto)]
 
 mod below;
+mod changes;
+mod edits;
 mod entities;
 mod errors;
 mod held;
 mod links;
 mod loose;
+mod nodes;
 mod numbers;
 mod parsing;
 mod parts;
@@ -19,6 +22,7 @@ mod text;
 mod texts;
 mod writing;
 
+pub use changes::Edit;
 pub use held::{Gathered, Held, Rooted};
 pub use numbers::{ZqCounts, ZqLimits};
 pub use places::ZqPosition;

@@ -38,6 +38,18 @@ pub(crate) const BAD_INDEX: u32 = 13;
 
 pub(crate) const BAD_ENTITIES: u32 = 14;
 
+pub(crate) const NOT_ELEMENT: u32 = 17;
+
+pub(crate) const BAD_NAME: u32 = 18;
+
+pub(crate) const NOT_LINKABLE: u32 = 19;
+
+pub(crate) const NO_PARENT: u32 = 20;
+
+pub(crate) const CYCLE: u32 = 21;
+
+pub(crate) const BAD_TEXT: u32 = 22;
+
 /// The number of a cause.
 pub(crate) fn status_of(error: ParseError) -> u32
     ensures { result ≡ status_of error }

@@ -35,9 +35,9 @@ static void test_library(void)
 {
     uint32_t status;
     CHECK(strcmp(zq_version(), ZQ_VERSION) == 0);
-    for (status = 0; status <= ZQ_BAD_FLAGS; status++)
+    for (status = 0; status <= ZQ_BAD_TEXT; status++)
         CHECK(strlen(zq_strerror(status)) > 0 && strcmp(zq_strerror(status), "unknown status") != 0);
-    CHECK(strcmp(zq_strerror(17), "unknown status") == 0);
+    CHECK(strcmp(zq_strerror(23), "unknown status") == 0);
     CHECK(strcmp(zq_strerror(UINT32_MAX), "unknown status") == 0);
 }
 
@@ -427,6 +427,120 @@ static void test_text_below(void)
     zq_free(&buffer);
 }
 
+/* A fragment in a div, below whose root the text is. */
+static void fragment(zq_page *page, const char *text) { CHECK(zq_parse_fragment(NULL, NULL, "div", 3, text, strlen(text), page, NULL) == ZQ_OK); }
+
+static uint32_t set(zq_page *page, uint64_t node, const char *name, const char *value)
+{
+    return zq_set_attr(page, node, name, strlen(name), value, strlen(value));
+}
+
+static void test_attributes(void)
+{
+    zq_page page = ZQ_EMPTY;
+    uint64_t p, text;
+    fragment(&page, "<p a=b a\"='c'>x");
+    p = zq_first_child(&page, zq_root(&page)), text = zq_first_child(&page, p);
+    CHECK(set(&page, p, "a", "d<") == ZQ_OK && set(&page, p, "e", "") == ZQ_OK && writes(&page, "<p a=\"d<\" a\"=\"c\" e=\"\">x</p>"));
+    CHECK(is(zq_attr_value(&page, p, 0), "d<") && zq_attr_count(&page, p) == 3);
+    /* a name that the element has may be any; a new one is one of HTML */
+    CHECK(set(&page, p, "a\"", "f") == ZQ_OK && set(&page, p, "A", "") == ZQ_BAD_NAME && set(&page, p, "", "") == ZQ_BAD_NAME && set(&page, p, "b c", "") == ZQ_BAD_NAME);
+    CHECK(zq_remove_attr(&page, p, "a", 1) == ZQ_OK && zq_remove_attr(&page, p, "z", 1) == ZQ_OK && writes(&page, "<p a\"=\"f\" e=\"\">x</p>"));
+    CHECK(set(&page, text, "a", "b") == ZQ_NOT_ELEMENT && zq_remove_attr(&page, text, "a", 1) == ZQ_NOT_ELEMENT);
+    CHECK(set(&page, 999, "a", "b") == ZQ_BAD_INDEX && zq_remove_attr(&page, UINT64_MAX, "a", 1) == ZQ_BAD_INDEX);
+    CHECK(set(&page, p, "a\xff", "b") == ZQ_BAD_TEXT && set(&page, p, "a", "\xed\xa0\x80") == ZQ_BAD_TEXT && zq_remove_attr(&page, p, "\xff", 1) == ZQ_BAD_TEXT);
+    CHECK(zq_set_attr(NULL, p, "a", 1, "b", 1) == ZQ_BAD_POINTER && zq_set_attr(&page, p, NULL, 1, "b", 1) == ZQ_BAD_POINTER);
+    CHECK(zq_set_attr(&page, p, "a", 1, NULL, 1) == ZQ_BAD_POINTER && zq_set_attr(&page, p, "a", SIZE_MAX, "", 0) == ZQ_BAD_POINTER);
+    CHECK(zq_remove_attr(NULL, p, "a", 1) == ZQ_BAD_POINTER && zq_remove_attr(&page, p, NULL, 1) == ZQ_BAD_POINTER);
+    /* what was refused changed nothing; a value may be null, if it is empty */
+    CHECK(writes(&page, "<p a\"=\"f\" e=\"\">x</p>") && zq_set_attr(&page, p, "\xc3\xa9", 2, NULL, 0) == ZQ_OK);
+    CHECK(writes(&page, "<p a\"=\"f\" e=\"\" \xc3\xa9=\"\">x</p>"));
+    zq_free(&page);
+    CHECK(set(&page, p, "a", "b") == ZQ_BAD_HANDLE && zq_remove_attr(&page, p, "a", 1) == ZQ_BAD_HANDLE && page.held == NULL);
+}
+
+static void test_removing(void)
+{
+    zq_page page = ZQ_EMPTY;
+    zq_counts counts;
+    uint64_t root, p, b, template, contents;
+    fragment(&page, "<p>One<b>two<i>three</i></b>four</p><template>T<u>v</u></template>");
+    root = zq_root(&page), p = zq_first_child(&page, root), b = zq_next(&page, zq_first_child(&page, p));
+    template = zq_next(&page, p), contents = zq_template_contents(&page, template);
+    CHECK(zq_unwrap(&page, b) == ZQ_OK && writes(&page, "<p>Onetwo<i>three</i>four</p><template>T<u>v</u></template>"));
+    CHECK(zq_parent(&page, b) == ZQ_NO_NODE && zq_first_child(&page, b) == ZQ_NO_NODE && is(zq_name(&page, b), "b"));
+    CHECK(zq_unwrap(&page, b) == ZQ_NO_PARENT && zq_unwrap(&page, root) == ZQ_NO_PARENT && zq_unwrap(&page, contents) == ZQ_NOT_ELEMENT);
+    CHECK(zq_unwrap(&page, zq_first_child(&page, p)) == ZQ_NOT_ELEMENT && zq_unwrap(&page, 999) == ZQ_BAD_INDEX);
+    /* what a template holds takes its place */
+    CHECK(zq_unwrap(&page, template) == ZQ_OK && writes(&page, "<p>Onetwo<i>three</i>four</p>T<u>v</u>"));
+    /* a node goes with all below it, keeps its number, and comes back */
+    CHECK(zq_remove(&page, p) == ZQ_OK && writes(&page, "T<u>v</u>") && zq_parent(&page, p) == ZQ_NO_NODE && zq_first_child(&page, p) != ZQ_NO_NODE);
+    CHECK(zq_remove(&page, p) == ZQ_OK && zq_append(&page, root, p) == ZQ_OK && writes(&page, "T<u>v</u><p>Onetwo<i>three</i>four</p>"));
+    CHECK(zq_counts_of(&page, &counts) == ZQ_OK && counts.nodes == 13);
+    CHECK(zq_remove(&page, root) == ZQ_OK && writes(&page, "T<u>v</u><p>Onetwo<i>three</i>four</p>"));
+    CHECK(zq_remove(&page, 999) == ZQ_BAD_INDEX && zq_remove(&page, UINT64_MAX) == ZQ_BAD_INDEX);
+    CHECK(zq_remove(NULL, p) == ZQ_BAD_POINTER && zq_unwrap(NULL, p) == ZQ_BAD_POINTER);
+    zq_free(&page);
+    CHECK(zq_remove(&page, p) == ZQ_BAD_HANDLE && zq_unwrap(&page, p) == ZQ_BAD_HANDLE);
+}
+
+static void test_linking(void)
+{
+    zq_page page = ZQ_EMPTY;
+    uint64_t root, p, b, template, contents;
+    fragment(&page, "<p>One<b>two</b></p><template>T</template>");
+    root = zq_root(&page), p = zq_first_child(&page, root), b = zq_last_child(&page, p), template = zq_next(&page, p);
+    contents = zq_template_contents(&page, template);
+    CHECK(zq_insert_before(&page, b, p) == ZQ_OK && writes(&page, "<b>two</b><p>One</p><template>T</template>"));
+    CHECK(zq_append(&page, b, p) == ZQ_OK && writes(&page, "<b>two<p>One</p></b><template>T</template>"));
+    CHECK(zq_append(&page, p, b) == ZQ_CYCLE && zq_append(&page, p, p) == ZQ_CYCLE && zq_insert_before(&page, b, p) == ZQ_CYCLE);
+    /* below a template is in its contents, and no template stands in what it holds */
+    CHECK(zq_append(&page, template, b) == ZQ_OK && writes(&page, "<template>T<b>two<p>One</p></b></template>") && zq_parent(&page, b) == contents);
+    CHECK(zq_append(&page, p, template) == ZQ_CYCLE && zq_append(&page, contents, template) == ZQ_CYCLE);
+    /* the root stays the root, also where a node stands alone */
+    CHECK(zq_remove(&page, b) == ZQ_OK && zq_append(&page, b, root) == ZQ_NOT_LINKABLE && zq_append(&page, b, contents) == ZQ_NOT_LINKABLE);
+    CHECK(zq_insert_before(&page, root, p) == ZQ_NOT_LINKABLE && zq_insert_before(&page, contents, p) == ZQ_NOT_LINKABLE);
+    CHECK(zq_insert_before(&page, b, root) == ZQ_NO_PARENT && zq_insert_before(&page, p, b) == ZQ_NO_PARENT);
+    CHECK(zq_append(&page, 999, b) == ZQ_BAD_INDEX && zq_append(&page, b, 999) == ZQ_BAD_INDEX && zq_insert_before(&page, 999, b) == ZQ_BAD_INDEX);
+    CHECK(zq_insert_before(&page, b, UINT64_MAX) == ZQ_BAD_INDEX && writes(&page, "<template>T</template>"));
+    CHECK(zq_append(NULL, p, b) == ZQ_BAD_POINTER && zq_insert_before(NULL, b, p) == ZQ_BAD_POINTER);
+    CHECK(parse("<p>x", &page, NULL) == ZQ_OK && zq_append(&page, 4, 0) == ZQ_NOT_LINKABLE && zq_append(&page, 0, 4) == ZQ_OK);
+    CHECK(writes(&page, "<html><head></head><body></body></html><p>x</p>"));
+    zq_free(&page);
+    CHECK(zq_append(&page, p, b) == ZQ_BAD_HANDLE && zq_insert_before(&page, b, p) == ZQ_BAD_HANDLE);
+}
+
+static void test_making(void)
+{
+    zq_page page = ZQ_EMPTY;
+    zq_options options = ZQ_DEFAULTS;
+    zq_counts counts;
+    uint64_t root, node = 7, text = 7;
+    fragment(&page, "<p>x");
+    root = zq_root(&page);
+    CHECK(zq_make_element(&page, "b", 1, &node) == ZQ_OK && node == 3 && zq_kind_of(&page, node) == ZQ_ELEMENT && zq_parent(&page, node) == ZQ_NO_NODE);
+    CHECK(zq_make_text(&page, "<\xc3\xa9", 3, &text) == ZQ_OK && text == 4 && is(zq_data(&page, text), "<\xc3\xa9"));
+    CHECK(zq_append(&page, node, text) == ZQ_OK && zq_append(&page, root, node) == ZQ_OK && writes(&page, "<p>x</p><b>&lt;\xc3\xa9</b>"));
+    CHECK(zq_make_element(&page, "template", 8, &node) == ZQ_OK && node == 5 && zq_template_contents(&page, node) == 6);
+    CHECK(zq_make_text(&page, NULL, 0, &text) == ZQ_OK && text == 7 && is(zq_data(&page, text), ""));
+    CHECK(zq_counts_of(&page, &counts) == ZQ_OK && counts.nodes == 8 && counts.errors == 0 && counts.code_points == 4);
+    CHECK(zq_make_element(&page, "B", 1, &node) == ZQ_BAD_NAME && node == ZQ_NO_NODE);
+    CHECK(zq_make_element(&page, "svg", 3, &node) == ZQ_BAD_NAME && zq_make_element(&page, "", 0, &node) == ZQ_BAD_NAME);
+    CHECK(zq_make_element(&page, "a b", 3, &node) == ZQ_BAD_NAME && zq_make_element(&page, "b\xff", 2, &node) == ZQ_BAD_TEXT && node == ZQ_NO_NODE);
+    CHECK(zq_make_text(&page, "\xff", 1, &text) == ZQ_BAD_TEXT && text == ZQ_NO_NODE);
+    CHECK(zq_make_element(NULL, "b", 1, &node) == ZQ_BAD_POINTER && zq_make_element(&page, NULL, 1, &node) == ZQ_BAD_POINTER);
+    CHECK(zq_make_element(&page, "b", 1, NULL) == ZQ_BAD_POINTER && zq_make_text(NULL, "b", 1, &text) == ZQ_BAD_POINTER);
+    CHECK(zq_make_text(&page, NULL, 1, &text) == ZQ_BAD_POINTER && zq_make_text(&page, "b", 1, NULL) == ZQ_BAD_POINTER);
+    /* a page keeps the limits that it was parsed within */
+    options.max_nodes = 6;
+    CHECK(zq_parse(NULL, &options, "<p>x", 4, &page, NULL) == ZQ_OK && zq_make_text(&page, "a", 1, &text) == ZQ_NODE_BUDGET && text == ZQ_NO_NODE);
+    options.max_nodes = UINT64_MAX, options.max_held = 20;
+    CHECK(zq_parse(NULL, &options, "<p>x", 4, &page, NULL) == ZQ_OK && zq_make_text(&page, "aaaaaaaaaa", 10, &text) == ZQ_HELD_BUDGET);
+    CHECK(set(&page, 4, "a", "bbbbbbbbbb") == ZQ_HELD_BUDGET && set(&page, 4, "a", "b") == ZQ_OK);
+    zq_free(&page);
+    CHECK(zq_make_element(&page, "b", 1, &node) == ZQ_BAD_HANDLE && node == ZQ_NO_NODE && zq_make_text(&page, "b", 1, &text) == ZQ_BAD_HANDLE);
+}
+
 static int takes(void *context, const uint8_t *bytes, size_t len)
 {
     *(int *)context += len == 39 && memcmp(bytes, "<html>", 6) == 0;
@@ -482,6 +596,10 @@ int main(void)
     test_errors();
     test_positions();
     test_text_below();
+    test_attributes();
+    test_removing();
+    test_linking();
+    test_making();
     test_writing();
     printf("api: %d passed, %d failed\n", passed, failed);
     return failed != 0;

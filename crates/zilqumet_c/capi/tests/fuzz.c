@@ -1,6 +1,6 @@
 /* A test of random pages: what tools/fuzz hands in, or by main the rows of a file: fuzz ROWS [ENTITIES]. It ends the program where a page differs from
  * what it is in pieces, within its own counts, or with foreign content parsed where there is none; where the page's links do not meet; where a text is
- * not UTF-8, or two calls tell two of it; and where a bound that is proved does not hold. What the page is written as is parsed again.
+ * not UTF-8, or two calls tell two of it; where a bound that is proved does not hold; and where random edits leave no tree. What the page is written as is parsed again.
  *
  * The first four bytes of an input are: flags (below), the number of the fragment's context (0: a document), and the lengths of the pieces. The rest is the
  * page. A row is the same as text: eight hexadecimal digits, a space, and the page, in which \xHH stands for what is not plain. */
@@ -143,16 +143,10 @@ static void check_bounds(const zq_counts *counts)
     MUST(counts->steps <= 1024 * (n + 32) * (n + 32) * (n + 32));
 }
 
-/* Reads what was parsed. */
-static void read_page(seen *it)
+/* Reads a page, as it was parsed or edited. */
+static void look(seen *it)
 {
-    it->rows = NULL;
-    if (it->status != ZQ_OK) {
-        MUST(zq_root(&it->page) == ZQ_NO_NODE);
-        return;
-    }
     MUST(zq_counts_of(&it->page, &it->counts) == ZQ_OK);
-    check_bounds(&it->counts);
     it->rows = malloc((it->counts.nodes + 1) * sizeof *it->rows);
     MUST(it->rows != NULL && zq_all_texts(&it->page, &it->held, &it->texts) == ZQ_OK);
     MUST(zq_rows(&it->page, 0, it->rows, it->counts.nodes + 1) == it->counts.nodes);
@@ -166,6 +160,18 @@ static void read_page(seen *it)
     }
     MUST(number == it->texts.count);
     check_walk(it);
+}
+
+/* Reads what was parsed. */
+static void read_page(seen *it)
+{
+    it->rows = NULL;
+    if (it->status != ZQ_OK) {
+        MUST(zq_root(&it->page) == ZQ_NO_NODE);
+        return;
+    }
+    look(it);
+    check_bounds(&it->counts);
 }
 
 static void let_go(seen *it)
@@ -312,6 +318,44 @@ static void check_written(const task *it, seen *whole, int angles)
     zq_free(&normal);
 }
 
+/* A random edit of a page, by a number, and what it answers. */
+static uint32_t edited(seen *it, uint32_t by)
+{
+    static const char *const names[] = { "a", "template", "script", "b", "\"", "svg", "A", "\xff" };
+    uint64_t one = (by >> 8) % (it->counts.nodes + 1), other = (by >> 16) % (it->counts.nodes + 1), made;
+    const char *name = names[(by >> 4) % 8];
+    size_t len = strlen(name);
+    switch (by % 8) {
+    case 0: return zq_set_attr(&it->page, one, name, len, names[other % 7], 1);
+    case 1: return zq_remove_attr(&it->page, one, name, len);
+    case 2: return zq_remove(&it->page, one);
+    case 3: return zq_unwrap(&it->page, one);
+    case 4: return zq_insert_before(&it->page, one, other);
+    case 5: return zq_make_element(&it->page, name, len, &made);
+    case 6: return zq_make_text(&it->page, name, len, &made);
+    default: break;
+    }
+    /* (below a text or a comment nothing else is expected here) */
+    return one < it->counts.nodes && it->rows[one].kind > ZQ_ELEMENT ? ZQ_NOT_ELEMENT : zq_append(&it->page, one, other);
+}
+
+/* A page that is edited stays a tree from its root, whatever the edits; one that is refused changes nothing. */
+static void check_edits(const task *it, uint32_t by)
+{
+    seen made = parsed(it, &it->options);
+    for (int turn = 0; turn < 32; turn++) {
+        zq_counts before = made.counts;
+        by = by * 1664525u + 1013904223u;
+        uint32_t status = edited(&made, by >> 3);
+        MUST(status == ZQ_OK || status == ZQ_BAD_INDEX || (status >= ZQ_NOT_ELEMENT && status <= ZQ_BAD_TEXT));
+        free(made.rows);
+        look(&made);
+        MUST(made.counts.nodes >= before.nodes && made.counts.nodes <= before.nodes + 2 && made.counts.errors == before.errors);
+        MUST(status == ZQ_OK || (made.counts.nodes == before.nodes && made.counts.held == before.held));
+    }
+    let_go(&made);
+}
+
 int LLVMFuzzerTestOneInput(const uint8_t *data, size_t size)
 {
     if (size < 4)
@@ -327,6 +371,8 @@ int LLVMFuzzerTestOneInput(const uint8_t *data, size_t size)
     if (whole.status == ZQ_OK && whole.counts.nodes <= MOST_NODES) {
         check_limit(&it, &whole, (flags & LIMIT) >> 4);
         check_written(&it, &whole, (flags & ANGLES) != 0);
+        if (whole.counts.nodes <= MOST_NODES / 32)
+            check_edits(&it, (uint32_t)size * 2654435761u + data[2] * 257u + data[3]);
     }
     let_go(&whole);
     return 0;

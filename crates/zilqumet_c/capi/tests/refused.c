@@ -38,6 +38,29 @@ static uint8_t page_bytes[1 << 22], json[1 << 20], text[1 << 22];
 static size_t page_len, json_len, text_len;
 static int known;
 
+/* Edits of a page, each of which takes memory, or may. */
+static uint32_t edit(zq_page *page) {
+    uint64_t root = zq_root(page), first = zq_first_child(page, root), element, text;
+    uint32_t r = zq_make_element(page, "template", 8, &element);
+    if (!r)
+        r = zq_make_text(page, "a longer text than fits", 23, &text);
+    if (!r)
+        r = zq_set_attr(page, element, "id", 2, "a longer value than fits", 24);
+    if (!r)
+        r = zq_set_attr(page, element, "class", 5, "b", 1);
+    if (!r)
+        r = zq_remove_attr(page, element, "id", 2);
+    if (!r)
+        r = zq_append(page, element, text);
+    if (!r)
+        r = zq_insert_before(page, element, first);
+    if (!r)
+        r = zq_unwrap(page, element);
+    if (!r)
+        r = zq_remove(page, text);
+    return r;
+}
+
 static uint32_t run(void) {
     zq_page page = ZQ_EMPTY, fragment = ZQ_EMPTY;
     zq_entities entities = ZQ_EMPTY;
@@ -76,6 +99,8 @@ static uint32_t run(void) {
         r = zq_parse_fragment(&entities, &options, "div", 3, page_bytes, page_len, &fragment, &at);
     if (!r)
         r = zq_all_texts(&page, &name, &texts);
+    if (!r)
+        r = edit(&page);
     if (!r)
         r = zq_serialise(&page, 0, &written);
     if (!r)

@@ -164,6 +164,78 @@ class Texts(unittest.TestCase):
         self.assertEqual((counts.code_points, counts.nodes, counts.held, counts.tokens, counts.errors), (8, 6, 16, 3, 1))
 
 
+class Edits(unittest.TestCase):
+    def named(self, page, name):
+        return next(node for node in page if node.name == name)
+
+    def refused(self, cause, call, *arguments):
+        with self.assertRaises(zilqumet.EditError) as told:
+            call(*arguments)
+        self.assertEqual((told.exception.cause, str(told.exception)), (cause, "zilqumet: " + cause))
+
+    def test_attributes(self):
+        page = zilqumet.parse_fragment("<p a=b c=d>x")
+        p, text = page
+        p.set_attr("a", "é<")
+        p.set_attr("e", "")
+        p.remove_attr("c")
+        p.remove_attr("z")
+        self.assertEqual((p.attrs, p.name, text.text, text.attrs), ({"a": "é<", "e": ""}, "p", "x", {}))
+        self.assertEqual(page.serialise(), '<p a="é<" e="">x</p>')
+        self.refused("bad name", p.set_attr, "b c", "")
+        self.refused("bad text", p.set_attr, "a", "\ud800")
+        self.refused("not an element", text.set_attr, "a", "b")
+        self.assertEqual(p.attrs, {"a": "é<", "e": ""})
+
+    def test_removing(self):
+        page = zilqumet.parse_fragment("<p>One<script>x</script><b>two<i>three</i></b></p><script>y</script>four")
+        for node in page:
+            if node.name == "script":
+                node.remove()
+            elif node.name == "b":
+                node.unwrap()
+        self.assertEqual(page.serialise(), "<p>Onetwo<i>three</i></p>four")
+        self.assertEqual(shown(page), [("element", "p"), ("text", "One"), ("text", "two"), ("element", "i"), ("text", "three"), ("text", "four")])
+        self.assertEqual(page.root.text_below, "Onetwothreefour")
+        # an edited page is gone over as it is when the iteration begins, too
+        for node in page:
+            if node.kind == "element":
+                node.unwrap()
+        self.assertEqual((page.serialise(), len([*page.root.children])), ("Onetwothreefour", 4))
+        for node in page.root.children:
+            node.remove()
+        self.assertEqual(page.serialise(), "")
+        self.refused("no parent", page.root.unwrap)
+
+    def test_making_and_linking(self):
+        page = zilqumet.parse_fragment("<p>x<template></template>")
+        p, template = self.named(page, "p"), self.named(page, "template")
+        b = page.make_element("b")
+        b.append(page.make_text("y<"))
+        self.assertEqual((b.parent, [*b.children][0].text, b.kind), (None, "y<", "element"))
+        p.insert_before(b)
+        self.assertEqual(page.serialise(), "<b>y&lt;</b><p>x<template></template></p>")
+        template.append(b)
+        self.assertEqual(page.serialise(), "<p>x<template><b>y&lt;</b></template></p>")
+        self.assertEqual((b.parent, template.contents.kind), (template.contents, "contents"))
+        self.refused("cycle", b.append, p)
+        self.refused("not linkable", b.append, page.root)
+        self.refused("no parent", page.root.insert_before, b)
+        self.refused("bad name", page.make_element, "B")
+        with self.assertRaises(ValueError):
+            p.append(zilqumet.parse_fragment("z").root)
+        self.assertEqual(page.counts.nodes, 7)
+
+    def test_limits_of_edits(self):
+        page = zilqumet.parse_fragment("<p>x", max_nodes=3, max_held=10)
+        with self.assertRaises(zilqumet.NodeBudget) as told:
+            page.make_text("y")
+        self.assertEqual((told.exception.place, told.exception.cause), (None, "node budget"))
+        with self.assertRaises(zilqumet.HeldBudget):
+            next(iter(page)).set_attr("a", "bbbbbbbb")
+        self.assertEqual(page.serialise(), "<p>x</p>")
+
+
 class References(unittest.TestCase):
     def test_standard(self):
         for name, text in html.entities.html5.items():

@@ -13,6 +13,10 @@
             parser.feed(piece)
         page = parser.finish()
 
+    for node in page:                           # edits, as the DOM has them
+        if node.name == "script":
+            node.remove()
+
 Where there is no page, an exception says why: `Refused` is above all of them, and has the place. The work is done by libzilqumet, whose calls are proved;
 this module holds its handles, and copies names and texts into Python's strings.
 """
@@ -29,8 +33,9 @@ from pathlib import Path
 from typing import Any, Iterable, Iterator, NamedTuple, Optional, Union
 
 __all__ = [
-    "BadContext", "BadEntities", "Counts", "Entities", "ForeignContent", "HeldBudget", "InputTooLong", "Node", "NodeBudget", "Page", "ParseError", "Parser",
-    "Position", "Refused", "StepBudget", "Stopped", "library_version", "normalise", "parse", "parse_counts", "parse_fragment", "positions",
+    "BadContext", "BadEntities", "Counts", "EditError", "Entities", "ForeignContent", "HeldBudget", "InputTooLong", "Node", "NodeBudget", "Page",
+    "ParseError", "Parser", "Position", "Refused", "StepBudget", "Stopped", "library_version", "normalise", "parse", "parse_counts", "parse_fragment",
+    "positions",
 ]
 __version__ = "0.1.0"
 
@@ -39,6 +44,8 @@ Data = Union[bytes, bytearray, memoryview, str]
 _NONE = 2**64 - 1
 _KINDS = ("", "document", "contents", "element", "text", "comment", "doctype")
 _TEXT = 4
+_NAME, _DATA, _ATTR_NAME, _ATTR_VALUE = 0, 1, 2, 3
+_PARENT, _FIRST_CHILD, _NEXT, _CONTENTS = 0, 1, 3, 5
 _IN_FORM, _QUIRKS, _FOREIGN = 1, 2, 4
 
 
@@ -115,6 +122,17 @@ _counts_of = _call(_quick, "zq_counts_of", _U32, _H, ctypes.POINTER(_Counts))
 _root = _call(_quick, "zq_root", _U64, _H)
 _rows = _call(_quick, "zq_rows", _SIZE, _H, _U64, ctypes.POINTER(_Row), _SIZE)
 _all_texts = _call(_quick, "zq_all_texts", _U32, _H, _H, ctypes.POINTER(_Texts))
+_kind_of = _call(_quick, "zq_kind_of", _U32, _H, _U64)
+_link = _call(_quick, "zq_link", _U64, _H, _U32, _U64)
+_attr_count = _call(_quick, "zq_attr_count", _U64, _H, _U64)
+_set_attr = _call(_quick, "zq_set_attr", _U32, _H, _U64, _BYTES, _SIZE, _BYTES, _SIZE)
+_remove_attr = _call(_quick, "zq_remove_attr", _U32, _H, _U64, _BYTES, _SIZE)
+_remove = _call(_quick, "zq_remove", _U32, _H, _U64)
+_unwrap = _call(_quick, "zq_unwrap", _U32, _H, _U64)
+_append = _call(_quick, "zq_append", _U32, _H, _U64, _U64)
+_insert_before = _call(_quick, "zq_insert_before", _U32, _H, _U64, _U64)
+_make_element = _call(_quick, "zq_make_element", _U32, _H, _BYTES, _SIZE, _PLACE)
+_make_text = _call(_quick, "zq_make_text", _U32, _H, _BYTES, _SIZE, _PLACE)
 _text_of = _call(_quick, "zq_text", _U32, _H, _U32, _U64, _U64, ctypes.POINTER(_Span))
 _error = _call(_quick, "zq_error", _U32, _H, _U64, _H, _PLACE)
 _positions = _call(_slow, "zq_positions", _U32, _BYTES, _SIZE, _PLACE, _SIZE, ctypes.POINTER(_Position))
@@ -170,10 +188,17 @@ class BadEntities(Refused):
     """Not a table of named character references."""
 
 
+class EditError(ValueError):
+    """Why a page is not edited, in words: `cause` is `not an element`, `bad name`, `not linkable`, `no parent`, `cycle` or `bad text`. The page is as it
+    was. (An edit that would pass a limit is a `NodeBudget` or a `HeldBudget` without a place.)"""
+
+    cause: str = ""
+
+
 _CAUSES = {
     2: InputTooLong, 3: ForeignContent, 4: ForeignContent, 5: BadContext, 6: NodeBudget, 7: HeldBudget, 8: StepBudget, 9: Stopped, 14: BadEntities,
 }
-_OUT_OF_MEMORY, _BAD_HANDLE, _BAD_INDEX = 1, 12, 13
+_OUT_OF_MEMORY, _BAD_HANDLE, _BAD_INDEX, _FIRST_OF_EDITS = 1, 12, 13, 17
 _PLACED = (ForeignContent, NodeBudget, HeldBudget, StepBudget)
 
 
@@ -192,6 +217,21 @@ def _check(status: int, place: int = 0) -> None:
     refused = cause(f"{text} at {place}" if is_placed else text)
     refused.cause, refused.place = words, place if is_placed else None
     raise refused
+
+
+def _check_edit(status: int) -> None:
+    """Raises what the status of an edit stands for."""
+    if status >= _FIRST_OF_EDITS:
+        words = _strerror(status).decode()
+        error = EditError(f"zilqumet: {words}")
+        error.cause = words
+        raise error
+    if status in (6, 7):
+        words = _strerror(status).decode()
+        refused = _CAUSES[status](f"zilqumet: {words}")
+        refused.cause = words
+        raise refused
+    _check(status)
 
 
 class _Owner:
@@ -292,17 +332,22 @@ class Node:
     @property
     def name(self) -> str:
         """The name of an element, else an empty text."""
-        return self.page._text(self.page._firsts[self.number])
+        page = self.page
+        return page._told(_NAME, self.number) if page._is_edited else page._text(page._firsts[self.number])
 
     @property
     def text(self) -> str:
         """The text of a text or of a comment, else an empty one. `text_below` is the text in an element."""
-        return self.page._text(self.page._firsts[self.number] + 1)
+        page = self.page
+        return page._told(_DATA, self.number) if page._is_edited else page._text(page._firsts[self.number] + 1)
 
     @property
     def attrs(self) -> dict[str, str]:
-        """The attributes of an element, in the order of its tag."""
-        text, first, behind = self.page._text, self.page._firsts[self.number] + 2, self.page._firsts[self.number + 1]
+        """The attributes of an element, in the order of its tag. (A copy: `set_attr` and `remove_attr` change them.)"""
+        page, number = self.page, self.number
+        if page._is_edited:
+            return {page._told(_ATTR_NAME, number, at): page._told(_ATTR_VALUE, number, at) for at in range(_attr_count(page._handle, number))}
+        text, first, behind = page._text, page._firsts[number] + 2, page._firsts[number + 1]
         return {text(at): text(at + 1) for at in range(first, behind, 2)}
 
     @property
@@ -320,13 +365,19 @@ class Node:
         """What a template holds, which are no children of it."""
         return self._to(self.page._contents[self.number])
 
+    def _child_numbers(self) -> Iterator[int]:
+        nexts, at = self.page._nexts, self.page._first_children[self.number]
+        while at != _NONE:
+            yield at
+            at = nexts[at]
+
     @property
     def children(self) -> Iterator[Node]:
-        page, nexts = self.page, self.page._nexts
-        at = page._first_children[self.number]
-        while at != _NONE:
-            yield Node(page, at)
-            at = nexts[at]
+        """The children, as they are when the iteration begins."""
+        page = self.page
+        numbers = self._child_numbers()
+        for number in [*numbers] if page._is_edited else numbers:
+            yield Node(page, number)
 
     def _numbers(self, with_contents: bool) -> Iterator[int]:
         """The numbers of the nodes below this one, in tree order."""
@@ -347,17 +398,51 @@ class Node:
                     number = first
 
     def __iter__(self) -> Iterator[Node]:
-        """Every node below this one, in tree order; what a template holds in place of its children."""
+        """Every node below this one, in tree order; what a template holds in place of its children. They are those that are there when the iteration
+        begins, whatever is edited meanwhile."""
         page = self.page
-        for number in self._numbers(True):
+        numbers = self._numbers(True)
+        for number in [*numbers] if page._is_edited else numbers:
             yield Node(page, number)
 
     @property
     def text_below(self) -> str:
         """All text below this node, or of it, comments and what templates hold left out."""
         page = self.page
-        texts = (page._text(page._firsts[number] + 1) for number in self._numbers(False) if page._kinds[number] == _TEXT)
+        texts = (Node(page, number).text for number in self._numbers(False) if page._kinds[number] == _TEXT)
         return self.text if self.kind == "text" else "".join(texts)
+
+    def set_attr(self, name: str, value: str) -> None:
+        """Gives an element an attribute: the one of this name gets the value, or there is a new one behind the others. `bad name` where it has none of
+        this name, and no attribute of HTML can have it."""
+        name_bytes, value_bytes = _data(name), _data(value)
+        self.page._edit(_set_attr, self.number, name_bytes, len(name_bytes), value_bytes, len(value_bytes))
+
+    def remove_attr(self, name: str) -> None:
+        """Takes the attribute of a name from an element, if it has it."""
+        data = _data(name)
+        self.page._edit(_remove_attr, self.number, data, len(data))
+
+    def remove(self) -> None:
+        """Takes the node out of its tree, with all below it. It then stands alone, and can be linked again."""
+        self.page._edit(_remove, self.number)
+
+    def unwrap(self) -> None:
+        """Puts what is below an element in its place, of a template what it holds. It then stands alone, and nothing is below it."""
+        self.page._edit(_unwrap, self.number)
+
+    def append(self, child: Node) -> None:
+        """Takes a node of this page from where it stands and makes it the last one just below; below a template, in its contents."""
+        self.page._edit(_append, self.number, child._number_in(self.page))
+
+    def insert_before(self, child: Node) -> None:
+        """Takes a node of this page from where it stands and puts it just before this one."""
+        self.page._edit(_insert_before, child._number_in(self.page), self.number)
+
+    def _number_in(self, page: Page) -> int:
+        if self.page is not page:
+            raise ValueError("zilqumet: a node of another page")
+        return self.number
 
     def __eq__(self, other: object) -> bool:
         return isinstance(other, Node) and self.page is other.page and self.number == other.number
@@ -369,10 +454,29 @@ class Node:
         return f"<{self.kind} {self.name or self.text[:20]!r}>"
 
 
+class _Column:
+    """A number of each node, asked of the library."""
+
+    __slots__ = ("tell",)
+
+    def __init__(self, tell: Any) -> None:
+        self.tell = tell
+
+    def __getitem__(self, number: int) -> int:
+        return self.tell(number)
+
+
 class Page(_Owner):
-    """A parsed page, which its nodes keep. `for node in page` goes over all of them, in tree order."""
+    """A parsed page, which its nodes keep. `for node in page` goes over all of them, in tree order. It reads all links and texts in two calls; once it is
+    edited, each is asked for anew."""
 
     _data: Optional[bytes] = None
+    _is_edited = False
+    _parents: Any
+    _first_children: Any
+    _nexts: Any
+    _contents: Any
+    _kinds: Any
 
     def _read(self) -> Page:
         """Reads all links and texts, in two calls."""
@@ -396,10 +500,38 @@ class Page(_Owner):
         start, end = self._ends[index], self._ends[index + 1]
         return self._bytes[start:end].decode() if self._ascii is None else self._ascii[start:end]
 
-    def _part(self, part: int, node: int) -> Optional[str]:
+    def _part(self, part: int, node: int, index: int = 0) -> Optional[str]:
         span = _Span()
-        status = _text_of(self._handle, part, node, 0, span)
+        status = _text_of(self._handle, part, node, index, span)
         return None if status == _BAD_INDEX else ctypes.string_at(span.at, span.len).decode()
+
+    def _told(self, part: int, node: int, index: int = 0) -> str:
+        return self._part(part, node, index) or ""
+
+    def _edit(self, function: Any, *arguments: Any) -> None:
+        """Calls what edits. From the first edit on, links and texts are asked for one by one."""
+        handle = self._handle
+        _check_edit(function(handle, *arguments))
+        if not self._is_edited:
+            self._is_edited = True
+            self._parents, self._first_children, self._nexts, self._contents = (
+                _Column(lambda number, link=link: _link(handle, link, number)) for link in (_PARENT, _FIRST_CHILD, _NEXT, _CONTENTS))
+            self._kinds = _Column(lambda number: _kind_of(handle, number))
+            del self._firsts, self._ends, self._bytes, self._ascii
+
+    def _make(self, function: Any, text: str) -> Node:
+        data, number = _data(text), _U64(0)
+        self._edit(function, data, len(data), number)
+        return Node(self, number.value)
+
+    def make_element(self, name: str) -> Node:
+        """A new element of HTML without attributes, which stands alone: `Node.append` and `Node.insert_before` link it. `bad name` where no start tag can
+        have it, or it is `svg` or `math`."""
+        return self._make(_make_element, name)
+
+    def make_text(self, text: str) -> Node:
+        """A new text, which stands alone. Below `script`, `style` and the like a text is written as it is, and may end its element."""
+        return self._make(_make_text, text)
 
     @property
     def counts(self) -> Counts:

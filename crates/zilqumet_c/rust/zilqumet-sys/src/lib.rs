@@ -58,11 +58,17 @@ pub const ZQ_STOPPED: u32 = 9;
 pub const ZQ_BAD_HANDLE: u32 = 12;
 pub const ZQ_BAD_INDEX: u32 = 13;
 pub const ZQ_BAD_ENTITIES: u32 = 14;
+pub const ZQ_NOT_ELEMENT: u32 = 17;
+pub const ZQ_BAD_NAME: u32 = 18;
+pub const ZQ_NOT_LINKABLE: u32 = 19;
+pub const ZQ_NO_PARENT: u32 = 20;
+pub const ZQ_CYCLE: u32 = 21;
 
 pub const ZQ_IN_FORM: u32 = 1;
 pub const ZQ_QUIRKS: u32 = 2;
 pub const ZQ_FOREIGN: u32 = 4;
 
+pub const ZQ_NO_KIND: u32 = 0;
 pub const ZQ_DOCUMENT: u32 = 1;
 pub const ZQ_CONTENTS: u32 = 2;
 pub const ZQ_ELEMENT: u32 = 3;
@@ -123,6 +129,14 @@ extern "C" {
     pub fn zq_error(page: *mut zq_handle, index: u64, name: *mut zq_handle, place: *mut u64) -> u32;
     pub fn zq_positions(bytes: *const u8, len: usize, places: *const u64, count: usize, positions: *mut zq_position) -> u32;
     pub fn zq_text_below(page: *mut zq_handle, node: u64, buffer: *mut zq_handle) -> u32;
+    pub fn zq_set_attr(page: *mut zq_handle, node: u64, name: *const u8, name_len: usize, value: *const u8, value_len: usize) -> u32;
+    pub fn zq_remove_attr(page: *mut zq_handle, node: u64, name: *const u8, name_len: usize) -> u32;
+    pub fn zq_remove(page: *mut zq_handle, node: u64) -> u32;
+    pub fn zq_unwrap(page: *mut zq_handle, node: u64) -> u32;
+    pub fn zq_append(page: *mut zq_handle, parent: u64, child: u64) -> u32;
+    pub fn zq_insert_before(page: *mut zq_handle, child: u64, next: u64) -> u32;
+    pub fn zq_make_element(page: *mut zq_handle, name: *const u8, len: usize, node: *mut u64) -> u32;
+    pub fn zq_make_text(page: *mut zq_handle, text: *const u8, len: usize, node: *mut u64) -> u32;
     pub fn zq_serialise(page: *mut zq_handle, angles: c_int, buffer: *mut zq_handle) -> u32;
     pub fn zq_normalise(
         entities: *mut zq_handle,

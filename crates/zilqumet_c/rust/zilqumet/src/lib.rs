@@ -18,8 +18,10 @@ use std::io;
 use std::marker::PhantomData;
 use zilqumet_sys as sys;
 
+mod edit;
 mod node;
 
+pub use edit::EditError;
 pub use node::{Attrs, Children, Descendants, Kind, Node};
 
 /// Why there is no page, or no text.
@@ -439,6 +441,13 @@ impl Page {
     pub fn root(&self) -> Node<'_> {
         // SAFETY: a handle of our own.
         Node::at(self, unsafe { sys::zq_root(self.handle.get()) })
+    }
+
+    /// The node of a number, as `Node::number` told it; none where there is none.
+    pub fn node(&self, number: u64) -> Option<Node<'_>> {
+        // SAFETY: a handle of our own.
+        let kind = unsafe { sys::zq_kind_of(self.handle.get(), number) };
+        (kind != sys::ZQ_NO_KIND).then(|| Node::at(self, number))
     }
 
     /// What the page counts.

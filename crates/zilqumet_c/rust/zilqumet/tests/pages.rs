@@ -1,7 +1,7 @@
 //! What the crate answers.
 
 use std::io::{ErrorKind, Write};
-use zilqumet::{normalise, parse, parse_fragment, Error, Kind, Options};
+use zilqumet::{normalise, parse, parse_fragment, EditError, Error, Kind, Options, Page};
 
 fn written(bytes: &[u8]) -> String {
     normalise(bytes).unwrap()
@@ -122,6 +122,43 @@ fn places() {
     assert_eq!(zilqumet::positions(b"", &[]), []);
     let page = parse(b"<p>One<!--c--><b>two</b><template>T").unwrap();
     assert_eq!(page.root().text_below().unwrap(), "OnetwoT");
+}
+
+fn number_of(page: &Page, name: &str) -> u64 {
+    page.root().descendants().find(|it| it.name() == name).unwrap().number()
+}
+
+#[test]
+fn attributes_edited() {
+    let mut page = parse_fragment("div", b"<p a=b c=d>x").unwrap();
+    let (p, text) = (1, 2);
+    assert_eq!((page.set_attr(p, "a", "é<"), page.set_attr(p, "e", ""), page.remove_attr(p, "c"), page.remove_attr(p, "z")), (Ok(()), Ok(()), Ok(()), Ok(())));
+    assert_eq!(page.serialise().unwrap(), "<p a=\"é<\" e=\"\">x</p>");
+    assert_eq!(page.set_attr(p, "B", ""), Err(EditError::BadName));
+    assert_eq!((page.set_attr(text, "a", ""), page.remove_attr(99, "a")), (Err(EditError::NotElement), Err(EditError::NoNode)));
+    assert_eq!(page.node(p).unwrap().attr("a"), Some("é<"));
+    assert_eq!(page.node(99), None);
+}
+
+#[test]
+fn nodes_edited() {
+    let mut page = parse_fragment("div", b"<p>One<b>two</b></p><template>T</template>").unwrap();
+    let (p, b, template) = (number_of(&page, "p"), number_of(&page, "b"), number_of(&page, "template"));
+    let (i, text) = (page.make_element("i").unwrap(), page.make_text("y<").unwrap());
+    page.append(i, text).unwrap();
+    page.insert_before(i, p).unwrap();
+    page.unwrap(b).unwrap();
+    assert_eq!(page.serialise().unwrap(), "<i>y&lt;</i><p>Onetwo</p><template>T</template>");
+    page.append(template, p).unwrap();
+    page.remove(i).unwrap();
+    assert_eq!(page.serialise().unwrap(), "<template>T<p>Onetwo</p></template>");
+    let root = page.root().number();
+    assert_eq!((page.append(p, template), page.append(i, root)), (Err(EditError::Cycle), Err(EditError::NotLinkable)));
+    assert_eq!((page.unwrap(b), page.insert_before(p, i)), (Err(EditError::NoParent), Err(EditError::NoParent)));
+    assert_eq!((page.make_element("svg"), page.remove(99)), (Err(EditError::BadName), Err(EditError::NoNode)));
+    assert_eq!((EditError::Cycle.status(), EditError::Cycle.to_string().as_str()), (21, "cycle"));
+    let mut page = Options::new().max_nodes(3).max_held(9).parse_fragment("div", b"<p>x").unwrap();
+    assert_eq!((page.make_text("y"), page.set_attr(1, "a", "bbbb")), (Err(EditError::NodeBudget), Err(EditError::HeldBudget)));
 }
 
 #[test]
