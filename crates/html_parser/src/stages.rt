@@ -33,7 +33,7 @@ use html_tokens::{TextMode, Token, Tokenizer};
 use std::alloc::Global;
 
 /// How many bytes are decoded at once, so that the text on its way takes little room however long a piece is.
-pub(crate) const PIECE: usize = 4096;
+pub(crate) const PIECE: usize = 16384;
 
 /// From how many bytes on a plain text is taken by itself.
 const LONG: usize = 64;
