@@ -261,6 +261,30 @@ uint32_t zq_text_below(zq_page *page, uint64_t node, zq_buffer *buffer)
     return proved_text_below(slot(page), node, slot(buffer));
 }
 
+uint32_t zq_audit(zq_entities *entities, const zq_options *options, const void *bytes, size_t len, zq_buffer *buffer, uint64_t *place)
+{
+    call it;
+    uint32_t status = begin(&it, entities, options, buffer, place);
+    if (status != ZQ_OK)
+        return status;
+    if (!are_bytes(bytes, len))
+        return ZQ_BAD_POINTER;
+    return proved_audit(it.entities, &it.limits, some(bytes), len, slot(buffer), it.place);
+}
+
+uint32_t zq_audit_fragment(zq_entities *entities, const zq_options *options, const void *context, size_t context_len, const void *bytes, size_t len,
+                           zq_buffer *buffer, uint64_t *place)
+{
+    call it;
+    uint32_t status = begin(&it, entities, options, buffer, place);
+    if (status != ZQ_OK)
+        return status;
+    if (!are_bytes(bytes, len) || !are_bytes(context, context_len))
+        return ZQ_BAD_POINTER;
+    return proved_audit_fragment(it.entities, &it.limits, some(context), context_len, (it.flags & ZQ_IN_FORM) != 0, (it.flags & ZQ_QUIRKS) != 0,
+                                 some(bytes), len, slot(buffer), it.place);
+}
+
 uint32_t zq_set_attr(zq_page *page, uint64_t node, const void *name, size_t name_len, const void *value, size_t value_len)
 {
     if (page == NULL || !are_bytes(name, name_len) || !are_bytes(value, value_len))
@@ -299,6 +323,7 @@ static uint32_t tell(uint32_t status, uint64_t number, uint64_t *node)
 uint32_t zq_make_element(zq_page *page, const void *name, size_t len, uint64_t *node)
 {
     uint64_t number = ZQ_NO_NODE;
+    uint32_t status;
     if (page == NULL || node == NULL || !are_bytes(name, len))
         return ZQ_BAD_POINTER;
     status = proved_make_element(slot(page), some(name), len, &number);
@@ -308,6 +333,7 @@ uint32_t zq_make_element(zq_page *page, const void *name, size_t len, uint64_t *
 uint32_t zq_make_text(zq_page *page, const void *text, size_t len, uint64_t *node)
 {
     uint64_t number = ZQ_NO_NODE;
+    uint32_t status;
     if (page == NULL || node == NULL || !are_bytes(text, len))
         return ZQ_BAD_POINTER;
     status = proved_make_text(slot(page), some(text), len, &number);
@@ -325,7 +351,6 @@ uint32_t zq_serialise(zq_page *page, int angles, zq_buffer *buffer)
 
 uint32_t zq_normalise(zq_entities *entities, const zq_options *options, const void *bytes, size_t len, int angles, zq_buffer *buffer, uint64_t *place)
 {
-    uint32_t status;
     call it;
     uint32_t status = begin(&it, entities, options, buffer, place);
     if (status != ZQ_OK)
@@ -334,7 +359,6 @@ uint32_t zq_normalise(zq_entities *entities, const zq_options *options, const vo
         return ZQ_BAD_POINTER;
     return proved_normalise(it.entities, &it.limits, some(bytes), len, angles != 0, slot(buffer), it.place);
 }
-    uint32_t status;
 
 uint32_t zq_bytes(zq_buffer *buffer, zq_span *bytes)
 {
