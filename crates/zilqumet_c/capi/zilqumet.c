@@ -299,6 +299,7 @@ static uint32_t tell(uint32_t status, uint64_t number, uint64_t *node)
 uint32_t zq_make_element(zq_page *page, const void *name, size_t len, uint64_t *node)
 {
     uint64_t number = ZQ_NO_NODE;
+    uint32_t status;
     if (page == NULL || node == NULL || !are_bytes(name, len))
         return ZQ_BAD_POINTER;
     status = proved_make_element(slot(page), some(name), len, &number);
@@ -308,6 +309,7 @@ uint32_t zq_make_element(zq_page *page, const void *name, size_t len, uint64_t *
 uint32_t zq_make_text(zq_page *page, const void *text, size_t len, uint64_t *node)
 {
     uint64_t number = ZQ_NO_NODE;
+    uint32_t status;
     if (page == NULL || node == NULL || !are_bytes(text, len))
         return ZQ_BAD_POINTER;
     status = proved_make_text(slot(page), some(text), len, &number);
@@ -325,7 +327,6 @@ uint32_t zq_serialise(zq_page *page, int angles, zq_buffer *buffer)
 
 uint32_t zq_normalise(zq_entities *entities, const zq_options *options, const void *bytes, size_t len, int angles, zq_buffer *buffer, uint64_t *place)
 {
-    uint32_t status;
     call it;
     uint32_t status = begin(&it, entities, options, buffer, place);
     if (status != ZQ_OK)
@@ -334,7 +335,6 @@ uint32_t zq_normalise(zq_entities *entities, const zq_options *options, const vo
         return ZQ_BAD_POINTER;
     return proved_normalise(it.entities, &it.limits, some(bytes), len, angles != 0, slot(buffer), it.place);
 }
-    uint32_t status;
 
 uint32_t zq_bytes(zq_buffer *buffer, zq_span *bytes)
 {
