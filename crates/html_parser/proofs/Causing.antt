@@ -63,7 +63,7 @@ one-at start finished p bytes run t token at r h f e = record {
   place = e;
 }
 
-not-parsed : (f : Foreign) → parses f ≡ false → f ≡ Refuse
+pub not-parsed : (f : Foreign) → parses f ≡ false → f ≡ Refuse
 not-parsed Refuse e = refl
 not-parsed Parse e = absurd (true≢false e)
 

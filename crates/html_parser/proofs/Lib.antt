@@ -23,3 +23,4 @@ pub mod Tokenizing
 pub mod Unsaid
 pub mod Plain
 pub mod PlainTaken
+pub mod TagTaken

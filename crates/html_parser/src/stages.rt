@@ -11,6 +11,7 @@ ghost use Rattle.html_ledger.specs.declared.setting.Setting.{Setting};
 ghost use Rattle.html_tokens.specs.declared.token.TokenKind.{TokenKind};
 ghost use Rattle.html_builder.specs.Saying.{said_in};
 ghost use Rattle.html_input.specs.Fed.{Fed as Decodes};
+ghost use Rattle.html_tokens.specs.Bare.{spelling};
 ghost use Rattle.html_tokens.specs.Given.{Awaits, Fed, fed_len, is_stopped as tokenizer_stopped, steps_taken};
 ghost use Rattle.html_tokens.specs.Stream.{Run, gave};
 ghost use Rattle.html_tokens.specs.declared.token.Token.{Token as TokenType};
@@ -29,11 +30,11 @@ use html_builder::Builder;
 use html_charref::{EntityTable, PlainText, plain_len, plain_start};
 use html_input::Decoder;
 use html_token_list::Tokens;
-use html_tokens::{TextMode, Token, Tokenizer};
+use html_tokens::{BareTag, TextMode, Token, Tokenizer};
 use std::alloc::Global;
 
 /// How many bytes are decoded at once, so that the text on its way takes little room however long a piece is.
-pub(crate) const PIECE: usize = 4096;
+pub(crate) const PIECE: usize = 16384;
 
 /// From how many bytes on a plain text is taken by itself.
 const LONG: usize = 64;
@@ -161,13 +162,34 @@ impl<'a> Stages<'a> {
         ensures keeps { self.new.kept.keeps_tokens ≡ self.old.kept.keeps_tokens }
     {
         let plain = plain_len(piece);
-        let taken = self.take_plain(&piece[..plain])?;
+        let taken = self.take_lane(piece, plain)?;
         if taken > 0 {
             return Ok(taken);
         }
         let end = self.front_end(piece, plain);
         self.take_chars(&piece[..end])?;
         Ok(end)
+    }
+
+    /// Takes by itself what stands at the front of some bytes, of which so many at the front are plain, where that goes: a plain text, or a tag without
+    /// attributes. How many bytes they were, which may be none.
+    fn take_lane(&mut self, piece: &[u8], plain: usize) -> Result<usize, ParseError>
+        requires within { plain ≤ length piece.now }
+        requires plain { list_all is_plain_byte (take plain piece.now) ≡ true }
+        ensures within { IfOk result (λ n. n ≤ length piece.now) }
+        ensures reads { IfOk result (λ n. (start : Start) (bytes : List ℕ) (run : Run) → IsRun start false self.old bytes run → HasRead start self.new (bytes ++ take n piece.now)) }
+        ensures cause { IfErr result (λ e. (start : Start) (bytes : List ℕ) (run : Run) → IsRun start false self.old bytes run → IsFeedCause start (bytes ++ piece.now) e) }
+        ensures told { IfErr result (λ e. (start : Start) (bytes : List ℕ) (run : Run) → IsRun start false self.old bytes run → IsToldIn start.limits self.new.builder.page e) }
+        ensures keeps { self.new.kept.keeps_tokens ≡ self.old.kept.keeps_tokens }
+    {
+        if plain == 0 {
+            return self.take_tag(piece);
+        }
+        if plain < LONG && BareTag::of(&piece[plain..]).is_none() {
+            return Ok(0);
+        }
+        let taken = self.take_plain(&piece[..plain])?;
+        Ok(taken)
     }
 
     /// How many bytes are taken code point by code point, of some of which so many at the front are plain: all where each token is to be counted for by
@@ -190,7 +212,7 @@ impl<'a> Stages<'a> {
         self.tokenizer.takes_plain() && !self.counts_steps() && !self.builder.reads_foreign()
     }
 
-    /// Takes plain bytes by themselves, where they are many and that goes: how many of them, which may be none.
+    /// Takes plain bytes by themselves, where that goes: how many of them, which may be none.
     fn take_plain(&mut self, piece: &[u8]) -> Result<usize, ParseError>
         requires plain { list_all is_plain_byte piece.now ≡ true }
         ensures within { IfOk result (λ n. n ≤ length piece.now) }
@@ -199,7 +221,7 @@ impl<'a> Stages<'a> {
         ensures told { IfErr result (λ e. (start : Start) (bytes : List ℕ) (run : Run) → IsRun start false self.old bytes run → IsToldIn start.limits self.new.builder.page e) }
         ensures keeps { self.new.kept.keeps_tokens ≡ self.old.kept.keeps_tokens }
     {
-        if piece.len() < LONG || !self.takes_plain() {
+        if !self.takes_plain() {
             return Ok(0);
         }
         let len = piece.len() - tail_len(piece);
@@ -226,6 +248,56 @@ impl<'a> Stages<'a> {
         };
         self.builder.process_plain(text, place)?;
         self.kept.push_plain(text, place)?;
+        Ok(true)
+    }
+
+    /// Takes the tag without attributes at the front of some bytes by itself, where that goes: how many bytes it has, or none.
+    fn take_tag(&mut self, piece: &[u8]) -> Result<usize, ParseError>
+        ensures within { IfOk result (λ n. n ≤ length piece.now) }
+        ensures reads { IfOk result (λ n. (start : Start) (bytes : List ℕ) (run : Run) → IsRun start false self.old bytes run → HasRead start self.new (bytes ++ take n piece.now)) }
+        ensures cause { IfErr result (λ e. (start : Start) (bytes : List ℕ) (run : Run) → IsRun start false self.old bytes run → IsFeedCause start (bytes ++ piece.now) e) }
+        ensures told { IfErr result (λ e. (start : Start) (bytes : List ℕ) (run : Run) → IsRun start false self.old bytes run → IsToldIn start.limits self.new.builder.page e) }
+        ensures keeps { self.new.kept.keeps_tokens ≡ self.old.kept.keeps_tokens }
+    {
+        if !self.takes_plain() || !self.tokenizer.takes_tags() {
+            return Ok(0);
+        }
+        let Some(tag) = BareTag::of(piece) else {
+            return Ok(0);
+        };
+        let len = tag.as_str().len();
+        let taken = self.hand_tag(&tag)?;
+        Ok(if taken { len } else { 0 })
+    }
+
+    /// Takes a tag without attributes by itself, where that goes: whether it was taken.
+    fn hand_tag(&mut self, tag: &BareTag<'_>) -> Result<bool, ParseError>
+        ensures reads { IfOk result (λ taken. (start : Start) (bytes : List ℕ) (run : Run) → IsRun start false self.old bytes run → HasRead start self.new (bytes ++ cond taken (spelling tag.now) [])) }
+        ensures cause { IfErr result (λ e. (start : Start) (bytes : List ℕ) (run : Run) → IsRun start false self.old bytes run → IsFeedCause start (bytes ++ spelling tag.now) e) }
+        ensures told { IfErr result (λ e. (start : Start) (bytes : List ℕ) (run : Run) → IsRun start false self.old bytes run → IsToldIn start.limits self.new.builder.page e) }
+        ensures keeps { self.new.kept.keeps_tokens ≡ self.old.kept.keeps_tokens }
+    {
+        let text = tag.as_str();
+        if !self.decoder.take_text(text, text.len()) {
+            return Ok(false);
+        }
+        self.builder.counted();
+        let is_over = self.is_over();
+        let Some(token) = self.tokenizer.take_tag(tag)? else {
+            return Err(ParseError::OutOfMemory);
+        };
+        let said = match build(&mut self.builder, &token, is_over) {
+            Ok(said) => said,
+            Err(cause) => {
+                let_go(token);
+                return Err(cause);
+            }
+        };
+        self.builder.counted();
+        tell(&mut self.tokenizer, said);
+        self.kept.push(token)?;
+        let is_spent = self.is_spent();
+        self.is_past = is_spent;
         Ok(true)
     }
 
@@ -537,6 +609,7 @@ fn passes(limits: Option<Limits>, steps: u128) -> bool
 fn let_go(_token: Token) {}
 
 /// Hands a token to tree construction, unless more steps were counted before it than the limit.
+#[inline(always)]
 fn build(
     builder: &mut Builder,
     token: &Token,

@@ -23,3 +23,4 @@ pub mod OrderLemmas
 pub mod ComparisonLemmas
 pub mod ScriptLemmas
 pub mod PlainLemmas
+pub mod BareLemmas

@@ -41,14 +41,14 @@ drop_all [] = refl
 drop_all (x ∷ xs) = drop_all xs
 
 -- the machine, with this text unread
-abbrev with_text : Machine → List ℕ → Machine
+abbrev pub with_text : Machine → List ℕ → Machine
 with_text t text = record t { input = record { queue = record { items = text }; finished = t.input.finished } }
 
 abbrev past : Machine → List ℕ → Machine
 past t text = record t { place = t.place + length text }
 
 module _ (t : Machine) (text : List ℕ) (state : is_text t.state ≡ true) (none : t.input.queue.items ≡ []) where
-  fed_at : (run : Run) → t.input.finished ≡ false → IsAt t run → IsAt (with_text t text) (fed run text)
+  pub fed_at : (run : Run) → t.input.finished ≡ false → IsAt t run → IsAt (with_text t text) (fed run text)
   fed_at run going i = record {
     tokens = λ more switches h.
         ap (λ x. tokens_of x (run.switches ++ switches) run.start) (append_assoc run.text text more)

@@ -1,4 +1,5 @@
 -- Claimed.
+pub mod Bare
 pub mod Cost
 pub mod Cut
 pub mod Doctype

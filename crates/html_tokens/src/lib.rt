@@ -2,6 +2,7 @@
 #![tactic(auto)]
 
 mod attributes;
+mod bare_tag;
 mod comment;
 mod copied;
 mod doctype;
@@ -29,6 +30,7 @@ mod whole_attr;
 mod whole_tag;
 
 pub use attributes::{Attr, Attrs};
+pub use bare_tag::BareTag;
 pub use fault_name::FaultName;
 pub use faults::Fault;
 pub use optional::OptionalStr;

@@ -42,6 +42,7 @@ fn add_chars(kept: &mut Vec<char>, text: &str) -> Result<(), AllocError>
 }
 
 /// The same, of a text.
+#[inline(always)]
 pub(crate) fn keep_text(
     last: &mut Option<Name>,
     alloc: Global,

@@ -2,10 +2,12 @@
 ghost use Rattle.std.specs.Prelude.{◌≡◌, ◌↔◌, ℕ, ◌≤◌, ◌+◌, ◌*◌, ◌^◌, ◌<◌, ◌-◌, ◌||◌, min, List, [], ◌++◌, ◌∷◌, true, false, cond, Option, option_map, Ok, Err, length, MatchOption, IfOk, IfErr, OnOk, OnErr, IfSome, IfNone};
 ghost use Rattle.std.specs.List.Sorted.{IsNonDecreasingBy};
 ghost use Rattle.std.specs.Str.{chars};
+ghost use Rattle.html_tokens.specs.Bare.{spelling};
 ghost use Rattle.html_tokens.specs.Bounds.{IsBounded, IsWithin};
 ghost use Rattle.html_tokens.specs.Runs.{plain_tokens};
 ghost use Rattle.html_tokens.specs.Tokens.{token};
 
+use crate::bare_tag::BareTag;
 use crate::faults::{Fault, Faults};
 use crate::machine::{Machine, token};
 use crate::token::{Name, TextMode, Token, TokenKind};
@@ -242,6 +244,45 @@ impl<'a> Tokenizer<'a> {
     /// Whether a plain text would be taken by `take_plain`, as far as places count.
     pub fn takes_plain(&self) -> bool {
         !self.failed && self.machine.is_idle() && self.faults.is_quiet()
+    }
+
+    /// Takes the next piece of the text, which is a tag without attributes, and gives its token. It is as `feed` and then one call of `next`. Nothing, and
+    /// then nothing changed, where other text waits, where text is not read as data, or after a refusal or the end of the text.
+    ///
+    /// Refused with `OutOfMemory` alone.
+    #[tactic(auto, using(crate::proofs::StreamLemmas::unsaid, crate::proofs::StreamLemmas::said), unfolding(crate::specs::Given::Fed, crate::specs::Given::Awaits, crate::specs::Given::fed_len, crate::specs::Given::is_stopped, crate::specs::Given::is_finished))]
+    pub fn take_tag(&mut self, tag: &BareTag<'_>) -> Result<Option<Token>, TokenError>
+        ensures given { IfOk result (λ answer. IfSome answer (λ token. (run : Run) → Fed self.old run → Awaits self.new (fed run (spelling tag.now)) token)) }
+        ensures unsaid { IfOk result (λ answer. IfSome answer (λ token. (run : Run) → Fed self.old run → Fed self.new (gave (fed run (spelling tag.now)) token Option.None))) }
+        ensures count { IfOk result (λ answer. IfSome answer (λ token. fed_len self.new ≡ fed_len self.old + length (spelling tag.now))) }
+        ensures none { IfOk result (λ answer. IfNone answer (self.new ≡ self.old)) }
+        ensures going { IfOk result (λ answer. IfSome answer (λ token. is_stopped self.old ≡ false)) }
+        ensures stopped { OnOk result (is_stopped self.new ≡ is_stopped self.old) }
+        ensures cause { IfErr result (λ e. e ≡ TokenError.OutOfMemory) }
+        ensures err { OnErr result (is_stopped self.new ≡ true) }
+        ensures finished { is_finished self.new ≡ is_finished self.old }
+    {
+        if self.failed
+            || self.machine.is_finished()
+            || !self.machine.is_idle()
+            || !self.machine.is_data()
+            || !self.faults.is_quiet()
+            || !self.machine.has_room(tag.as_str().len())
+        {
+            return Ok(None);
+        }
+        match self.machine.take_bare(tag) {
+            Ok(token) => Ok(Some(token)),
+            Err(_) => {
+                self.failed = true;
+                Err(TokenError::OutOfMemory)
+            }
+        }
+    }
+
+    /// Whether a tag without attributes would be taken by `take_tag`, as far as places count.
+    pub fn takes_tags(&self) -> bool {
+        self.takes_plain() && self.machine.is_data()
     }
 
     /// Tells how the text after the token just given is read: after a start tag in any mode, after each token as data or as data in foreign

@@ -1,5 +1,6 @@
 // Plain text, a code point or a run at a time.
 ghost use Rattle.std.specs.Prelude.{◌≡◌, ◌≤◌, ◌+◌, ◌^◌, ◌<◌, [], ◌++◌, length, MatchOption, cond, false, true, IfOk, OnErr, OnOk, IfSome, IfNone};
+ghost use Rattle.html_tokens.specs.Bare.{IsBareName, spelling};
 ghost use Rattle.html_tokens.specs.Fed.{Passes};
 ghost use Rattle.html_tokens.specs.Tokens.{token};
 ghost use Rattle.html_tokens.specs.Bounds.{IsBounded, IsWithin};
@@ -7,13 +8,17 @@ ghost use Rattle.std.specs.Prelude.{take};
 ghost use Rattle.html_tokens.specs.Copied.{AllPass};
 ghost use Rattle.html_tokens.specs.Runs.{is_plain, is_text, plain_front, plain_tokens, gave_all};
 ghost use Rattle.html_tokens.specs.Stream.{Run, IsAt, gave, answered, fed};
+ghost use Rattle.html_tokens.specs.declared.faults.Faults.{Faults};
 ghost use Rattle.html_tokens.specs.declared.token.TextMode.{TextMode};
-ghost use Rattle.std.specs.Prelude.{Option};
+ghost use Rattle.std.specs.Prelude.{Option, Some};
 
-use super::{Machine, State};
+use super::{Machine, State, token};
+use crate::attributes::Attrs;
+use crate::bare_tag::BareTag;
 use crate::faults::Faults;
-use crate::token::{Region, TokenKind};
-use html_charref::PlainText;
+use crate::short::keep_text;
+use crate::token::{Region, TextMode, Token, TokenKind};
+use html_charref::{PlainText, Str};
 use std::alloc::AllocError;
 
 impl<'a> Machine<'a> {
@@ -141,6 +146,16 @@ impl<'a> Machine<'a> {
         self.is_text() && self.input.queue.len() == 0
     }
 
+    /// Whether text is read as data, outside of foreign content.
+    pub(crate) fn is_data(&self) -> bool
+        ensures { result ≡ true → self.now.mode ≡ TextMode.Data }
+    {
+        match self.mode {
+            TextMode::Data => true,
+            _ => false,
+        }
+    }
+
     /// Goes past a plain text, which was not fed before: the place where it begins.
     pub(crate) fn pass_text(&mut self, text: &PlainText<'_>) -> u64
         requires text { is_text self.old.state ≡ true }
@@ -155,5 +170,59 @@ impl<'a> Machine<'a> {
         let start = self.place;
         self.place += text.len() as u64;
         start
+    }
+
+    /// Goes past a tag without attributes, which was not fed before: its token.
+    pub(crate) fn take_bare(&mut self, tag: &BareTag<'_>) -> Result<Token, AllocError>
+        requires text { is_text self.old.state ≡ true }
+        requires mode { self.old.mode ≡ TextMode.Data }
+        requires empty { self.old.input.queue.items ≡ [] }
+        requires going { self.old.input.finished ≡ false }
+        requires room { self.old.place + length self.old.input.queue.items + length (spelling tag.now) < 2 ^ 64 }
+        ensures given { IfOk result (λ given. (run : Run) → IsAt self.old run → (switch : Option TextMode) → IsAt (answered given switch self.new) (gave (fed run (spelling tag.now)) given switch)) }
+        ensures count { OnOk result (self.new.place ≡ self.old.place + length (spelling tag.now)) }
+        ensures stays { OnErr result (self.new.place ≡ self.old.place) }
+        ensures input { self.new.input ≡ self.old.input }
+        ensures bounded { (faults : Faults) → IsBounded self.old faults → IsBounded self.new faults }
+    {
+        if tag.is_end() {
+            self.take_bare_end(tag)
+        } else {
+            self.take_bare_start(tag)
+        }
+    }
+
+    /// The same of an end tag.
+    fn take_bare_end(&mut self, tag: &BareTag<'_>) -> Result<Token, AllocError>
+        requires room { self.old.place + length (spelling tag.now) < 2 ^ 64 }
+        ensures name { IsBareName tag.now.name }
+        ensures token { IfOk result (λ given. given ≡ token (TokenKind.End tag.now.name) self.old.place (self.old.place + length (spelling tag.now))) }
+        ensures new { OnOk result (self.new ≡ record self.old { place = self.old.place + length (spelling tag.now) }) }
+        ensures refused { OnErr result (self.new ≡ self.old) }
+    {
+        let start = self.place;
+        let name = Str::of(self.alloc, tag.name())?;
+        self.place += tag.as_str().len() as u64;
+        Ok(token(TokenKind::End { name }, start, self.place))
+    }
+
+    /// The same of a start tag.
+    fn take_bare_start(&mut self, tag: &BareTag<'_>) -> Result<Token, AllocError>
+        requires room { self.old.place + length (spelling tag.now) < 2 ^ 64 }
+        ensures name { IsBareName tag.now.name }
+        ensures token { IfOk result (λ given. given ≡ token (TokenKind.Start tag.now.name [] false) self.old.place (self.old.place + length (spelling tag.now))) }
+        ensures new { OnOk result (self.new ≡ record self.old { place = self.old.place + length (spelling tag.now); last_name = Some tag.now.name }) }
+        ensures refused { OnErr result (self.new ≡ record self.old { last_name = self.new.last_name }) }
+    {
+        let start = self.place;
+        let name = Str::of(self.alloc, tag.name())?;
+        keep_text(&mut self.last_name, self.alloc, tag.name())?;
+        self.place += tag.as_str().len() as u64;
+        let kind = TokenKind::Start {
+            name,
+            attrs: Attrs::new(self.alloc),
+            self_closing: false,
+        };
+        Ok(token(kind, start, self.place))
     }
 }
