@@ -261,6 +261,30 @@ uint32_t zq_text_below(zq_page *page, uint64_t node, zq_buffer *buffer)
     return proved_text_below(slot(page), node, slot(buffer));
 }
 
+uint32_t zq_audit(zq_entities *entities, const zq_options *options, const void *bytes, size_t len, zq_buffer *buffer, uint64_t *place)
+{
+    call it;
+    uint32_t status = begin(&it, entities, options, buffer, place);
+    if (status != ZQ_OK)
+        return status;
+    if (!are_bytes(bytes, len))
+        return ZQ_BAD_POINTER;
+    return proved_audit(it.entities, &it.limits, some(bytes), len, slot(buffer), it.place);
+}
+
+uint32_t zq_audit_fragment(zq_entities *entities, const zq_options *options, const void *context, size_t context_len, const void *bytes, size_t len,
+                           zq_buffer *buffer, uint64_t *place)
+{
+    call it;
+    uint32_t status = begin(&it, entities, options, buffer, place);
+    if (status != ZQ_OK)
+        return status;
+    if (!are_bytes(bytes, len) || !are_bytes(context, context_len))
+        return ZQ_BAD_POINTER;
+    return proved_audit_fragment(it.entities, &it.limits, some(context), context_len, (it.flags & ZQ_IN_FORM) != 0, (it.flags & ZQ_QUIRKS) != 0,
+                                 some(bytes), len, slot(buffer), it.place);
+}
+
 uint32_t zq_set_attr(zq_page *page, uint64_t node, const void *name, size_t name_len, const void *value, size_t value_len)
 {
     if (page == NULL || !are_bytes(name, name_len) || !are_bytes(value, value_len))

@@ -245,6 +245,23 @@ uint32_t zq_positions(const void *bytes, size_t len, const uint64_t *places, siz
  * is no such node. */
 uint32_t zq_text_below(zq_page *page, uint64_t node, zq_buffer *buffer);
 
+/* ---- the ledger ---- */
+
+/* What became of each token: parse as zq_parse and zq_parse_fragment do, answer as they do, and fill buffer with a line for each token, in their order, the
+ * end of the input last. A line has the places where the token begins and ends, what it is, and its one fate:
+ *
+ *     0 8 start select made 4            a start tag, a comment or a doctype made the node of this number,
+ *     8 13 start div dropped InSelect    or has no effect, for a cause: PrologSpace, Null, LeadingNewline, InSelect, InFrameset, Misplaced, InColumnGroup;
+ *     0 6 start body merged              or its attributes went to the html or the body that was there
+ *     13 14 char U+0061 text 5           a code point stands in the text of this number, or was dropped
+ *     14 23 end select ended             an end tag did what it does
+ *     23 23 eof ended                    the end of the input
+ *
+ * Nodes have the numbers that they have in the page which those calls make of the same bytes. */
+uint32_t zq_audit(zq_entities *entities, const zq_options *options, const void *bytes, size_t len, zq_buffer *buffer, uint64_t *place);
+uint32_t zq_audit_fragment(zq_entities *entities, const zq_options *options, const void *context, size_t context_len, const void *bytes, size_t len,
+                           zq_buffer *buffer, uint64_t *place);
+
 /* ---- editing a page ---- */
 
 /* Edits of a page's nodes. One that is refused changes nothing. Nodes keep their numbers: what is taken out stands alone, with all below it, and can be linked

@@ -5,3 +5,4 @@ pub mod Filling
 pub mod Pushed
 pub mod Roots
 pub mod Edited
+pub mod Audited

@@ -1,4 +1,5 @@
 -- Claimed.
+pub mod Audits
 pub mod Causes
 pub mod Edits
 pub mod Kept

@@ -1,6 +1,7 @@
 //! The parser for programs in C: handles that C keeps, and the calls on them.
 #![tactic(auto)]
 
+mod audits;
 mod below;
 mod changes;
 mod edits;

@@ -116,7 +116,7 @@ pub(crate) fn parsed_by(
 }
 
 /// The table of the core five.
-fn core_table(alloc: Global) -> Result<EntityTable, ParseError>
+pub(crate) fn core_table(alloc: Global) -> Result<EntityTable, ParseError>
     ensures ok { IfOk result (λ t. t ≡ core_rows) }
     ensures cause { IfErr result (λ e. e ≡ ParseError.OutOfMemory) }
 {

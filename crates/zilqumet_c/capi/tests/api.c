@@ -427,6 +427,49 @@ static void test_text_below(void)
     zq_free(&buffer);
 }
 
+/* Whether a buffer has this text. */
+static int holds(zq_buffer *buffer, const char *text)
+{
+    zq_span span;
+    return zq_bytes(buffer, &span) == ZQ_OK && is(span, text);
+}
+
+static void test_audit(void)
+{
+    zq_buffer buffer = ZQ_EMPTY;
+    zq_entities entities = ZQ_EMPTY;
+    zq_page page = ZQ_EMPTY;
+    zq_options options = ZQ_DEFAULTS;
+    const char *json = "{\"&eacute;\": {\"codepoints\": [233], \"characters\": \"\\u00e9\"}}";
+    const char *text = "<!DOCTYPE html> <p>a<body b><!--c--><div></p>";
+    uint64_t place = 7;
+    CHECK(zq_audit(NULL, NULL, text, strlen(text), &buffer, &place) == ZQ_OK && place == 0);
+    CHECK(holds(&buffer, "0 15 doctype made 1\n15 16 char U+0020 dropped PrologSpace\n16 19 start p made 5\n19 20 char U+0061 text 6\n"
+                         "20 28 start body merged\n28 36 comment made 7\n36 41 start div made 8\n41 45 end p ended\n45 45 eof ended\n"));
+    /* its nodes are those of the page */
+    CHECK(parse(text, &page, NULL) == ZQ_OK && is(zq_name(&page, 5), "p") && is(zq_data(&page, 6), "a") && is(zq_data(&page, 7), "c") && is(zq_name(&page, 8), "div"));
+    CHECK(zq_audit_fragment(NULL, NULL, "tr", 2, "<td>x", 5, &buffer, &place) == ZQ_OK);
+    CHECK(holds(&buffer, "0 4 start td made 1\n4 5 char U+0078 text 2\n5 5 eof ended\n"));
+    CHECK(zq_audit(NULL, NULL, NULL, 0, &buffer, NULL) == ZQ_OK && holds(&buffer, "0 0 eof ended\n"));
+    CHECK(zq_entities_read(json, strlen(json), &entities) == ZQ_OK && zq_audit_fragment(&entities, NULL, "p", 1, "&eacute;", 8, &buffer, NULL) == ZQ_OK);
+    CHECK(holds(&buffer, "0 8 char U+00E9 text 1\n8 8 eof ended\n"));
+    /* what is not parsed has no ledger */
+    CHECK(zq_audit(NULL, NULL, "<p>x<svg>", 9, &buffer, &place) == ZQ_FOREIGN_SVG && place == 4 && buffer.held == NULL);
+    CHECK(zq_audit_fragment(NULL, NULL, "svg", 3, "x", 1, &buffer, &place) == ZQ_BAD_CONTEXT && zq_audit_fragment(NULL, NULL, "\xff", 1, "x", 1, &buffer, &place) == ZQ_BAD_CONTEXT);
+    options.flags = ZQ_FOREIGN;
+    CHECK(zq_audit(NULL, &options, "<svg>", 5, &buffer, &place) == ZQ_OK && holds(&buffer, "0 5 start svg made 4\n5 5 eof ended\n"));
+    options.max_nodes = 3;
+    CHECK(zq_audit(NULL, &options, "<p>", 3, &buffer, &place) == ZQ_NODE_BUDGET && place == 0);
+    options.flags = 8;
+    CHECK(zq_audit(NULL, &options, "<p>", 3, &buffer, &place) == ZQ_BAD_FLAGS && zq_audit_fragment(NULL, &options, "p", 1, "x", 1, &buffer, &place) == ZQ_BAD_FLAGS);
+    CHECK(zq_audit(NULL, NULL, NULL, 1, &buffer, &place) == ZQ_BAD_POINTER && zq_audit(NULL, NULL, "", 0, NULL, &place) == ZQ_BAD_POINTER);
+    CHECK(zq_audit((zq_entities *)&buffer, NULL, "", 0, &buffer, &place) == ZQ_BAD_HANDLE);
+    CHECK(zq_audit_fragment(NULL, NULL, NULL, 1, "x", 1, &buffer, &place) == ZQ_BAD_POINTER && zq_audit_fragment(NULL, NULL, "p", 1, NULL, 1, &buffer, &place) == ZQ_BAD_POINTER);
+    zq_free(&page);
+    zq_free(&entities);
+    zq_free(&buffer);
+}
+
 /* A fragment in a div, below whose root the text is. */
 static void fragment(zq_page *page, const char *text) { CHECK(zq_parse_fragment(NULL, NULL, "div", 3, text, strlen(text), page, NULL) == ZQ_OK); }
 
@@ -596,6 +639,7 @@ int main(void)
     test_errors();
     test_positions();
     test_text_below();
+    test_audit();
     test_attributes();
     test_removing();
     test_linking();

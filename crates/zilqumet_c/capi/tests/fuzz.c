@@ -1,6 +1,7 @@
 /* A test of random pages: what tools/fuzz hands in, or by main the rows of a file: fuzz ROWS [ENTITIES]. It ends the program where a page differs from
  * what it is in pieces, within its own counts, or with foreign content parsed where there is none; where the page's links do not meet; where a text is
- * not UTF-8, or two calls tell two of it; where a bound that is proved does not hold; and where random edits leave no tree. What the page is written as is parsed again.
+ * not UTF-8, or two calls tell two of it; where a bound that is proved does not hold; where a token has no line in the ledger; and where random edits
+ * leave no tree. What the page is written as is parsed again.
  *
  * The first four bytes of an input are: flags (below), the number of the fragment's context (0: a document), and the lengths of the pieces. The rest is the
  * page. A row is the same as text: eight hexadecimal digits, a space, and the page, in which \xHH stands for what is not plain. */
@@ -318,6 +319,21 @@ static void check_written(const task *it, seen *whole, int angles)
     zq_free(&normal);
 }
 
+/* The ledger has a line for each token, or is refused as the page is. */
+static void check_audit(const task *it, const seen *whole)
+{
+    zq_buffer lines = ZQ_EMPTY;
+    zq_span text = { NULL, 0 };
+    uint64_t place = 0, count = 0;
+    uint32_t status = *it->context ? zq_audit_fragment(it->entities, &it->options, it->context, strlen(it->context), it->bytes, it->len, &lines, &place)
+                                   : zq_audit(it->entities, &it->options, it->bytes, it->len, &lines, &place);
+    MUST(status == whole->status && place == whole->place && zq_bytes(&lines, &text) == (status == ZQ_OK ? ZQ_OK : ZQ_BAD_HANDLE));
+    for (size_t at = 0; at < text.len; at++)
+        count += text.at[at] == '\n';
+    MUST(status != ZQ_OK || (is_text(text) && count == whole->counts.tokens));
+    zq_free(&lines);
+}
+
 /* A random edit of a page, by a number, and what it answers. */
 static uint32_t edited(seen *it, uint32_t by)
 {
@@ -366,6 +382,7 @@ int LLVMFuzzerTestOneInput(const uint8_t *data, size_t size)
     it.options.flags = (flags & FOREIGN ? ZQ_FOREIGN : 0) | (flags & IN_FORM ? ZQ_IN_FORM : 0) | (flags & QUIRKS ? ZQ_QUIRKS : 0);
     seen whole = parsed(&it, &it.options);
     check_same(&whole, parsed_in_pieces(&it, &it.options));
+    check_audit(&it, &whole);
     if (!(flags & FOREIGN))
         check_foreign(&it, &whole);
     if (whole.status == ZQ_OK && whole.counts.nodes <= MOST_NODES) {

@@ -100,6 +100,10 @@ static uint32_t run(void) {
     if (!r)
         r = zq_all_texts(&page, &name, &texts);
     if (!r)
+        r = zq_audit(&entities, &options, page_bytes, page_len, &written, &at);
+    if (!r)
+        r = zq_audit_fragment(&entities, &options, "div", 3, page_bytes, page_len, &written, &at);
+    if (!r)
         r = edit(&page);
     if (!r)
         r = zq_serialise(&page, 0, &written);

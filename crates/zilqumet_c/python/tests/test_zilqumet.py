@@ -164,6 +164,30 @@ class Texts(unittest.TestCase):
         self.assertEqual((counts.code_points, counts.nodes, counts.held, counts.tokens, counts.errors), (8, 6, 16, 3, 1))
 
 
+class Ledger(unittest.TestCase):
+    def test_audit(self):
+        data = "<!DOCTYPE html> <p>é<body b><!--c--><select><div></p>"
+        told = zilqumet.audit(data)
+        self.assertEqual(told, [
+            (0, 15, "doctype", "", "made", 1, None), (15, 16, "char", " ", "dropped", None, "PrologSpace"), (16, 19, "start", "p", "made", 5, None),
+            (19, 20, "char", "é", "text", 6, None), (20, 28, "start", "body", "merged", None, None), (28, 36, "comment", "", "made", 7, None),
+            (36, 44, "start", "select", "made", 8, None), (44, 49, "start", "div", "dropped", None, "InSelect"), (49, 53, "end", "p", "ended", None, None),
+            (53, 53, "eof", "", "ended", None, None)])
+        names = {node.number: node.name or node.text for node in zilqumet.parse(data)}
+        self.assertEqual([names[token.node] for token in told if token.node is not None], ["", "p", "é", "c", "select"])
+        self.assertEqual(zilqumet.audit(b"x", max_nodes=5)[-1].fate, "ended")
+        with self.assertRaises(zilqumet.ForeignContent):
+            zilqumet.audit(b"<svg>")
+        self.assertEqual(zilqumet.audit(b"<svg>", foreign=True)[0], (0, 5, "start", "svg", "made", 4, None))
+
+    def test_audit_of_a_fragment(self):
+        self.assertEqual([token[2:] for token in zilqumet.audit_fragment(b"<td>&eacute;", "tr")], [
+            ("start", "td", "made", 1, None), ("char", "é", "text", 2, None), ("eof", "", "ended", None, None)])
+        self.assertEqual(zilqumet.audit_fragment(b"<form>", in_form=True)[0].fate, "dropped")
+        with self.assertRaises(zilqumet.BadContext):
+            zilqumet.audit_fragment(b"x", "Q")
+
+
 class Edits(unittest.TestCase):
     def named(self, page, name):
         return next(node for node in page if node.name == name)

@@ -34,8 +34,8 @@ from typing import Any, Iterable, Iterator, NamedTuple, Optional, Union
 
 __all__ = [
     "BadContext", "BadEntities", "Counts", "EditError", "Entities", "ForeignContent", "HeldBudget", "InputTooLong", "Node", "NodeBudget", "Page",
-    "ParseError", "Parser", "Position", "Refused", "StepBudget", "Stopped", "library_version", "normalise", "parse", "parse_counts", "parse_fragment",
-    "positions",
+    "ParseError", "Parser", "Position", "Refused", "StepBudget", "Stopped", "Token", "audit", "audit_fragment", "library_version", "normalise", "parse",
+    "parse_counts", "parse_fragment", "positions",
 ]
 __version__ = "0.1.0"
 
@@ -114,6 +114,8 @@ _entities_read = _call(_slow, "zq_entities_read", _U32, _BYTES, _SIZE, _H)
 _parse = _call(_slow, "zq_parse", _U32, _H, _O, _BYTES, _SIZE, _H, _PLACE)
 _parse_fragment = _call(_slow, "zq_parse_fragment", _U32, _H, _O, _BYTES, _SIZE, _BYTES, _SIZE, _H, _PLACE)
 _normalise = _call(_slow, "zq_normalise", _U32, _H, _O, _BYTES, _SIZE, _INT, _H, _PLACE)
+_audit = _call(_slow, "zq_audit", _U32, _H, _O, _BYTES, _SIZE, _H, _PLACE)
+_audit_fragment = _call(_slow, "zq_audit_fragment", _U32, _H, _O, _BYTES, _SIZE, _BYTES, _SIZE, _H, _PLACE)
 _parser_new = _call(_quick, "zq_parser_new", _U32, _H, _O, _H)
 _parser_new_fragment = _call(_quick, "zq_parser_new_fragment", _U32, _H, _O, _BYTES, _SIZE, _H)
 _parser_feed = _call(_slow, "zq_parser_feed", _U32, _H, _BYTES, _SIZE, _PLACE)
@@ -312,6 +314,21 @@ class ParseError(NamedTuple):
     offset: Optional[int] = None
     line: Optional[int] = None
     column: Optional[int] = None
+
+
+class Token(NamedTuple):
+    """A token of an input, and what became of it. `start` and `end` are places, as those of errors; `kind` is start, end, char, comment, doctype or eof;
+    `name` is the name of a tag, or a character, else empty. `fate` is made (the node of the number `node`), text (it is in the text of that number), merged
+    (its attributes went to the html or the body that was there), dropped (for `cause`: PrologSpace, Null, LeadingNewline, InSelect, InFrameset, Misplaced
+    or InColumnGroup) or ended (an end tag, or the end of the input)."""
+
+    start: int
+    end: int
+    kind: str
+    name: str
+    fate: str
+    node: Optional[int] = None
+    cause: Optional[str] = None
 
 
 class Node:
@@ -652,6 +669,43 @@ def parse_fragment(
     page: Page = _run(entities, _parse_fragment, Page(), options, name, len(name), data, len(data))._read()
     page._data = data
     return page
+
+
+def _tokens(lines: str) -> list[Token]:
+    """The tokens of the lines that tell them."""
+    told = []
+    for line in lines.split("\n")[:-1]:
+        start, end, kind, *rest = line.split(" ")
+        name = rest.pop(0) if kind in ("start", "end", "char") else ""
+        fate, what = rest[0], rest[1] if len(rest) > 1 else None
+        is_node = fate in ("made", "text")
+        told.append(Token(
+            int(start), int(end), kind, chr(int(name[2:], 16)) if kind == "char" else name, fate,
+            int(what) if is_node and what is not None else None, None if is_node else what))
+    return told
+
+
+def audit(data: Data, *, foreign: bool = False, entities: Optional[Entities] = None, **limits: Optional[int]) -> list[Token]:
+    """What became of each token of a document, in their order, the end of the input last. Nodes have the numbers (`Node.number`) that they have in the page
+    which `parse` makes of it."""
+    data = _data(data)
+    return _tokens(_run(entities, _audit, _Buffer(), _limits(limits, _FOREIGN * foreign), data, len(data)).text())
+
+
+def audit_fragment(
+    data: Data,
+    context: str = "div",
+    *,
+    in_form: bool = False,
+    quirks: bool = False,
+    foreign: bool = False,
+    entities: Optional[Entities] = None,
+    **limits: Optional[int],
+) -> list[Token]:
+    """The same of a fragment, as `parse_fragment` has it."""
+    data, name = _data(data), context.encode()
+    options = _limits(limits, _IN_FORM * in_form | _QUIRKS * quirks | _FOREIGN * foreign)
+    return _tokens(_run(entities, _audit_fragment, _Buffer(), options, name, len(name), data, len(data)).text())
 
 
 def positions(data: Data, places: Iterable[int]) -> list[Position]:

@@ -129,6 +129,17 @@ extern "C" {
     pub fn zq_error(page: *mut zq_handle, index: u64, name: *mut zq_handle, place: *mut u64) -> u32;
     pub fn zq_positions(bytes: *const u8, len: usize, places: *const u64, count: usize, positions: *mut zq_position) -> u32;
     pub fn zq_text_below(page: *mut zq_handle, node: u64, buffer: *mut zq_handle) -> u32;
+    pub fn zq_audit(entities: *mut zq_handle, options: *const zq_options, bytes: *const u8, len: usize, buffer: *mut zq_handle, place: *mut u64) -> u32;
+    pub fn zq_audit_fragment(
+        entities: *mut zq_handle,
+        options: *const zq_options,
+        context: *const u8,
+        context_len: usize,
+        bytes: *const u8,
+        len: usize,
+        buffer: *mut zq_handle,
+        place: *mut u64,
+    ) -> u32;
     pub fn zq_set_attr(page: *mut zq_handle, node: u64, name: *const u8, name_len: usize, value: *const u8, value_len: usize) -> u32;
     pub fn zq_remove_attr(page: *mut zq_handle, node: u64, name: *const u8, name_len: usize) -> u32;
     pub fn zq_remove(page: *mut zq_handle, node: u64) -> u32;

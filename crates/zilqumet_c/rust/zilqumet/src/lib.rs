@@ -19,9 +19,11 @@ use std::marker::PhantomData;
 use zilqumet_sys as sys;
 
 mod edit;
+mod ledger;
 mod node;
 
 pub use edit::EditError;
+pub use ledger::{Cause, Fate, Token, TokenKind};
 pub use node::{Attrs, Children, Descendants, Kind, Node};
 
 /// Why there is no page, or no text.
@@ -282,6 +284,44 @@ impl Options {
         let status = unsafe { sys::zq_normalise(self.entities.get(), &self.raw, bytes.as_ptr(), bytes.len(), 0, buffer.get(), &mut place) };
         check(status, place)?;
         text_in(&buffer)
+    }
+
+    /// What became of each token of a document, in their order, the end of the input last. Nodes have the numbers (`Node::number`) that they have in the page
+    /// which `parse` makes of it.
+    ///
+    /// # Errors
+    ///
+    /// Those of `parse`.
+    pub fn audit(&self, bytes: &[u8]) -> Result<Vec<Token>, Error> {
+        let (buffer, mut place) = (Handle::new(), 0);
+        // SAFETY: as in `parse`.
+        let status = unsafe { sys::zq_audit(self.entities.get(), &self.raw, bytes.as_ptr(), bytes.len(), buffer.get(), &mut place) };
+        check(status, place)?;
+        ledger::tokens_in(&text_in(&buffer)?)
+    }
+
+    /// The same of a fragment in a context, as `parse_fragment` has it.
+    ///
+    /// # Errors
+    ///
+    /// Those of `parse_fragment`.
+    pub fn audit_fragment(&self, context: &str, bytes: &[u8]) -> Result<Vec<Token>, Error> {
+        let (buffer, mut place) = (Handle::new(), 0);
+        // SAFETY: as in `parse`.
+        let status = unsafe {
+            sys::zq_audit_fragment(
+                self.entities.get(),
+                &self.raw,
+                context.as_ptr(),
+                context.len(),
+                bytes.as_ptr(),
+                bytes.len(),
+                buffer.get(),
+                &mut place,
+            )
+        };
+        check(status, place)?;
+        ledger::tokens_in(&text_in(&buffer)?)
     }
 
     /// A parser of a document in pieces. It shares the table of references, and lives as long as it likes.

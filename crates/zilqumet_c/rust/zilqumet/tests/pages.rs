@@ -1,7 +1,7 @@
 //! What the crate answers.
 
 use std::io::{ErrorKind, Write};
-use zilqumet::{normalise, parse, parse_fragment, EditError, Error, Kind, Options, Page};
+use zilqumet::{normalise, parse, parse_fragment, Cause, EditError, Error, Fate, Kind, Options, Page, Token, TokenKind};
 
 fn written(bytes: &[u8]) -> String {
     normalise(bytes).unwrap()
@@ -122,6 +122,30 @@ fn places() {
     assert_eq!(zilqumet::positions(b"", &[]), []);
     let page = parse(b"<p>One<!--c--><b>two</b><template>T").unwrap();
     assert_eq!(page.root().text_below().unwrap(), "OnetwoT");
+}
+
+#[test]
+fn ledger() {
+    let bytes = "<!DOCTYPE html> <p>é<body b><!--c--></p>".as_bytes();
+    let told = Options::new().audit(bytes).unwrap();
+    let token = |start, end, kind, fate| Token { start, end, kind, fate };
+    let want = [
+        token(0, 15, TokenKind::Doctype, Fate::Made(1)),
+        token(15, 16, TokenKind::Char(' '), Fate::Dropped(Cause::PrologSpace)),
+        token(16, 19, TokenKind::Start("p".to_owned()), Fate::Made(5)),
+        token(19, 20, TokenKind::Char('é'), Fate::Text(6)),
+        token(20, 28, TokenKind::Start("body".to_owned()), Fate::Merged),
+        token(28, 36, TokenKind::Comment, Fate::Made(7)),
+        token(36, 40, TokenKind::End("p".to_owned()), Fate::Ended),
+        token(40, 40, TokenKind::Eof, Fate::Ended),
+    ];
+    assert_eq!(told, want);
+    let page = parse(bytes).unwrap();
+    assert_eq!((page.node(5).unwrap().name(), page.node(6).unwrap().text(), page.node(7).unwrap().text()), ("p", "é", "c"));
+    let told = Options::new().audit_fragment("tr", b"<td><tr>").unwrap();
+    assert_eq!((told.len(), told[0].fate), (3, Fate::Made(1)));
+    assert_eq!(Options::new().audit(b"<p><svg>").err(), Some(Error::ForeignSvg { at: 3 }));
+    assert_eq!(Options::new().audit_fragment("Q", b"").err(), Some(Error::BadContext));
 }
 
 fn number_of(page: &Page, name: &str) -> u64 {
