@@ -1,4 +1,29 @@
 // The mode in body (13.2.6.4.7): what a token meets there, its text and its end.
+//
+// Its rules in the order of the standard, and the function of each:
+//
+// characters; comments; doctypes         body.rt: body_char, body_rules
+// <html>                                 body_start.rt: html_start
+// <base> .. <title>, </template>         head.rt, by body_start and body_end
+// <body>, <frameset>                     body_start.rt: second_body_start, late_frameset_start
+// end of file; </body>, </html>          body.rt: body_eof; body_end.rt: body_end, html_end
+// <address> .. <ul>, <h1> .. <h6>        body_start.rt: block_start, heading_start
+// <pre>, <listing>                       body_start.rt: preformatted_start
+// <form>; <li>, <dd>, <dt>               body_start.rt: form_start; item_start
+// <plaintext>; <button>                  body_start.rt: block_start; body_phrase.rt: button_start
+// </address> .. </ul>, </form>, </p>     body_end.rt: block_end, form_end, paragraph_end
+// </li>, </dd>, </dt>, </h1> .. </h6>    body_end.rt: plain_end
+// <a>, <b> .. <u>, <nobr>, their ends    formatting.rt: link_start, formatting_start, nobr_start; body_end.rt: formatting_end
+// <applet>, <marquee>, <object>          body_phrase.rt: marker_start; body_end.rt: marker_end
+// <table>; </br>                         body_start.rt: table_start; body_end.rt: break_end
+// <area> .. <wbr>, <image>, <input>      body_phrase.rt: void_start, input_start
+// <param>, <source>, <track>; <hr>       body_phrase.rt: phrase_start; body_start.rt: rule_start
+// <textarea>, <xmp>, <iframe>, <noembed> body_text.rt
+// <select>; <optgroup>, <option>         body_phrase.rt: select_start; option_start
+// <rb>, <rtc>, <rp>, <rt>                body_phrase.rt: ruby_start
+// <math>, <svg>                          body.rt: any_root_start; foreign.rt: root_start
+// <caption> .. <tr>: ignored             body_phrase.rt: other_start
+// any other start tag, any other end tag body_phrase.rt: plain_start; body_end.rt: other_end
 ghost use Rattle.std.specs.Prelude.{◌≡◌, ◌+◌, ◌*◌, ◌<◌, ◌≤◌, [], IfOk, IfSome, None, OnOk, IsTrue, false, length, take, true, IfErr};
 ghost use Rattle.std.specs.List.{list_all};
 ghost use Rattle.std.specs.Str.{chars};
