@@ -57,7 +57,7 @@ impl Gathered {
         ensures ok { OnOk result (gathered_in self.new ≡ first ∷ second ∷ []) }
         ensures err { OnErr result (gathered_in self.new ≡ first ∷ []) }
     {
-        let Ok(mut pair) = Vec::with_capacity(alloc, 4) else {
+        let Ok(mut pair) = Vec::with_capacity(alloc, 2) else {
             *self = Gathered::One(first);
             return Err(AllocError);
         };
