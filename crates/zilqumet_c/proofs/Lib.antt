@@ -5,4 +5,3 @@ pub mod Filling
 pub mod Pushed
 pub mod Roots
 pub mod Edited
-pub mod Audited

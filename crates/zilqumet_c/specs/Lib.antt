@@ -2,6 +2,7 @@
 pub mod Audits
 pub mod Causes
 pub mod Edits
+pub mod Entries
 pub mod Kept
 pub mod Pieces
 pub mod Places

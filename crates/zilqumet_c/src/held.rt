@@ -2,10 +2,10 @@
 
 ghost use Rattle.html_arena.specs.Walking.{IsRoot};
 
-use html_parser::{EntityTable, OwnedTreeParser, Tree};
+use html_parser::{EntityTable, Fates, OwnedTreeParser, Tokens, Tree};
 use std::sync::Arc;
 
-/// What a handle holds: a page, a table of references, which parsers share, a parser of an input that is not at its end, bytes, or texts.
+/// What a handle holds: a page, a table of references, which parsers share, a parser of an input that is not at its end, bytes, texts, or a ledger.
 #[derive(Drop)]
 pub enum Held {
     Page(Rooted),
@@ -13,6 +13,7 @@ pub enum Held {
     Parser(OwnedTreeParser),
     Buffer(Vec<u8>),
     Texts(Gathered),
+    Ledger(Ledger),
 }
 
 /// A tree from its root.
@@ -27,4 +28,11 @@ pub struct Rooted {
 pub struct Gathered {
     pub bytes: Vec<u8>,
     pub ends: Vec<u64>,
+}
+
+/// The tokens of an input, and the fate of each.
+#[derive(Drop)]
+pub struct Ledger {
+    pub tokens: Tokens,
+    pub fates: Fates,
 }

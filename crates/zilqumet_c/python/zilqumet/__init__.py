@@ -17,6 +17,10 @@
         if node.name == "script":
             node.remove()
 
+    page, ledger = zilqumet.audit(data)         # and what became of each token
+    for token in ledger:
+        print(token.start, token.end, token.kind, token.name, token.fate, token.node, token.cause)
+
 Where there is no page, an exception says why: `Refused` is above all of them, and has the place. The work is done by libzilqumet, whose calls are proved;
 this module holds its handles, and copies names and texts into Python's strings.
 """
@@ -27,14 +31,15 @@ import ctypes
 import html.entities
 import json
 import os
+import struct
 import threading
 from itertools import accumulate
 from pathlib import Path
-from typing import Any, Iterable, Iterator, NamedTuple, Optional, Union
+from typing import Any, Iterable, Iterator, NamedTuple, Optional, Sequence, Union, overload
 
 __all__ = [
-    "BadContext", "BadEntities", "Counts", "EditError", "Entities", "ForeignContent", "HeldBudget", "InputTooLong", "Node", "NodeBudget", "Page",
-    "ParseError", "Parser", "Position", "Refused", "StepBudget", "Stopped", "Token", "audit", "audit_fragment", "library_version", "normalise", "parse",
+    "BadContext", "BadEntities", "Counts", "EditError", "Entities", "ForeignContent", "HeldBudget", "InputTooLong", "Ledger", "Node", "NodeBudget",
+    "Page", "ParseError", "Parser", "Position", "Refused", "StepBudget", "Stopped", "Token", "audit", "audit_fragment", "library_version", "normalise", "parse",
     "parse_counts", "parse_fragment", "positions",
 ]
 __version__ = "0.1.0"
@@ -43,6 +48,10 @@ Data = Union[bytes, bytearray, memoryview, str]
 
 _NONE = 2**64 - 1
 _KINDS = ("", "document", "contents", "element", "text", "comment", "doctype")
+_TOKEN_KINDS = ("", "start tag", "end tag", "character", "comment", "doctype", "end of file")
+_FATES = ("", "made", "text", "merged", "dropped", "ended")
+_CAUSES_OF_DROPS = (None, "PrologSpace", "Null", "LeadingNewline", "InSelect", "InFrameset", "Misplaced", "InColumnGroup")
+_CHARACTER = 3
 _TEXT = 4
 _NAME, _DATA, _ATTR_NAME, _ATTR_VALUE = 0, 1, 2, 3
 _PARENT, _FIRST_CHILD, _NEXT, _CONTENTS = 0, 1, 3, 5
@@ -81,6 +90,9 @@ class _Texts(ctypes.Structure):
     _fields_ = [("at", ctypes.c_void_p), ("ends", ctypes.c_void_p), ("count", ctypes.c_size_t)]
 
 
+# a token: where it begins and ends, its node, where its name lies and how long it is, its kind, code point, fate and cause
+_TOKEN = struct.Struct("=5Q4I")
+
 # a row as numbers of 64 bits: how many, and where two of them stand; the first four are links
 _CELLS = ctypes.sizeof(_Row) // 8
 _ATTRS, _KIND = 4, 9
@@ -114,8 +126,9 @@ _entities_read = _call(_slow, "zq_entities_read", _U32, _BYTES, _SIZE, _H)
 _parse = _call(_slow, "zq_parse", _U32, _H, _O, _BYTES, _SIZE, _H, _PLACE)
 _parse_fragment = _call(_slow, "zq_parse_fragment", _U32, _H, _O, _BYTES, _SIZE, _BYTES, _SIZE, _H, _PLACE)
 _normalise = _call(_slow, "zq_normalise", _U32, _H, _O, _BYTES, _SIZE, _INT, _H, _PLACE)
-_audit = _call(_slow, "zq_audit", _U32, _H, _O, _BYTES, _SIZE, _H, _PLACE)
-_audit_fragment = _call(_slow, "zq_audit_fragment", _U32, _H, _O, _BYTES, _SIZE, _BYTES, _SIZE, _H, _PLACE)
+_audit = _call(_slow, "zq_audit", _U32, _H, _O, _BYTES, _SIZE, _H, _H, _PLACE)
+_audit_fragment = _call(_slow, "zq_audit_fragment", _U32, _H, _O, _BYTES, _SIZE, _BYTES, _SIZE, _H, _H, _PLACE)
+_tokens = _call(_quick, "zq_tokens", _SIZE, _H, _U64, ctypes.c_void_p, _SIZE)
 _parser_new = _call(_quick, "zq_parser_new", _U32, _H, _O, _H)
 _parser_new_fragment = _call(_quick, "zq_parser_new_fragment", _U32, _H, _O, _BYTES, _SIZE, _H)
 _parser_feed = _call(_slow, "zq_parser_feed", _U32, _H, _BYTES, _SIZE, _PLACE)
@@ -317,17 +330,17 @@ class ParseError(NamedTuple):
 
 
 class Token(NamedTuple):
-    """A token of an input, and what became of it. `start` and `end` are places, as those of errors; `kind` is start, end, char, comment, doctype or eof;
-    `name` is the name of a tag, or a character, else empty. `fate` is made (the node of the number `node`), text (it is in the text of that number), merged
-    (its attributes went to the html or the body that was there), dropped (for `cause`: PrologSpace, Null, LeadingNewline, InSelect, InFrameset, Misplaced
-    or InColumnGroup) or ended (an end tag, or the end of the input)."""
+    """A token of an input, and what became of it. `start` and `end` are places, as those of errors. `kind` is start tag, end tag, character, comment,
+    doctype or end of file; `name` is the name of a tag, or the character, else empty. `fate` is made (`node` was made of it), text (it stands in the text
+    `node`), merged (its attributes went to the html or the body that was there), dropped (it has no effect, for `cause`: PrologSpace, Null,
+    LeadingNewline, InSelect, InFrameset, Misplaced or InColumnGroup) or ended (an end tag, or the end of the input)."""
 
     start: int
     end: int
     kind: str
     name: str
     fate: str
-    node: Optional[int] = None
+    node: Optional[Node] = None
     cause: Optional[str] = None
 
 
@@ -396,17 +409,17 @@ class Node:
         for number in [*numbers] if page._is_edited else numbers:
             yield Node(page, number)
 
-    def _numbers(self, with_contents: bool) -> Iterator[int]:
-        """The numbers of the nodes below this one, in tree order."""
+    def _numbers(self) -> Iterator[int]:
+        """The numbers of the nodes below this one, in tree order; what a template holds in place of its children."""
         page = self.page
         firsts, nexts, contents = page._first_children, page._nexts, page._contents
-        inside = contents[self.number] if with_contents else _NONE
+        inside = contents[self.number]
         stack = [firsts[self.number if inside == _NONE else inside]]
         while stack:
             number = stack.pop()
             while number != _NONE:
                 yield number
-                inside = contents[number] if with_contents else _NONE
+                inside = contents[number]
                 first = firsts[number if inside == _NONE else inside]
                 if first == _NONE:
                     number = nexts[number]
@@ -418,15 +431,15 @@ class Node:
         """Every node below this one, in tree order; what a template holds in place of its children. They are those that are there when the iteration
         begins, whatever is edited meanwhile."""
         page = self.page
-        numbers = self._numbers(True)
+        numbers = self._numbers()
         for number in [*numbers] if page._is_edited else numbers:
             yield Node(page, number)
 
     @property
     def text_below(self) -> str:
-        """All text below this node, or of it, comments and what templates hold left out."""
+        """All texts below this node, in tree order, those in templates with them, comments not; of a text its own."""
         page = self.page
-        texts = (Node(page, number).text for number in self._numbers(False) if page._kinds[number] == _TEXT)
+        texts = (Node(page, number).text for number in self._numbers() if page._kinds[number] == _TEXT)
         return self.text if self.kind == "text" else "".join(texts)
 
     def set_attr(self, name: str, value: str) -> None:
@@ -612,6 +625,43 @@ class Page(_Owner):
         return made
 
 
+class Ledger(_Owner, Sequence[Token]):
+    """The tokens of a page in their order, the end of the input last, and what became of each: a sequence of `Token`. It keeps its page."""
+
+    _page: Page
+    _rows: bytearray
+
+    def _read(self, page: Page) -> Ledger:
+        """Reads all tokens, in one call."""
+        count = page.counts.tokens
+        self._page, self._rows = page, bytearray(count * _TOKEN.size)
+        _tokens(self._handle, 0, (ctypes.c_char * len(self._rows)).from_buffer(self._rows), count)
+        return self
+
+    def _token(self, row: tuple[int, ...]) -> Token:
+        start, end, node, at, length, kind, code_point, fate, cause = row
+        name = chr(code_point) if kind == _CHARACTER else ctypes.string_at(at, length).decode() if length else ""
+        return Token(start, end, _TOKEN_KINDS[kind], name, _FATES[fate], None if node == _NONE else Node(self._page, node), _CAUSES_OF_DROPS[cause])
+
+    def __len__(self) -> int:
+        return len(self._rows) // _TOKEN.size
+
+    def __iter__(self) -> Iterator[Token]:
+        return map(self._token, _TOKEN.iter_unpack(self._rows))
+
+    @overload
+    def __getitem__(self, index: int) -> Token: ...
+
+    @overload
+    def __getitem__(self, index: slice) -> list[Token]: ...
+
+    def __getitem__(self, index: Union[int, slice]) -> Union[Token, list[Token]]:
+        numbers = range(len(self))[index]
+        if isinstance(numbers, range):
+            return [self[number] for number in numbers]
+        return self._token(_TOKEN.unpack_from(self._rows, numbers * _TOKEN.size))
+
+
 def _data(data: Data) -> bytes:
     return data.encode("utf-8", "surrogatepass") if isinstance(data, str) else bytes(data)
 
@@ -671,25 +721,12 @@ def parse_fragment(
     return page
 
 
-def _tokens(lines: str) -> list[Token]:
-    """The tokens of the lines that tell them."""
-    told = []
-    for line in lines.split("\n")[:-1]:
-        start, end, kind, *rest = line.split(" ")
-        name = rest.pop(0) if kind in ("start", "end", "char") else ""
-        fate, what = rest[0], rest[1] if len(rest) > 1 else None
-        is_node = fate in ("made", "text")
-        told.append(Token(
-            int(start), int(end), kind, chr(int(name[2:], 16)) if kind == "char" else name, fate,
-            int(what) if is_node and what is not None else None, None if is_node else what))
-    return told
-
-
-def audit(data: Data, *, foreign: bool = False, entities: Optional[Entities] = None, **limits: Optional[int]) -> list[Token]:
-    """What became of each token of a document, in their order, the end of the input last. Nodes have the numbers (`Node.number`) that they have in the page
-    which `parse` makes of it."""
-    data = _data(data)
-    return _tokens(_run(entities, _audit, _Buffer(), _limits(limits, _FOREIGN * foreign), data, len(data)).text())
+def audit(data: Data, *, foreign: bool = False, entities: Optional[Entities] = None, **limits: Optional[int]) -> tuple[Page, Ledger]:
+    """The page of a document, as `parse` makes it, and what became of each token."""
+    data, page, ledger = _data(data), Page(), Ledger()
+    _run(entities, _audit, ledger, _limits(limits, _FOREIGN * foreign), data, len(data), page._handle)
+    page._data = data
+    return page._read(), ledger._read(page)
 
 
 def audit_fragment(
@@ -701,11 +738,13 @@ def audit_fragment(
     foreign: bool = False,
     entities: Optional[Entities] = None,
     **limits: Optional[int],
-) -> list[Token]:
-    """The same of a fragment, as `parse_fragment` has it."""
-    data, name = _data(data), context.encode()
+) -> tuple[Page, Ledger]:
+    """The same of a fragment, as `parse_fragment` makes it."""
+    data, name, page, ledger = _data(data), context.encode(), Page(), Ledger()
     options = _limits(limits, _IN_FORM * in_form | _QUIRKS * quirks | _FOREIGN * foreign)
-    return _tokens(_run(entities, _audit_fragment, _Buffer(), options, name, len(name), data, len(data)).text())
+    _run(entities, _audit_fragment, ledger, options, name, len(name), data, len(data), page._handle)
+    page._data = data
+    return page._read(), ledger._read(page)
 
 
 def positions(data: Data, places: Iterable[int]) -> list[Position]:
