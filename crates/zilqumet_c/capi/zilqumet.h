@@ -20,8 +20,8 @@
  *   - A handle is passed by its address, and is not copied: of two copies one would be freed behind the other's back.
  *   - `held` is the library's: it is neither read nor written by the caller.
  *
- * POINTERS. What zq_text, zq_rows, zq_all_texts, zq_tokens and zq_bytes hand out points into the handle. It stays there, unchanged, until that handle is freed or filled
- * again, or, where it is a page, edited, and is only read. Texts are UTF-8, with their length beside them; no zero byte ends them.
+ * POINTERS. What zq_text, zq_rows, zq_all_texts, zq_tokens and zq_bytes hand out points into the handle. It stays there, unchanged, until that handle is freed or
+ * filled again, or, where it is a page, edited, and is only read. Texts are UTF-8, with their length beside them; no zero byte ends them.
  *
  * THREADS. The library has no state of its own. Threads that use handles of their own need nothing; that a parser shares its table with the handle
  * that the table was read into is no exception. A handle is in one call at a time, reading included, and a page or a parser stays with the thread that
@@ -182,7 +182,7 @@ uint32_t zq_parse_fragment(zq_entities *entities, const zq_options *options, con
  * it is met (ZQ_INPUT_TOO_LONG, ZQ_FOREIGN_.., ZQ_.._BUDGET, ZQ_OUT_OF_MEMORY); from then on each call answers ZQ_STOPPED, and all that is left is to
  * free.
  * zq_parser_finish ends the input: it fills page with the page of all bytes fed, the very one that zq_parse makes of them, or answers why not, and
- * leaves the parser empty whatever it answers.
+ * leaves the parser empty whatever it answers but ZQ_BAD_POINTER or ZQ_BAD_HANDLE.
  * zq_free ends a parser that is not finished. */
 uint32_t zq_parser_new(zq_entities *entities, const zq_options *options, zq_parser *parser);
 uint32_t zq_parser_new_fragment(zq_entities *entities, const zq_options *options, const void *context, size_t context_len, zq_parser *parser);
@@ -269,7 +269,7 @@ typedef struct zq_token {
     uint32_t kind, code_point, fate, cause;
 } zq_token;
 
-/* Parse as zq_parse and zq_parse_fragment do, fill page as they do, and ledger with the fate of each token. Both are empty where the answer is not ZQ_OK. An
+/* Parse as zq_parse and zq_parse_fragment do, fill page as they do, and ledger with the fate of each token. Both are empty where the input is refused. An
  * edit of the page leaves the ledger as it is: nodes keep their numbers. */
 uint32_t zq_audit(zq_entities *entities, const zq_options *options, const void *bytes, size_t len, zq_page *page, zq_ledger *ledger, uint64_t *place);
 uint32_t zq_audit_fragment(zq_entities *entities, const zq_options *options, const void *context, size_t context_len, const void *bytes, size_t len,
@@ -321,7 +321,8 @@ uint32_t zq_normalise(zq_entities *entities, const zq_options *options, const vo
 /* Tells where the bytes of a buffer lie. */
 uint32_t zq_bytes(zq_buffer *buffer, zq_span *bytes);
 
-/* Hands the page as text to a function, in one piece; context goes along. The function answers 0 where it took it. */
+/* Hands the page as text to a function, in one piece; context goes along. The function answers 0 where it took it, and the bytes
+ * are there until it returns. */
 typedef int (*zq_write)(void *context, const uint8_t *bytes, size_t len);
 uint32_t zq_serialise_to(zq_page *page, int angles, zq_write write, void *context);
 

@@ -1,6 +1,5 @@
 pub mod Values
 pub mod SlotValues
-pub mod Gathering
 pub mod Filling
 pub mod Pushed
 pub mod Roots

@@ -6,8 +6,8 @@ use Rattle.html_parser.specs.Start.{Start}
 use Rattle.html_parser.specs.declared.page.Tree.{Tree}
 use Rattle.zilqumet_c.specs.declared.held.Held.{Held}
 use Rattle.zilqumet_c.specs.declared.held.Held.TheVariants as held
-use Rattle.zilqumet_c.specs.declared.held.Ledger.{Ledger}
 use Rattle.zilqumet_c.specs.declared.held.Rooted.{Rooted}
+use Rattle.zilqumet_rows.specs.declared.ledger.Ledger.{Ledger}
 
 -- The tree and the ledger are those of one page of the input: the headline holds of both together.
 pub record IsAudit (start : Start) (bytes : List ℕ) (tree : Tree) (ledger : Ledger) : Type 0 where

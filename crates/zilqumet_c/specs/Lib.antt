@@ -2,10 +2,8 @@
 pub mod Audits
 pub mod Causes
 pub mod Edits
-pub mod Entries
 pub mod Kept
 pub mod Pieces
 pub mod Places
 pub mod Reads
 pub mod Status
-pub mod Texts

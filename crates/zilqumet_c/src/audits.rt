@@ -12,13 +12,14 @@ ghost use Rattle.zilqumet_c.specs.Reads.{context_in, options_in, rows_in};
 ghost use Rattle.zilqumet_c.specs.Status.{place_of, status_of};
 
 use crate::entities::table_of;
-use crate::held::{Held, Ledger, Rooted};
+use crate::held::{Held, Rooted};
 use crate::numbers::{ZqLimits, options_of};
 use crate::parsing::{context_of, core_table};
 use crate::slot::Slot;
 use crate::status::{OK, OUT_OF_MEMORY, place_of, status_of};
 use html_parser::{EntityTable, Options, Page, ParseError, Tree, parse_with};
 use std::alloc::{AllocError, Global};
+use zilqumet_rows::Ledger;
 
 /// A page, and its ledger.
 #[derive(Drop)]

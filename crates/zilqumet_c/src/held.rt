@@ -2,8 +2,9 @@
 
 ghost use Rattle.html_arena.specs.Walking.{IsRoot};
 
-use html_parser::{EntityTable, Fates, OwnedTreeParser, Tokens, Tree};
+use html_parser::{EntityTable, OwnedTreeParser, Tree};
 use std::sync::Arc;
+use zilqumet_rows::{Gathered, Ledger};
 
 /// What a handle holds: a page, a table of references, which parsers share, a parser of an input that is not at its end, bytes, texts, or a ledger.
 #[derive(Drop)]
@@ -21,18 +22,4 @@ pub enum Held {
 pub struct Rooted {
     pub tree: Tree,
     ghost root: { IsRoot tree.arena tree.root },
-}
-
-/// Texts one behind the other, and how many bytes there are up to the end of each.
-#[derive(Drop)]
-pub struct Gathered {
-    pub bytes: Vec<u8>,
-    pub ends: Vec<u64>,
-}
-
-/// The tokens of an input, and the fate of each.
-#[derive(Drop)]
-pub struct Ledger {
-    pub tokens: Tokens,
-    pub fates: Fates,
 }

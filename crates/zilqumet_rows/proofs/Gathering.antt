@@ -7,7 +7,7 @@ use Rattle.html_arena.specs.Data.{label_in}
 use Rattle.html_arena.specs.declared.data.NodeData.{NodeData}
 use Rattle.html_arena.specs.declared.data.NodeData.TheVariants.{Document}
 use Rattle.html_tokens.specs.declared.attributes.Attr.{Attr}
-use Rattle.zilqumet_c.specs.Texts.{AreTexts, all_texts, attr_texts, ends_behind, joined, node_texts}
+use Rattle.zilqumet_rows.specs.Texts.{AreTexts, all_texts, attr_texts, ends_behind, joined, node_texts}
 
 add_zero : (n : ℕ) → n ≡ n + 0
 add_zero n = omega arith

@@ -1,9 +1,9 @@
 use Rattle.std.proofs.Common.{◌≡◌, ◌∙◌, ◌+◌, ◌<◌, ◌≤◌, ap, sym, subst, ◌++◌, take, append-nil, append_assoc, List, ℕ, length}
 use Rattle.std.proofs.lemmas.List.{take_all}
 use Rattle.html_arena.specs.Tree.{label_of}
-use Rattle.zilqumet_c.specs.Texts.{AreTexts, all_texts, node_texts}
-use Rattle.zilqumet_c.proofs.Gathering.{all_more}
-use Rattle.zilqumet_c.proofs.held.Gathered.add_all.Goals as goal
+use Rattle.zilqumet_rows.specs.Texts.{AreTexts, all_texts, node_texts}
+use Rattle.zilqumet_rows.proofs.Gathering.{all_more}
+use Rattle.zilqumet_rows.proofs.gathered.Gathered.add_all.Goals as goal
 
 pub nodes-init : goal.nodes-init
 nodes-init c = λ texts a. rw (append-nil texts) a

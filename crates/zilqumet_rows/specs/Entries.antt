@@ -9,11 +9,13 @@ use Rattle.html_ledger.specs.declared.fate.Fate.TheVariants as fates
 use Rattle.html_tokens.specs.declared.token.Token.{Token}
 use Rattle.html_tokens.specs.declared.token.TokenKind.{TokenKind}
 use Rattle.html_tokens.specs.declared.token.TokenKind.TheVariants as kinds
-use Rattle.zilqumet_c.specs.Reads.{number_of}
-use Rattle.zilqumet_c.specs.declared.held.Held.{Held}
-use Rattle.zilqumet_c.specs.declared.held.Held.TheVariants as held
-use Rattle.zilqumet_c.specs.declared.held.Ledger.{Ledger}
-use Rattle.zilqumet_c.specs.declared.tokens.ZqToken.{ZqToken}
+use Rattle.zilqumet_rows.specs.declared.ledger.Ledger.{Ledger}
+use Rattle.zilqumet_rows.specs.declared.ledger.ZqToken.{ZqToken}
+
+-- a node's number, or the greatest of 64 bits
+abbrev pub number_of : Option ℕ → ℕ
+number_of (Some x) = x
+number_of None = 18446744073709551615
 
 -- each token with its fate
 abbrev pub entries : List Token → List Fate → List (Token × Fate)
@@ -23,14 +25,6 @@ entries (t ∷ ts) (f ∷ fs) = (t, f) ∷ entries ts fs
 
 abbrev pub entries_in : Ledger → List (Token × Fate)
 entries_in l = entries l.tokens l.fates
-
--- the ledger in a handle
-abbrev pub ledger_in : Option Held → Option Ledger
-ledger_in (Some (held.Ledger l)) = Some l
-ledger_in _ = None
-
-abbrev pub IfLedger : Option Held → (Ledger → Type 0) → Type 0
-IfLedger held P = IfSome (ledger_in held) P
 
 -- the number of what a token is
 abbrev pub kind_number : TokenKind → ℕ

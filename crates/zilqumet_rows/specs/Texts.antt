@@ -5,7 +5,7 @@ use Rattle.std.specs.Str.{encode_utf8_all}
 use Rattle.html_arena.specs.Data.{attrs_in, name_in, text_in}
 use Rattle.html_arena.specs.declared.data.NodeData.{NodeData}
 use Rattle.html_tokens.specs.declared.attributes.Attr.{Attr}
-use Rattle.zilqumet_c.specs.declared.held.Gathered.{Gathered}
+use Rattle.zilqumet_rows.specs.declared.gathered.Gathered.{Gathered}
 
 -- the names and the values of attributes
 abbrev pub attr_texts : List Attr → List (List ℕ)

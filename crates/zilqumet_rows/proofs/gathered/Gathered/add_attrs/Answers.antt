@@ -1,9 +1,9 @@
 use Rattle.std.proofs.Common.{◌≡◌, ◌∙◌, ◌+◌, ap, sym, subst, ◌++◌, ◌∷◌, [], take, append-nil, List, ℕ}
 use Rattle.std.specs.Str.{chars}
 use Rattle.std.proofs.lemmas.List.{take_all}
-use Rattle.zilqumet_c.specs.Texts.{AreTexts, attr_texts}
-use Rattle.zilqumet_c.proofs.Gathering.{attr_more, two_more}
-use Rattle.zilqumet_c.proofs.held.Gathered.add_attrs.Goals as goal
+use Rattle.zilqumet_rows.specs.Texts.{AreTexts, attr_texts}
+use Rattle.zilqumet_rows.proofs.Gathering.{attr_more, two_more}
+use Rattle.zilqumet_rows.proofs.gathered.Gathered.add_attrs.Goals as goal
 
 pub attrs-init : goal.attrs-init
 attrs-init c = λ texts a. rw (append-nil texts) a

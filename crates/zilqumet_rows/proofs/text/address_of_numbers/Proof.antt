@@ -1,4 +1,4 @@
--- `address_of` takes the address of the first byte, and looks at none.
+-- `address_of_numbers` takes the address of the first number, and looks at none.
 use Rattle.std.proofs.Common.{[], ◌∷◌, List, refl}
 use Rattle.std.proofs.raw_atomic.Walks.{proved}
 use mir.Syntax.{named}
@@ -9,7 +9,7 @@ use types.Part.{whole, sub}
 use types.ByLocal.{alloc_all, pass_all, free_all, look_at, look_in_at, sets}
 use contract.Running.{tables}
 use base.Fml.{ftrue}
-use denote.Builtin.{u8}
+use denote.Builtin.{u64}
 use denote.Exit.{yes}
 use denote.RattleType.{owns}
 use denote.RawPtr.{block_ptr}
@@ -18,19 +18,19 @@ use denote.Slice.{shr_slice_vals, shr_slice_Tells}
 use denote.Steps.{nothing}
 use denote.Triple.Entry.{alive}
 use denote.Triple.Walked.{Stays, walk_of, says, stay_dropped, Goes-dropped, ends_at}
-use Rattle.zilqumet_c.specs.contracts.text.address_of as f
-use Rattle.zilqumet_c.proofs.text.address_of.Statement.{statement}
-use Rattle.zilqumet_c.proofs.text.address_of.Code as code
+use Rattle.zilqumet_rows.specs.contracts.text.address_of_numbers as f
+use Rattle.zilqumet_rows.proofs.text.address_of_numbers.Statement.{statement}
+use Rattle.zilqumet_rows.proofs.text.address_of_numbers.Code as code
 
 abbrev stayed : Stays f.ended.signature.params f.ended.kept
 stayed = (stay_dropped _ yes, tt)
 
-pub address_of_spec : {M : Type 1} → statement M
-address_of_spec 𝓤 𝓛 𝓜 𝓡 wired =
+pub address_of_numbers_spec : {M : Type 1} → statement M
+address_of_numbers_spec 𝓤 𝓛 𝓜 𝓡 wired =
     let c = f.clauses 𝓛 𝓜.mem 𝓡.returns in let W = walk_of 𝓛 f.ended stayed c in let 𝓣 = tables 𝓤 𝓛.H 𝓜 𝓡 𝓡.env in
-    proved 𝓛 f.ended stayed c 𝓜 𝓡 (Goes-dropped 𝓛 1 (shr_slice_of (0 ∷ []) tt (plain (λ _. u8))) yes (λ κs x w. refl), tt)
+    proved 𝓛 f.ended stayed c 𝓜 𝓡 (Goes-dropped 𝓛 1 (shr_slice_of (0 ∷ []) tt (plain (λ _. u64))) yes (λ κs x w. refl), tt)
     f.Key.name code.function (code.unfolded 𝓤 𝓛.H 𝓜 𝓡 wired)
-    (λ κs. (shr_slice_vals, tt)) (λ κs. (shr_slice_Tells (named 0) κs.0 u8, tt)) (λ κs qs bounds a _ are.
+    (λ κs. (shr_slice_vals, tt)) (λ κs. (shr_slice_Tells (named 0) κs.0 u64, tt)) (λ κs qs bounds a _ are.
     let b = a.0.ref_ptr.0 in let o = a.0.ref_ptr.1 in let vs = shr_slice_vals a.0 in
     let y : W.Ghost = ((κs, qs, bounds, a, (vs, tt)), tt) in
     qed 𝓛 ((raw (alive 𝓛 f.signature κs qs) ⊛ ‵ (owns (types_at f.signature.params κs) a (vs, tt))) ∷ ‵ ftrue ∷ []) ∵

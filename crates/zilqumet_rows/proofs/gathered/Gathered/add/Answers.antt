@@ -1,6 +1,6 @@
 use Rattle.std.proofs.Common.{◌≡◌, ◌∙◌, ap, arith, length, ◌++◌, ◌∷◌, []}
-use Rattle.zilqumet_c.proofs.Gathering.{added}
-use Rattle.zilqumet_c.proofs.held.Gathered.add.Goals as goal
+use Rattle.zilqumet_rows.proofs.Gathering.{added}
+use Rattle.zilqumet_rows.proofs.gathered.Gathered.add.Goals as goal
 
 pub returns : goal.returns
 returns c = λ texts a.
