@@ -1,12 +1,15 @@
 -- Tokens with their fates: what one more says.
-use Rattle.std.proofs.Common.{◌≡◌, ◌≢◌, ℕ, ◌+◌, ◌<◌, ◌≤◌, ◌-◌, List, [], ◌∷◌, ◌++◌, Option, Some, ◌⊎◌, inl, inr, length, drop, get_or, min, refl, sym, ◌∙◌, ap, subst, arith, append_assoc, append-nil}
-use Rattle.std.specs.Prelude.{slice_get, slice_set}
+use Rattle.std.proofs.Common.{◌≡◌, ◌≢◌, ℕ, ◌+◌, ◌<◌, ◌≤◌, List, [], ◌∷◌, ◌++◌, Bool, true, false, Option, Some, None, inl, inr, length, drop, get_or, min, refl, sym, ◌∙◌, ap, subst, arith, append_assoc, append-nil}
+use Rattle.std.specs.Prelude.{IfSome, is_some, slice_get, slice_set}
+use Rattle.html_token_list.specs.Shown.{shown}
+use Rattle.html_token_list.specs.declared.lent.TokenRef.{TokenRef}
 use Rattle.std.proofs.lemmas.List.{get_or-set_same, get_or-set_other, length-append, drop_at, drop_all}
+use Rattle.std.proofs.Math.Nat.{min-eq_left}
 use Rattle.std.proofs.lemmas.Option.{get_or_from_slice_get, slice_get_read}
 use Rattle.html_arena.proofs.Siblings.{cases_eqb}
 use Rattle.html_ledger.specs.declared.fate.Fate.{Fate}
 use Rattle.html_tokens.specs.declared.token.Token.{Token}
-use Rattle.zilqumet_rows.specs.Entries.{AreTokens, IsToken}
+use Rattle.zilqumet_rows.specs.Entries.{AreTokens, IsToken, entries}
 use Rattle.zilqumet_rows.specs.declared.ledger.ZqToken.{ZqToken}
 
 below : (i n : ℕ) → i ≢ n → i < n + 1 → i < n
@@ -15,10 +18,28 @@ below i n apart h = omega (arith, apart, h)
 within : (i n m : ℕ) → i < n → n < m → i < m
 within i n m h k = omega (arith, h, k)
 
+pub entries-none : (ts : List Token) → entries ts [] ≡ []
+entries-none [] = refl
+entries-none (t ∷ ts) = refl
+
 -- the element after the first ones
 pub slice_get_after : {A : Type 0} (done rest : List A) (x : A) → slice_get (done ++ x ∷ rest) (length done) ≡ Some x
 slice_get_after [] rest x = refl
 slice_get_after (y ∷ done) rest x = slice_get_after done rest x
+
+pub slice_get_at : {A : Type 0} (all done rest later : List A) (x : A) (n : ℕ) → all ≡ done ++ rest → rest ≡ x ∷ later → length done ≡ n → slice_get all n ≡ Some x
+slice_get_at all done rest later x n e f l =
+    let whole : all ≡ done ++ x ∷ later = e ∙ ap (λ r. done ++ r) f in
+    subst (λ k. slice_get all k ≡ Some x) l (ap (λ a. slice_get a (length done)) whole ∙ slice_get_after done later x)
+
+-- where there is a next one, it is the first
+pub gone_past : (r : Option (TokenRef × Fate)) (before after : List (Token × Fate)) → is_some r ≡ true → IfSome r (λ e. before ≡ (shown e.0, e.1) ∷ after)
+    → (e : Token × Fate) × (before ≡ e ∷ after)
+gone_past (Some x) before after there first = ((shown x.0, x.1), first)
+gone_past None before after there first = absurd (false_is_true there)
+  where
+    false_is_true : ◌≡◌ {A = Bool} false true → ⊥
+    false_is_true e = cc
 
 -- one more is gone past
 pub one_more : {A : Type 0} (all done rest later : List A) (x : A) → all ≡ done ++ rest → rest ≡ x ∷ later → all ≡ (done ++ x ∷ []) ++ later
@@ -58,3 +79,6 @@ more_tokens es count rows r h old {e} is there i at q k asked found = elim (case
   where
     some_entry : (a b : Token × Fate) → ◌≡◌ {A = Option (Token × Fate)} (Some a) (Some b) → a ≡ b
     some_entry a b e = cc
+
+pub kept_by_min : (n r : ℕ) → r ≡ min n 18446744073709551615 → n < 18446744073709551616 → r ≡ n
+kept_by_min n r is few = is ∙ min-eq_left (omega (arith, few))

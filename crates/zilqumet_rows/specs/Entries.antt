@@ -1,8 +1,7 @@
 -- Claimed.
 -- The tokens of a ledger with their fates, as C reads them.
-use Rattle.std.specs.Prelude.{◌≡◌, ℕ, ◌<◌, ◌^◌, List, [], ◌∷◌, Option, None, Some, IfSome, length, slice_get}
+use Rattle.std.specs.Prelude.{◌≡◌, ℕ, ◌<◌, ◌^◌, List, [], ◌∷◌, Option, None, Some, length, slice_get}
 use Rattle.std.specs.Str.{chars}
-use Rattle.html_ledger.specs.declared.fate.Cause.{Cause}
 use Rattle.html_ledger.specs.declared.fate.Cause.TheVariants as causes
 use Rattle.html_ledger.specs.declared.fate.Fate.{Fate}
 use Rattle.html_ledger.specs.declared.fate.Fate.TheVariants as fates

@@ -43,7 +43,7 @@ impl Ledger {
         let mut tokens = self.tokens.iter();
         let mut fates = self.fates.iter();
         pass_over(&mut tokens, &mut fates, from);
-        fill(tokens, fates, rows)
+        fill(&mut tokens, &mut fates, rows)
     }
 }
 
@@ -74,61 +74,46 @@ fn next_entry<'a>(
 }
 
 /// Writes tokens, as many as there are and fit.
-fn fill(tokens: TokensIter<'_>, fates: FatesIter<'_>, rows: &mut [ZqToken]) -> usize
-    ensures count { result ≡ min (length (entries tokens fates)) (length rows.new) }
-    ensures tokens { AreTokens (entries tokens fates) result rows.new }
+fn fill<'a>(tokens: &mut TokensIter<'a>, fates: &mut FatesIter<'a>, rows: &mut [ZqToken]) -> usize
+    ensures count { result ≡ min (length (entries tokens.old fates.old)) (length rows.new) }
+    ensures tokens { AreTokens (entries tokens.old fates.old) result rows.new }
 {
-    let mut tokens = tokens;
-    let mut fates = fates;
     let mut count = 0;
     'rows: while count < rows.len() {
-        let Some((token, fate)) = next_entry(&mut tokens, &mut fates) else {
+        let Some((token, fate)) = next_entry(tokens, fates) else {
             return count;
         };
-        rows[count] = row_of(&token, fate);
+        rows[count] = row_of(&token, &fate);
         count += 1;
     }
     count
 }
 
 /// A token and its fate.
-fn row_of(token: &TokenRef<'_>, fate: Fate) -> ZqToken
-    ensures { IsToken (shown token.now) fate result }
+fn row_of(token: &TokenRef<'_>, fate: &Fate) -> ZqToken
+    ensures { IsToken (shown token.now) fate.now result }
 {
     match token {
-        TokenRef::Char { c, place } => row(
-            *place,
-            place.saturating_add(1),
-            text_of("".as_bytes()),
-            CHARACTER,
-            *c as u32,
-            fate,
-        ),
-        TokenRef::Other(token) => row(
-            token.span.start,
-            token.span.end,
-            text_of(name_of(&token.kind).as_bytes()),
-            kind_number(&token.kind),
-            code_point_of(&token.kind),
-            fate,
-        ),
-    }
-}
-
-/// A token of these places, this name and this kind, and its fate.
-fn row(start: u64, end: u64, name: Text, kind: u32, code_point: u32, fate: Fate) -> ZqToken
-    ensures { (result.start ≡ start) × (result.end ≡ end) × (result.name ≡ name) × (result.kind ≡ kind) × (result.code_point ≡ code_point)
-        × (result.node ≡ number_of (node_in fate)) × (result.fate ≡ fate_number fate) × (result.cause ≡ cause_number fate) }
-{
-    ZqToken {
-        start,
-        end,
-        node: number(node_of(fate)),
-        name,
-        kind,
-        code_point,
-        fate: fate_number(fate),
-        cause: cause_number(fate),
+        TokenRef::Char { c, place } => ZqToken {
+            start: *place,
+            end: place.saturating_add(1),
+            node: number(node_of(fate)),
+            name: text_of("".as_bytes()),
+            kind: CHARACTER,
+            code_point: *c as u32,
+            fate: fate_number(fate),
+            cause: cause_number(fate),
+        },
+        TokenRef::Other(token) => ZqToken {
+            start: token.span.start,
+            end: token.span.end,
+            node: number(node_of(fate)),
+            name: text_of(name_of(&token.kind).as_bytes()),
+            kind: kind_number(&token.kind),
+            code_point: code_point_of(&token.kind),
+            fate: fate_number(fate),
+            cause: cause_number(fate),
+        },
     }
 }
 
@@ -165,7 +150,10 @@ fn name_of(kind: &TokenKind) -> &str
     match kind {
         TokenKind::Start { name, .. } => name.as_str(),
         TokenKind::End { name } => name.as_str(),
-        _ => "",
+        TokenKind::Char(_) => "",
+        TokenKind::Comment(_) => "",
+        TokenKind::Doctype { .. } => "",
+        TokenKind::Eof => "",
     }
 }
 
@@ -180,13 +168,13 @@ fn code_point_of(kind: &TokenKind) -> u32
 }
 
 /// The node of a fate: that which was made of the token, or whose text it is in.
-fn node_of(fate: Fate) -> Option<NodeId>
-    ensures { result ≡ node_in fate }
+fn node_of(fate: &Fate) -> Option<NodeId>
+    ensures { result ≡ node_in fate.now }
 {
     match fate {
-        Fate::Made(node) => Some(node),
-        Fate::Foreign(node) => Some(node),
-        Fate::Text(node) => Some(node),
+        Fate::Made(node) => Some(*node),
+        Fate::Foreign(node) => Some(*node),
+        Fate::Text(node) => Some(*node),
         Fate::Merged => None,
         Fate::Dropped(_) => None,
         Fate::Ended => None,
@@ -194,8 +182,8 @@ fn node_of(fate: Fate) -> Option<NodeId>
 }
 
 /// The number of a fate.
-fn fate_number(fate: Fate) -> u32
-    ensures { result ≡ fate_number fate }
+fn fate_number(fate: &Fate) -> u32
+    ensures { result ≡ fate_number fate.now }
 {
     match fate {
         Fate::Made(_) => 1,
@@ -208,8 +196,8 @@ fn fate_number(fate: Fate) -> u32
 }
 
 /// The number of the cause for which a token was dropped, or 0.
-fn cause_number(fate: Fate) -> u32
-    ensures { result ≡ cause_number fate }
+fn cause_number(fate: &Fate) -> u32
+    ensures { result ≡ cause_number fate.now }
 {
     match fate {
         Fate::Dropped(Cause::PrologSpace) => 1,

@@ -106,7 +106,6 @@ def main():
             if it != want:
                 different += 1
                 print(f"compare: {who} differs on {data!r} in {context}: {it[2]!r} {want[2]!r}")
-    print(f"compare: {who} differs on {data!r} in {context}: {it[2]!r} {want[2]!r}")
     print(f"compare: {len(pages)} pages, {refused} of them refused, {different} different")
     return different != 0
 

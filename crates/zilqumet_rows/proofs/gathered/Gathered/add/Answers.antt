@@ -1,4 +1,4 @@
-use Rattle.std.proofs.Common.{◌≡◌, ◌∙◌, ap, arith, length, ◌++◌, ◌∷◌, []}
+use Rattle.std.proofs.Common.{◌≡◌, ◌∙◌, ap, arith, length, ◌++◌}
 use Rattle.zilqumet_rows.proofs.Gathering.{added}
 use Rattle.zilqumet_rows.proofs.gathered.Gathered.add.Goals as goal
 

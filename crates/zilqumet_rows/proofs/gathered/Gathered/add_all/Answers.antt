@@ -1,4 +1,4 @@
-use Rattle.std.proofs.Common.{◌≡◌, ◌∙◌, ◌+◌, ◌<◌, ◌≤◌, ap, sym, subst, ◌++◌, take, append-nil, append_assoc, List, ℕ, length}
+use Rattle.std.proofs.Common.{◌∙◌, ◌<◌, ◌≤◌, ap, sym, subst, ◌++◌, take, append-nil, append_assoc, length}
 use Rattle.std.proofs.lemmas.List.{take_all}
 use Rattle.html_arena.specs.Tree.{label_of}
 use Rattle.zilqumet_rows.specs.Texts.{AreTexts, all_texts, node_texts}

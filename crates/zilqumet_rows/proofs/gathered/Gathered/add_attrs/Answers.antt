@@ -1,4 +1,4 @@
-use Rattle.std.proofs.Common.{◌≡◌, ◌∙◌, ◌+◌, ap, sym, subst, ◌++◌, ◌∷◌, [], take, append-nil, List, ℕ}
+use Rattle.std.proofs.Common.{◌≡◌, ◌∙◌, ◌+◌, ap, sym, subst, ◌++◌, ◌∷◌, [], take, append-nil}
 use Rattle.std.specs.Str.{chars}
 use Rattle.std.proofs.lemmas.List.{take_all}
 use Rattle.zilqumet_rows.specs.Texts.{AreTexts, attr_texts}
