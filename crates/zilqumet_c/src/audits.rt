@@ -1,11 +1,11 @@
 //! Pages with their ledgers.
 
-ghost use Rattle.std.specs.Prelude.{◌≡◌, ◌≢◌, ◌⊎◌, length, None, Some, Err, IfErr, IfOk, IsOkAnd};
+ghost use Rattle.std.specs.Prelude.{◌≡◌, ◌≢◌, ◌⊎◌, None, Some, Err, IfErr, IfOk, IsOkAnd};
 ghost use Rattle.std.specs.Str.{IsUtf8};
 ghost use Rattle.html_arena.specs.Walking.{IsRoot};
 ghost use Rattle.html_parser.specs.Options.{start_of};
 ghost use Rattle.html_parser.specs.declared.error.ParseError.{ParseError};
-ghost use Rattle.zilqumet_c.specs.Audits.{AreAudited, IsAudit};
+ghost use Rattle.zilqumet_c.specs.Audits.{AreAudited, IsAudit, ledger_of, tree_of};
 ghost use Rattle.zilqumet_c.specs.Causes.{IsPageCause, IsToldBy};
 ghost use Rattle.zilqumet_c.specs.Kept.{unboxed};
 ghost use Rattle.zilqumet_c.specs.Reads.{context_in, options_in, rows_in};
@@ -133,8 +133,8 @@ fn audited(
 /// A page without its ledger, and the ledger.
 fn parted(page: Page) -> Audited
     requires root { IsRoot page.arena page.root }
-    ensures tree { result.page.tree ≡ record { arena = page.arena; root = page.root; token_count = length page.tokens; errors = page.errors; n = page.n; steps = page.steps } }
-    ensures ledger { result.ledger ≡ record { tokens = page.tokens; fates = page.fates } }
+    ensures tree { result.page.tree ≡ tree_of page }
+    ensures ledger { result.ledger ≡ ledger_of page }
 {
     let Page {
         arena,

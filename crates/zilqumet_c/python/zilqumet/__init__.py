@@ -33,6 +33,7 @@ import json
 import os
 import struct
 import threading
+from functools import partial
 from itertools import accumulate
 from pathlib import Path
 from typing import Any, Iterable, Iterator, NamedTuple, Optional, Sequence, Union, overload
@@ -46,7 +47,9 @@ __version__ = "0.1.0"
 
 Data = Union[bytes, bytearray, memoryview, str]
 
-_NONE = 2**64 - 1
+_NO_LIMIT = 2**64 - 1
+# no node, as a signed number
+_NONE = -1
 _KINDS = ("", "document", "contents", "element", "text", "comment", "doctype")
 _TOKEN_KINDS = ("", "start tag", "end tag", "character", "comment", "doctype", "end of file")
 _FATES = ("", "made", "text", "merged", "dropped", "ended")
@@ -91,7 +94,7 @@ class _Texts(ctypes.Structure):
 
 
 # a token: where it begins and ends, its node, where its name lies and how long it is, its kind, code point, fate and cause
-_TOKEN = struct.Struct("=5Q4I")
+_TOKEN = struct.Struct("=2Qq2Q4I")
 
 # a row as numbers of 64 bits: how many, and where two of them stand; the first four are links
 _CELLS = ctypes.sizeof(_Row) // 8
@@ -111,7 +114,7 @@ _quick = ctypes.PyDLL(_library())
 
 _H = ctypes.POINTER(_Handle)
 _O = ctypes.POINTER(_Options)
-_U32, _U64, _SIZE, _BYTES, _INT = ctypes.c_uint32, ctypes.c_uint64, ctypes.c_size_t, ctypes.c_char_p, ctypes.c_int
+_U32, _U64, _SIZE, _BYTES, _INT, _NUMBER = ctypes.c_uint32, ctypes.c_uint64, ctypes.c_size_t, ctypes.c_char_p, ctypes.c_int, ctypes.c_int64
 _PLACE = ctypes.POINTER(_U64)
 
 
@@ -138,7 +141,7 @@ _root = _call(_quick, "zq_root", _U64, _H)
 _rows = _call(_quick, "zq_rows", _SIZE, _H, _U64, ctypes.POINTER(_Row), _SIZE)
 _all_texts = _call(_quick, "zq_all_texts", _U32, _H, _H, ctypes.POINTER(_Texts))
 _kind_of = _call(_quick, "zq_kind_of", _U32, _H, _U64)
-_link = _call(_quick, "zq_link", _U64, _H, _U32, _U64)
+_link = _call(_quick, "zq_link", _NUMBER, _H, _U32, _U64)
 _attr_count = _call(_quick, "zq_attr_count", _U64, _H, _U64)
 _set_attr = _call(_quick, "zq_set_attr", _U32, _H, _U64, _BYTES, _SIZE, _BYTES, _SIZE)
 _remove_attr = _call(_quick, "zq_remove_attr", _U32, _H, _U64, _BYTES, _SIZE)
@@ -363,22 +366,25 @@ class Node:
     def name(self) -> str:
         """The name of an element, else an empty text."""
         page = self.page
-        return page._told(_NAME, self.number) if page._is_edited else page._text(page._firsts[self.number])
+        texts = page._texts
+        return page._told(_NAME, self.number) if texts is None else texts[page._firsts[self.number]]
 
     @property
     def text(self) -> str:
         """The text of a text or of a comment, else an empty one. `text_below` is the text in an element."""
         page = self.page
-        return page._told(_DATA, self.number) if page._is_edited else page._text(page._firsts[self.number] + 1)
+        texts = page._texts
+        return page._told(_DATA, self.number) if texts is None else texts[page._firsts[self.number] + 1]
 
     @property
     def attrs(self) -> dict[str, str]:
         """The attributes of an element, in the order of its tag. (A copy: `set_attr` and `remove_attr` change them.)"""
         page, number = self.page, self.number
-        if page._is_edited:
+        texts = page._texts
+        if texts is None:
             return {page._told(_ATTR_NAME, number, at): page._told(_ATTR_VALUE, number, at) for at in range(_attr_count(page._handle, number))}
-        text, first, behind = page._text, page._firsts[number] + 2, page._firsts[number + 1]
-        return {text(at): text(at + 1) for at in range(first, behind, 2)}
+        first, behind = page._firsts[number] + 2, page._firsts[number + 1]
+        return dict(zip(texts[first:behind:2], texts[first + 1 : behind : 2]))
 
     @property
     def doctype(self) -> tuple[Optional[str], Optional[str], Optional[str]]:
@@ -395,45 +401,39 @@ class Node:
         """What a template holds, which are no children of it."""
         return self._to(self.page._contents[self.number])
 
-    def _child_numbers(self) -> Iterator[int]:
-        nexts, at = self.page._nexts, self.page._first_children[self.number]
-        while at != _NONE:
-            yield at
-            at = nexts[at]
-
     @property
     def children(self) -> Iterator[Node]:
         """The children, as they are when the iteration begins."""
         page = self.page
-        numbers = self._child_numbers()
-        for number in [*numbers] if page._is_edited else numbers:
-            yield Node(page, number)
+        nexts, at, numbers = page._nexts, page._first_children[self.number], []
+        while at != _NONE:
+            numbers.append(at)
+            at = nexts[at]
+        return map(partial(Node, page), numbers)
 
-    def _numbers(self) -> Iterator[int]:
+    def _numbers(self) -> list[int]:
         """The numbers of the nodes below this one, in tree order; what a template holds in place of its children."""
-        page = self.page
-        firsts, nexts, contents = page._first_children, page._nexts, page._contents
-        inside = contents[self.number]
-        stack = [firsts[self.number if inside == _NONE else inside]]
-        while stack:
-            number = stack.pop()
+        insides, nexts = self.page._insides, self.page._nexts
+        numbers: list[int] = []
+        behind: list[int] = []
+        number = insides[self.number]
+        while True:
             while number != _NONE:
-                yield number
-                inside = contents[number]
-                first = firsts[number if inside == _NONE else inside]
-                if first == _NONE:
+                numbers.append(number)
+                inside = insides[number]
+                if inside == _NONE:
                     number = nexts[number]
                 else:
-                    stack.append(nexts[number])
-                    number = first
+                    behind.append(nexts[number])
+                    number = inside
+            if not behind:
+                return numbers
+            number = behind.pop()
 
     def __iter__(self) -> Iterator[Node]:
         """Every node below this one, in tree order; what a template holds in place of its children. They are those that are there when the iteration
         begins, whatever is edited meanwhile."""
-        page = self.page
-        numbers = self._numbers()
-        for number in [*numbers] if page._is_edited else numbers:
-            yield Node(page, number)
+        return map(partial(Node, self.page), self._numbers())
 
     @property
     def text_below(self) -> str:
@@ -497,38 +497,54 @@ class _Column:
 
 
 class Page(_Owner):
-    """A parsed page, which its nodes keep. `for node in page` goes over all of them, in tree order. It reads all links and texts in two calls; once it is
-    edited, each is asked for anew."""
+    """A parsed page, which its nodes keep. `for node in page` goes over all of them, in tree order. Links and texts are read all at once, in two calls, when the
+    first of them is asked for; once the page is edited, each is asked for anew."""
 
     _data: Optional[bytes] = None
-    _is_edited = False
+    # of each node the nodes that it is linked to and its kind, the first node below it, or in it, and the number of its first text; all texts, or None
     _parents: Any
     _first_children: Any
     _nexts: Any
     _contents: Any
     _kinds: Any
+    _insides: Any
+    _firsts: Any
+    _texts: Any
 
-    def _read(self) -> Page:
-        """Reads all links and texts, in two calls."""
+    def __getattr__(self, name: str) -> Any:
+        """Reads links and texts when they are first asked for."""
+        if name == "_texts":
+            self._read_texts()
+        elif name in ("_parents", "_first_children", "_nexts", "_contents", "_kinds", "_insides", "_firsts"):
+            self._read_links()
+        else:
+            raise AttributeError(f"{type(self).__name__!r} object has no attribute {name!r}")
+        return self.__dict__[name]
+
+    def _read_links(self) -> None:
         count = self.counts.nodes
         rows = bytearray(count * ctypes.sizeof(_Row))
         _rows(self._handle, 0, ctypes.cast((_Row * count).from_buffer(rows), ctypes.POINTER(_Row)), count)
-        cells = memoryview(rows).cast("Q")
-        self._parents, self._first_children, self._nexts, self._contents = (cells[column::_CELLS].tolist() for column in range(4))
+        cells = memoryview(rows).cast("q")
+        self._parents, firsts, self._nexts, contents = (cells[column::_CELLS].tolist() for column in range(4))
+        self._first_children, self._contents = firsts, contents
         self._kinds = rows[8 * _KIND :: 8 * _CELLS]
-        # of each node the number of its first text, and behind them that of all
+        has_templates = contents.count(_NONE) != count
+        self._insides = [first if inside == _NONE else firsts[inside] for first, inside in zip(firsts, contents)] if has_templates else firsts
+        # (and behind them the number of all)
         self._firsts = [0, *accumulate([2 + 2 * attrs for attrs in cells[_ATTRS::_CELLS].tolist()])]
+
+    def _read_texts(self) -> None:
         buffer, texts = _Buffer(), _Texts()
         _check(_all_texts(self._handle, buffer._handle, texts))
-        self._ends = [0, *memoryview(ctypes.string_at(texts.ends, 8 * texts.count)).cast("Q")]
-        self._bytes = ctypes.string_at(texts.at, self._ends[-1])
-        # (where all is ASCII a place in the bytes is one in the text)
-        self._ascii = self._bytes.decode("ascii") if self._bytes.isascii() else None
-        return self
-
-    def _text(self, index: int) -> str:
-        start, end = self._ends[index], self._ends[index + 1]
-        return self._bytes[start:end].decode() if self._ascii is None else self._ascii[start:end]
+        ends = memoryview(ctypes.string_at(texts.ends, 8 * texts.count)).cast("Q").tolist()
+        data = ctypes.string_at(texts.at, ends[-1])
+        if data.isascii():
+            # (a place in the bytes is one in the text)
+            text = data.decode("ascii")
+            self._texts = [text[start:end] for start, end in zip([0, *ends], ends)]
+        else:
+            self._texts = [data[start:end].decode() for start, end in zip([0, *ends], ends)]
 
     def _part(self, part: int, node: int, index: int = 0) -> Optional[str]:
         span = _Span()
@@ -542,12 +558,16 @@ class Page(_Owner):
         """Calls what edits. From the first edit on, links and texts are asked for one by one."""
         handle = self._handle
         _check_edit(function(handle, *arguments))
-        if not self._is_edited:
-            self._is_edited = True
+        if self.__dict__.get("_texts", ()) is not None:
+            self._texts = self._firsts = None
             self._parents, self._first_children, self._nexts, self._contents = (
                 _Column(lambda number, link=link: _link(handle, link, number)) for link in (_PARENT, _FIRST_CHILD, _NEXT, _CONTENTS))
             self._kinds = _Column(lambda number: _kind_of(handle, number))
-            del self._firsts, self._ends, self._bytes, self._ascii
+            self._insides = _Column(self._inside)
+
+    def _inside(self, number: int) -> int:
+        inside = self._contents[number]
+        return self._first_children[number if inside == _NONE else inside]
 
     def _make(self, function: Any, text: str) -> Node:
         data, number = _data(text), _U64(0)
@@ -671,7 +691,7 @@ def _limits(options: dict[str, Optional[int]], flags: int = 0) -> _Options:
     if unknown:
         raise TypeError(f"unexpected keyword argument {unknown.pop()!r}")
     numbers = (options.get(name) for name, _ in _Options._fields_[:4])
-    return _Options(*(_NONE if number is None else number for number in numbers), flags)
+    return _Options(*(_NO_LIMIT if number is None else number for number in numbers), flags)
 
 
 def _run(entities: Optional[Entities], function: Any, filled: Any, *arguments: Any) -> Any:
@@ -688,7 +708,7 @@ def parse(data: Data, *, foreign: bool = False, entities: Optional[Entities] = N
     """The page of a document in UTF-8 (a str is encoded). Where foreign is true SVG and MathML are parsed, with names as "svg path"; else they are refused.
     Limits, each None or a number: max_nodes, max_held (code points in names, texts and attributes), max_input (code points) and max_steps."""
     data = _data(data)
-    page: Page = _run(entities, _parse, Page(), _limits(limits, _FOREIGN * foreign), data, len(data))._read()
+    page: Page = _run(entities, _parse, Page(), _limits(limits, _FOREIGN * foreign), data, len(data))
     page._data = data
     return page
 
@@ -716,7 +736,7 @@ def parse_fragment(
     are the children of the element html that is the root."""
     data, name = _data(data), context.encode()
     options = _limits(limits, _IN_FORM * in_form | _QUIRKS * quirks | _FOREIGN * foreign)
-    page: Page = _run(entities, _parse_fragment, Page(), options, name, len(name), data, len(data))._read()
+    page: Page = _run(entities, _parse_fragment, Page(), options, name, len(name), data, len(data))
     page._data = data
     return page
 
@@ -726,7 +746,7 @@ def audit(data: Data, *, foreign: bool = False, entities: Optional[Entities] = N
     data, page, ledger = _data(data), Page(), Ledger()
     _run(entities, _audit, ledger, _limits(limits, _FOREIGN * foreign), data, len(data), page._handle)
     page._data = data
-    return page._read(), ledger._read(page)
+    return page, ledger._read(page)
 
 
 def audit_fragment(
@@ -744,7 +764,7 @@ def audit_fragment(
     options = _limits(limits, _IN_FORM * in_form | _QUIRKS * quirks | _FOREIGN * foreign)
     _run(entities, _audit_fragment, ledger, options, name, len(name), data, len(data), page._handle)
     page._data = data
-    return page._read(), ledger._read(page)
+    return page, ledger._read(page)
 
 
 def positions(data: Data, places: Iterable[int]) -> list[Position]:
@@ -807,7 +827,7 @@ class Parser(_Owner):
         """Ends the input: the page of all that was fed, as `parse` or `parse_fragment` makes it of the whole."""
         page = Page()
         self._run(_parser_finish, page._handle)
-        return page._read()
+        return page
 
     def __enter__(self) -> Parser:
         return self
