@@ -35,6 +35,7 @@ import struct
 import threading
 from functools import partial
 from itertools import accumulate
+from operator import itemgetter
 from pathlib import Path
 from typing import Any, Iterable, Iterator, NamedTuple, Optional, Sequence, Union, overload
 
@@ -55,7 +56,7 @@ _TOKEN_KINDS = ("", "start tag", "end tag", "character", "comment", "doctype", "
 _FATES = ("", "made", "text", "merged", "dropped", "ended")
 _CAUSES_OF_DROPS = (None, "PrologSpace", "Null", "LeadingNewline", "InSelect", "InFrameset", "Misplaced", "InColumnGroup")
 _CHARACTER = 3
-_TEXT = 4
+_ELEMENT, _TEXT = 3, 4
 _NAME, _DATA, _ATTR_NAME, _ATTR_VALUE = 0, 1, 2, 3
 _PARENT, _FIRST_CHILD, _NEXT, _CONTENTS = 0, 1, 3, 5
 _IN_FORM, _QUIRKS, _FOREIGN = 1, 2, 4
@@ -365,26 +366,24 @@ class Node:
     @property
     def name(self) -> str:
         """The name of an element, else an empty text."""
-        page = self.page
-        texts = page._texts
-        return page._told(_NAME, self.number) if texts is None else texts[page._firsts[self.number]]
+        names = self.page._names
+        return self.page._told(_NAME, self.number) if names is None else names[self.number]
 
     @property
     def text(self) -> str:
         """The text of a text or of a comment, else an empty one. `text_below` is the text in an element."""
-        page = self.page
-        texts = page._texts
-        return page._told(_DATA, self.number) if texts is None else texts[page._firsts[self.number] + 1]
+        texts = self.page._texts
+        return self.page._told(_DATA, self.number) if texts is None else texts[self.number]
 
     @property
     def attrs(self) -> dict[str, str]:
         """The attributes of an element, in the order of its tag. (A copy: `set_attr` and `remove_attr` change them.)"""
         page, number = self.page, self.number
-        texts = page._texts
-        if texts is None:
+        if page._names is None:
             return {page._told(_ATTR_NAME, number, at): page._told(_ATTR_VALUE, number, at) for at in range(_attr_count(page._handle, number))}
-        first, behind = page._firsts[number] + 2, page._firsts[number + 1]
-        return dict(zip(texts[first:behind:2], texts[first + 1 : behind : 2]))
+        ends = page._ends[page._firsts[number] + 2 : page._firsts[number + 1] + 1]
+        told = [page._bytes[start:end].decode() for start, end in zip(ends, ends[1:])]
+        return dict(zip(told[::2], told[1::2]))
 
     @property
     def doctype(self) -> tuple[Optional[str], Optional[str], Optional[str]]:
@@ -501,21 +500,25 @@ class Page(_Owner):
     first of them is asked for; once the page is edited, each is asked for anew."""
 
     _data: Optional[bytes] = None
-    # of each node the nodes that it is linked to and its kind, the first node below it, or in it, and the number of its first text; all texts, or None
+    # of each node those that it is linked to, the first one below it, or in it, its kind, and the number of its first text
     _parents: Any
     _first_children: Any
     _nexts: Any
     _contents: Any
-    _kinds: Any
     _insides: Any
+    _kinds: Any
     _firsts: Any
+    # the names and texts of nodes, or None; all texts with the attributes, and where each begins
+    _names: Any
     _texts: Any
+    _bytes: Any
+    _ends: Any
 
     def __getattr__(self, name: str) -> Any:
         """Reads links and texts when they are first asked for."""
-        if name == "_texts":
+        if name in ("_names", "_texts"):
             self._read_texts()
-        elif name in ("_parents", "_first_children", "_nexts", "_contents", "_kinds", "_insides", "_firsts"):
+        elif name in ("_parents", "_first_children", "_nexts", "_contents", "_insides", "_kinds", "_firsts"):
             self._read_links()
         else:
             raise AttributeError(f"{type(self).__name__!r} object has no attribute {name!r}")
@@ -537,14 +540,16 @@ class Page(_Owner):
     def _read_texts(self) -> None:
         buffer, texts = _Buffer(), _Texts()
         _check(_all_texts(self._handle, buffer._handle, texts))
-        ends = memoryview(ctypes.string_at(texts.ends, 8 * texts.count)).cast("Q").tolist()
-        data = ctypes.string_at(texts.at, ends[-1])
-        if data.isascii():
-            # (a place in the bytes is one in the text)
-            text = data.decode("ascii")
-            self._texts = [text[start:end] for start, end in zip([0, *ends], ends)]
-        else:
-            self._texts = [data[start:end].decode() for start, end in zip([0, *ends], ends)]
+        ends = self._ends = [0, *memoryview(ctypes.string_at(texts.ends, 8 * texts.count)).cast("Q")]
+        data = self._bytes = ctypes.string_at(texts.at, ends[-1])
+        # a node has a name or a text, and not both: so one piece of the bytes, from its first text to its third, has either
+        firsts = self._firsts[:-1]
+        places = map(slice, itemgetter(*firsts, 0)(ends), itemgetter(*[first + 2 for first in firsts], 0)(ends)[:-1])
+        # (where all is ASCII a place in the bytes is one in the text)
+        own = map(data.decode("ascii").__getitem__, places) if data.isascii() else map(bytes.decode, map(data.__getitem__, places))
+        self._names, self._texts = names, told = [""] * len(firsts), [""] * len(firsts)
+        for number, (kind, text) in enumerate(zip(self._kinds, own)):
+            (names if kind == _ELEMENT else told)[number] = text
 
     def _part(self, part: int, node: int, index: int = 0) -> Optional[str]:
         span = _Span()
@@ -558,8 +563,8 @@ class Page(_Owner):
         """Calls what edits. From the first edit on, links and texts are asked for one by one."""
         handle = self._handle
         _check_edit(function(handle, *arguments))
-        if self.__dict__.get("_texts", ()) is not None:
-            self._texts = self._firsts = None
+        if self.__dict__.get("_names", ()) is not None:
+            self._names = self._texts = self._bytes = self._ends = self._firsts = None
             self._parents, self._first_children, self._nexts, self._contents = (
                 _Column(lambda number, link=link: _link(handle, link, number)) for link in (_PARENT, _FIRST_CHILD, _NEXT, _CONTENTS))
             self._kinds = _Column(lambda number: _kind_of(handle, number))
