@@ -1,4 +1,4 @@
--- Claimed.
+-- Claimed, but for this crate's own functions: tree_of, ledger_of.
 -- A page with its ledger.
 use Rattle.std.specs.Prelude.{◌≡◌, ℕ, List, Option, Some, length}
 use Rattle.html_parser.specs.Parsed.{Headline}

@@ -1,2 +1,3 @@
+-- Claimed.
 pub mod Entries
 pub mod Texts

@@ -1,4 +1,4 @@
--- Claimed, but for this crate's own functions: Adds.
+-- Claimed.
 -- All texts of a page, one behind another.
 use Rattle.std.specs.Prelude.{◌≡◌, ℕ, ◌+◌, List, [], ◌∷◌, ◌++◌, length}
 use Rattle.std.specs.Str.{encode_utf8_all}
