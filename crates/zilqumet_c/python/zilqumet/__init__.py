@@ -37,7 +37,7 @@ from functools import partial
 from itertools import accumulate
 from operator import itemgetter
 from pathlib import Path
-from typing import Any, Iterable, Iterator, NamedTuple, Optional, Sequence, Union, overload
+from typing import Any, Callable, Iterable, Iterator, NamedTuple, Optional, Sequence, Union, overload
 
 __all__ = [
     "BadContext", "BadEntities", "Counts", "EditError", "Entities", "ForeignContent", "HeldBudget", "InputTooLong", "Ledger", "Node", "NodeBudget",
@@ -162,7 +162,8 @@ _strerror = _call(_quick, "zq_strerror", _BYTES, _U32)
 
 def library_version() -> str:
     """The version of libzilqumet."""
-    return _call(_quick, "zq_version", _BYTES)().decode()
+    version: bytes = _call(_quick, "zq_version", _BYTES)()
+    return version.decode()
 
 
 # WHY THERE IS NO PAGE
@@ -488,7 +489,7 @@ class _Column:
 
     __slots__ = ("tell",)
 
-    def __init__(self, tell: Any) -> None:
+    def __init__(self, tell: Callable[[int], int]) -> None:
         self.tell = tell
 
     def __getitem__(self, number: int) -> int:
@@ -501,16 +502,16 @@ class Page(_Owner):
 
     _data: Optional[bytes] = None
     # of each node those that it is linked to, the first one below it, or in it, its kind, and the number of its first text
-    _parents: Any
-    _first_children: Any
-    _nexts: Any
-    _contents: Any
-    _insides: Any
-    _kinds: Any
+    _parents: Union[list[int], _Column]
+    _first_children: Union[list[int], _Column]
+    _nexts: Union[list[int], _Column]
+    _contents: Union[list[int], _Column]
+    _insides: Union[list[int], _Column]
+    _kinds: Union[bytearray, _Column]
     _firsts: Any
     # the names and texts of nodes, or None; all texts with the attributes, and where each begins
-    _names: Any
-    _texts: Any
+    _names: Optional[list[str]]
+    _texts: Optional[list[str]]
     _bytes: Any
     _ends: Any
 
@@ -548,7 +549,8 @@ class Page(_Owner):
         # (where all is ASCII a place in the bytes is one in the text)
         own = map(data.decode("ascii").__getitem__, places) if data.isascii() else map(bytes.decode, map(data.__getitem__, places))
         self._names, self._texts = names, told = [""] * len(firsts), [""] * len(firsts)
-        for number, (kind, text) in enumerate(zip(self._kinds, own)):
+        kinds: Any = self._kinds
+        for number, (kind, text) in enumerate(zip(kinds, own)):
             (names if kind == _ELEMENT else told)[number] = text
 
     def _part(self, part: int, node: int, index: int = 0) -> Optional[str]:
@@ -566,8 +568,8 @@ class Page(_Owner):
         if self.__dict__.get("_names", ()) is not None:
             self._names = self._texts = self._bytes = self._ends = self._firsts = None
             self._parents, self._first_children, self._nexts, self._contents = (
-                _Column(lambda number, link=link: _link(handle, link, number)) for link in (_PARENT, _FIRST_CHILD, _NEXT, _CONTENTS))
-            self._kinds = _Column(lambda number: _kind_of(handle, number))
+                _Column(partial(_link, handle, link)) for link in (_PARENT, _FIRST_CHILD, _NEXT, _CONTENTS))
+            self._kinds = _Column(partial(_kind_of, handle))
             self._insides = _Column(self._inside)
 
     def _inside(self, number: int) -> int:
@@ -626,7 +628,7 @@ class Page(_Owner):
         """The element html as an element of xml.etree.ElementTree, or of another module with its Element, SubElement and Comment, as lxml.etree. What a
         template holds are its children there; doctypes, and comments outside of html, are left out."""
         if module is None:
-            import xml.etree.ElementTree as module  # type: ignore[no-redef]
+            import xml.etree.ElementTree as module
         top = next((node for node in self.root.children if node.kind == "element"), None)
         if top is None:
             return None
@@ -786,7 +788,8 @@ def normalise(
 ) -> str:
     """The text of a document's tree, as the standard writes it."""
     data = _data(data)
-    return _run(entities, _normalise, _Buffer(), _limits(limits, _FOREIGN * foreign), data, len(data), escape_angles).text()
+    buffer: _Buffer = _run(entities, _normalise, _Buffer(), _limits(limits, _FOREIGN * foreign), data, len(data), escape_angles)
+    return buffer.text()
 
 
 class Parser(_Owner):
