@@ -273,6 +273,7 @@ impl Builder {
     /// `HeldBudget` where the next node or code point would pass a limit; each with the start of the token; `OutOfMemory`. After a refusal every
     /// call answers `Stopped`.
     #[tactic(auto, using(crate::proofs::Handing::process_rules))]
+    #[inline(always)]
     pub fn process(&mut self, token: &Token) -> Result<Option<TextMode>, BuildError>
         ensures takes { OnOk result (HandsIn (token.now.kind ∷ []) self.old self.new) }
         ensures grows { OnOk result (AddsFates self.old self.new) }

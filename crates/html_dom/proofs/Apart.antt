@@ -60,7 +60,12 @@ module _ (t : Tree) (w : WellFormed t) (c : ℕ) (l : is_linkable (label_of t c)
 
   -- c is not x, and none of its ancestors
   pub apart_from : (x : ℕ) → x < length t.labels → would_cycle t c x ≡ false → has c (x ∷ ancestors t x) ≡ false
-  apart_from x b h = apart (length t.labels) x (ancestors t x) (ancestors-climb t w x b).0 h
+  apart_from x b h = elim (cases_option (host_in (label_of t x))) [
+    | inl e ↦ apart (length t.labels) x (ancestors t x) (ancestors-climb t w x b).0 (rw (← ap (or_self x) e) h)
+    | inr e ↦
+        let top = ancestors-root t x (w.contents_alone x e.0 e.1) in
+        rw top (neither c x [] (no_contents x e.0 e.1) refl)
+  ]
 
   -- nor is it what stands at the top of a template's contents
   pub apart_inside : (x : ℕ) → x < length t.labels → would_cycle t c x ≡ false

@@ -19,6 +19,10 @@ abbrev pub meets_within : ℕ → Tree → ℕ → ℕ → Bool
 meets_within zero t c x = true
 meets_within (suc n) t c x = cond (eqb c x) true (cond (is_none (above t x)) false (meets_within n t c (or_self x (above t x))))
 
+-- the template whose contents x are, or x itself
+abbrev pub holder : Tree → ℕ → ℕ
+holder t x = or_self x (host_in (label_of t x))
+
 -- c linked below x would stand below itself
 abbrev pub would_cycle : Tree → ℕ → ℕ → Bool
-would_cycle t c x = meets_within (length t.labels) t c x
+would_cycle t c x = meets_within (length t.labels) t c (holder t x)

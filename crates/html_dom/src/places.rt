@@ -1,7 +1,7 @@
 // Where a node stands.
 ghost use Rattle.std.specs.Prelude.{◌≡◌, ◌<◌, length, nat_lt, true};
 ghost use Rattle.html_arena.specs.Walking.{IsPlaced};
-ghost use Rattle.html_dom.specs.Places.{ends_within, is_placed, meets_within, would_cycle};
+ghost use Rattle.html_dom.specs.Places.{ends_within, holder, is_placed, meets_within, would_cycle};
 
 use html_arena::{Arena, NodeId};
 
@@ -46,13 +46,26 @@ fn ends_above(arena: &Arena, node: NodeId) -> bool
     false
 }
 
-/// Whether `child` would stand below itself if it were linked below `parent`: it is `parent`, or stands above it, by way of a template's contents too.
-/// So it is too where the nodes above `parent` come to no end.
+/// The template whose contents a node is, or the node itself.
+fn holder(arena: &Arena, node: NodeId) -> NodeId
+    requires { node < length arena.now.labels }
+    ensures value { result ≡ holder arena.now node }
+    ensures node { result < length arena.now.labels }
+{
+    arena.forest();
+    match arena.host(node) {
+        Some(template) => template,
+        None => node,
+    }
+}
+
+/// Whether `child` would stand below itself if it were linked below `parent`: it is `parent`, or the template whose contents that is, or stands above it,
+/// by way of a template's contents too. So it is too where the nodes above `parent` come to no end.
 pub fn would_cycle(arena: &Arena, child: NodeId, parent: NodeId) -> bool
     requires { parent < length arena.now.labels }
     ensures { result ≡ would_cycle arena.now child parent }
 {
-    let mut at = parent;
+    let mut at = holder(arena, parent);
     let mut left = arena.len();
     'climb: while left > 0 {
         if child == at {
