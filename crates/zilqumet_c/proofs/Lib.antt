@@ -4,4 +4,4 @@ pub mod Filling
 pub mod Pushed
 pub mod Roots
 pub mod Edited
-pub mod Audited
+pub mod Parted

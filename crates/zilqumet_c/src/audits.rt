@@ -111,13 +111,13 @@ fn audited_by(
     ensures cause { IfErr result (IsPageCause (rows_in (unboxed held.now)) options.now bytes.now) }
 {
     match table_of(held) {
-        Some(table) => audited(alloc, table, options, bytes),
-        None => audited(alloc, &core_table(alloc)?, options, bytes),
+        Some(table) => by_table(alloc, table, options, bytes),
+        None => by_table(alloc, &core_table(alloc)?, options, bytes),
     }
 }
 
 /// The page and the ledger of an input, by a table.
-fn audited(
+fn by_table(
     alloc: Global,
     table: &EntityTable,
     options: &Options,

@@ -5,7 +5,7 @@ use Rattle.zilqumet_c.specs.Audits.{AreAudited}
 use Rattle.zilqumet_c.specs.Causes.{IsPageCause}
 use Rattle.zilqumet_c.specs.Kept.{unboxed}
 use Rattle.zilqumet_c.specs.Reads.{rows_in}
-use Rattle.zilqumet_c.proofs.Audited.{both_kept}
+use Rattle.zilqumet_c.proofs.Parted.{both_kept}
 use Rattle.zilqumet_c.proofs.audits.audit.Goals as goal
 
 pub returns-clause-audited : goal.returns-clause-audited

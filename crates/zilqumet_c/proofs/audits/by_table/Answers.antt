@@ -1,6 +1,6 @@
 use Rattle.html_parser.specs.Options.{start_of}
-use Rattle.zilqumet_c.proofs.Audited.{parts_of}
-use Rattle.zilqumet_c.proofs.audits.audited.Goals as goal
+use Rattle.zilqumet_c.proofs.Parted.{parts_of}
+use Rattle.zilqumet_c.proofs.audits.by_table.Goals as goal
 
 pub returns-clause-page : goal.returns-clause-page
 returns-clause-page c = parts_of (start_of c.args.table.now c.args.options.now) c.args.bytes.now c.in_ok-page.page c.parted.result.page.tree c.parted.result.ledger
