@@ -33,9 +33,11 @@ uint32_t proved_all_texts(proved_slot *page, proved_slot *buffer, zq_texts *text
 uint32_t proved_error(proved_slot *page, uint64_t index, proved_slot *name, uint64_t *place);
 size_t proved_positions(const uint8_t *bytes, size_t len, const uint64_t *places, size_t count, zq_position *positions, size_t room);
 uint32_t proved_text_below(proved_slot *page, uint64_t node, proved_slot *buffer);
-uint32_t proved_audit(proved_slot *entities, const proved_limits *limits, const uint8_t *bytes, size_t len, proved_slot *buffer, uint64_t *place);
+uint32_t proved_audit(proved_slot *entities, const proved_limits *limits, const uint8_t *bytes, size_t len, proved_slot *page, proved_slot *ledger,
+                      uint64_t *place);
 uint32_t proved_audit_fragment(proved_slot *entities, const proved_limits *limits, const uint8_t *context, size_t context_len, bool in_form, bool quirks,
-                               const uint8_t *bytes, size_t len, proved_slot *buffer, uint64_t *place);
+                               const uint8_t *bytes, size_t len, proved_slot *page, proved_slot *ledger, uint64_t *place);
+size_t proved_tokens(proved_slot *ledger, uint64_t from, zq_token *tokens, size_t len);
 uint32_t proved_set_attr(proved_slot *page, uint64_t node, const uint8_t *name, size_t name_len, const uint8_t *value, size_t value_len);
 uint32_t proved_remove_attr(proved_slot *page, uint64_t node, const uint8_t *name, size_t name_len);
 uint32_t proved_remove(proved_slot *page, uint64_t node);

@@ -3,11 +3,14 @@
 
 /* The structs as the crate lays them out (#[repr(C)] in src/). */
 _Static_assert(sizeof(void *) == 8 && sizeof(size_t) == 8, "64 bits");
-_Static_assert(sizeof(zq_page) == 8 && sizeof(zq_parser) == 8 && sizeof(zq_entities) == 8 && sizeof(zq_buffer) == 8, "handles");
+_Static_assert(sizeof(zq_page) == 8 && sizeof(zq_parser) == 8 && sizeof(zq_entities) == 8 && sizeof(zq_buffer) == 8 && sizeof(zq_ledger) == 8,
+               "handles");
 _Static_assert(sizeof(proved_slot) == 8 && sizeof(proved_limits) == 40, "what is handed on");
 _Static_assert(sizeof(zq_span) == 16 && offsetof(zq_span, len) == 8, "spans");
 _Static_assert(sizeof(zq_counts) == 48 && offsetof(zq_counts, errors) == 40, "counts");
 _Static_assert(sizeof(zq_row) == 80 && offsetof(zq_row, attrs) == 32 && offsetof(zq_row, name) == 40 && offsetof(zq_row, kind) == 72, "rows");
+_Static_assert(sizeof(zq_token) == 56 && offsetof(zq_token, node) == 16 && offsetof(zq_token, name) == 24 && offsetof(zq_token, kind) == 40
+               && offsetof(zq_token, cause) == 52, "tokens");
 _Static_assert(sizeof(zq_position) == 24 && offsetof(zq_position, line) == 8 && offsetof(zq_position, column) == 16, "positions");
 _Static_assert(sizeof(zq_texts) == 24 && offsetof(zq_texts, ends) == 8 && offsetof(zq_texts, count) == 16, "texts");
 
@@ -261,28 +264,46 @@ uint32_t zq_text_below(zq_page *page, uint64_t node, zq_buffer *buffer)
     return proved_text_below(slot(page), node, slot(buffer));
 }
 
-uint32_t zq_audit(zq_entities *entities, const zq_options *options, const void *bytes, size_t len, zq_buffer *buffer, uint64_t *place)
+/* Makes a call ready that fills a ledger beside a page. */
+static uint32_t begin_audit(call *it, zq_entities *entities, const zq_options *options, zq_page *page, zq_ledger *ledger, uint64_t *place)
+{
+    uint32_t status = begin(it, entities, options, page, place);
+    if (status != ZQ_OK)
+        return status;
+    if (ledger == NULL)
+        return ZQ_BAD_POINTER;
+    return (void *)ledger == (void *)page || (void *)ledger == (void *)entities ? ZQ_BAD_HANDLE : ZQ_OK;
+}
+
+uint32_t zq_audit(zq_entities *entities, const zq_options *options, const void *bytes, size_t len, zq_page *page, zq_ledger *ledger, uint64_t *place)
 {
     call it;
-    uint32_t status = begin(&it, entities, options, buffer, place);
+    uint32_t status = begin_audit(&it, entities, options, page, ledger, place);
     if (status != ZQ_OK)
         return status;
     if (!are_bytes(bytes, len))
         return ZQ_BAD_POINTER;
-    return proved_audit(it.entities, &it.limits, some(bytes), len, slot(buffer), it.place);
+    return proved_audit(it.entities, &it.limits, some(bytes), len, slot(page), slot(ledger), it.place);
 }
 
 uint32_t zq_audit_fragment(zq_entities *entities, const zq_options *options, const void *context, size_t context_len, const void *bytes, size_t len,
-                           zq_buffer *buffer, uint64_t *place)
+                           zq_page *page, zq_ledger *ledger, uint64_t *place)
 {
     call it;
-    uint32_t status = begin(&it, entities, options, buffer, place);
+    uint32_t status = begin_audit(&it, entities, options, page, ledger, place);
     if (status != ZQ_OK)
         return status;
     if (!are_bytes(bytes, len) || !are_bytes(context, context_len))
         return ZQ_BAD_POINTER;
     return proved_audit_fragment(it.entities, &it.limits, some(context), context_len, (it.flags & ZQ_IN_FORM) != 0, (it.flags & ZQ_QUIRKS) != 0,
-                                 some(bytes), len, slot(buffer), it.place);
+                                 some(bytes), len, slot(page), slot(ledger), it.place);
+}
+
+size_t zq_tokens(zq_ledger *ledger, uint64_t from, zq_token *tokens, size_t len)
+{
+    if (ledger == NULL || tokens == NULL || len > PTRDIFF_MAX / sizeof *tokens)
+        return 0;
+    return proved_tokens(slot(ledger), from, tokens, len);
 }
 
 uint32_t zq_set_attr(zq_page *page, uint64_t node, const void *name, size_t name_len, const void *value, size_t value_len)

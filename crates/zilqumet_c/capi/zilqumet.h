@@ -14,14 +14,14 @@
  *             ...
  *     zq_free(&page);
  *
- * HANDLES. A page, a parser, a table of references and a buffer are handles: structs of one pointer, which the caller keeps wherever it likes.
+ * HANDLES. A page, a parser, a table of references, a buffer and a ledger are handles: structs of one pointer, which the caller keeps wherever it likes.
  *   - A handle begins as ZQ_EMPTY. A call that fills a handle frees what was in it first.
  *   - zq_free frees what a handle holds, whatever that is, and leaves it empty. To free an empty handle does nothing.
  *   - A handle is passed by its address, and is not copied: of two copies one would be freed behind the other's back.
  *   - `held` is the library's: it is neither read nor written by the caller.
  *
- * POINTERS. What zq_text, zq_rows, zq_all_texts and zq_bytes hand out points into the handle. It stays there, unchanged, until that handle is freed or filled
- * again, or, where it is a page, edited, and is only read. Texts are UTF-8, with their length beside them; no zero byte ends them.
+ * POINTERS. What zq_text, zq_rows, zq_all_texts, zq_tokens and zq_bytes hand out points into the handle. It stays there, unchanged, until that handle is freed or
+ * filled again, or, where it is a page, edited, and is only read. Texts are UTF-8, with their length beside them; no zero byte ends them.
  *
  * THREADS. The library has no state of its own. Threads that use handles of their own need nothing; that a parser shares its table with the handle
  * that the table was read into is no exception. A handle is in one call at a time, reading included, and a page or a parser stays with the thread that
@@ -73,11 +73,12 @@ enum zq_status {
     ZQ_BAD_TEXT = 22       /* the text is not UTF-8 */
 };
 
-/* A parsed page; an input that is not at its end; named character references; bytes. */
+/* A parsed page; an input that is not at its end; named character references; bytes; what became of the tokens of a page. */
 typedef struct zq_page { void *held; } zq_page;
 typedef struct zq_parser { void *held; } zq_parser;
 typedef struct zq_entities { void *held; } zq_entities;
 typedef struct zq_buffer { void *held; } zq_buffer;
+typedef struct zq_ledger { void *held; } zq_ledger;
 #define ZQ_EMPTY { NULL }
 
 /* Some bytes. */
@@ -181,7 +182,7 @@ uint32_t zq_parse_fragment(zq_entities *entities, const zq_options *options, con
  * it is met (ZQ_INPUT_TOO_LONG, ZQ_FOREIGN_.., ZQ_.._BUDGET, ZQ_OUT_OF_MEMORY); from then on each call answers ZQ_STOPPED, and all that is left is to
  * free.
  * zq_parser_finish ends the input: it fills page with the page of all bytes fed, the very one that zq_parse makes of them, or answers why not, and
- * leaves the parser empty whatever it answers.
+ * leaves the parser empty whatever it answers but ZQ_BAD_POINTER or ZQ_BAD_HANDLE.
  * zq_free ends a parser that is not finished. */
 uint32_t zq_parser_new(zq_entities *entities, const zq_options *options, zq_parser *parser);
 uint32_t zq_parser_new_fragment(zq_entities *entities, const zq_options *options, const void *context, size_t context_len, zq_parser *parser);
@@ -247,20 +248,36 @@ uint32_t zq_text_below(zq_page *page, uint64_t node, zq_buffer *buffer);
 
 /* ---- the ledger ---- */
 
-/* What became of each token: parse as zq_parse and zq_parse_fragment do, answer as they do, and fill buffer with a line for each token, in their order, the
- * end of the input last. A line has the places where the token begins and ends, what it is, and its one fate:
- *
- *     0 8 start select made 4            a start tag, a comment or a doctype made the node of this number,
- *     8 13 start div dropped InSelect    or has no effect, for a cause: PrologSpace, Null, LeadingNewline, InSelect, InFrameset, Misplaced, InColumnGroup;
- *     0 6 start body merged              or its attributes went to the html or the body that was there
- *     13 14 char U+0061 text 5           a code point stands in the text of this number, or was dropped
- *     14 23 end select ended             an end tag did what it does
- *     23 23 eof ended                    the end of the input
- *
- * Nodes have the numbers that they have in the page which those calls make of the same bytes. */
-uint32_t zq_audit(zq_entities *entities, const zq_options *options, const void *bytes, size_t len, zq_buffer *buffer, uint64_t *place);
+/* What a token is: a start or an end tag; a code point of text; a comment; a doctype; the end of the input. */
+enum zq_token_kind { ZQ_START_TAG = 1, ZQ_END_TAG, ZQ_CHARACTER, ZQ_COMMENT_TOKEN, ZQ_DOCTYPE_TOKEN, ZQ_END_OF_FILE };
+
+/* What became of a token: a node was made of it; it stands in a text; its attributes went to the html or the body that was there; it has no effect on the
+ * tree; it is an end tag, or the end of the input, and did what it does. */
+enum zq_fate { ZQ_MADE = 1, ZQ_IN_TEXT, ZQ_MERGED, ZQ_DROPPED, ZQ_ENDED };
+
+/* Why a token was dropped: white space before the head; U+0000; a line feed just after a start tag pre, listing or textarea; what a select does not take, or
+ * a page of frames; a start tag or a doctype where it can't stand; what a column group does not take. */
+enum zq_cause {
+    ZQ_NO_CAUSE, ZQ_PROLOG_SPACE, ZQ_NULL, ZQ_LEADING_NEWLINE, ZQ_IN_SELECT, ZQ_IN_FRAMESET, ZQ_MISPLACED, ZQ_IN_COLUMN_GROUP
+};
+
+/* A token and its one fate: the places where it begins and ends, as those of errors; the node that was made of it, or whose text it is in, else ZQ_NO_NODE;
+ * the name of a tag, else an empty one; an enum zq_token_kind; the code point of a ZQ_CHARACTER, else 0; an enum zq_fate; an enum zq_cause. */
+typedef struct zq_token {
+    uint64_t start, end, node;
+    zq_span name;
+    uint32_t kind, code_point, fate, cause;
+} zq_token;
+
+/* Parse as zq_parse and zq_parse_fragment do, fill page as they do, and ledger with the fate of each token. Both are empty where the input is refused. An
+ * edit of the page leaves the ledger as it is: nodes keep their numbers. */
+uint32_t zq_audit(zq_entities *entities, const zq_options *options, const void *bytes, size_t len, zq_page *page, zq_ledger *ledger, uint64_t *place);
 uint32_t zq_audit_fragment(zq_entities *entities, const zq_options *options, const void *context, size_t context_len, const void *bytes, size_t len,
-                           zq_buffer *buffer, uint64_t *place);
+                           zq_page *page, zq_ledger *ledger, uint64_t *place);
+
+/* Fills tokens with those of the numbers from, from + 1, .., at most len of them, and answers how many were there. They stand in the order of the input, its end
+ * last; a page counts them (zq_counts). It goes past the tokens before from, so few calls with large arrays are quickest. */
+size_t zq_tokens(zq_ledger *ledger, uint64_t from, zq_token *tokens, size_t len);
 
 /* ---- editing a page ---- */
 
@@ -304,7 +321,8 @@ uint32_t zq_normalise(zq_entities *entities, const zq_options *options, const vo
 /* Tells where the bytes of a buffer lie. */
 uint32_t zq_bytes(zq_buffer *buffer, zq_span *bytes);
 
-/* Hands the page as text to a function, in one piece; context goes along. The function answers 0 where it took it. */
+/* Hands the page as text to a function, in one piece; context goes along. The function answers 0 where it took it, and the bytes
+ * are there until it returns. */
 typedef int (*zq_write)(void *context, const uint8_t *bytes, size_t len);
 uint32_t zq_serialise_to(zq_page *page, int angles, zq_write write, void *context);
 

@@ -1,8 +1,7 @@
 pub mod Values
 pub mod SlotValues
-pub mod Gathering
 pub mod Filling
 pub mod Pushed
 pub mod Roots
 pub mod Edited
-pub mod Audited
+pub mod Parted

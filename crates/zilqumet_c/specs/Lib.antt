@@ -7,4 +7,3 @@ pub mod Pieces
 pub mod Places
 pub mod Reads
 pub mod Status
-pub mod Texts

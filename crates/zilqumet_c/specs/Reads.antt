@@ -22,10 +22,12 @@ use Rattle.html_dom.specs.Reads.{descendants_of, text_of_all}
 use Rattle.html_parser.specs.declared.owned_tree_parser.OwnedTreeParser.{OwnedTreeParser}
 use Rattle.html_parser.specs.declared.page.Tree.{Tree}
 use Rattle.zilqumet_c.specs.declared.held.Held.{Held}
-use Rattle.zilqumet_c.specs.declared.held.Held.TheVariants.{Page, Entities, Parser, Buffer, Texts}
-use Rattle.zilqumet_c.specs.declared.held.Gathered.{Gathered}
+use Rattle.zilqumet_c.specs.declared.held.Held.TheVariants.{Page, Entities, Parser, Buffer, Texts, Ledger as Told}
 use Rattle.zilqumet_c.specs.declared.numbers.ZqLimits.{ZqLimits}
 use Rattle.zilqumet_c.specs.declared.rows.ZqRow.{ZqRow}
+use Rattle.zilqumet_rows.specs.Entries.{number_of}
+use Rattle.zilqumet_rows.specs.declared.gathered.Gathered.{Gathered}
+use Rattle.zilqumet_rows.specs.declared.ledger.Ledger.{Ledger}
 
 abbrev pub limits_in : ZqLimits → Limits
 limits_in l = record { nodes = l.nodes; held = l.held; code_points = l.code_points; steps = l.steps }
@@ -72,11 +74,6 @@ parser_in _ = None
 -- what holds of a node of a page, and what holds where there is no such node
 abbrev pub IfNode : Option Held → ℕ → Type 0 → (Tree → Type 0) → Type 0
 IfNode held node None' P = MatchOption (tree_in held) None' (λ t. (node < length t.arena.labels → P t) × ((node < length t.arena.labels → ⊥) → None'))
-
--- a node's number, or the greatest of 64 bits
-abbrev pub number_of : Option ℕ → ℕ
-number_of (Some x) = x
-number_of None = 18446744073709551615
 
 abbrev pub kind_number_of : Kind → ℕ
 kind_number_of kind.Document = 1
@@ -130,6 +127,14 @@ gathered_in _ = None
 -- there are texts, and this of them
 abbrev pub HasTexts : Option Held → (Gathered → Type 0) → Type 0
 HasTexts held P = IsSomeAnd (gathered_in held) P
+
+-- the ledger in a handle
+abbrev pub ledger_in : Option Held → Option Ledger
+ledger_in (Some (Told l)) = Some l
+ledger_in _ = None
+
+abbrev pub IfLedger : Option Held → (Ledger → Type 0) → Type 0
+IfLedger held P = IfSome (ledger_in held) P
 
 -- what a row says of a node: its links, how many attributes it has, its kind, and how long its name and its text are
 pub record IsRow (t : Nodes) (x : ℕ) (r : ZqRow) : Type 0 where

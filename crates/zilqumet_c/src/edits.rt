@@ -18,10 +18,10 @@ ghost use Rattle.zilqumet_c.specs.Reads.{IfPage};
 
 use crate::changes::{Edit, change};
 use crate::held::Held;
-use crate::links::NO_NODE;
 use crate::slot::Slot;
 use crate::status::BAD_TEXT;
 use std::alloc::Global;
+use zilqumet_rows::NO_NODE;
 
 /// Gives an element an attribute: its first one of this name gets the value, or there is a new one behind its others.
 #[unsafe(no_mangle)]

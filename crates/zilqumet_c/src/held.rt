@@ -4,8 +4,9 @@ ghost use Rattle.html_arena.specs.Walking.{IsRoot};
 
 use html_parser::{EntityTable, OwnedTreeParser, Tree};
 use std::sync::Arc;
+use zilqumet_rows::{Gathered, Ledger};
 
-/// What a handle holds: a page, a table of references, which parsers share, a parser of an input that is not at its end, bytes, or texts.
+/// What a handle holds: a page, a table of references, which parsers share, a parser of an input that is not at its end, bytes, texts, or a ledger.
 #[derive(Drop)]
 pub enum Held {
     Page(Rooted),
@@ -13,6 +14,7 @@ pub enum Held {
     Parser(OwnedTreeParser),
     Buffer(Vec<u8>),
     Texts(Gathered),
+    Ledger(Ledger),
 }
 
 /// A tree from its root.
@@ -20,11 +22,4 @@ pub enum Held {
 pub struct Rooted {
     pub tree: Tree,
     ghost root: { IsRoot tree.arena tree.root },
-}
-
-/// Texts one behind the other, and how many bytes there are up to the end of each.
-#[derive(Drop)]
-pub struct Gathered {
-    pub bytes: Vec<u8>,
-    pub ends: Vec<u64>,
 }

@@ -19,15 +19,15 @@ mod pushing;
 mod rows;
 mod slot;
 mod status;
-mod text;
 mod texts;
+mod tokens;
 mod writing;
 
+pub use audits::Audited;
 pub use changes::Edit;
-pub use held::{Gathered, Held, Rooted};
+pub use held::{Held, Rooted};
 pub use numbers::{ZqCounts, ZqLimits};
 pub use places::ZqPosition;
 pub use rows::ZqRow;
 pub use slot::Slot;
-pub use text::Text;
 pub use texts::ZqTexts;

@@ -3,15 +3,14 @@
 ghost use Rattle.std.specs.Prelude.{◌≡◌, ◌<◌, ℕ, Option, None, Some, length};
 ghost use Rattle.html_arena.specs.Data.{attrs_in};
 ghost use Rattle.html_arena.specs.Tree.{label_of};
-ghost use Rattle.zilqumet_c.specs.Reads.{IfNode, IsLinkedTo, kind_number, number_of};
+ghost use Rattle.zilqumet_c.specs.Reads.{IfNode, IsLinkedTo, kind_number};
+ghost use Rattle.zilqumet_rows.specs.Entries.{number_of};
 
 use crate::held::Held;
 use crate::slot::Slot;
 use html_parser::{Arena, Kind, NodeId};
 use std::alloc::Global;
-
-/// No node.
-pub(crate) const NO_NODE: u64 = u64::MAX;
+use zilqumet_rows::{NO_NODE, number};
 
 const PARENT: u32 = 0;
 
@@ -71,16 +70,6 @@ pub extern "C" fn proved_attr_count(alloc: Global, page: &mut Slot, node: u64) -
     };
     page.restore(alloc, held);
     count
-}
-
-/// The number of a node, or of none.
-pub(crate) fn number(node: Option<NodeId>) -> u64
-    ensures { result ≡ number_of node }
-{
-    match node {
-        Some(node) => node.index() as u64,
-        None => NO_NODE,
-    }
 }
 
 /// The number of a kind.

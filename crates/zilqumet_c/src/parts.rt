@@ -6,10 +6,10 @@ ghost use Rattle.zilqumet_c.specs.Reads.{HasPage, IsPart};
 use crate::held::Held;
 use crate::slot::Slot;
 use crate::status::{BAD_HANDLE, BAD_INDEX, OK};
-use crate::text::{Text, text_of};
 use html_parser::{Arena, NodeData, NodeId};
 use html_tokens::OptionalStr;
 use std::alloc::Global;
+use zilqumet_rows::{Text, text_of};
 
 const NAME: u32 = 0;
 

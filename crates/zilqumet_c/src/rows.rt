@@ -5,11 +5,11 @@ ghost use Rattle.zilqumet_c.specs.Kept.{unboxed};
 ghost use Rattle.zilqumet_c.specs.Reads.{AreRows, IfPage, IsRow, tree_in};
 
 use crate::held::Held;
-use crate::links::{kind_number, number};
+use crate::links::kind_number;
 use crate::slot::Slot;
-use crate::text::{Text, text_of};
 use html_parser::{Arena, NodeId};
 use std::alloc::Global;
+use zilqumet_rows::{Text, number, text_of};
 
 /// A node, its links, and its texts.
 #[repr(C)]

@@ -1,18 +1,14 @@
 //! All texts of a page in one call.
 
-ghost use Rattle.std.specs.Prelude.{◌≡◌, ◌≢◌, ◌<◌, ◌∷◌, [], None, Some, IfSome, OnOk, length};
-ghost use Rattle.std.specs.Str.{chars};
-ghost use Rattle.html_arena.specs.Tree.{label_of};
+ghost use Rattle.std.specs.Prelude.{◌≡◌, ◌≢◌, None, Some, length};
 ghost use Rattle.zilqumet_c.specs.Reads.{HasPage, HasTexts};
-ghost use Rattle.zilqumet_c.specs.Texts.{Adds, AreTexts, all_texts, attr_texts, node_texts};
+ghost use Rattle.zilqumet_rows.specs.Texts.{AreTexts, all_texts};
 
-use crate::held::{Gathered, Held};
+use crate::held::Held;
 use crate::slot::Slot;
 use crate::status::{BAD_HANDLE, OK, OUT_OF_MEMORY};
-use crate::text::{address_of, address_of_numbers};
-use html_parser::{Arena, NodeId};
-use html_tokens::Attr;
-use std::alloc::{AllocError, Global};
+use std::alloc::Global;
+use zilqumet_rows::{Gathered, address_of, address_of_numbers};
 
 /// Texts one behind the other: where they lie, and where it is told where each ends, and how many they are.
 #[repr(C)]
@@ -59,7 +55,7 @@ fn texts_in(alloc: Global, held: &Held, buffer: &mut Slot, texts: &mut ZqTexts) 
     let Ok(()) = gathered.add_all(&page.tree.arena) else {
         return OUT_OF_MEMORY;
     };
-    let told = gathered.places();
+    let told = places(&gathered);
     match Box::new(alloc, Held::Texts(gathered)) {
         Ok(held) => {
             buffer.put(held);
@@ -70,67 +66,13 @@ fn texts_in(alloc: Global, held: &Held, buffer: &mut Slot, texts: &mut ZqTexts) 
     }
 }
 
-impl Gathered {
-    /// No texts.
-    fn new(alloc: Global) -> Gathered
-        ensures { AreTexts result.bytes.items result.ends.items [] }
-    {
-        Gathered {
-            bytes: Vec::new(alloc),
-            ends: Vec::new(alloc),
-        }
-    }
-
-    /// Where the texts lie.
-    fn places(&self) -> ZqTexts
-        ensures { result.count ≡ length self.now.ends.items }
-    {
-        ZqTexts {
-            at: address_of(self.bytes.as_slice()),
-            ends: address_of_numbers(self.ends.as_slice()),
-            count: self.ends.len(),
-        }
-    }
-
-    /// Adds a text.
-    fn add(&mut self, text: &str) -> Result<(), AllocError>
-        ensures { OnOk result (Adds (chars text.now ∷ []) self.old self.new) }
-    {
-        self.bytes.extend_from_slice(text.as_bytes())?;
-        self.ends.push(self.bytes.len() as u64)?;
-        Ok(())
-    }
-
-    /// Adds the names and the values of attributes.
-    fn add_attrs(&mut self, attrs: &[Attr]) -> Result<(), AllocError>
-        ensures { OnOk result (Adds (attr_texts attrs.now) self.old self.new) }
-    {
-        'attrs: for i in 0..attrs.len() {
-            let attr = &attrs[i];
-            self.add(attr.name.as_str())?;
-            self.add(attr.value.as_str())?;
-        }
-        Ok(())
-    }
-
-    /// Adds the texts of a node.
-    fn add_node(&mut self, arena: &Arena, node: NodeId) -> Result<(), AllocError>
-        requires { node < length arena.now.labels }
-        ensures { OnOk result (Adds (node_texts (label_of arena.now node)) self.old self.new) }
-    {
-        self.add(arena.name(node))?;
-        self.add(arena.text(node))?;
-        self.add_attrs(arena.attrs(node))?;
-        Ok(())
-    }
-
-    /// Adds the texts of all nodes.
-    fn add_all(&mut self, arena: &Arena) -> Result<(), AllocError>
-        ensures { OnOk result (Adds (all_texts arena.now.labels) self.old self.new) }
-    {
-        'nodes: for i in 0..arena.len() {
-            self.add_node(arena, NodeId::at(i as usize))?;
-        }
-        Ok(())
+/// Where texts lie.
+fn places(gathered: &Gathered) -> ZqTexts
+    ensures { result.count ≡ length gathered.now.ends.items }
+{
+    ZqTexts {
+        at: address_of(gathered.bytes.as_slice()),
+        ends: address_of_numbers(gathered.ends.as_slice()),
+        count: gathered.ends.len(),
     }
 }

@@ -15,9 +15,9 @@ use crate::numbers::{ZqLimits, options_of};
 use crate::parsing::parsed_by;
 use crate::slot::Slot;
 use crate::status::{BAD_HANDLE, OK, OUT_OF_MEMORY, place_of, status_of};
-use crate::text::{Text, text_of};
 use html_parser::{OverWrite, Profile};
 use std::alloc::Global;
+use zilqumet_rows::{Text, text_of};
 
 /// Writes a page to a buffer, as text in UTF-8. In values of attributes `<` and `>` are escaped where `angles` says so.
 #[unsafe(no_mangle)]

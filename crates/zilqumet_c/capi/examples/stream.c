@@ -34,7 +34,6 @@ int main(void)
         status = zq_serialise_to(&page, 0, to_stdout, NULL);
     if (status != ZQ_OK)
         fprintf(stderr, "stream: %s\n", zq_strerror(status));
-    zq_free(&parser);
-    zq_free(&page);
+    zq_free(&parser), zq_free(&page);
     return status != ZQ_OK;
 }

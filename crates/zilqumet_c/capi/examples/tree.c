@@ -4,11 +4,10 @@
 
 static void print(zq_page *page, uint64_t node, int depth)
 {
-    zq_span name = zq_name(page, node), text = zq_data(page, node);
-    if (zq_kind_of(page, node) == ZQ_ELEMENT)
-        printf("%*s<%.*s>\n", 2 * depth, "", (int)name.len, (const char *)name.at);
-    else if (zq_kind_of(page, node) == ZQ_TEXT)
-        printf("%*s\"%.*s\"\n", 2 * depth, "", (int)text.len, (const char *)text.at);
+    uint32_t kind = zq_kind_of(page, node);
+    zq_span told = kind == ZQ_ELEMENT ? zq_name(page, node) : zq_data(page, node);
+    if (kind == ZQ_ELEMENT || kind == ZQ_TEXT)
+        printf(kind == ZQ_ELEMENT ? "%*s<%.*s>\n" : "%*s\"%.*s\"\n", 2 * depth, "", (int)told.len, (const char *)told.at);
 }
 
 int main(void)
@@ -17,11 +16,11 @@ int main(void)
     size_t len = fread(bytes, 1, sizeof bytes, stdin);
     zq_options options = ZQ_DEFAULTS;
     zq_page page = ZQ_EMPTY;
-    uint64_t node, place, status;
+    uint64_t node, place;
+    uint32_t status;
     int depth = 0;
     options.max_nodes = 100000;
-    status = zq_parse(NULL, &options, bytes, len, &page, &place);
-    if (status != ZQ_OK) {
+    if ((status = zq_parse(NULL, &options, bytes, len, &page, &place)) != ZQ_OK) {
         fprintf(stderr, "tree: %s at %llu\n", zq_strerror(status), (unsigned long long)place);
         return 1;
     }

@@ -427,47 +427,128 @@ static void test_text_below(void)
     zq_free(&buffer);
 }
 
-/* Whether a buffer has this text. */
-static int holds(zq_buffer *buffer, const char *text)
+/* Whether a token is this. */
+static int told(const zq_token *token, uint64_t start, uint64_t end, uint32_t kind, const char *name, uint32_t code_point, uint32_t fate, uint64_t node, uint32_t cause)
 {
-    zq_span span;
-    return zq_bytes(buffer, &span) == ZQ_OK && is(span, text);
+    return token->start == start && token->end == end && token->kind == kind && is(token->name, name) && token->code_point == code_point && token->fate == fate
+        && token->node == node && token->cause == cause;
+}
+
+/* How many tokens a ledger has. */
+static size_t count_tokens(zq_ledger *ledger)
+{
+    static zq_token tokens[16];
+    return zq_tokens(ledger, 0, tokens, 16);
+}
+
+static void test_ledger(void)
+{
+    zq_page page = ZQ_EMPTY;
+    zq_ledger ledger = ZQ_EMPTY;
+    zq_token tokens[12], part[3];
+    zq_counts counts;
+    const char *text = "<!DOCTYPE html> <p>\xc3\xa9<body b><!--c--><select><div></p>";
+    uint64_t place = 7;
+    size_t i;
+    CHECK(zq_audit(NULL, NULL, text, strlen(text), &page, &ledger, &place) == ZQ_OK && place == 0);
+    CHECK(zq_tokens(&ledger, 0, tokens, 12) == 10 && zq_counts_of(&page, &counts) == ZQ_OK && counts.tokens == 10);
+    CHECK(told(&tokens[0], 0, 15, ZQ_DOCTYPE_TOKEN, "", 0, ZQ_MADE, 1, ZQ_NO_CAUSE));
+    CHECK(told(&tokens[1], 15, 16, ZQ_CHARACTER, "", ' ', ZQ_DROPPED, ZQ_NO_NODE, ZQ_PROLOG_SPACE));
+    CHECK(told(&tokens[2], 16, 19, ZQ_START_TAG, "p", 0, ZQ_MADE, 5, ZQ_NO_CAUSE));
+    CHECK(told(&tokens[3], 19, 20, ZQ_CHARACTER, "", 0xE9, ZQ_IN_TEXT, 6, ZQ_NO_CAUSE));
+    CHECK(told(&tokens[4], 20, 28, ZQ_START_TAG, "body", 0, ZQ_MERGED, ZQ_NO_NODE, ZQ_NO_CAUSE));
+    CHECK(told(&tokens[5], 28, 36, ZQ_COMMENT_TOKEN, "", 0, ZQ_MADE, 7, ZQ_NO_CAUSE));
+    CHECK(told(&tokens[6], 36, 44, ZQ_START_TAG, "select", 0, ZQ_MADE, 8, ZQ_NO_CAUSE));
+    CHECK(told(&tokens[7], 44, 49, ZQ_START_TAG, "div", 0, ZQ_DROPPED, ZQ_NO_NODE, ZQ_IN_SELECT));
+    CHECK(told(&tokens[8], 49, 53, ZQ_END_TAG, "p", 0, ZQ_ENDED, ZQ_NO_NODE, ZQ_NO_CAUSE));
+    CHECK(told(&tokens[9], 53, 53, ZQ_END_OF_FILE, "", 0, ZQ_ENDED, ZQ_NO_NODE, ZQ_NO_CAUSE));
+    /* its nodes are those of the page */
+    CHECK(is(zq_name(&page, 5), "p") && is(zq_data(&page, 6), "\xc3\xa9") && is(zq_data(&page, 7), "c") && is(zq_name(&page, 8), "select"));
+    /* in parts, and behind the end */
+    for (i = 0; i < 10; i++) {
+        CHECK(zq_tokens(&ledger, i, part, 3) == (10 - i < 3 ? 10 - i : 3));
+        CHECK(part[0].start == tokens[i].start && part[0].node == tokens[i].node && part[0].name.at == tokens[i].name.at);
+    }
+    CHECK(zq_tokens(&ledger, 10, part, 3) == 0 && zq_tokens(&ledger, UINT64_MAX, part, 3) == 0 && zq_tokens(&ledger, 0, part, 0) == 0);
+    CHECK(zq_tokens(NULL, 0, part, 3) == 0 && zq_tokens(&ledger, 0, NULL, 3) == 0 && zq_tokens((zq_ledger *)&page, 0, part, 3) == 0);
+    /* an edit leaves the ledger as it is, and names stay until the ledger is freed, whatever becomes of the page */
+    CHECK(zq_unwrap(&page, 5) == ZQ_OK && zq_tokens(&ledger, 2, part, 3) == 3 && part[0].node == 5);
+    zq_free(&page);
+    CHECK(is(tokens[2].name, "p") && is(tokens[7].name, "div") && zq_tokens(&ledger, 2, part, 3) == 3 && is(part[0].name, "p"));
+    zq_free(&ledger);
+    CHECK(ledger.held == NULL && zq_tokens(&ledger, 0, part, 3) == 0);
 }
 
 static void test_audit(void)
 {
-    zq_buffer buffer = ZQ_EMPTY;
-    zq_entities entities = ZQ_EMPTY;
     zq_page page = ZQ_EMPTY;
+    zq_ledger ledger = ZQ_EMPTY;
+    zq_entities entities = ZQ_EMPTY;
     zq_options options = ZQ_DEFAULTS;
+    zq_token token;
     const char *json = "{\"&eacute;\": {\"codepoints\": [233], \"characters\": \"\\u00e9\"}}";
-    const char *text = "<!DOCTYPE html> <p>a<body b><!--c--><div></p>";
     uint64_t place = 7;
-    CHECK(zq_audit(NULL, NULL, text, strlen(text), &buffer, &place) == ZQ_OK && place == 0);
-    CHECK(holds(&buffer, "0 15 doctype made 1\n15 16 char U+0020 dropped PrologSpace\n16 19 start p made 5\n19 20 char U+0061 text 6\n"
-                         "20 28 start body merged\n28 36 comment made 7\n36 41 start div made 8\n41 45 end p ended\n45 45 eof ended\n"));
-    /* its nodes are those of the page */
-    CHECK(parse(text, &page, NULL) == ZQ_OK && is(zq_name(&page, 5), "p") && is(zq_data(&page, 6), "a") && is(zq_data(&page, 7), "c") && is(zq_name(&page, 8), "div"));
-    CHECK(zq_audit_fragment(NULL, NULL, "tr", 2, "<td>x", 5, &buffer, &place) == ZQ_OK);
-    CHECK(holds(&buffer, "0 4 start td made 1\n4 5 char U+0078 text 2\n5 5 eof ended\n"));
-    CHECK(zq_audit(NULL, NULL, NULL, 0, &buffer, NULL) == ZQ_OK && holds(&buffer, "0 0 eof ended\n"));
-    CHECK(zq_entities_read(json, strlen(json), &entities) == ZQ_OK && zq_audit_fragment(&entities, NULL, "p", 1, "&eacute;", 8, &buffer, NULL) == ZQ_OK);
-    CHECK(holds(&buffer, "0 8 char U+00E9 text 1\n8 8 eof ended\n"));
-    /* what is not parsed has no ledger */
-    CHECK(zq_audit(NULL, NULL, "<p>x<svg>", 9, &buffer, &place) == ZQ_FOREIGN_SVG && place == 4 && buffer.held == NULL);
-    CHECK(zq_audit_fragment(NULL, NULL, "svg", 3, "x", 1, &buffer, &place) == ZQ_BAD_CONTEXT && zq_audit_fragment(NULL, NULL, "\xff", 1, "x", 1, &buffer, &place) == ZQ_BAD_CONTEXT);
+    CHECK(zq_audit_fragment(NULL, NULL, "tr", 2, "<td>x", 5, &page, &ledger, &place) == ZQ_OK && writes(&page, "<td>x</td>") && count_tokens(&ledger) == 3);
+    CHECK(zq_audit(NULL, NULL, NULL, 0, &page, &ledger, NULL) == ZQ_OK && writes(&page, "<html><head></head><body></body></html>") && count_tokens(&ledger) == 1);
+    CHECK(zq_entities_read(json, strlen(json), &entities) == ZQ_OK);
+    CHECK(zq_audit_fragment(&entities, NULL, "p", 1, "&eacute;", 8, &page, &ledger, NULL) == ZQ_OK && writes(&page, "\xc3\xa9"));
+    CHECK(zq_tokens(&ledger, 0, &token, 1) == 1 && told(&token, 0, 8, ZQ_CHARACTER, "", 0xE9, ZQ_IN_TEXT, 1, ZQ_NO_CAUSE));
+    CHECK(zq_audit(&entities, NULL, "&eacute;", 8, &page, &ledger, NULL) == ZQ_OK && writes(&page, "<html><head></head><body>\xc3\xa9</body></html>"));
+    options.flags = ZQ_IN_FORM;
+    CHECK(zq_audit_fragment(NULL, &options, "div", 3, "<form>x", 7, &page, &ledger, NULL) == ZQ_OK && writes(&page, "x"));
+    options.flags = ZQ_QUIRKS;
+    CHECK(zq_audit_fragment(NULL, &options, "div", 3, "<p><table>", 10, &page, &ledger, NULL) == ZQ_OK && writes(&page, "<p><table></table></p>"));
+    /* what is refused leaves both empty */
+    CHECK(zq_audit(NULL, NULL, "<p>x<svg>", 9, &page, &ledger, &place) == ZQ_FOREIGN_SVG && place == 4 && page.held == NULL && ledger.held == NULL);
+    CHECK(zq_audit_fragment(NULL, NULL, "svg", 3, "x", 1, &page, &ledger, &place) == ZQ_BAD_CONTEXT && place == 0);
+    CHECK(zq_audit_fragment(NULL, NULL, "\xff", 1, "x", 1, &page, &ledger, &place) == ZQ_BAD_CONTEXT);
     options.flags = ZQ_FOREIGN;
-    CHECK(zq_audit(NULL, &options, "<svg>", 5, &buffer, &place) == ZQ_OK && holds(&buffer, "0 5 start svg made 4\n5 5 eof ended\n"));
+    CHECK(zq_audit(NULL, &options, "<svg>", 5, &page, &ledger, &place) == ZQ_OK && zq_tokens(&ledger, 0, &token, 1) == 1);
+    CHECK(told(&token, 0, 5, ZQ_START_TAG, "svg", 0, ZQ_MADE, 4, ZQ_NO_CAUSE) && is(zq_name(&page, 4), "svg svg"));
     options.max_nodes = 3;
-    CHECK(zq_audit(NULL, &options, "<p>", 3, &buffer, &place) == ZQ_NODE_BUDGET && place == 0);
+    CHECK(zq_audit(NULL, &options, "<p>", 3, &page, &ledger, &place) == ZQ_NODE_BUDGET && place == 0 && page.held == NULL && ledger.held == NULL);
+    /* what is not called rightly changes nothing */
+    CHECK(zq_audit(NULL, NULL, "<p>", 3, &page, &ledger, NULL) == ZQ_OK);
     options.flags = 8;
-    CHECK(zq_audit(NULL, &options, "<p>", 3, &buffer, &place) == ZQ_BAD_FLAGS && zq_audit_fragment(NULL, &options, "p", 1, "x", 1, &buffer, &place) == ZQ_BAD_FLAGS);
-    CHECK(zq_audit(NULL, NULL, NULL, 1, &buffer, &place) == ZQ_BAD_POINTER && zq_audit(NULL, NULL, "", 0, NULL, &place) == ZQ_BAD_POINTER);
-    CHECK(zq_audit((zq_entities *)&buffer, NULL, "", 0, &buffer, &place) == ZQ_BAD_HANDLE);
-    CHECK(zq_audit_fragment(NULL, NULL, NULL, 1, "x", 1, &buffer, &place) == ZQ_BAD_POINTER && zq_audit_fragment(NULL, NULL, "p", 1, NULL, 1, &buffer, &place) == ZQ_BAD_POINTER);
+    CHECK(zq_audit(NULL, &options, "", 0, &page, &ledger, &place) == ZQ_BAD_FLAGS && zq_audit_fragment(NULL, &options, "p", 1, "", 0, &page, &ledger, &place) == ZQ_BAD_FLAGS);
+    CHECK(zq_audit(NULL, NULL, NULL, 1, &page, &ledger, &place) == ZQ_BAD_POINTER && zq_audit(NULL, NULL, "", 0, NULL, &ledger, &place) == ZQ_BAD_POINTER);
+    CHECK(zq_audit(NULL, NULL, "", 0, &page, NULL, &place) == ZQ_BAD_POINTER && zq_audit(NULL, NULL, "", SIZE_MAX, &page, &ledger, &place) == ZQ_BAD_POINTER);
+    CHECK(zq_audit((zq_entities *)&page, NULL, "", 0, &page, &ledger, &place) == ZQ_BAD_HANDLE);
+    CHECK(zq_audit((zq_entities *)&ledger, NULL, "", 0, &page, &ledger, &place) == ZQ_BAD_HANDLE);
+    CHECK(zq_audit(NULL, NULL, "", 0, &page, (zq_ledger *)&page, &place) == ZQ_BAD_HANDLE);
+    CHECK(zq_audit_fragment(NULL, NULL, NULL, 1, "", 0, &page, &ledger, &place) == ZQ_BAD_POINTER);
+    CHECK(zq_audit_fragment(NULL, NULL, "p", 1, NULL, 1, &page, &ledger, &place) == ZQ_BAD_POINTER);
+    CHECK(writes(&page, "<html><head></head><body><p></p></body></html>") && count_tokens(&ledger) == 2);
     zq_free(&page);
     zq_free(&entities);
-    zq_free(&buffer);
+    zq_free(&ledger);
+}
+
+/* The cause for which the first token of a ledger that is dropped is. */
+static uint32_t first_cause(const char *text, size_t len, const char *context)
+{
+    zq_page page = ZQ_EMPTY;
+    zq_ledger ledger = ZQ_EMPTY;
+    zq_token tokens[16];
+    size_t i, count;
+    uint32_t cause = ZQ_NO_CAUSE;
+    if (context != NULL)
+        CHECK(zq_audit_fragment(NULL, NULL, context, strlen(context), text, len, &page, &ledger, NULL) == ZQ_OK);
+    else
+        CHECK(zq_audit(NULL, NULL, text, len, &page, &ledger, NULL) == ZQ_OK);
+    count = zq_tokens(&ledger, 0, tokens, 16);
+    for (i = 0; i < count && cause == ZQ_NO_CAUSE; i++)
+        cause = tokens[i].cause;
+    zq_free(&page);
+    zq_free(&ledger);
+    return cause;
+}
+
+static void test_causes(void)
+{
+    CHECK(first_cause(" ", 1, NULL) == ZQ_PROLOG_SPACE && first_cause("x\0", 2, NULL) == ZQ_NULL && first_cause("<pre>\n", 6, NULL) == ZQ_LEADING_NEWLINE);
+    CHECK(first_cause("<select><p>", 11, NULL) == ZQ_IN_SELECT && first_cause("<frameset>x", 11, NULL) == ZQ_IN_FRAMESET);
+    CHECK(first_cause("<tr>", 4, NULL) == ZQ_MISPLACED && first_cause("x", 1, "colgroup") == ZQ_IN_COLUMN_GROUP);
 }
 
 /* A fragment in a div, below whose root the text is. */
@@ -639,7 +720,9 @@ int main(void)
     test_errors();
     test_positions();
     test_text_below();
+    test_ledger();
     test_audit();
+    test_causes();
     test_attributes();
     test_removing();
     test_linking();

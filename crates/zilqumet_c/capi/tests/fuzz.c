@@ -1,6 +1,6 @@
 /* A test of random pages: what tools/fuzz hands in, or by main the rows of a file: fuzz ROWS [ENTITIES]. It ends the program where a page differs from
  * what it is in pieces, within its own counts, or with foreign content parsed where there is none; where the page's links do not meet; where a text is
- * not UTF-8, or two calls tell two of it; where a bound that is proved does not hold; where a token has no line in the ledger; and where random edits
+ * not UTF-8, or two calls tell two of it; where a bound that is proved does not hold; where the ledger does not go with the page; and where random edits
  * leave no tree. What the page is written as is parsed again.
  *
  * The first four bytes of an input are: flags (below), the number of the fragment's context (0: a document), and the lengths of the pieces. The rest is the
@@ -319,19 +319,43 @@ static void check_written(const task *it, seen *whole, int angles)
     zq_free(&normal);
 }
 
-/* The ledger has a line for each token, or is refused as the page is. */
-static void check_audit(const task *it, const seen *whole)
+/* What a token says goes together, and with the page. */
+static void check_token(const seen *it, const zq_token *token)
 {
-    zq_buffer lines = ZQ_EMPTY;
-    zq_span text = { NULL, 0 };
-    uint64_t place = 0, count = 0;
-    uint32_t status = *it->context ? zq_audit_fragment(it->entities, &it->options, it->context, strlen(it->context), it->bytes, it->len, &lines, &place)
-                                   : zq_audit(it->entities, &it->options, it->bytes, it->len, &lines, &place);
-    MUST(status == whole->status && place == whole->place && zq_bytes(&lines, &text) == (status == ZQ_OK ? ZQ_OK : ZQ_BAD_HANDLE));
-    for (size_t at = 0; at < text.len; at++)
-        count += text.at[at] == '\n';
-    MUST(status != ZQ_OK || (is_text(text) && count == whole->counts.tokens));
-    zq_free(&lines);
+    int is_tag = token->kind == ZQ_START_TAG || token->kind == ZQ_END_TAG, has_node = token->fate == ZQ_MADE || token->fate == ZQ_IN_TEXT;
+    MUST(token->kind >= ZQ_START_TAG && token->kind <= ZQ_END_OF_FILE && token->fate >= ZQ_MADE && token->fate <= ZQ_ENDED);
+    MUST(is_text(token->name) && (token->name.len > 0) == is_tag && (token->code_point == 0 || token->kind == ZQ_CHARACTER));
+    MUST((token->fate == ZQ_DROPPED) == (token->cause != ZQ_NO_CAUSE) && token->cause <= ZQ_IN_COLUMN_GROUP);
+    MUST((token->fate == ZQ_ENDED) == (token->kind == ZQ_END_TAG || token->kind == ZQ_END_OF_FILE));
+    MUST(has_node ? token->node < it->counts.nodes : token->node == ZQ_NO_NODE);
+    if (has_node) {
+        uint32_t kind = it->rows[token->node].kind;
+        MUST((token->fate == ZQ_IN_TEXT) == (kind == ZQ_TEXT) && (token->fate == ZQ_IN_TEXT) == (token->kind == ZQ_CHARACTER));
+        MUST((token->kind == ZQ_START_TAG) == (kind == ZQ_ELEMENT) && (token->kind == ZQ_COMMENT_TOKEN) == (kind == ZQ_COMMENT));
+    }
+}
+
+/* The page is the same with its ledger, which has each token, in order, the end of the input last, whatever parts it is read in; and is refused as it is. */
+static void check_audit(const task *it, seen *whole, size_t part)
+{
+    seen made = { .page = ZQ_EMPTY, .held = ZQ_EMPTY };
+    zq_ledger ledger = ZQ_EMPTY;
+    zq_token tokens[256];
+    uint64_t count = 0, end = 0, last = 0;
+    made.status = *it->context ? zq_audit_fragment(it->entities, &it->options, it->context, strlen(it->context), it->bytes, it->len, &made.page, &ledger, &made.place)
+                               : zq_audit(it->entities, &it->options, it->bytes, it->len, &made.page, &ledger, &made.place);
+    read_page(&made);
+    for (size_t got = 1; got > 0 && made.status == ZQ_OK; count += got) {
+        got = zq_tokens(&ledger, count, tokens, part);
+        for (size_t at = 0; at < got; at++) {
+            check_token(whole, &tokens[at]);
+            MUST(tokens[at].start >= end && tokens[at].end >= tokens[at].start && last != ZQ_END_OF_FILE);
+            end = tokens[at].end, last = tokens[at].kind;
+        }
+    }
+    MUST(made.status == ZQ_OK ? count == whole->counts.tokens && last == ZQ_END_OF_FILE && end <= whole->counts.code_points : zq_tokens(&ledger, 0, tokens, 1) == 0);
+    check_same(whole, made);
+    zq_free(&ledger);
 }
 
 /* A random edit of a page, by a number, and what it answers. */
@@ -382,7 +406,7 @@ int LLVMFuzzerTestOneInput(const uint8_t *data, size_t size)
     it.options.flags = (flags & FOREIGN ? ZQ_FOREIGN : 0) | (flags & IN_FORM ? ZQ_IN_FORM : 0) | (flags & QUIRKS ? ZQ_QUIRKS : 0);
     seen whole = parsed(&it, &it.options);
     check_same(&whole, parsed_in_pieces(&it, &it.options));
-    check_audit(&it, &whole);
+    check_audit(&it, &whole, 1 + data[2]);
     if (!(flags & FOREIGN))
         check_foreign(&it, &whole);
     if (whole.status == ZQ_OK && whole.counts.nodes <= MOST_NODES) {

@@ -66,6 +66,8 @@ static uint32_t run(void) {
     zq_entities entities = ZQ_EMPTY;
     zq_buffer written = ZQ_EMPTY, normal = ZQ_EMPTY, name = ZQ_EMPTY;
     zq_parser parser = ZQ_EMPTY;
+    zq_ledger ledger = ZQ_EMPTY;
+    zq_token token;
     zq_options options = ZQ_DEFAULTS;
     zq_span a = { NULL, 0 }, b = { NULL, 0 };
     zq_texts texts;
@@ -100,9 +102,11 @@ static uint32_t run(void) {
     if (!r)
         r = zq_all_texts(&page, &name, &texts);
     if (!r)
-        r = zq_audit(&entities, &options, page_bytes, page_len, &written, &at);
+        r = zq_audit_fragment(&entities, &options, "div", 3, page_bytes, page_len, &fragment, &ledger, &at);
     if (!r)
-        r = zq_audit_fragment(&entities, &options, "div", 3, page_bytes, page_len, &written, &at);
+        r = zq_audit(&entities, &options, page_bytes, page_len, &page, &ledger, &at);
+    if (!r)
+        r = zq_tokens(&ledger, 0, &token, 1) == 1 ? ZQ_OK : 97;
     if (!r)
         r = edit(&page);
     if (!r)
@@ -126,6 +130,7 @@ static uint32_t run(void) {
     zq_free(&normal);
     zq_free(&name);
     zq_free(&parser);
+    zq_free(&ledger);
     return r;
 }
 

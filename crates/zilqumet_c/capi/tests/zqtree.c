@@ -1,4 +1,4 @@
-/* A tool of the tests: zqtree [-e ENTITIES] [-f CONTEXT] [-p PIECE] tree|normalise|counts|errors FILE. With -p pieces of that length are parsed as they are
+/* A tool of the tests: zqtree [-e ENTITIES] [-f CONTEXT] [-p PIECE] tree|normalise|counts|errors|audit FILE. With -p pieces of that length are parsed as they are
  * read, and of the file no more is kept. */
 #include "zilqumet.h"
 
@@ -168,6 +168,28 @@ static int print_tree(zq_page *page) {
     return 0;
 }
 
+/* The tokens, a line each, as html_cmd's audit has them. */
+static void print_tokens(zq_ledger *ledger) {
+    static const char *const kinds[] = { "", "start ", "end ", "char U+", "comment", "doctype", "eof" };
+    static const char *const fates[] = { "", " made ", " text ", " merged", " dropped ", " ended" };
+    static const char *const causes[] = { "", "PrologSpace", "Null", "LeadingNewline", "InSelect", "InFrameset", "Misplaced", "InColumnGroup" };
+    zq_token tokens[64];
+    uint64_t from = 0;
+    for (size_t got = 1; got > 0; from += got) {
+        got = zq_tokens(ledger, from, tokens, 64);
+        for (size_t i = 0; i < got; i++) {
+            const zq_token *t = &tokens[i];
+            printf("%llu %llu %s", (unsigned long long)t->start, (unsigned long long)t->end, kinds[t->kind]), put(t->name);
+            if (t->kind == ZQ_CHARACTER)
+                printf("%04lX", (unsigned long)t->code_point);
+            fputs(fates[t->fate], stdout), fputs(causes[t->cause], stdout);
+            if (t->node != ZQ_NO_NODE)
+                printf("%llu", (unsigned long long)t->node);
+            putchar('\n');
+        }
+    }
+}
+
 static int to_stdout(void *context, const uint8_t *bytes, size_t len) {
     (void)context;
     return fwrite(bytes, 1, len, stdout) == len ? 0 : -1;
@@ -184,6 +206,7 @@ int main(int argc, char **argv) {
     zq_page page = ZQ_EMPTY;
     zq_entities entities = ZQ_EMPTY;
     zq_buffer buffer = ZQ_EMPTY;
+    zq_ledger ledger = ZQ_EMPTY;
     zq_options options = ZQ_DEFAULTS;
     const char *context = NULL;
     size_t piece = 0, len = 0;
@@ -214,6 +237,9 @@ int main(int argc, char **argv) {
         return 3;
     if (piece != 0)
         status = parse_pieces(argv[i + 1], piece, context, &entities, &options, &page, &at);
+    else if (strcmp(argv[i], "audit") == 0)
+        status = context != NULL ? zq_audit_fragment(&entities, &options, context, strlen(context), bytes, len, &page, &ledger, &at)
+                                 : zq_audit(&entities, &options, bytes, len, &page, &ledger, &at);
     else if (context != NULL)
         status = zq_parse_fragment(&entities, &options, context, strlen(context), bytes, len, &page, &at);
     else
@@ -224,6 +250,8 @@ int main(int argc, char **argv) {
         answer = refused(status, at);
     } else if (strcmp(argv[i], "tree") == 0) {
         answer = print_tree(&page) == 0 ? 0 : 3;
+    } else if (strcmp(argv[i], "audit") == 0) {
+        print_tokens(&ledger);
     } else if (strcmp(argv[i], "normalise") == 0) {
         status = zq_serialise_to(&page, 0, to_stdout, NULL);
         answer = status == ZQ_OK ? 0 : refused(status, 0);
@@ -243,6 +271,7 @@ int main(int argc, char **argv) {
     }
     free(bytes);
     zq_free(&buffer);
+    zq_free(&ledger);
     zq_free(&page);
     zq_free(&entities);
     return fflush(stdout) == 0 ? answer : 3;

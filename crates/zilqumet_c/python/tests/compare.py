@@ -1,4 +1,4 @@
-"""compare.py PROGRAM ZQTREE TREE_LINES SUITES [COUNT]: trees by C, Python and Rust against html_cmd's, by C and Python in pieces too.
+"""compare.py PROGRAM ZQTREE TREE_LINES SUITES [COUNT]: trees and ledgers by C, Python and Rust against html_cmd's, trees by C and Python in pieces too.
 
 PROGRAM is html_cmd, ZQTREE the tool in C, TREE_LINES that in Rust; SUITES has entities.json and, in any folders, files of cases (.dat). The pages: the
 inputs of all cases of tree construction, documents and fragments, and COUNT (1,000) that are cut out of them at random. Refusals are compared by their
@@ -52,12 +52,21 @@ def in_pieces(data, context, size):
         return parser.finish()
 
 
+def token_lines(ledger):
+    """Yields the lines of a ledger."""
+    kinds = {"start tag": "start", "end tag": "end", "character": "char", "end of file": "eof"}
+    for token in ledger:
+        name = f"U+{ord(token.name):04X}" if token.kind == "character" else token.name
+        what = token.cause or (token.node and str(token.node.number))
+        yield " ".join(filter(None, [str(token.start), str(token.end), kinds.get(token.kind, token.kind), name, token.fate, what]))
+
+
 def by_python(make):
     try:
-        page = make()
+        told = [*make()]
     except zilqumet.Refused as refused:
         return 1, "", str(refused).replace("zilqumet", "refused") + "\n"
-    return 0, "".join(line + "\n" for line in lines(page.root)), ""
+    return 0, "".join(line + "\n" for line in told), ""
 
 
 def by_program(words, data):
@@ -79,17 +88,21 @@ def main():
     different = refused = 0
     for data, context in pages:
         name = [] if context is None else [context]
-        want = by_program([program, "tree", "--entities", entities, *(["--fragment", *name] if name else [])], data)
-        size, fragment = chance.randrange(1, 9), ["-f", *name] if name else []
+        of_program = ["--entities", entities, *(["--fragment", *name] if name else [])]
+        size, of_c = chance.randrange(1, 9), ["-e", entities, *(["-f", *name] if name else [])]
+        tree, ledger = (by_program([program, command, *of_program], data) for command in ("tree", "audit"))
         told = {
-            "Python": by_python(lambda: zilqumet.parse(data) if context is None else zilqumet.parse_fragment(data, context)),
-            "Python in pieces": by_python(lambda: in_pieces(data, context, size)),
-            "C": by_program([zqtree, "-e", entities, *fragment, "tree", "-"], data),
-            "C in pieces": by_program([zqtree, "-e", entities, *fragment, "-p", str(size), "tree", "-"], data),
-            "Rust": by_program([tree_lines, entities, *name], data),
+            "Python": (tree, by_python(lambda: lines((zilqumet.parse(data) if context is None else zilqumet.parse_fragment(data, context)).root))),
+            "Python in pieces": (tree, by_python(lambda: lines(in_pieces(data, context, size).root))),
+            "C": (tree, by_program([zqtree, *of_c, "tree", "-"], data)),
+            "C in pieces": (tree, by_program([zqtree, *of_c, "-p", str(size), "tree", "-"], data)),
+            "Rust": (tree, by_program([tree_lines, "tree", entities, *name], data)),
+            "Python's ledger": (ledger, by_python(lambda: token_lines((zilqumet.audit(data) if context is None else zilqumet.audit_fragment(data, context))[1]))),
+            "C's ledger": (ledger, by_program([zqtree, *of_c, "audit", "-"], data)),
+            "Rust's ledger": (ledger, by_program([tree_lines, "audit", entities, *name], data)),
         }
-        refused += want[0] != 0
-        for who, it in told.items():
+        refused += tree[0] != 0
+        for who, (want, it) in told.items():
             if it != want:
                 different += 1
                 print(f"compare: {who} differs on {data!r} in {context}: {it[2]!r} {want[2]!r}")

@@ -40,7 +40,7 @@ class Trees(unittest.TestCase):
 
     def test_text_below(self):
         page = zilqumet.parse(self.PAGE)
-        self.assertEqual(page.root.text_below, "OneTwö")
+        self.assertEqual(page.root.text_below, "OneTwöT")
         self.assertEqual(next(node for node in page if node.kind == "text").text_below, "One")
 
     def test_equality(self):
@@ -167,25 +167,55 @@ class Texts(unittest.TestCase):
 class Ledger(unittest.TestCase):
     def test_audit(self):
         data = "<!DOCTYPE html> <p>é<body b><!--c--><select><div></p>"
-        told = zilqumet.audit(data)
-        self.assertEqual(told, [
-            (0, 15, "doctype", "", "made", 1, None), (15, 16, "char", " ", "dropped", None, "PrologSpace"), (16, 19, "start", "p", "made", 5, None),
-            (19, 20, "char", "é", "text", 6, None), (20, 28, "start", "body", "merged", None, None), (28, 36, "comment", "", "made", 7, None),
-            (36, 44, "start", "select", "made", 8, None), (44, 49, "start", "div", "dropped", None, "InSelect"), (49, 53, "end", "p", "ended", None, None),
-            (53, 53, "eof", "", "ended", None, None)])
-        names = {node.number: node.name or node.text for node in zilqumet.parse(data)}
-        self.assertEqual([names[token.node] for token in told if token.node is not None], ["", "p", "é", "c", "select"])
-        self.assertEqual(zilqumet.audit(b"x", max_nodes=5)[-1].fate, "ended")
-        with self.assertRaises(zilqumet.ForeignContent):
-            zilqumet.audit(b"<svg>")
-        self.assertEqual(zilqumet.audit(b"<svg>", foreign=True)[0], (0, 5, "start", "svg", "made", 4, None))
+        page, ledger = zilqumet.audit(data)
+        self.assertEqual(page.serialise(), zilqumet.parse(data).serialise())
+        self.assertEqual([(token.start, token.end, token.kind, token.name, token.fate, token.node and token.node.number, token.cause) for token in ledger], [
+            (0, 15, "doctype", "", "made", 1, None), (15, 16, "character", " ", "dropped", None, "PrologSpace"),
+            (16, 19, "start tag", "p", "made", 5, None), (19, 20, "character", "é", "text", 6, None), (20, 28, "start tag", "body", "merged", None, None),
+            (28, 36, "comment", "", "made", 7, None), (36, 44, "start tag", "select", "made", 8, None),
+            (44, 49, "start tag", "div", "dropped", None, "InSelect"), (49, 53, "end tag", "p", "ended", None, None),
+            (53, 53, "end of file", "", "ended", None, None)])
+        self.assertEqual([token.node.name or token.node.text for token in ledger if token.node], ["", "p", "é", "c", "select"])
+        self.assertEqual((len(ledger), page.counts.tokens), (10, 10))
+        self.assertEqual((ledger[2], ledger[-1].kind, ledger[7:9]), ([*ledger][2], "end of file", [*ledger][7:9]))
+        with self.assertRaises(IndexError):
+            ledger[10]
 
-    def test_audit_of_a_fragment(self):
-        self.assertEqual([token[2:] for token in zilqumet.audit_fragment(b"<td>&eacute;", "tr")], [
-            ("start", "td", "made", 1, None), ("char", "é", "text", 2, None), ("eof", "", "ended", None, None)])
-        self.assertEqual(zilqumet.audit_fragment(b"<form>", in_form=True)[0].fate, "dropped")
+    def test_a_ledger_keeps_its_page(self):
+        ledger = zilqumet.audit("<p>" * 99)[1]
+        gc.collect()
+        self.assertEqual({token.node.name for token in ledger if token.fate == "made"}, {"p"})
+
+    def test_edits_leave_the_ledger(self):
+        page, ledger = zilqumet.audit("<b>x</b>")
+        ledger[0].node.unwrap()
+        self.assertEqual((page.serialise(), ledger[0].name, ledger[0].node.name), ("<html><head></head><body>x</body></html>", "b", "b"))
+
+    def test_causes(self):
+        def cause(data, context=None):
+            ledger = zilqumet.audit(data)[1] if context is None else zilqumet.audit_fragment(data, context)[1]
+            return next(token.cause for token in ledger if token.fate == "dropped")
+
+        self.assertEqual(
+            [cause(" "), cause("x\0"), cause("<pre>\n"), cause("<select><p>"), cause("<frameset>x"), cause("<tr>"), cause("x", "colgroup")],
+            ["PrologSpace", "Null", "LeadingNewline", "InSelect", "InFrameset", "Misplaced", "InColumnGroup"])
+
+    def test_refusals(self):
+        with self.assertRaises(zilqumet.ForeignContent) as told:
+            zilqumet.audit(b"x<svg>")
+        self.assertEqual(told.exception.place, 1)
+        with self.assertRaises(zilqumet.NodeBudget):
+            zilqumet.audit(b"x", max_nodes=4)
         with self.assertRaises(zilqumet.BadContext):
             zilqumet.audit_fragment(b"x", "Q")
+        page, ledger = zilqumet.audit(b"<svg>", foreign=True)
+        self.assertEqual((ledger[0].fate, ledger[0].node.name), ("made", "svg svg"))
+
+    def test_audit_of_a_fragment(self):
+        page, ledger = zilqumet.audit_fragment(b"<td>&eacute;", "tr")
+        self.assertEqual([token[2:5] for token in ledger], [("start tag", "td", "made"), ("character", "é", "text"), ("end of file", "", "ended")])
+        self.assertEqual((page.serialise(), ledger[1].node), ("<td>é</td>", [*page][1]))
+        self.assertEqual(zilqumet.audit_fragment(b"<form>", in_form=True)[1][0].fate, "dropped")
 
 
 class Edits(unittest.TestCase):

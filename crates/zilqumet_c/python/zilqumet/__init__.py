@@ -17,6 +17,10 @@
         if node.name == "script":
             node.remove()
 
+    page, ledger = zilqumet.audit(data)         # and what became of each token
+    for token in ledger:
+        print(token.start, token.end, token.kind, token.name, token.fate, token.node, token.cause)
+
 Where there is no page, an exception says why: `Refused` is above all of them, and has the place. The work is done by libzilqumet, whose calls are proved;
 this module holds its handles, and copies names and texts into Python's strings.
 """
@@ -27,23 +31,32 @@ import ctypes
 import html.entities
 import json
 import os
+import struct
 import threading
+from functools import partial
 from itertools import accumulate
+from operator import itemgetter
 from pathlib import Path
-from typing import Any, Iterable, Iterator, NamedTuple, Optional, Union
+from typing import Any, Callable, Iterable, Iterator, NamedTuple, Optional, Sequence, Union, overload
 
 __all__ = [
-    "BadContext", "BadEntities", "Counts", "EditError", "Entities", "ForeignContent", "HeldBudget", "InputTooLong", "Node", "NodeBudget", "Page",
-    "ParseError", "Parser", "Position", "Refused", "StepBudget", "Stopped", "Token", "audit", "audit_fragment", "library_version", "normalise", "parse",
+    "BadContext", "BadEntities", "Counts", "EditError", "Entities", "ForeignContent", "HeldBudget", "InputTooLong", "Ledger", "Node", "NodeBudget",
+    "Page", "ParseError", "Parser", "Position", "Refused", "StepBudget", "Stopped", "Token", "audit", "audit_fragment", "library_version", "normalise", "parse",
     "parse_counts", "parse_fragment", "positions",
 ]
 __version__ = "0.1.0"
 
 Data = Union[bytes, bytearray, memoryview, str]
 
-_NONE = 2**64 - 1
+_NO_LIMIT = 2**64 - 1
+# no node, as a signed number
+_NONE = -1
 _KINDS = ("", "document", "contents", "element", "text", "comment", "doctype")
-_TEXT = 4
+_TOKEN_KINDS = ("", "start tag", "end tag", "character", "comment", "doctype", "end of file")
+_FATES = ("", "made", "text", "merged", "dropped", "ended")
+_CAUSES_OF_DROPS = (None, "PrologSpace", "Null", "LeadingNewline", "InSelect", "InFrameset", "Misplaced", "InColumnGroup")
+_CHARACTER = 3
+_ELEMENT, _TEXT = 3, 4
 _NAME, _DATA, _ATTR_NAME, _ATTR_VALUE = 0, 1, 2, 3
 _PARENT, _FIRST_CHILD, _NEXT, _CONTENTS = 0, 1, 3, 5
 _IN_FORM, _QUIRKS, _FOREIGN = 1, 2, 4
@@ -81,6 +94,9 @@ class _Texts(ctypes.Structure):
     _fields_ = [("at", ctypes.c_void_p), ("ends", ctypes.c_void_p), ("count", ctypes.c_size_t)]
 
 
+# a token: where it begins and ends, its node, where its name lies and how long it is, its kind, code point, fate and cause
+_TOKEN = struct.Struct("=2Qq2Q4I")
+
 # a row as numbers of 64 bits: how many, and where two of them stand; the first four are links
 _CELLS = ctypes.sizeof(_Row) // 8
 _ATTRS, _KIND = 4, 9
@@ -99,7 +115,7 @@ _quick = ctypes.PyDLL(_library())
 
 _H = ctypes.POINTER(_Handle)
 _O = ctypes.POINTER(_Options)
-_U32, _U64, _SIZE, _BYTES, _INT = ctypes.c_uint32, ctypes.c_uint64, ctypes.c_size_t, ctypes.c_char_p, ctypes.c_int
+_U32, _U64, _SIZE, _BYTES, _INT, _NUMBER = ctypes.c_uint32, ctypes.c_uint64, ctypes.c_size_t, ctypes.c_char_p, ctypes.c_int, ctypes.c_int64
 _PLACE = ctypes.POINTER(_U64)
 
 
@@ -114,8 +130,9 @@ _entities_read = _call(_slow, "zq_entities_read", _U32, _BYTES, _SIZE, _H)
 _parse = _call(_slow, "zq_parse", _U32, _H, _O, _BYTES, _SIZE, _H, _PLACE)
 _parse_fragment = _call(_slow, "zq_parse_fragment", _U32, _H, _O, _BYTES, _SIZE, _BYTES, _SIZE, _H, _PLACE)
 _normalise = _call(_slow, "zq_normalise", _U32, _H, _O, _BYTES, _SIZE, _INT, _H, _PLACE)
-_audit = _call(_slow, "zq_audit", _U32, _H, _O, _BYTES, _SIZE, _H, _PLACE)
-_audit_fragment = _call(_slow, "zq_audit_fragment", _U32, _H, _O, _BYTES, _SIZE, _BYTES, _SIZE, _H, _PLACE)
+_audit = _call(_slow, "zq_audit", _U32, _H, _O, _BYTES, _SIZE, _H, _H, _PLACE)
+_audit_fragment = _call(_slow, "zq_audit_fragment", _U32, _H, _O, _BYTES, _SIZE, _BYTES, _SIZE, _H, _H, _PLACE)
+_tokens = _call(_quick, "zq_tokens", _SIZE, _H, _U64, ctypes.c_void_p, _SIZE)
 _parser_new = _call(_quick, "zq_parser_new", _U32, _H, _O, _H)
 _parser_new_fragment = _call(_quick, "zq_parser_new_fragment", _U32, _H, _O, _BYTES, _SIZE, _H)
 _parser_feed = _call(_slow, "zq_parser_feed", _U32, _H, _BYTES, _SIZE, _PLACE)
@@ -125,7 +142,7 @@ _root = _call(_quick, "zq_root", _U64, _H)
 _rows = _call(_quick, "zq_rows", _SIZE, _H, _U64, ctypes.POINTER(_Row), _SIZE)
 _all_texts = _call(_quick, "zq_all_texts", _U32, _H, _H, ctypes.POINTER(_Texts))
 _kind_of = _call(_quick, "zq_kind_of", _U32, _H, _U64)
-_link = _call(_quick, "zq_link", _U64, _H, _U32, _U64)
+_link = _call(_quick, "zq_link", _NUMBER, _H, _U32, _U64)
 _attr_count = _call(_quick, "zq_attr_count", _U64, _H, _U64)
 _set_attr = _call(_quick, "zq_set_attr", _U32, _H, _U64, _BYTES, _SIZE, _BYTES, _SIZE)
 _remove_attr = _call(_quick, "zq_remove_attr", _U32, _H, _U64, _BYTES, _SIZE)
@@ -145,7 +162,8 @@ _strerror = _call(_quick, "zq_strerror", _BYTES, _U32)
 
 def library_version() -> str:
     """The version of libzilqumet."""
-    return _call(_quick, "zq_version", _BYTES)().decode()
+    version: bytes = _call(_quick, "zq_version", _BYTES)()
+    return version.decode()
 
 
 # WHY THERE IS NO PAGE
@@ -317,17 +335,17 @@ class ParseError(NamedTuple):
 
 
 class Token(NamedTuple):
-    """A token of an input, and what became of it. `start` and `end` are places, as those of errors; `kind` is start, end, char, comment, doctype or eof;
-    `name` is the name of a tag, or a character, else empty. `fate` is made (the node of the number `node`), text (it is in the text of that number), merged
-    (its attributes went to the html or the body that was there), dropped (for `cause`: PrologSpace, Null, LeadingNewline, InSelect, InFrameset, Misplaced
-    or InColumnGroup) or ended (an end tag, or the end of the input)."""
+    """A token of an input, and what became of it. `start` and `end` are places, as those of errors. `kind` is start tag, end tag, character, comment,
+    doctype or end of file; `name` is the name of a tag, or the character, else empty. `fate` is made (`node` was made of it), text (it stands in the text
+    `node`), merged (its attributes went to the html or the body that was there), dropped (it has no effect, for `cause`: PrologSpace, Null,
+    LeadingNewline, InSelect, InFrameset, Misplaced or InColumnGroup) or ended (an end tag, or the end of the input)."""
 
     start: int
     end: int
     kind: str
     name: str
     fate: str
-    node: Optional[int] = None
+    node: Optional[Node] = None
     cause: Optional[str] = None
 
 
@@ -349,23 +367,24 @@ class Node:
     @property
     def name(self) -> str:
         """The name of an element, else an empty text."""
-        page = self.page
-        return page._told(_NAME, self.number) if page._is_edited else page._text(page._firsts[self.number])
+        names = self.page._names
+        return self.page._told(_NAME, self.number) if names is None else names[self.number]
 
     @property
     def text(self) -> str:
         """The text of a text or of a comment, else an empty one. `text_below` is the text in an element."""
-        page = self.page
-        return page._told(_DATA, self.number) if page._is_edited else page._text(page._firsts[self.number] + 1)
+        texts = self.page._texts
+        return self.page._told(_DATA, self.number) if texts is None else texts[self.number]
 
     @property
     def attrs(self) -> dict[str, str]:
         """The attributes of an element, in the order of its tag. (A copy: `set_attr` and `remove_attr` change them.)"""
         page, number = self.page, self.number
-        if page._is_edited:
+        if page._names is None:
             return {page._told(_ATTR_NAME, number, at): page._told(_ATTR_VALUE, number, at) for at in range(_attr_count(page._handle, number))}
-        text, first, behind = page._text, page._firsts[number] + 2, page._firsts[number + 1]
-        return {text(at): text(at + 1) for at in range(first, behind, 2)}
+        ends = page._ends[page._firsts[number] + 2 : page._firsts[number + 1] + 1]
+        told = [page._bytes[start:end].decode() for start, end in zip(ends, ends[1:])]
+        return dict(zip(told[::2], told[1::2]))
 
     @property
     def doctype(self) -> tuple[Optional[str], Optional[str], Optional[str]]:
@@ -382,51 +401,45 @@ class Node:
         """What a template holds, which are no children of it."""
         return self._to(self.page._contents[self.number])
 
-    def _child_numbers(self) -> Iterator[int]:
-        nexts, at = self.page._nexts, self.page._first_children[self.number]
-        while at != _NONE:
-            yield at
-            at = nexts[at]
-
     @property
     def children(self) -> Iterator[Node]:
         """The children, as they are when the iteration begins."""
         page = self.page
-        numbers = self._child_numbers()
-        for number in [*numbers] if page._is_edited else numbers:
-            yield Node(page, number)
+        nexts, at, numbers = page._nexts, page._first_children[self.number], []
+        while at != _NONE:
+            numbers.append(at)
+            at = nexts[at]
+        return map(partial(Node, page), numbers)
 
-    def _numbers(self, with_contents: bool) -> Iterator[int]:
-        """The numbers of the nodes below this one, in tree order."""
-        page = self.page
-        firsts, nexts, contents = page._first_children, page._nexts, page._contents
-        inside = contents[self.number] if with_contents else _NONE
-        stack = [firsts[self.number if inside == _NONE else inside]]
-        while stack:
-            number = stack.pop()
+    def _numbers(self) -> list[int]:
+        """The numbers of the nodes below this one, in tree order; what a template holds in place of its children."""
+        insides, nexts = self.page._insides, self.page._nexts
+        numbers: list[int] = []
+        behind: list[int] = []
+        number = insides[self.number]
+        while True:
             while number != _NONE:
-                yield number
-                inside = contents[number] if with_contents else _NONE
-                first = firsts[number if inside == _NONE else inside]
-                if first == _NONE:
+                numbers.append(number)
+                inside = insides[number]
+                if inside == _NONE:
                     number = nexts[number]
                 else:
-                    stack.append(nexts[number])
-                    number = first
+                    behind.append(nexts[number])
+                    number = inside
+            if not behind:
+                return numbers
+            number = behind.pop()
 
     def __iter__(self) -> Iterator[Node]:
         """Every node below this one, in tree order; what a template holds in place of its children. They are those that are there when the iteration
         begins, whatever is edited meanwhile."""
-        page = self.page
-        numbers = self._numbers(True)
-        for number in [*numbers] if page._is_edited else numbers:
-            yield Node(page, number)
+        return map(partial(Node, self.page), self._numbers())
 
     @property
     def text_below(self) -> str:
-        """All text below this node, or of it, comments and what templates hold left out."""
+        """All texts below this node, in tree order, those in templates with them, comments not; of a text its own."""
         page = self.page
-        texts = (Node(page, number).text for number in self._numbers(False) if page._kinds[number] == _TEXT)
+        texts = (Node(page, number).text for number in self._numbers() if page._kinds[number] == _TEXT)
         return self.text if self.kind == "text" else "".join(texts)
 
     def set_attr(self, name: str, value: str) -> None:
@@ -476,7 +489,7 @@ class _Column:
 
     __slots__ = ("tell",)
 
-    def __init__(self, tell: Any) -> None:
+    def __init__(self, tell: Callable[[int], int]) -> None:
         self.tell = tell
 
     def __getitem__(self, number: int) -> int:
@@ -484,38 +497,61 @@ class _Column:
 
 
 class Page(_Owner):
-    """A parsed page, which its nodes keep. `for node in page` goes over all of them, in tree order. It reads all links and texts in two calls; once it is
-    edited, each is asked for anew."""
+    """A parsed page, which its nodes keep. `for node in page` goes over all of them, in tree order. Links and texts are read all at once, in two calls, when the
+    first of them is asked for; once the page is edited, each is asked for anew."""
 
     _data: Optional[bytes] = None
-    _is_edited = False
-    _parents: Any
-    _first_children: Any
-    _nexts: Any
-    _contents: Any
-    _kinds: Any
+    # of each node those that it is linked to, the first one below it, or in it, its kind, and the number of its first text
+    _parents: Union[list[int], _Column]
+    _first_children: Union[list[int], _Column]
+    _nexts: Union[list[int], _Column]
+    _contents: Union[list[int], _Column]
+    _insides: Union[list[int], _Column]
+    _kinds: Union[bytearray, _Column]
+    _firsts: Any
+    # the names and texts of nodes, or None; all texts with the attributes, and where each begins
+    _names: Optional[list[str]]
+    _texts: Optional[list[str]]
+    _bytes: Any
+    _ends: Any
 
-    def _read(self) -> Page:
-        """Reads all links and texts, in two calls."""
+    def __getattr__(self, name: str) -> Any:
+        """Reads links and texts when they are first asked for."""
+        if name in ("_names", "_texts"):
+            self._read_texts()
+        elif name in ("_parents", "_first_children", "_nexts", "_contents", "_insides", "_kinds", "_firsts"):
+            self._read_links()
+        else:
+            raise AttributeError(f"{type(self).__name__!r} object has no attribute {name!r}")
+        return self.__dict__[name]
+
+    def _read_links(self) -> None:
         count = self.counts.nodes
         rows = bytearray(count * ctypes.sizeof(_Row))
         _rows(self._handle, 0, ctypes.cast((_Row * count).from_buffer(rows), ctypes.POINTER(_Row)), count)
-        cells = memoryview(rows).cast("Q")
-        self._parents, self._first_children, self._nexts, self._contents = (cells[column::_CELLS].tolist() for column in range(4))
+        cells = memoryview(rows).cast("q")
+        self._parents, firsts, self._nexts, contents = (cells[column::_CELLS].tolist() for column in range(4))
+        self._first_children, self._contents = firsts, contents
         self._kinds = rows[8 * _KIND :: 8 * _CELLS]
-        # of each node the number of its first text, and behind them that of all
+        has_templates = contents.count(_NONE) != count
+        self._insides = [first if inside == _NONE else firsts[inside] for first, inside in zip(firsts, contents)] if has_templates else firsts
+        # (and behind them the number of all)
         self._firsts = [0, *accumulate([2 + 2 * attrs for attrs in cells[_ATTRS::_CELLS].tolist()])]
+
+    def _read_texts(self) -> None:
         buffer, texts = _Buffer(), _Texts()
         _check(_all_texts(self._handle, buffer._handle, texts))
-        self._ends = [0, *memoryview(ctypes.string_at(texts.ends, 8 * texts.count)).cast("Q")]
-        self._bytes = ctypes.string_at(texts.at, self._ends[-1])
+        ends = self._ends = [0, *memoryview(ctypes.string_at(texts.ends, 8 * texts.count)).cast("Q")]
+        data = self._bytes = ctypes.string_at(texts.at, ends[-1])
+        # a node has a name or a text, and not both: so one piece of the bytes, from its first text to its third, has either
+        firsts = self._firsts[:-1]
+        places = map(slice, itemgetter(*firsts, 0)(ends), itemgetter(*[first + 2 for first in firsts], 0)(ends)[:-1])
         # (where all is ASCII a place in the bytes is one in the text)
-        self._ascii = self._bytes.decode("ascii") if self._bytes.isascii() else None
-        return self
-
-    def _text(self, index: int) -> str:
-        start, end = self._ends[index], self._ends[index + 1]
-        return self._bytes[start:end].decode() if self._ascii is None else self._ascii[start:end]
+        own = map(data.decode("ascii").__getitem__, places) if data.isascii() else map(bytes.decode, map(data.__getitem__, places))
+        self._names, self._texts = names, told = [""] * len(firsts), [""] * len(firsts)
+        kinds: Any = self._kinds
+        for number, (kind, text) in enumerate(zip(kinds, own)):
+            (names if kind == _ELEMENT else told)[number] = text
 
     def _part(self, part: int, node: int, index: int = 0) -> Optional[str]:
         span = _Span()
@@ -529,12 +565,16 @@ class Page(_Owner):
         """Calls what edits. From the first edit on, links and texts are asked for one by one."""
         handle = self._handle
         _check_edit(function(handle, *arguments))
-        if not self._is_edited:
-            self._is_edited = True
+        if self.__dict__.get("_names", ()) is not None:
+            self._names = self._texts = self._bytes = self._ends = self._firsts = None
             self._parents, self._first_children, self._nexts, self._contents = (
-                _Column(lambda number, link=link: _link(handle, link, number)) for link in (_PARENT, _FIRST_CHILD, _NEXT, _CONTENTS))
-            self._kinds = _Column(lambda number: _kind_of(handle, number))
-            del self._firsts, self._ends, self._bytes, self._ascii
+                _Column(partial(_link, handle, link)) for link in (_PARENT, _FIRST_CHILD, _NEXT, _CONTENTS))
+            self._kinds = _Column(partial(_kind_of, handle))
+            self._insides = _Column(self._inside)
+
+    def _inside(self, number: int) -> int:
+        inside = self._contents[number]
+        return self._first_children[number if inside == _NONE else inside]
 
     def _make(self, function: Any, text: str) -> Node:
         data, number = _data(text), _U64(0)
@@ -588,7 +628,7 @@ class Page(_Owner):
         """The element html as an element of xml.etree.ElementTree, or of another module with its Element, SubElement and Comment, as lxml.etree. What a
         template holds are its children there; doctypes, and comments outside of html, are left out."""
         if module is None:
-            import xml.etree.ElementTree as module  # type: ignore[no-redef]
+            import xml.etree.ElementTree as module
         top = next((node for node in self.root.children if node.kind == "element"), None)
         if top is None:
             return None
@@ -612,6 +652,43 @@ class Page(_Owner):
         return made
 
 
+class Ledger(_Owner, Sequence[Token]):
+    """The tokens of a page in their order, the end of the input last, and what became of each: a sequence of `Token`. It keeps its page."""
+
+    _page: Page
+    _rows: bytearray
+
+    def _read(self, page: Page) -> Ledger:
+        """Reads all tokens, in one call."""
+        count = page.counts.tokens
+        self._page, self._rows = page, bytearray(count * _TOKEN.size)
+        _tokens(self._handle, 0, (ctypes.c_char * len(self._rows)).from_buffer(self._rows), count)
+        return self
+
+    def _token(self, row: tuple[int, ...]) -> Token:
+        start, end, node, at, length, kind, code_point, fate, cause = row
+        name = chr(code_point) if kind == _CHARACTER else ctypes.string_at(at, length).decode() if length else ""
+        return Token(start, end, _TOKEN_KINDS[kind], name, _FATES[fate], None if node == _NONE else Node(self._page, node), _CAUSES_OF_DROPS[cause])
+
+    def __len__(self) -> int:
+        return len(self._rows) // _TOKEN.size
+
+    def __iter__(self) -> Iterator[Token]:
+        return map(self._token, _TOKEN.iter_unpack(self._rows))
+
+    @overload
+    def __getitem__(self, index: int) -> Token: ...
+
+    @overload
+    def __getitem__(self, index: slice) -> list[Token]: ...
+
+    def __getitem__(self, index: Union[int, slice]) -> Union[Token, list[Token]]:
+        numbers = range(len(self))[index]
+        if isinstance(numbers, range):
+            return [self[number] for number in numbers]
+        return self._token(_TOKEN.unpack_from(self._rows, numbers * _TOKEN.size))
+
+
 def _data(data: Data) -> bytes:
     return data.encode("utf-8", "surrogatepass") if isinstance(data, str) else bytes(data)
 
@@ -621,7 +698,7 @@ def _limits(options: dict[str, Optional[int]], flags: int = 0) -> _Options:
     if unknown:
         raise TypeError(f"unexpected keyword argument {unknown.pop()!r}")
     numbers = (options.get(name) for name, _ in _Options._fields_[:4])
-    return _Options(*(_NONE if number is None else number for number in numbers), flags)
+    return _Options(*(_NO_LIMIT if number is None else number for number in numbers), flags)
 
 
 def _run(entities: Optional[Entities], function: Any, filled: Any, *arguments: Any) -> Any:
@@ -638,7 +715,7 @@ def parse(data: Data, *, foreign: bool = False, entities: Optional[Entities] = N
     """The page of a document in UTF-8 (a str is encoded). Where foreign is true SVG and MathML are parsed, with names as "svg path"; else they are refused.
     Limits, each None or a number: max_nodes, max_held (code points in names, texts and attributes), max_input (code points) and max_steps."""
     data = _data(data)
-    page: Page = _run(entities, _parse, Page(), _limits(limits, _FOREIGN * foreign), data, len(data))._read()
+    page: Page = _run(entities, _parse, Page(), _limits(limits, _FOREIGN * foreign), data, len(data))
     page._data = data
     return page
 
@@ -666,30 +743,17 @@ def parse_fragment(
     are the children of the element html that is the root."""
     data, name = _data(data), context.encode()
     options = _limits(limits, _IN_FORM * in_form | _QUIRKS * quirks | _FOREIGN * foreign)
-    page: Page = _run(entities, _parse_fragment, Page(), options, name, len(name), data, len(data))._read()
+    page: Page = _run(entities, _parse_fragment, Page(), options, name, len(name), data, len(data))
     page._data = data
     return page
 
 
-def _tokens(lines: str) -> list[Token]:
-    """The tokens of the lines that tell them."""
-    told = []
-    for line in lines.split("\n")[:-1]:
-        start, end, kind, *rest = line.split(" ")
-        name = rest.pop(0) if kind in ("start", "end", "char") else ""
-        fate, what = rest[0], rest[1] if len(rest) > 1 else None
-        is_node = fate in ("made", "text")
-        told.append(Token(
-            int(start), int(end), kind, chr(int(name[2:], 16)) if kind == "char" else name, fate,
-            int(what) if is_node and what is not None else None, None if is_node else what))
-    return told
-
-
-def audit(data: Data, *, foreign: bool = False, entities: Optional[Entities] = None, **limits: Optional[int]) -> list[Token]:
-    """What became of each token of a document, in their order, the end of the input last. Nodes have the numbers (`Node.number`) that they have in the page
-    which `parse` makes of it."""
-    data = _data(data)
-    return _tokens(_run(entities, _audit, _Buffer(), _limits(limits, _FOREIGN * foreign), data, len(data)).text())
+def audit(data: Data, *, foreign: bool = False, entities: Optional[Entities] = None, **limits: Optional[int]) -> tuple[Page, Ledger]:
+    """The page of a document, as `parse` makes it, and what became of each token."""
+    data, page, ledger = _data(data), Page(), Ledger()
+    _run(entities, _audit, ledger, _limits(limits, _FOREIGN * foreign), data, len(data), page._handle)
+    page._data = data
+    return page, ledger._read(page)
 
 
 def audit_fragment(
@@ -701,11 +765,13 @@ def audit_fragment(
     foreign: bool = False,
     entities: Optional[Entities] = None,
     **limits: Optional[int],
-) -> list[Token]:
-    """The same of a fragment, as `parse_fragment` has it."""
-    data, name = _data(data), context.encode()
+) -> tuple[Page, Ledger]:
+    """The same of a fragment, as `parse_fragment` makes it."""
+    data, name, page, ledger = _data(data), context.encode(), Page(), Ledger()
     options = _limits(limits, _IN_FORM * in_form | _QUIRKS * quirks | _FOREIGN * foreign)
-    return _tokens(_run(entities, _audit_fragment, _Buffer(), options, name, len(name), data, len(data)).text())
+    _run(entities, _audit_fragment, ledger, options, name, len(name), data, len(data), page._handle)
+    page._data = data
+    return page, ledger._read(page)
 
 
 def positions(data: Data, places: Iterable[int]) -> list[Position]:
@@ -722,7 +788,8 @@ def normalise(
 ) -> str:
     """The text of a document's tree, as the standard writes it."""
     data = _data(data)
-    return _run(entities, _normalise, _Buffer(), _limits(limits, _FOREIGN * foreign), data, len(data), escape_angles).text()
+    buffer: _Buffer = _run(entities, _normalise, _Buffer(), _limits(limits, _FOREIGN * foreign), data, len(data), escape_angles)
+    return buffer.text()
 
 
 class Parser(_Owner):
@@ -768,7 +835,7 @@ class Parser(_Owner):
         """Ends the input: the page of all that was fed, as `parse` or `parse_fragment` makes it of the whole."""
         page = Page()
         self._run(_parser_finish, page._handle)
-        return page._read()
+        return page
 
     def __enter__(self) -> Parser:
         return self

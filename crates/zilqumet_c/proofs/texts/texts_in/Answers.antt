@@ -1,6 +1,6 @@
 use Rattle.std.proofs.Common.{◌≡◌, ◌∙◌, Some, [], ap, sym, subst, length}
 use Rattle.zilqumet_c.specs.Reads.{HasPage, HasTexts}
-use Rattle.zilqumet_c.specs.Texts.{AreTexts, all_texts}
+use Rattle.zilqumet_rows.specs.Texts.{AreTexts, all_texts}
 use Rattle.zilqumet_c.proofs.texts.texts_in.Goals as goal
 
 pub returns-in-Ok-new-clause-texts : goal.returns-in-Ok-new-clause-texts

@@ -3,7 +3,7 @@
 
 use std::os::raw::{c_char, c_int, c_void};
 
-/// A page, a parser, a table of references or a buffer: each is such a struct in C.
+/// A page, a parser, a table of references, a buffer or a ledger: each is such a struct in C.
 #[repr(C)]
 pub struct zq_handle {
     pub held: *mut c_void,
@@ -35,6 +35,19 @@ pub struct zq_counts {
     pub steps: u64,
     pub tokens: u64,
     pub errors: u64,
+}
+
+#[repr(C)]
+#[derive(Clone, Copy)]
+pub struct zq_token {
+    pub start: u64,
+    pub end: u64,
+    pub node: u64,
+    pub name: zq_span,
+    pub kind: u32,
+    pub code_point: u32,
+    pub fate: u32,
+    pub cause: u32,
 }
 
 #[repr(C)]
@@ -92,6 +105,27 @@ pub const ZQ_DOCTYPE_NAME: u32 = 4;
 pub const ZQ_PUBLIC_ID: u32 = 5;
 pub const ZQ_SYSTEM_ID: u32 = 6;
 
+pub const ZQ_START_TAG: u32 = 1;
+pub const ZQ_END_TAG: u32 = 2;
+pub const ZQ_CHARACTER: u32 = 3;
+pub const ZQ_COMMENT_TOKEN: u32 = 4;
+pub const ZQ_DOCTYPE_TOKEN: u32 = 5;
+pub const ZQ_END_OF_FILE: u32 = 6;
+
+pub const ZQ_MADE: u32 = 1;
+pub const ZQ_IN_TEXT: u32 = 2;
+pub const ZQ_MERGED: u32 = 3;
+pub const ZQ_DROPPED: u32 = 4;
+pub const ZQ_ENDED: u32 = 5;
+
+pub const ZQ_PROLOG_SPACE: u32 = 1;
+pub const ZQ_NULL: u32 = 2;
+pub const ZQ_LEADING_NEWLINE: u32 = 3;
+pub const ZQ_IN_SELECT: u32 = 4;
+pub const ZQ_IN_FRAMESET: u32 = 5;
+pub const ZQ_MISPLACED: u32 = 6;
+pub const ZQ_IN_COLUMN_GROUP: u32 = 7;
+
 pub const ZQ_NO_NODE: u64 = u64::MAX;
 
 extern "C" {
@@ -129,7 +163,15 @@ extern "C" {
     pub fn zq_error(page: *mut zq_handle, index: u64, name: *mut zq_handle, place: *mut u64) -> u32;
     pub fn zq_positions(bytes: *const u8, len: usize, places: *const u64, count: usize, positions: *mut zq_position) -> u32;
     pub fn zq_text_below(page: *mut zq_handle, node: u64, buffer: *mut zq_handle) -> u32;
-    pub fn zq_audit(entities: *mut zq_handle, options: *const zq_options, bytes: *const u8, len: usize, buffer: *mut zq_handle, place: *mut u64) -> u32;
+    pub fn zq_audit(
+        entities: *mut zq_handle,
+        options: *const zq_options,
+        bytes: *const u8,
+        len: usize,
+        page: *mut zq_handle,
+        ledger: *mut zq_handle,
+        place: *mut u64,
+    ) -> u32;
     pub fn zq_audit_fragment(
         entities: *mut zq_handle,
         options: *const zq_options,
@@ -137,9 +179,11 @@ extern "C" {
         context_len: usize,
         bytes: *const u8,
         len: usize,
-        buffer: *mut zq_handle,
+        page: *mut zq_handle,
+        ledger: *mut zq_handle,
         place: *mut u64,
     ) -> u32;
+    pub fn zq_tokens(ledger: *mut zq_handle, from: u64, tokens: *mut zq_token, len: usize) -> usize;
     pub fn zq_set_attr(page: *mut zq_handle, node: u64, name: *const u8, name_len: usize, value: *const u8, value_len: usize) -> u32;
     pub fn zq_remove_attr(page: *mut zq_handle, node: u64, name: *const u8, name_len: usize) -> u32;
     pub fn zq_remove(page: *mut zq_handle, node: u64) -> u32;

@@ -23,7 +23,7 @@ mod ledger;
 mod node;
 
 pub use edit::EditError;
-pub use ledger::{Cause, Fate, Token, TokenKind};
+pub use ledger::{Cause, Fate, Ledger, Token, TokenKind, Tokens};
 pub use node::{Attrs, Children, Descendants, Kind, Node};
 
 /// Why there is no page, or no text.
@@ -286,28 +286,30 @@ impl Options {
         text_in(&buffer)
     }
 
-    /// What became of each token of a document, in their order, the end of the input last. Nodes have the numbers (`Node::number`) that they have in the page
-    /// which `parse` makes of it.
+    /// The page of a document, as `parse` makes it, and what became of each token.
     ///
     /// # Errors
     ///
     /// Those of `parse`.
-    pub fn audit(&self, bytes: &[u8]) -> Result<Vec<Token>, Error> {
-        let (buffer, mut place) = (Handle::new(), 0);
-        // SAFETY: as in `parse`.
-        let status = unsafe { sys::zq_audit(self.entities.get(), &self.raw, bytes.as_ptr(), bytes.len(), buffer.get(), &mut place) };
+    pub fn audit(&self, bytes: &[u8]) -> Result<(Page, Ledger), Error> {
+        let (page, ledger, mut place) = (Handle::new(), Handle::new(), 0);
+        // SAFETY: a slice's bytes, three handles of our own, and places for what is told.
+        let status =
+            unsafe { sys::zq_audit(self.entities.get(), &self.raw, bytes.as_ptr(), bytes.len(), page.get(), ledger.get(), &mut place) };
         check(status, place)?;
-        ledger::tokens_in(&text_in(&buffer)?)
+        let page = Page { handle: page };
+        let ledger = Ledger::read(ledger, &page)?;
+        Ok((page, ledger))
     }
 
-    /// The same of a fragment in a context, as `parse_fragment` has it.
+    /// The same of a fragment in a context, as `parse_fragment` makes it.
     ///
     /// # Errors
     ///
     /// Those of `parse_fragment`.
-    pub fn audit_fragment(&self, context: &str, bytes: &[u8]) -> Result<Vec<Token>, Error> {
-        let (buffer, mut place) = (Handle::new(), 0);
-        // SAFETY: as in `parse`.
+    pub fn audit_fragment(&self, context: &str, bytes: &[u8]) -> Result<(Page, Ledger), Error> {
+        let (page, ledger, mut place) = (Handle::new(), Handle::new(), 0);
+        // SAFETY: as in `audit`.
         let status = unsafe {
             sys::zq_audit_fragment(
                 self.entities.get(),
@@ -316,12 +318,15 @@ impl Options {
                 context.len(),
                 bytes.as_ptr(),
                 bytes.len(),
-                buffer.get(),
+                page.get(),
+                ledger.get(),
                 &mut place,
             )
         };
         check(status, place)?;
-        ledger::tokens_in(&text_in(&buffer)?)
+        let page = Page { handle: page };
+        let ledger = Ledger::read(ledger, &page)?;
+        Ok((page, ledger))
     }
 
     /// A parser of a document in pieces. It shares the table of references, and lives as long as it likes.

@@ -127,23 +127,40 @@ fn places() {
 #[test]
 fn ledger() {
     let bytes = "<!DOCTYPE html> <p>é<body b><!--c--></p>".as_bytes();
-    let told = Options::new().audit(bytes).unwrap();
+    let (page, ledger) = Options::new().audit(bytes).unwrap();
     let token = |start, end, kind, fate| Token { start, end, kind, fate };
     let want = [
         token(0, 15, TokenKind::Doctype, Fate::Made(1)),
-        token(15, 16, TokenKind::Char(' '), Fate::Dropped(Cause::PrologSpace)),
-        token(16, 19, TokenKind::Start("p".to_owned()), Fate::Made(5)),
-        token(19, 20, TokenKind::Char('é'), Fate::Text(6)),
-        token(20, 28, TokenKind::Start("body".to_owned()), Fate::Merged),
+        token(15, 16, TokenKind::Character(' '), Fate::Dropped(Cause::PrologSpace)),
+        token(16, 19, TokenKind::StartTag("p"), Fate::Made(5)),
+        token(19, 20, TokenKind::Character('é'), Fate::Text(6)),
+        token(20, 28, TokenKind::StartTag("body"), Fate::Merged),
         token(28, 36, TokenKind::Comment, Fate::Made(7)),
-        token(36, 40, TokenKind::End("p".to_owned()), Fate::Ended),
-        token(40, 40, TokenKind::Eof, Fate::Ended),
+        token(36, 40, TokenKind::EndTag("p"), Fate::Ended),
+        token(40, 40, TokenKind::EndOfFile, Fate::Ended),
     ];
-    assert_eq!(told, want);
-    let page = parse(bytes).unwrap();
+    assert!(ledger.iter().eq(want));
+    assert_eq!((ledger.len(), ledger.iter().len(), ledger.get(2), ledger.get(8)), (8, 8, Some(want[2]), None));
     assert_eq!((page.node(5).unwrap().name(), page.node(6).unwrap().text(), page.node(7).unwrap().text()), ("p", "é", "c"));
-    let told = Options::new().audit_fragment("tr", b"<td><tr>").unwrap();
-    assert_eq!((told.len(), told[0].fate), (3, Fate::Made(1)));
+    assert_eq!(page.serialise().unwrap(), parse(bytes).unwrap().serialise().unwrap());
+    // the ledger has its names of its own
+    drop(page);
+    assert_eq!(ledger.get(2).unwrap().kind, TokenKind::StartTag("p"));
+    assert_eq!(format!("{ledger:?}").matches("Token").count(), 8);
+}
+
+#[test]
+fn ledgers_of_fragments_and_refusals() {
+    let (page, ledger) = Options::new().audit_fragment("tr", b"<td><tr>").unwrap();
+    assert_eq!((page.serialise().unwrap().as_str(), ledger.len(), ledger.get(0).unwrap().fate), ("<td></td>", 3, Fate::Made(1)));
+    let causes = |context: &str, bytes: &[u8]| {
+        let (_, ledger) = Options::new().audit_fragment(context, bytes).unwrap();
+        let fates: Vec<Fate> = ledger.iter().map(|it| it.fate).filter(|it| matches!(it, Fate::Dropped(_))).collect();
+        fates
+    };
+    assert_eq!(causes("div", b"\0<pre>\n<select><p>"), [Cause::Null, Cause::LeadingNewline, Cause::InSelect].map(Fate::Dropped));
+    assert_eq!((causes("frameset", b"x"), causes("colgroup", b"x")), (vec![Fate::Dropped(Cause::InFrameset)], vec![Fate::Dropped(Cause::InColumnGroup)]));
+    assert_eq!(causes("div", b"<tr>"), [Fate::Dropped(Cause::Misplaced)]);
     assert_eq!(Options::new().audit(b"<p><svg>").err(), Some(Error::ForeignSvg { at: 3 }));
     assert_eq!(Options::new().audit_fragment("Q", b"").err(), Some(Error::BadContext));
 }

@@ -1,7 +1,0 @@
-use Rattle.std.proofs.Common.{List, ◌++◌, ℕ, take}
-use Rattle.zilqumet_c.specs.Texts.{AreTexts, all_texts}
-use Rattle.zilqumet_c.proofs.held.Gathered.add_all.Given as goal
-
-abbrev pub invariant-nodes : goal.invariant-nodes
-invariant-nodes l = (texts : List (List ℕ)) → AreTexts l.initial.self.bytes.items l.initial.self.ends.items texts
-    → AreTexts l.self.bytes.items l.self.ends.items (texts ++ all_texts (take l.i l.arena.labels))

@@ -1,0 +1,3 @@
+-- Claimed.
+pub mod Entries
+pub mod Texts
