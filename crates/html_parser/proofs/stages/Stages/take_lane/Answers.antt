@@ -19,4 +19,3 @@ returns-clause-within c =
     let few = c.in_ok-taken.ensures.within in
     let len = length-take c.args.plain c.args.piece.now in
     omega (arith, few, len)
-
