@@ -18,7 +18,7 @@ use Rattle.html_parser.specs.Kinds.{kinds}
 -- the rows of a tokenizer are a table
 pub table-of : (t : Tokenizer) (run : Run) → Fed t run → IsTable run.start.rows
 unfolding Fed
-table-of t run f = f.rule
+table-of t run f = f.0.rule
 
 pub kinds-length : (tokens : List Token) → length (kinds tokens) ≡ length tokens
 kinds-length [] = refl

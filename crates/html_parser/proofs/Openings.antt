@@ -16,15 +16,15 @@ use Rattle.html_tokens.proofs.CostLemmas.{front_costed, tokens_costed}
 -- the machine is where the run leaves it
 pub opened : (t : Tokenizer) (run : Run) → Fed t run → IsAt t.machine run
 unfolding Fed
-opened t run f = f
+opened t run f = f.0
 
 pub fed_len_is : (t : Tokenizer) (run : Run) → Fed t run → fed_len t ≡ length run.text
 unfolding Fed fed_len
-fed_len_is t run f = f.count
+fed_len_is t run f = f.0.count
 
 pub finished_is : (t : Tokenizer) (run : Run) → Fed t run → is_finished t ≡ run.finished
 unfolding Fed is_finished
-finished_is t run f = f.finished
+finished_is t run f = f.0.finished
 
 -- the tokens of the text are those given and those to come
 pub all_tokens : (t : Tokenizer) (run : Run) → Fed t run → tokens_of run.text run.switches run.start ≡ run.given ++ to_come t.machine [] []

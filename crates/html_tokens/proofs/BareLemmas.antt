@@ -9,8 +9,13 @@ use Rattle.std.proofs.lemmas.List.Elements.{All-cons, All-nil}
 use Rattle.std.proofs.lemmas.Option.{slice_get_within}
 use Rattle.std.proofs.lemmas.Str.{IsUtf8-from_ascii, chars-IsAscii}
 use Rattle.std.proofs.lemmas.Str.Ascii.{IsAscii-from_all}
+use Rattle.html_tokens.specs.Errors.{opening_errors}
+use Rattle.html_tokens.specs.Fed.{IsSilent}
+use Rattle.html_tokens.specs.Stream.{AreTold}
+use Rattle.html_tokens.specs.declared.faults.Faults.{Faults}
+use Rattle.html_tokens.proofs.PlainLemmas.{told_at_text}
+use Rattle.html_tokens.proofs.ToldLemmas.{quiet_same, tells_quiet, told_given}
 use Rattle.html_tokens.specs.Bare.{Bare, IsBareName, is_bare_char, opening, spelling}
-use Rattle.html_tokens.specs.Bounds.{IsBounded}
 use Rattle.html_tokens.specs.Copied.{AllPass, is_copied}
 use Rattle.html_tokens.specs.Doctype.{doctype_word, spells_word}
 use Rattle.html_tokens.specs.Fed.{Steps}
@@ -28,7 +33,7 @@ use Rattle.html_tokens.specs.declared.token.TextMode.TheVariants.{Data}
 use Rattle.html_tokens.specs.declared.token.Token.{Token}
 use Rattle.html_tokens.specs.declared.token.TokenKind.TheVariants as kinds
 use Rattle.html_tokens.proofs.CopyLemmas.{both-left, both-right}
-use Rattle.html_tokens.proofs.PlainLemmas.{fed_at, plain_within, with_text}
+use Rattle.html_tokens.proofs.PlainLemmas.{fed_at, with_text}
 use Rattle.html_tokens.proofs.RunLemmas.{text_state}
 use Rattle.html_tokens.proofs.ShortLemmas.{ends_short, short_gives}
 use Rattle.html_tokens.proofs.StreamLemmas.{run_given}
@@ -275,6 +280,33 @@ module _ (t : Machine) (name : List ℕ) (state : is_text t.state ≡ true) (non
       let text : List ℕ = 60 ∷ 47 ∷ (name ++ 62 ∷ []) in
       run_given (with_text t text) (behind_end t name) (fed run text) given switch (end_steps given g) (fed_at t text state none run going i)
 
+  -- neither tells an error
+  start_silent : IsSilent (with_text t (60 ∷ (name ++ 62 ∷ [])))
+  start_silent = λ more h.
+      let text : List ℕ = (60 ∷ (name ++ 62 ∷ [])) ++ more in
+      rw (text_state t.state state, mode)
+      (ap (λ o. opening_errors o t.place text) (ap (λ v. opener ((60 ∷ (v ++ 62 ∷ [])) ++ more)) b.split ∙ start_opener b.first ((b.rest ++ 62 ∷ []) ++ more) b.letter))
+
+  end_silent : IsSilent (with_text t (60 ∷ 47 ∷ (name ++ 62 ∷ [])))
+  end_silent = λ more h.
+      let text : List ℕ = (60 ∷ 47 ∷ (name ++ 62 ∷ [])) ++ more in
+      rw (text_state t.state state, mode)
+      (ap (λ o. opening_errors o t.place text) (ap (λ v. opener ((60 ∷ 47 ∷ (v ++ 62 ∷ [])) ++ more)) b.split ∙ end_opener b.first ((b.rest ++ 62 ∷ []) ++ more) b.letter))
+
+  pub start_told : (given : Token) → given ≡ token (kinds.Start name [] false) t.place (t.place + length (spelling (record { is_end = false; name = name }))) → t.input.finished ≡ false
+      → (f : Faults) (run : Run) → IsAt t run → AreTold t f run → (switch : Option TextMode) → AreTold (answered given switch (behind_start t name)) f (gave (fed run (spelling (record { is_end = false; name = name }))) given switch)
+  start_told given g going f run i told switch =
+      let text : List ℕ = 60 ∷ (name ++ 62 ∷ []) in
+      told_given (with_text t text) (behind_start t name) f f (fed run text) given switch (start_steps given g) (tells_quiet (with_text t text) (Given given) f f start_silent (quiet_same f)) (fed_at t text state none run going i)
+      (told_at_text t text state none f run going i told)
+
+  pub end_told : (given : Token) → given ≡ token (kinds.End name) t.place (t.place + length (spelling (record { is_end = true; name = name }))) → t.input.finished ≡ false
+      → (f : Faults) (run : Run) → IsAt t run → AreTold t f run → (switch : Option TextMode) → AreTold (answered given switch (behind_end t name)) f (gave (fed run (spelling (record { is_end = true; name = name }))) given switch)
+  end_told given g going f run i told switch =
+      let text : List ℕ = 60 ∷ 47 ∷ (name ++ 62 ∷ []) in
+      told_given (with_text t text) (behind_end t name) f f (fed run text) given switch (end_steps given g) (tells_quiet (with_text t text) (Given given) f f end_silent (quiet_same f)) (fed_at t text state none run going i)
+      (told_at_text t text state none f run going i told)
+
 -- what the machine answers
 pub start_answer : {E : Type 0} (r : Result Token E) (t new : Machine) (is_end : Bool) (name : List ℕ) → is_end ≡ false → is_text t.state ≡ true → t.input.queue.items ≡ [] → t.mode ≡ Data → IsBareName name → t.input.finished ≡ false
     → IfOk r (λ given. given ≡ token (kinds.Start name [] false) t.place (t.place + length (spelling (record { is_end = is_end; name = name }))))
@@ -291,3 +323,20 @@ pub end_answer : {E : Type 0} (r : Result Token E) (t new : Machine) (is_end : B
 end_answer (Ok given) t new true name e state none mode b going g n = λ run i switch. rw n (end_taken t name state none mode b given g going run i switch)
 end_answer (Ok given) t new false name e state none mode b going g n = absurd (false≢true e)
 end_answer (Err x) t new is_end name e state none mode b going g n = tt
+
+-- what it tells
+pub start_tells : {E : Type 0} (r : Result Token E) (t new : Machine) (is_end : Bool) (name : List ℕ) → is_end ≡ false → is_text t.state ≡ true → t.input.queue.items ≡ [] → t.mode ≡ Data → IsBareName name → t.input.finished ≡ false
+    → IfOk r (λ given. given ≡ token (kinds.Start name [] false) t.place (t.place + length (spelling (record { is_end = is_end; name = name }))))
+    → OnOk r (new ≡ record t { place = t.place + length (spelling (record { is_end = is_end; name = name })); last_name = Some name })
+    → IfOk r (λ given. (f : Faults) (run : Run) → IsAt t run → AreTold t f run → (switch : Option TextMode) → AreTold (answered given switch new) f (gave (fed run (spelling (record { is_end = is_end; name = name }))) given switch))
+start_tells (Ok given) t new false name e state none mode b going g n = λ f run i told switch. rw n (start_told t name state none mode b given g going f run i told switch)
+start_tells (Ok given) t new true name e state none mode b going g n = absurd (false≢true (sym e))
+start_tells (Err x) t new is_end name e state none mode b going g n = tt
+
+pub end_tells : {E : Type 0} (r : Result Token E) (t new : Machine) (is_end : Bool) (name : List ℕ) → is_end ≡ true → is_text t.state ≡ true → t.input.queue.items ≡ [] → t.mode ≡ Data → IsBareName name → t.input.finished ≡ false
+    → IfOk r (λ given. given ≡ token (kinds.End name) t.place (t.place + length (spelling (record { is_end = is_end; name = name }))))
+    → OnOk r (new ≡ record t { place = t.place + length (spelling (record { is_end = is_end; name = name })) })
+    → IfOk r (λ given. (f : Faults) (run : Run) → IsAt t run → AreTold t f run → (switch : Option TextMode) → AreTold (answered given switch new) f (gave (fed run (spelling (record { is_end = is_end; name = name }))) given switch))
+end_tells (Ok given) t new true name e state none mode b going g n = λ f run i told switch. rw n (end_told t name state none mode b given g going f run i told switch)
+end_tells (Ok given) t new false name e state none mode b going g n = absurd (false≢true e)
+end_tells (Err x) t new is_end name e state none mode b going g n = tt

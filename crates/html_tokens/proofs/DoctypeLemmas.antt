@@ -3,6 +3,10 @@ use Rattle.std.proofs.Common.{◌≡◌, ℕ, suc, ◌+◌, ◌<◌, ◌≤◌, 
 use Rattle.std.specs.List.{slice_get}
 use Rattle.std.proofs.lemmas.Bool.Decides.{nat_tests}
 use Rattle.std.proofs.lemmas.Bool.{ne_eqb}
+use Rattle.html_tokens.specs.Errors.{errors_after, told_in}
+use Rattle.html_tokens.specs.declared.faults.Fault.{Fault}
+use Rattle.html_tokens.proofs.ErrorLemmas.{errors_past, errors_past_all}
+use Rattle.html_tokens.proofs.StepLemmas.{errors_opened}
 use Rattle.html_tokens.specs.Cut.{Cut, cut, is_space, ends_unquoted, stop_mark, greater_mark, null_replaced}
 use Rattle.html_tokens.specs.Tag.{name_char}
 use Rattle.html_tokens.specs.Doctype.{Ids, Doctype, closes, longer_doctype, not_space, after_spaces, up_to, bad_rest, id_mark, id_end, is_quote, ids_of, draft_doctype, part_doctype, with_name, with_public, with_system, after_name, after_public, after_system, name_or_end, name_end, public_end, system_end, ReadsPart, EndsPart}
@@ -307,6 +311,10 @@ other_read d input c e first some s h found = (
   refl,
 )
 
+-- the errors from a doctype on, which is this
+abbrev doctype_errors : List Row → ℕ → Doctype → TextMode → Option (List ℕ) → List ℕ → List (Option TextMode) → List Fault
+doctype_errors rows place d mode name rest switches = errors_after rows d.len (stays (switch_of switches) mode) name place rest (drop 1 switches)
+
 -- the tokens from a doctype on, which is this and began there
 abbrev doctype_coming : List Row → ℕ → ℕ → Doctype → TextMode → Option (List ℕ) → List ℕ → List (Option TextMode) → List Token
 doctype_coming rows start place d mode name rest switches = token (doctype_kind d) start (place + d.len) ∷ tokens_after rows d.len (stays (switch_of switches) mode) name place rest (drop 1 switches)
@@ -334,6 +342,13 @@ doctype_opens old new region s (d, n, p) k begun found = (
   passes_less old new 9 _ p (omega arith) k,
   passes_count old new 9 _ p k (λ e. e),
   p.name,
+  (λ more switches f. rw (s, p.state, p.mode, p.name, p.place, p.items, p.table)
+      (let items = old.input.queue.items in
+      let whole = doctype_of (drop 9 items ++ more) in
+      errors_opened old.table.now begins.Markup region old.mode old.last_name old.place 9 whole.len items more switches (doctype_piece old.place (items ++ more)) (begun more f) refl (rw (found more f) refl)
+      (rw (drop-append-le 9 items more k) refl) (omega arith) k
+      ∙ ap (λ (x : Doctype). told_in (Text region) old.mode old.last_name old.place (items ++ more) ++ doctype_errors old.table.now (old.place + 9) x old.mode old.last_name (drop 9 items ++ more) switches)
+      (sym (new_doctype_of d old.place (drop 9 items ++ more) n)))),
 )
 
 doctype_on : (rows : List Row) (start place n : ℕ) (d : Doctype) (mode : TextMode) (name : Option (List ℕ)) (items more : List ℕ) (switches : List (Option TextMode)) → n ≤ length items →
@@ -351,6 +366,9 @@ doctype_more old new d d' n s (e, g, k, b) p = (
   rw p.items (simp length-drop (omega arith)),
   record { count = rw (p.place, p.items) (simp length-drop (omega arith)); finished = p.finished; table = p.table; drained = going_on old new _ p.state (λ e. e) },
   p.name,
+  (λ more switches f. rw (s, p.state, p.mode, p.name, p.place, p.items, p.table)
+      (ap (λ (x : Doctype). doctype_errors old.table.now old.place x old.mode old.last_name (old.input.queue.items ++ more) switches) (e more f)
+      ∙ errors_past old.table.now n (draft_doctype d' (drop n old.input.queue.items ++ more)).len (stays (switch_of switches) old.mode) old.last_name old.place old.input.queue.items more (drop 1 switches) k)),
 )
 
 pub doctype_given : (old new : Machine) (d d' : DoctypeDraft) (force_quirks : Bool) (n : ℕ) (progress : Progress) → old.state ≡ Doctype' d → ReadsDoctype d old.input (Closed force_quirks n) d' →
@@ -365,6 +383,9 @@ doctype_given old new d d' force_quirks n progress s (e, k, b) ends =
           ∙ ap (λ (ts : List Token). token (doctype_kind whole) d.start (old.place + n) ∷ ts) (rw add-zero at (tokens_past old.table.now n 0 (stays switch old.mode) old.last_name old.place old.input.queue.items more switches k)))),
       record { count = rw (p.place, p.items) (simp length-drop (omega arith)); finished = p.finished; table = p.table; drained = going_on old new _ p.state (λ e. e) },
       p.name,
+      (λ more switch switches f. rw (s, p.state, p.mode, p.name, p.place, p.items, p.table)
+          (ap (λ (x : Doctype). doctype_errors old.table.now old.place x old.mode old.last_name (old.input.queue.items ++ more) (switch ∷ switches)) (e more f)
+          ∙ errors_past_all old.table.now n (stays switch old.mode) old.last_name old.place old.input.queue.items more switches k)),
     )
 
 pub doctype_waits : (old : Machine) (d d' : DoctypeDraft) → old.state ≡ Doctype' d → ReadsDoctype d old.input Waits d' → Steps old Wait (record old { state = Doctype' d' })

@@ -3,7 +3,10 @@ pub mod MarkLemmas
 pub mod RefLemmas
 pub mod Cuts
 pub mod TokensLemmas
+pub mod ErrorLemmas
 pub mod StepLemmas
+pub mod ToldLemmas
+pub mod FedLemmas
 pub mod SectionLemmas
 pub mod StreamLemmas
 pub mod TagLemmas

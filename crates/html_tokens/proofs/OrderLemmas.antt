@@ -1,5 +1,11 @@
 -- Parse errors in order of their places.
-use Rattle.std.proofs.Common.{ℕ, ◌-◌, ◌≤◌, ◌<◌, List, length, slice_index_or, arith, ap}
+use Rattle.std.proofs.Common.{◌≡◌, ℕ, zero, suc, ◌-◌, ◌≤◌, ◌<◌, List, [], ◌∷◌, ◌++◌, length, take, drop, slice_index_or, Bool, true, false, cond, nat_le, refl, arith, ap, sym, ◌∙◌}
+use Rattle.std.proofs.lemmas.Bool.Decides.{nat_tests}
+use Rattle.std.proofs.lemmas.List.{take-append-drop}
+use Rattle.std.proofs.lemmas.List.Elements.{filter-append}
+use Rattle.std.specs.List.{AllByRecursion, AllWithin, filter}
+use Rattle.html_tokens.specs.Errors.{is_opening, openings, with_told}
+use Rattle.html_tokens.specs.Order.{IsAdded}
 use Rattle.std.proofs.lemmas.List.{get_or_default}
 use Rattle.std.specs.List.Sorted.{IsNonDecreasingBy}
 use Rattle.html_tokens.specs.declared.faults.Fault.{Fault}
@@ -11,3 +17,53 @@ front_below list place at k d e ordered fit less last =
     let up = ordered k (at - 1) e (omega (arith, less)) (omega (arith, fit, less)) in
     let same = ap (λ (x : Fault). x.place) (get_or_default list k d e (omega (arith, fit, less))) in
     omega (arith, up, last, same)
+
+-- ONE MORE
+
+within_front : {X : Type 0} (P : X → Type 0) (xs : List X) (at : ℕ) → at ≤ length xs → AllWithin P xs 0 at → AllByRecursion P (take at xs)
+within_front P xs zero h a = tt
+within_front P [] (suc n) h a = absurd (omega arith)
+within_front P (x ∷ xs) (suc n) h a = (a 0 x (omega arith) (omega arith), within_front P xs n (omega arith) (λ k d l m. a (suc k) d (omega arith) (omega arith)))
+
+within_back : {X : Type 0} (P : X → Type 0) (xs : List X) (at : ℕ) → AllWithin P xs at (length xs) → AllByRecursion P (drop at xs)
+within_back P [] zero a = tt
+within_back P [] (suc n) a = tt
+within_back P (x ∷ xs) zero a = (a 0 x (omega arith) (omega arith), within_back P xs zero (λ k d l m. a (suc k) d (omega arith) (omega arith)))
+within_back P (x ∷ xs) (suc n) a = within_back P xs n (λ k d l m. a (suc k) d (omega arith) (omega arith))
+
+kept_if : {X : Type 0} (P : X → Type 0) (b : Bool) (x : X) (xs : List X) → P x → AllByRecursion P xs → AllByRecursion P (cond b (x ∷ xs) xs)
+kept_if P true x xs p a = (p, a)
+kept_if P false x xs p a = a
+
+all_filtered : {X : Type 0} (P : X → Type 0) (test : X → Bool) (xs : List X) → AllByRecursion P xs → AllByRecursion P (filter test xs)
+all_filtered P test [] a = tt
+all_filtered P test (x ∷ xs) a = kept_if P (test x) x (filter test xs) a.0 (all_filtered P test xs a.1)
+
+not_later : (a b : ℕ) → a ≤ b → nat_le a b ≡ true
+not_later a b h = grind (arith, nat_tests)
+
+later : (a b : ℕ) → b < a → nat_le a b ≡ false
+later a b h = grind (arith, nat_tests)
+
+told_between : (xs ys : List Fault) (f : Fault) → AllByRecursion (λ x. x.place ≤ f.place) xs → AllByRecursion (λ x. f.place < x.place) ys → with_told (xs ++ ys) f ≡ xs ++ f ∷ ys
+unfolding with_told
+told_between [] [] f a b = refl
+told_between [] (y ∷ ys) f a b = rw (later y.place f.place b.0) refl
+told_between (x ∷ xs) ys f a b = rw (not_later x.place f.place a.0) (ap (λ (l : List Fault). x ∷ l) (told_between xs ys f a.1 b))
+
+parted : (old : List Fault) (at : ℕ) → openings old ≡ openings (take at old) ++ openings (drop at old)
+parted old at = ap openings (sym (take-append-drop at old)) ∙ filter-append (λ f. is_opening f.name) (take at old) (drop at old)
+
+pub opening_added : (old new : List Fault) (f : Fault) → IsAdded old f new → is_opening f.name ≡ true → openings new ≡ with_told (openings old) f
+opening_added old new f added o =
+    let front = take added.at old in
+    let back = drop added.at old in
+    ap openings added.is ∙ filter-append (λ x. is_opening x.name) front (f ∷ back) ∙ rw o
+    (sym (told_between (openings front) (openings back) f (all_filtered _ _ front (within_front _ old added.at added.fit added.before)) (all_filtered _ _ back (within_back _ old added.at added.after)))
+    ∙ ap (λ (l : List Fault). with_told l f) (sym (parted old added.at)))
+
+pub other_added : (old new : List Fault) (f : Fault) → IsAdded old f new → is_opening f.name ≡ false → openings new ≡ openings old
+other_added old new f added o =
+    let front = take added.at old in
+    let back = drop added.at old in
+    ap openings added.is ∙ filter-append (λ x. is_opening x.name) front (f ∷ back) ∙ rw o (sym (parted old added.at))

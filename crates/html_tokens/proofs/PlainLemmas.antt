@@ -1,10 +1,12 @@
 -- Plain text that was not fed before.
-use Rattle.std.proofs.Common.{◌≡◌, ℕ, zero, suc, ◌+◌, ◌≤◌, List, [], ◌∷◌, ◌++◌, ◌&&◌, Bool, length, take, drop, true, false, refl, ap, sym, ◌∙◌, arith, append_assoc, length-append, subst}
+use Rattle.std.proofs.Common.{◌≡◌, ℕ, ◌+◌, List, [], ◌∷◌, ◌++◌, ◌&&◌, Bool, length, take, drop, true, false, refl, ap, sym, ◌∙◌, arith, append_assoc, length-append, subst}
 use Rattle.std.specs.List.{list_all}
 use Rattle.std.proofs.lemmas.Bool.{false≢true}
 use Rattle.std.proofs.lemmas.Bool.Decides.{nat_tests}
 use Rattle.std.proofs.lemmas.List.{take_all}
 use Rattle.html_charref.specs.Plain.{is_plain_char}
+use Rattle.html_tokens.specs.Stream.{AreTold}
+use Rattle.html_tokens.proofs.ToldLemmas.{told_fed}
 use Rattle.html_tokens.specs.Bounds.{IsBounded}
 use Rattle.html_tokens.specs.Copied.{AllPass}
 use Rattle.html_tokens.specs.Fed.{IsEnded, Passes, coming}
@@ -12,8 +14,6 @@ use Rattle.html_tokens.specs.Runs.{gave_all, is_plain, is_text, plain_tokens}
 use Rattle.html_tokens.specs.Stream.{IsAt, Run, fed, tokens_of}
 use Rattle.html_tokens.specs.declared.faults.Faults.{Faults}
 use Rattle.html_tokens.specs.declared.machine.Machine.{Machine}
-use Rattle.html_tokens.specs.declared.machine.State.TheVariants.{Text}
-use Rattle.html_tokens.specs.declared.token.Region.TheVariants.{Plain}
 use Rattle.html_tokens.specs.declared.token.TextMode.{TextMode}
 use Rattle.html_tokens.specs.declared.token.TextMode.TheVariants.{Data, Rcdata, Rawtext, Script, Plaintext, Foreign}
 use Rattle.html_tokens.proofs.BoundLemmas.{run_bounded}
@@ -62,6 +62,9 @@ module _ (t : Machine) (text : List ℕ) (state : is_text t.state ≡ true) (non
     drained = λ h. absurd (subst IsEnded (text_state t.state state) h);
   }
 
+  pub told_at_text : (f : Faults) (run : Run) → t.input.finished ≡ false → IsAt t run → AreTold t f run → AreTold (with_text t text) f (fed run text)
+  told_at_text f run going i told = told_fed t (record { queue = record { items = text }; finished = t.input.finished }) f run text (ap (λ items. items ++ text) (sym none)) going i told
+
   passes : Passes (with_text t text) (length text) t.state (past t text)
   passes = record {
     items = none ∙ sym (drop_all text);
@@ -81,6 +84,15 @@ module _ (t : Machine) (text : List ℕ) (state : is_text t.state ≡ true) (non
       = taken_run (length text) start start (past t text) [] [] (taken_none start [] (text_state t.state state)) (omega arith)
       (λ mode. subst (AllPass (is_plain mode)) (sym whole) (all_plain mode text plain)) passes in
       subst (λ x. IsAt (past t text) (gave_all (fed run text) (plain_tokens t.place x))) (sym taken.out ∙ whole) (taken.given (fed run text) (fed_at run going i))
+
+  pub plain_told_of : (f : Faults) (run : Run) → t.input.finished ≡ false → list_all is_plain_char text ≡ true → IsAt t run → AreTold t f run → AreTold (past t text) f (gave_all (fed run text) (plain_tokens t.place text))
+  plain_told_of f run going plain i told =
+      let start = with_text t text in
+      let whole : take (length text) text ≡ text = take_all (length text) text (omega arith) in
+      let taken : HasTaken start (past t text) [] (take (length text) text)
+      = taken_run (length text) start start (past t text) [] [] (taken_none start [] (text_state t.state state)) (omega arith)
+      (λ mode. subst (AllPass (is_plain mode)) (sym whole) (all_plain mode text plain)) passes in
+      subst (λ x. AreTold (past t text) f (gave_all (fed run text) (plain_tokens t.place x))) (sym taken.out ∙ whole) (taken.told f (fed run text) (fed_at run going i) (told_at_text f run going i told))
 
   pub plain_within : (f : Faults) → IsBounded t f → IsBounded (past t text) f
   plain_within f b = run_bounded (with_text t text) (past t text) (length text) f (text_state t.state state) passes b

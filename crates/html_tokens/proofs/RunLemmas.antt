@@ -20,8 +20,13 @@ use Rattle.html_tokens.specs.declared.token.TextMode.{TextMode}
 use Rattle.html_tokens.specs.declared.token.TextMode.TheVariants.{Data, Rcdata, Rawtext, Script, Plaintext, Foreign}
 use Rattle.html_tokens.specs.declared.token.Token.{Token}
 use Rattle.html_tokens.specs.declared.token.TokenKind.TheVariants as kinds
-use Rattle.html_tokens.proofs.StepLemmas.{open_given, char_given}
+use Rattle.html_tokens.proofs.StepLemmas.{open_given, char_errors, char_given}
 use Rattle.html_tokens.proofs.StreamLemmas.{run_given, unsaid}
+use Rattle.html_tokens.proofs.ToldLemmas.{quiet_same, silent_begun, tells_quiet, told_at_same, told_given, told_unsaid}
+use Rattle.html_tokens.specs.Errors.{IsQuiet}
+use Rattle.html_tokens.specs.Fed.{IsSilent}
+use Rattle.html_tokens.specs.Stream.{AreTold}
+use Rattle.html_tokens.specs.declared.faults.Faults.{Faults}
 
 plain_begins : (mode : TextMode) (name : Option (List ℕ)) (c : ℕ) (rest : List ℕ) → is_plain mode c ≡ true → begin_at mode Plain name (c ∷ rest) ≡ begins.Char
 plain_begins Data name c rest h = grind (arith, nat_tests)
@@ -58,6 +63,10 @@ plain_steps old new c items s h e p n =
     let i : drop 1 old.input.queue.items ≡ items = rw e refl in
     rw i (char_given old.table.now Plain Plain old.mode old.last_name old.place (old.place + 1) c c old.input.queue.items items more switch switches e
     (rw e (plain_begins old.mode old.last_name c (items ++ more) h)) (rw e (plain_region old.mode c (items ++ more) h)) (sym (plain_char old.mode c h)) refl))
+    (λ more switch switches f.
+    let i : drop 1 old.input.queue.items ≡ items = rw e refl in
+    rw i (char_errors old.table.now Plain Plain old.mode old.last_name old.place (old.place + 1) c old.input.queue.items items more switch switches e
+    (rw e (plain_begins old.mode old.last_name c (items ++ more) h)) (rw e (plain_region old.mode c (items ++ more) h)) refl))
 
 some_there : (items rest : List ℕ) (c : ℕ) → items ≡ c ∷ rest → 1 ≤ length items
 some_there items rest c e = rw e (omega arith)
@@ -67,6 +76,16 @@ pub plain_given : (old new : Machine) (c : ℕ) (items : List ℕ) (run : Run) �
 plain_given old new c items run s h e p i =
     unsaid (token (kinds.Char c) old.place (old.place + 1)) new run
     (λ switch. run_given old new run (token (kinds.Char c) old.place (old.place + 1)) switch (plain_steps old new c items s h e p (some_there old.input.queue.items items c e)) i)
+
+-- a code point of plain text tells nothing
+plain_silent : (old : Machine) (c : ℕ) (items : List ℕ) → old.state ≡ Text Plain → is_plain old.mode c ≡ true → old.input.queue.items ≡ c ∷ items → IsSilent old
+plain_silent old c items s h e = silent_begun old Plain begins.Char s (λ more f. rw e (plain_begins old.mode old.last_name c (items ++ more) h)) (λ place text. refl)
+
+pub plain_told : (old new : Machine) (c : ℕ) (items : List ℕ) (f f' : Faults) (run : Run) → old.state ≡ Text Plain → is_plain old.mode c ≡ true → old.input.queue.items ≡ c ∷ items → Passes old 1 (Text Plain) new → IsQuiet f f' → IsAt old run → AreTold old f run →
+    (switch : Option TextMode) → AreTold (answered (token (kinds.Char c) old.place (old.place + 1)) switch new) f' (gave run (token (kinds.Char c) old.place (old.place + 1)) switch)
+plain_told old new c items f f' run s h e p q i told switch =
+    told_given old new f f' run (token (kinds.Char c) old.place (old.place + 1)) switch (plain_steps old new c items s h e p (some_there old.input.queue.items items c e))
+    (tells_quiet old (Given (token (kinds.Char c) old.place (old.place + 1))) f f' (plain_silent old c items s h e) q) i told
 
 pub gave_more : (run : Run) (ts : List Token) (t : Token) → gave_all run (ts ++ t ∷ []) ≡ gave (gave_all run ts) t None
 gave_more run [] t = refl
@@ -108,12 +127,13 @@ pub record HasTaken (start now : Machine) (before after : List ℕ) : Type 0 whe
   pub out : after ≡ before ++ taken
   pub front : plain_front start.mode start.input.queue.items ≡ taken ++ plain_front start.mode now.input.queue.items
   pub given : (run : Run) → IsAt start run → IsAt now (gave_all run (plain_tokens start.place taken))
+  pub told : (f : Faults) (run : Run) → IsAt start run → AreTold start f run → AreTold now f (gave_all run (plain_tokens start.place taken))
   pub place : now.place ≡ start.place + length taken
   pub state : now.state ≡ Text Plain
   pub mode : now.mode ≡ start.mode
 
 pub taken_none : (t : Machine) (before : List ℕ) → t.state ≡ Text Plain → HasTaken t t before before
-taken_none t before s = record { taken = []; out = sym (append-nil before); front = refl; given = λ run i. i; place = omega arith; state = s; mode = refl }
+taken_none t before s = record { taken = []; out = sym (append-nil before); front = refl; given = λ run i. i; told = λ f run i a. a; place = omega arith; state = s; mode = refl }
 
 longer_place : (now start c : ℕ) (taken : List ℕ) → now ≡ start + length taken → now + 1 ≡ start + length (taken ++ c ∷ [])
 longer_place now start c taken e = rw (length-append taken (c ∷ [])) (omega arith)
@@ -131,6 +151,10 @@ taken_more start now new before after c items h mode e p =
       given = λ run i.
           let g = plain_given now new c items (gave_all run (plain_tokens start.place h.taken)) h.state plain e p (h.given run i) in
           rw (tokens_more start.place c h.taken, gave_more run (plain_tokens start.place h.taken), ← h.place) g;
+      told = λ f run i a.
+          let run' = gave_all run (plain_tokens start.place h.taken) in
+          let g = told_unsaid (token (kinds.Char c) now.place (now.place + 1)) new f run' (plain_told now new c items f f run' h.state plain e p (quiet_same f) (h.given run i) (h.told f run i a)) in
+          rw (tokens_more start.place c h.taken, gave_more run (plain_tokens start.place h.taken)) g;
       place = p.place ∙ longer_place now.place start.place c h.taken h.place;
       state = p.state;
       mode = p.mode ∙ h.mode;
@@ -162,6 +186,7 @@ taken_front [] rest start now new before after h a e r f p m n s t =
       out = append-nil after ∙ h.out;
       front = h.front ∙ ap (λ (x : List ℕ). h.taken ++ plain_front start.mode x) (sym items);
       given = λ run i. at_same now new _ items f same m n s t (h.given run i);
+      told = λ g run i a. told_at_same now new g (gave_all run (plain_tokens start.place h.taken)) items same m n s t (h.told g run i a);
       place = same ∙ h.place;
       state = s ∙ h.state;
       mode = m ∙ h.mode;
@@ -197,6 +222,10 @@ all_place start now before after h e = h.place ∙ ap (λ (x : List ℕ). start.
 pub all_given : (start now : Machine) (before after : List ℕ) (h : HasTaken start now before after) → plain_front now.mode now.input.queue.items ≡ [] →
     (run : Run) → IsAt start run → IsAt now (gave_all run (plain_tokens start.place (plain_front start.mode start.input.queue.items)))
 all_given start now before after h e run i = subst (λ (x : List ℕ). IsAt now (gave_all run (plain_tokens start.place x))) (taken_all start now before after h e h) (h.given run i)
+
+pub all_told_of : (start now : Machine) (before after : List ℕ) (h : HasTaken start now before after) → plain_front now.mode now.input.queue.items ≡ [] →
+    (f : Faults) (run : Run) → IsAt start run → AreTold start f run → AreTold now f (gave_all run (plain_tokens start.place (plain_front start.mode start.input.queue.items)))
+all_told_of start now before after h e f run i a = subst (λ (x : List ℕ). AreTold now f (gave_all run (plain_tokens start.place x))) (taken_all start now before after h e h) (h.told f run i a)
 
 -- the same, whatever is said of the mode
 pub plain_answered : (old new : Machine) (c : ℕ) (items : List ℕ) → old.state ≡ Text Plain → is_plain old.mode c ≡ true → old.input.queue.items ≡ c ∷ items → Passes old 1 (Text Plain) new → (run : Run) → IsAt old run → (switch : Option TextMode) →

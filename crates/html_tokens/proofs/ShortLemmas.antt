@@ -3,6 +3,8 @@ use Rattle.std.proofs.Common.{◌≡◌, ℕ, zero, suc, ◌+◌, ◌<◌, List,
 use Rattle.std.specs.List.{slice_get}
 use Rattle.std.proofs.lemmas.Bool.{false≢true}
 use Rattle.std.proofs.lemmas.List.{drop-drop}
+use Rattle.html_tokens.specs.Fed.{told_at}
+use Rattle.html_tokens.specs.declared.faults.Fault.{Fault}
 use Rattle.html_tokens.specs.Copied.{AllPass, is_copied}
 use Rattle.html_tokens.specs.declared.copied.Copied.TheVariants as copied
 use Rattle.html_tokens.specs.Cut.{cut}
@@ -80,4 +82,5 @@ short_gives old new is_end opened len given s some fit begun piece name close en
       (λ more switch switches f. opens.0 more (switch ∷ switches) f ∙ copies.0 more (switch ∷ switches) f ∙ gives.0 more switch switches f),
       record { count = gives.1.count ∙ copies.1.count ∙ opens.2.count; finished = gives.1.finished; table = gives.1.table; drained = λ h. gives.1.drained (copies.1.drained (opens.2.drained h)) },
       gives.2,
+      (λ more switch switches f. opens.4 more (switch ∷ switches) f ∙ ap (λ (es : List Fault). told_at old more ++ es) (copies.3 more (switch ∷ switches) f ∙ gives.3 more switch switches f)),
     )

@@ -14,7 +14,10 @@ use Rattle.html_tokens.specs.declared.token.Begin.TheVariants as begins
 use Rattle.std.proofs.Common.{add-zero, length-drop}
 use Rattle.std.proofs.lemmas.List.{drop-append-le}
 use Rattle.html_tokens.specs.Copied.{CopiesComment, cut_by}
-use Rattle.html_tokens.specs.Fed.{Skips, coming, to_come, IsDrained, IsEnded, Passes, SameCount, Steps, switch_to, slack, GivesChars}
+use Rattle.html_tokens.specs.Errors.{errors_after, piece_errors, told_in}
+use Rattle.html_tokens.specs.declared.faults.Fault.{Fault}
+use Rattle.html_tokens.proofs.ErrorLemmas.{errors_begun, errors_end, errors_past, errors_past_all, errors_past_one, errors_text, none_at_end}
+use Rattle.html_tokens.specs.Fed.{Skips, coming, errors_coming, to_come, IsDrained, IsEnded, Passes, SameCount, Steps, switch_to, slack, GivesChars}
 use Rattle.html_tokens.specs.Input.{Decided, IsShort}
 use Rattle.html_tokens.specs.Input.{MayFollow}
 use Rattle.html_tokens.specs.declared.machine.Machine.{Machine}
@@ -31,7 +34,7 @@ use Rattle.html_tokens.specs.Draft.{mark_of, passed, Reads}
 use Rattle.html_tokens.specs.declared.comment.CommentDraft.{CommentDraft}
 use Rattle.html_tokens.specs.declared.comment.Reading.TheVariants.{Closed, More as More', Wait as Wait'}
 use Rattle.html_tokens.specs.declared.input.Input.{Input}
-use Rattle.html_tokens.specs.Tokens.{comment_piece, piece, mode_after_kind, name_after_kind}
+use Rattle.html_tokens.specs.Tokens.{comment_piece, Piece, piece, mode_after, mode_after_kind, name_after, name_after_kind}
 use Rattle.html_tokens.specs.declared.comment.CommentKind.{CommentKind}
 use Rattle.html_tokens.proofs.TokensLemmas.{tokens_text, tokens_begun, tokens_past, tokens_past_one}
 use Rattle.std.proofs.Common.{◌*◌}
@@ -64,8 +67,46 @@ char_given rows region after mode name place place' c d items items' more switch
     let r' = rw e at r in
     rw (e, f, p) (tokens_text rows mode region after name place c (items' ++ more) switch switches t' r')
 
+pub char_errors : (rows : List Row) (region after : Region) (mode : TextMode) (name : Option (List ℕ)) (place place' c : ℕ) (items items' more : List ℕ) (switch : Option TextMode) (switches : List (Option TextMode)) →
+    items ≡ c ∷ items' → begin_at mode region name (items ++ more) ≡ begins.Char → region_in mode region (items ++ more) ≡ after → place' ≡ place + 1 →
+    errors_coming rows (Text region) mode name place (items ++ more) (switch ∷ switches)
+    ≡ told_in (Text region) mode name place (items ++ more) ++ errors_coming rows (Text after) (stays switch mode) name place' (items' ++ more) switches
+char_errors rows region after mode name place place' c items items' more switch switches e t r p =
+    let t' = rw e at t in
+    let r' = rw e at r in
+    rw (e, t', p) (errors_text rows mode region after name place c (items' ++ more) switch switches t' r')
+
 there : (items more : List ℕ) → 0 < length items → 0 < length (items ++ more)
 there items more h = omega (arith, length-append items more)
+
+-- the errors of what begins, before so many code points of it
+pub errors_opened : (rows : List Row) (b : Begin) (region : Region) (mode : TextMode) (name : Option (List ℕ)) (place opened j : ℕ) (items more : List ℕ) (switches : List (Option TextMode)) (first : Piece) →
+    begin_at mode region name (items ++ more) ≡ b → is_stop b ≡ true → begun_piece rows b place (items ++ more) ≡ first → first.len ≡ opened + j → 0 < opened → opened ≤ length items →
+    errors_coming rows (Text region) mode name place (items ++ more) switches
+    ≡ told_in (Text region) mode name place (items ++ more)
+    ++ errors_after rows j (mode_after first.tokens switches mode) (name_after first.tokens name) (place + opened) (drop opened items ++ more) (drop (length first.tokens) switches)
+errors_opened rows b region mode name place opened j items more switches first e s p l h k =
+    errors_begun rows b mode region name place (items ++ more) switches first e s p (omega arith) (there items more (omega arith))
+    ∙ rw (e, l) (ap (λ (es : List Fault). piece_errors b place (items ++ more) ++ es) (errors_past rows opened j _ _ place items more _ k))
+
+-- the errors of what begins and is passed whole
+pub errors_passed : (rows : List Row) (b : Begin) (region : Region) (mode : TextMode) (name : Option (List ℕ)) (place len : ℕ) (items more : List ℕ) (switches : List (Option TextMode)) (first : Piece) →
+    begin_at mode region name (items ++ more) ≡ b → is_stop b ≡ true → begun_piece rows b place (items ++ more) ≡ first → first.len ≡ len → 0 < len → len ≤ length items →
+    errors_coming rows (Text region) mode name place (items ++ more) switches
+    ≡ told_in (Text region) mode name place (items ++ more)
+    ++ errors_after rows 0 (mode_after first.tokens switches mode) (name_after first.tokens name) (place + len) (drop len items ++ more) (drop (length first.tokens) switches)
+errors_passed rows b region mode name place len items more switches first e s p l h k =
+    errors_opened rows b region mode name place len 0 items more switches first e s p (l ∙ omega arith) h k
+
+pub comment_opens : (rows : List Row) (region : Region) (mode : TextMode) (kind : CommentKind) (opened : ℕ) (name : Option (List ℕ)) (place : ℕ) (items more : List ℕ) (switches : List (Option TextMode)) →
+    begin_at mode region name (items ++ more) ≡ begins.Markup →
+    begun_piece rows begins.Markup place (items ++ more) ≡ comment_piece (mark_of kind) opened place (items ++ more) →
+    0 < opened → opened ≤ length items →
+    errors_coming rows (Text region) mode name place (items ++ more) switches
+    ≡ told_in (Text region) mode name place (items ++ more) ++ errors_coming rows (Comment (record { kind = kind; start = place; «data» = [] })) mode name (place + opened) (drop opened items ++ more) switches
+comment_opens rows region mode kind opened name place items more switches e p h k =
+    errors_opened rows begins.Markup region mode name place opened (cut (mark_of kind) (drop opened items ++ more)).len items more switches (comment_piece (mark_of kind) opened place (items ++ more)) e refl p
+    (rw (drop-append-le opened items more k) refl) h k
 
 -- a comment begins, after what opens it
 pub comment_begins : (rows : List Row) (region : Region) (mode : TextMode) (kind : CommentKind) (opened : ℕ) (name : Option (List ℕ)) (place : ℕ) (items more : List ℕ) (switches : List (Option TextMode)) →
@@ -120,12 +161,16 @@ passes_less old new k after p g h = rw p.items (simp length-drop (omega arith))
 pub open_more : (old new : Machine) (region : Region) (k : ℕ) (after : State) → old.state ≡ Text region → Passes old k after new → 0 < k → k ≤ length old.input.queue.items → (IsEnded after → ⊥) →
     ((more : List ℕ) (switches : List (Option TextMode)) → MayFollow old.input.finished more →
     coming old.table.now (Text region) old.mode old.last_name old.place (old.input.queue.items ++ more) switches ≡ coming old.table.now after old.mode old.last_name (old.place + k) (drop k old.input.queue.items ++ more) switches) →
+    ((more : List ℕ) (switches : List (Option TextMode)) → MayFollow old.input.finished more →
+    errors_coming old.table.now (Text region) old.mode old.last_name old.place (old.input.queue.items ++ more) switches
+    ≡ told_in (Text region) old.mode old.last_name old.place (old.input.queue.items ++ more) ++ errors_coming old.table.now after old.mode old.last_name (old.place + k) (drop k old.input.queue.items ++ more) switches) →
     Steps old More new
-open_more old new region k after s p g h off step = (
+open_more old new region k after s p g h off step tells = (
   (λ more switches f. rw s (step more switches f ∙ sym (passes_come old new k after p more switches))),
   passes_less old new k after p g h,
   passes_count old new k after p h off,
   p.name,
+  (λ more switches f. rw (s, p.state, p.mode, p.name, p.place, p.items, p.table) (tells more switches f)),
 )
 
 -- a step in text that gives a token
@@ -133,11 +178,15 @@ pub open_given : (old new : Machine) (region : Region) (given : Token) (k : ℕ)
     name_after_kind given.kind old.last_name ≡ old.last_name →
     ((more : List ℕ) (switch : Option TextMode) (switches : List (Option TextMode)) → MayFollow old.input.finished more →
     coming old.table.now (Text region) old.mode old.last_name old.place (old.input.queue.items ++ more) (switch ∷ switches) ≡ given ∷ coming old.table.now after (switch_to given.kind switch old.mode) old.last_name (old.place + k) (drop k old.input.queue.items ++ more) switches) →
+    ((more : List ℕ) (switch : Option TextMode) (switches : List (Option TextMode)) → MayFollow old.input.finished more →
+    errors_coming old.table.now (Text region) old.mode old.last_name old.place (old.input.queue.items ++ more) (switch ∷ switches)
+    ≡ told_in (Text region) old.mode old.last_name old.place (old.input.queue.items ++ more) ++ errors_coming old.table.now after (switch_to given.kind switch old.mode) old.last_name (old.place + k) (drop k old.input.queue.items ++ more) switches) →
     Steps old (Given given) new
-open_given old new region given k after s p h off named step = (
+open_given old new region given k after s p h off named step tells = (
   (λ more switch switches f. rw s (step more switch switches f ∙ rw (p.state, p.mode, p.name, p.place, p.items, p.table) refl)),
   passes_count old new k after p h off,
   p.name ∙ sym named,
+  (λ more switch switches f. rw (s, p.state, p.mode, p.name, p.place, p.items, p.table) (tells more switch switches f)),
 )
 
 -- one that is a whole piece
@@ -150,6 +199,8 @@ open_gives old new region b given k s p g h same named stop begun whole =
     open_given old new region given k (Text Plain) s p h (λ e. e) (named old.last_name)
     (λ more switch switches f. piece_given old.table.now b region old.mode given k old.last_name old.place old.input.queue.items more switch switches (begun more f) stop (whole more f) g h (named old.last_name)
     ∙ rw (same switch old.mode) refl)
+    (λ more switch switches f. errors_passed old.table.now b region old.mode old.last_name old.place k old.input.queue.items more (switch ∷ switches) (piece (given ∷ []) k) (begun more f) stop (whole more f) refl g h
+    ∙ rw (same switch old.mode, named old.last_name) refl)
 
 -- the state is set after the pass
 pub passes_to : (old new : Machine) (k : ℕ) (before after : State) → Passes old k before new → Passes old k after (record new { state = after })
@@ -161,6 +212,11 @@ text_ends Plain rows mode name place switches = refl
 text_ends Escaped rows mode name place switches = refl
 text_ends Double rows mode name place switches = refl
 
+errors_none : (region : Region) (rows : List Row) (mode : TextMode) (name : Option (List ℕ)) (place : ℕ) (switches : List (Option TextMode)) → errors_coming rows (Text region) mode name place [] switches ≡ []
+errors_none Plain rows mode name place switches = errors_end rows 0 mode name place switches
+errors_none Escaped rows mode name place switches = errors_end rows _ _ name place _
+errors_none Double rows mode name place switches = errors_end rows _ _ name place _
+
 -- nothing may follow, and nothing is unread
 pub all_read : (finished : Bool) (items : List ℕ) → ((more : List ℕ) → MayFollow finished more → items ++ more ≡ []) → (finished ≡ true) × (items ≡ [])
 all_read true [] e = (refl, refl)
@@ -170,8 +226,12 @@ all_read false (c ∷ rest) e = let h = e [] (λ f. refl) in cc
 
 pub state_ends : (old new : Machine) (region : Region) → old.state ≡ Text region → new ≡ record old { state = Ended } →
     ((more : List ℕ) → MayFollow old.input.finished more → old.input.queue.items ++ more ≡ []) → Steps old (Given (token kinds.Eof old.place old.place)) new
-state_ends old new region s n e =
-    ((λ more switch switches f. rw (s, e more f, n) (text_ends region old.table.now old.mode old.last_name old.place (switch ∷ switches))), rw n (record { count = refl; finished = refl; table = refl; drained = λ _ _. all_read old.input.finished old.input.queue.items e }), rw n refl)
+state_ends old new region s n e = (
+  (λ more switch switches f. rw (s, e more f, n) (text_ends region old.table.now old.mode old.last_name old.place (switch ∷ switches))),
+  rw n (record { count = refl; finished = refl; table = refl; drained = λ _ _. all_read old.input.finished old.input.queue.items e }),
+  rw n refl,
+  (λ more switch switches f. rw (s, e more f, n, none_at_end region old.mode old.last_name old.place) (errors_none region old.table.now old.mode old.last_name old.place (switch ∷ switches))),
+)
 
 -- a comment reads on by a code point
 pub comment_reads : (rows : List Row) (draft draft' : CommentDraft) (mode : TextMode) (name : Option (List ℕ)) (place : ℕ) (items items' more : List ℕ) (switches : List (Option TextMode)) →
@@ -191,6 +251,13 @@ comment_closes rows draft draft' mode name place n items more switch switches e 
     ap (λ (c : Cut). token (kinds.Comment c.before) draft.start (place + c.len) ∷ tokens_after rows c.len (stays switch mode) name place (items ++ more) switches) e
     ∙ rw s (ap (λ (ts : List Token). token (kinds.Comment draft'.«data») draft.start (place + n) ∷ ts) (rw add-zero at (tokens_past rows n 0 (stays switch mode) name place items more switches h)))
 
+comment_tells : (rows : List Row) (draft draft' : CommentDraft) (mode : TextMode) (name : Option (List ℕ)) (place : ℕ) (items items' more : List ℕ) (switches : List (Option TextMode)) →
+    draft_cut draft (items ++ more) ≡ passed (draft_cut draft' (items' ++ more)) → items' ≡ drop 1 items → 0 < length items →
+    errors_coming rows (Comment draft) mode name place (items ++ more) switches ≡ errors_coming rows (Comment draft') mode name (place + 1) (items' ++ more) switches
+comment_tells rows draft draft' mode name place items items' more switches e i h =
+    ap (λ (c : Cut). errors_after rows c.len (stays (switch_of switches) mode) name place (items ++ more) (drop 1 switches)) e
+    ∙ errors_past_one rows (draft_cut draft' (items' ++ more)).len (stays (switch_of switches) mode) name place items items' more (drop 1 switches) i h
+
 pub comment_more : (old : Machine) (input' : Input) (draft draft' : CommentDraft) → old.state ≡ Comment draft → Reads draft old.input More' draft' input' →
     Steps old More (record old { input = input'; place = old.place + 1; state = Comment draft' })
 comment_more old input' draft draft' s (e, i, h, b, f) = (
@@ -198,6 +265,7 @@ comment_more old input' draft draft' s (e, i, h, b, f) = (
   rw i (simp length-drop (omega arith)),
   record { count = rw i (simp length-drop (omega arith)); finished = f; table = refl; drained = λ _ h. absurd h },
   refl,
+  (λ more switches g. rw s (comment_tells old.table.now draft draft' old.mode old.last_name old.place old.input.queue.items input'.queue.items more switches (e more g) i h)),
 )
 
 pub comment_given : (old new : Machine) (input' : Input) (draft draft' : CommentDraft) (n : ℕ) → old.state ≡ Comment draft → Reads draft old.input (Closed n) draft' input' →
@@ -207,6 +275,9 @@ comment_given old new input' draft draft' n s (e, h, i, f, b) p = (
   (λ more switch switches g. rw (s, p.state, p.mode, p.name, p.place, p.items, p.table, i) (comment_closes old.table.now draft draft' old.mode old.last_name old.place n old.input.queue.items more switch switches (e more g) b h)),
   record { count = rw (p.place, p.items, i) (simp length-drop (omega arith)); finished = p.finished ∙ f; table = p.table; drained = going_on old new _ p.state (λ h. h) },
   p.name,
+  (λ more switch switches g. rw (s, p.state, p.mode, p.name, p.place, p.items, p.table, i)
+      (ap (λ (c : Cut). errors_after old.table.now c.len (stays switch old.mode) old.last_name old.place (old.input.queue.items ++ more) switches) (e more g)
+      ∙ errors_past_all old.table.now n (stays switch old.mode) old.last_name old.place old.input.queue.items more switches h)),
 )
 
 pub comment_waits : (old : Machine) (input' : Input) (draft draft' : CommentDraft) → old.state ≡ Comment draft → Reads draft old.input Wait' draft' input' →
@@ -239,10 +310,12 @@ chars_given old new region len first None progress s begun h k found (e, p) =
 chars_given old new region len first (Some second) progress s begun h k found (e, p) =
     rw e (open_given old new region (token (kinds.Char first) old.place (old.place + 1)) len (Second second (old.place + 1)) s p k (λ e. e) refl
     (λ more switch switches f. pair_given old.table.now region old.mode (token (kinds.Char first) old.place (old.place + 1)) (token (kinds.Char second) (old.place + 1) (old.place + len)) len old.last_name old.place old.input.queue.items more switch switches
-    (begun more f) (rw (found more f) refl) h k refl))
+    (begun more f) (rw (found more f) refl) h k refl)
+    (λ more switch switches f. errors_passed old.table.now begins.Reference region old.mode old.last_name old.place len old.input.queue.items more (switch ∷ switches)
+    (piece (token (kinds.Char first) old.place (old.place + 1) ∷ token (kinds.Char second) (old.place + 1) (old.place + len) ∷ []) len) (begun more f) refl (rw (found more f) refl) refl h k))
 
 pub second_given : (old new : Machine) (c start : ℕ) → old.state ≡ Second c start → new ≡ record old { state = Text Plain } → Steps old (Given (token (kinds.Char c) start old.place)) new
-second_given old new c start s n = ((λ more switch switches f. rw (s, n) refl), rw n (record { count = refl; finished = refl; table = refl; drained = λ _ h. absurd h }), rw n refl)
+second_given old new c start s n = ((λ more switch switches f. rw (s, n) refl), rw n (record { count = refl; finished = refl; table = refl; drained = λ _ h. absurd h }), rw n refl, (λ more switch switches f. rw (s, n) refl))
 
 -- the token of a number, and those after it
 abbrev number_coming : List Row → ℕ → ℕ → Numbered → TextMode → Option (List ℕ) → List ℕ → List (Option TextMode) → List Token
@@ -262,6 +335,12 @@ number_begins old new region base opened s begun h k found p =
     let e : old.place + (opened + n.len) ≡ old.place + opened + n.len = omega arith in
     tokens_begun old.table.now begins.Reference old.mode region old.last_name old.place (items ++ more) switches _ (begun more f) refl whole (omega arith) (there items more (omega arith))
     ∙ rw e (ap (λ (ts : List Token). token (kinds.Char (char_of n.value)) old.place (old.place + opened + n.len) ∷ ts) (tokens_past old.table.now opened n.len (stays (switch_of switches) old.mode) old.last_name old.place items more (drop 1 switches) k)))
+    (λ more switches f.
+    let items = old.input.queue.items in
+    let n = numbered base 0 (drop opened items ++ more) in
+    let whole : begun_piece old.table.now begins.Reference old.place (items ++ more) ≡ piece (token (kinds.Char (char_of n.value)) old.place (old.place + (opened + n.len)) ∷ []) (opened + n.len) =
+    rw (found more f, drop-append-le opened items more k) refl in
+    errors_opened old.table.now begins.Reference region old.mode old.last_name old.place opened n.len items more switches _ (begun more f) refl whole refl h k)
 
 -- the number so far counts only up to the first number past the code points
 number_capped : (b v : ℕ) (ds : List ℕ) → 0 < b → capped (number_from_digits_after b (capped v) ds) ≡ capped (number_from_digits_after b v ds)
@@ -318,6 +397,14 @@ number_more old new draft c d value s first h digit e v p = (
   passes_less old new 1 _ p (omega arith) h,
   passes_count old new 1 _ p h (λ e. e),
   p.name,
+  (λ more switches f.
+      let items = old.input.queue.items in
+      let text = first_of items more c (first more f) h in
+      let rest = drop 1 items ++ more in
+      let n = numbered draft.base (draft.value * radix draft.base + digit_value c) rest in
+      rw (s, p.state, p.mode, p.name, p.place, p.items, p.table)
+      (ap (λ (x : Numbered). errors_after old.table.now x.len (stays (switch_of switches) old.mode) old.last_name old.place (items ++ more) (drop 1 switches)) (ap (λ (x : List ℕ). numbered draft.base draft.value x) text ∙ digit_first draft.base draft.value c rest digit)
+      ∙ errors_past_one old.table.now n.len (stays (switch_of switches) old.mode) old.last_name old.place items (drop 1 items) more (drop 1 switches) refl h)),
 )
 
 -- a number closes
@@ -331,6 +418,9 @@ number_given old new draft len progress s h whole (g, p) =
           ∙ ap (λ (ts : List Token). token (kinds.Char (char_of draft.value)) draft.start (old.place + len) ∷ ts) (rw add-zero at (tokens_past old.table.now len 0 (stays switch old.mode) old.last_name old.place old.input.queue.items more switches h)))),
       passes_count old new len _ p h (λ e. e),
       p.name,
+      (λ more switch switches f. rw (s, p.state, p.mode, p.name, p.place, p.items, p.table)
+          (ap (λ (x : Numbered). errors_after old.table.now x.len (stays switch old.mode) old.last_name old.place (old.input.queue.items ++ more) switches) (whole more f)
+          ∙ errors_past_all old.table.now len (stays switch old.mode) old.last_name old.place old.input.queue.items more switches h)),
     )
 
 pub number_ends : (old : Machine) (draft : NumberDraft) → Decided old.input (λ rest. slice_get rest 0) None →
@@ -370,4 +460,7 @@ comment_skips old new d d' n s (e, fit, st) p = (
       ∙ comment_on old.table.now d.start old.place n (draft_cut d' (drop n old.input.queue.items ++ more)) old.mode old.last_name old.input.queue.items more switches fit)),
   record { count = rw (p.place, p.items) (simp length-drop (omega arith)); finished = p.finished; table = p.table; drained = going_on old new _ p.state (λ e. e) },
   p.name,
+  (λ more switches f. rw (s, p.state, p.mode, p.name, p.place, p.items, p.table)
+      (ap (λ (c : Cut). errors_after old.table.now c.len (stays (switch_of switches) old.mode) old.last_name old.place (old.input.queue.items ++ more) (drop 1 switches)) (e more)
+      ∙ errors_past old.table.now n (draft_cut d' (drop n old.input.queue.items ++ more)).len (stays (switch_of switches) old.mode) old.last_name old.place old.input.queue.items more (drop 1 switches) fit)),
 )

@@ -11,7 +11,7 @@ use Rattle.html_tokens.specs.declared.token.Begin.{Begin}
 use Rattle.html_tokens.specs.declared.token.Begin.TheVariants as begins
 use Rattle.html_tokens.specs.Tag.{draft_tag}
 use Rattle.html_tokens.specs.Cut.{cut, section_mark}
-use Rattle.html_tokens.specs.Fed.{IsEnded, Skips, coming, to_come, switch_to, Steps, slack}
+use Rattle.html_tokens.specs.Fed.{IsSilent, IsEnded, Skips, coming, to_come, switch_to, Steps, slack}
 use Rattle.html_tokens.specs.Given.{IsStart, MaySwitch}
 use Rattle.html_tokens.specs.Stream.{Run, IsAt, last_name, name_of, gave, answered, tokens_of, IsPrompt, IsLate, ended}
 use Rattle.html_tokens.specs.declared.token.Token.{Token}
@@ -48,14 +48,15 @@ run_skips old new run s i = record {
   drained = s.1.drained i.drained;
 }
 
-pub more_skips : (old new : Machine) → Steps old More new → Skips old new
-more_skips old new s = (s.0, s.2, s.3)
+pub more_skips : (old new : Machine) → Steps old More new → IsSilent old → Skips old new
+more_skips old new s silent = (s.0, s.2, s.3, (λ more switches f. s.4 more switches f ∙ rw (silent more f) refl))
 
 pub skips_trans : (a b c : Machine) → Skips a b → Skips b c → Skips a c
 skips_trans a b c s t = (
   (λ more switches f. s.0 more switches f ∙ t.0 more switches (rw s.1.finished f)),
   record { count = t.1.count ∙ s.1.count; finished = t.1.finished ∙ s.1.finished; table = t.1.table ∙ s.1.table; drained = λ h. t.1.drained (s.1.drained h) },
   t.2 ∙ s.2,
+  (λ more switches f. s.3 more switches f ∙ t.3 more switches (rw s.1.finished f)),
 )
 
 last_name-push : (ts : List Token) (t : Token) (name : Option (List ℕ)) → last_name (ts ++ t ∷ []) name ≡ name_after_kind t.kind (last_name ts name)
@@ -192,7 +193,7 @@ run_wait old new run s i = (rw s.0 i, run_prompt old run i s.1.1)
 pub run_wait_all : (old new : Machine) (run : Run) → Steps old Wait new → IsAt old run → run.finished ≡ true → tokens_of run.text run.switches run.start ≡ run.given
 run_wait_all old new run s i f = let e = i.finished in let g = s.1.0 in cc
 
-same_mode : (kind : TokenKind) (t : Machine) → record t { mode = switch_to kind None t.mode } ≡ t
+pub same_mode : (kind : TokenKind) (t : Machine) → record t { mode = switch_to kind None t.mode } ≡ t
 same_mode (kinds.Start name attrs self_closing) t = refl
 same_mode (kinds.End name) t = refl
 same_mode (kinds.Char c) t = refl
@@ -216,7 +217,7 @@ switches_data (kinds.Comment text) mode old h = rw h refl
 switches_data (kinds.Doctype name public_id system_id force_quirks) mode old h = rw h refl
 switches_data kinds.Eof mode old h = rw h refl
 
-switch_is : (kind : TokenKind) (mode old : TextMode) → MaySwitch kind mode → switch_to kind (Some mode) old ≡ switched (Some mode) old
+pub switch_is : (kind : TokenKind) (mode old : TextMode) → MaySwitch kind mode → switch_to kind (Some mode) old ≡ switched (Some mode) old
 switch_is kind mode old (inl h) = switches_start kind mode old h
 switch_is kind mode old (inr h) = switches_data kind mode old h
 
@@ -261,7 +262,7 @@ tokens_some rows zero mode name place (c ∷ rest) switches e =
 tokens_some rows (suc k) mode name place (c ∷ rest) switches e = tokens_some rows k mode name (place + 1) rest switches e
 
 -- where nothing is to come, the end was given
-none_to_come : (rows : List Row) (state : State) (mode : TextMode) (name : Option (List ℕ)) (place : ℕ) (rest : List ℕ) (switches : List (Option TextMode)) → coming rows state mode name place rest switches ≡ [] → IsEnded state
+pub none_to_come : (rows : List Row) (state : State) (mode : TextMode) (name : Option (List ℕ)) (place : ℕ) (rest : List ℕ) (switches : List (Option TextMode)) → coming rows state mode name place rest switches ≡ [] → IsEnded state
 none_to_come rows (Text Plain) mode name place rest switches e = absurd (tokens_some rows 0 mode name place rest switches e)
 none_to_come rows (Text Escaped) mode name place rest switches e = absurd (tokens_some rows _ _ name place rest _ (last_none (chars_at mode place (front mode Escaped name rest)) _ e))
 none_to_come rows (Text Double) mode name place rest switches e = absurd (tokens_some rows _ _ name place rest _ (last_none (chars_at mode place (front mode Double name rest)) _ e))
@@ -276,7 +277,7 @@ none_to_come rows Section mode name place rest switches e =
     absurd (tokens_some rows _ _ name place rest _ (last_none (chars_at Foreign place (cut section_mark rest).before) _ e))
 none_to_come rows Ended mode name place rest switches e = tt
 
-same_front : {X : Type 0} (xs ys : List X) → xs ≡ xs ++ ys → ys ≡ []
+pub same_front : {X : Type 0} (xs ys : List X) → xs ≡ xs ++ ys → ys ≡ []
 same_front [] ys e = sym e
 same_front (x ∷ xs) ys e = same_front xs ys (tail_same e)
   where

@@ -4,6 +4,11 @@ use Rattle.std.specs.List.{slice_get}
 use Rattle.std.specs.Option.{option_to_list}
 use Rattle.std.specs.Result.{IfOk}
 use Rattle.std.proofs.lemmas.List.{drop-append-le}
+use Rattle.html_tokens.specs.Errors.{errors_after, told_in}
+use Rattle.html_tokens.specs.Fed.{errors_coming}
+use Rattle.html_tokens.specs.declared.faults.Fault.{Fault}
+use Rattle.html_tokens.proofs.ErrorLemmas.{errors_end, errors_past, errors_past_all, errors_past_one}
+use Rattle.html_tokens.proofs.StepLemmas.{errors_opened}
 use Rattle.html_tokens.specs.Cut.{cut}
 use Rattle.html_tokens.specs.Input.{MayFollow, Decided}
 use Rattle.html_tokens.specs.Value.{value_cut}
@@ -41,6 +46,12 @@ tag_coming rows is_end start place t mode name rest switches =
     let given = tag_tokens is_end start (place + t.tail.len) t in
     given ++ tokens_after rows t.tail.len (mode_after given switches mode) (name_after given name) place rest (drop (length given) switches)
 
+-- the errors from a tag on
+abbrev pub tag_errors : List Row → Bool → ℕ → ℕ → WholeTag → TextMode → Option (List ℕ) → List ℕ → List (Option TextMode) → List Fault
+tag_errors rows is_end start place t mode name rest switches =
+    let given = tag_tokens is_end start (place + t.tail.len) t in
+    errors_after rows t.tail.len (mode_after given switches mode) (name_after given name) place rest (drop (length given) switches)
+
 new_tag_of : (rows : List Row) (d : TagDraft) (is_end : Bool) (start : ℕ) (rest : List ℕ) → new_tag d is_end start → draft_tag rows d rest ≡ tag_of rows rest
 new_tag_of rows d is_end start rest n = rw (n.2, n.3, n.4) refl
 
@@ -69,6 +80,13 @@ tag_opens old new b region is_end opened s (d, n, p) h k begun stop piece = (
   rw p.items (simp length-drop (omega arith)),
   record { count = rw (p.place, p.items) (simp length-drop (omega arith)); finished = p.finished; table = p.table; drained = going_on old new _ p.state (λ e. e) },
   p.name,
+  (λ more switches f. rw (s, p.state, p.mode, p.name, p.place, p.items, p.table, n.0, n.1)
+      (let items = old.input.queue.items in
+      errors_opened old.table.now b region old.mode old.last_name old.place opened (tag_of old.table.now (drop opened items ++ more)).tail.len items more switches (tag_piece old.table.now is_end opened old.place (items ++ more))
+      (begun more f) stop (piece more f) (rw (drop-append-le opened items more k) refl) h k
+      ∙ rw (drop-append-le opened items more k)
+      (ap (λ (t : WholeTag). told_in (Text region) old.mode old.last_name old.place (items ++ more) ++ tag_errors old.table.now is_end old.place (old.place + opened) t old.mode old.last_name (drop opened items ++ more) switches)
+      (sym (new_tag_of old.table.now d is_end old.place (drop opened items ++ more) n))))),
 )
 
 tag_step_on : (rows : List Row) (is_end : Bool) (start place : ℕ) (t : WholeTag) (mode : TextMode) (name : Option (List ℕ)) (items items' more : List ℕ) (switches : List (Option TextMode)) →
@@ -84,6 +102,18 @@ tag_step_on rows false start place t mode name items items' more switches i h =
     let given = tag_tokens false start (place + 1 + t.tail.len) t in
     rw n (ap (λ (ts : List Token). given ++ ts)
     (tokens_past_one rows t.tail.len (mode_after given switches mode) (name_after given name) place items items' more (drop (length given) switches) i h))
+
+tag_tells_on : (rows : List Row) (is_end : Bool) (start place : ℕ) (t : WholeTag) (mode : TextMode) (name : Option (List ℕ)) (items items' more : List ℕ) (switches : List (Option TextMode)) →
+    items' ≡ drop 1 items → 0 < length items →
+    tag_errors rows is_end start place (longer_tag t) mode name (items ++ more) switches ≡ tag_errors rows is_end start (place + 1) t mode name (items' ++ more) switches
+tag_tells_on rows true start place t mode name items items' more switches i h =
+    let n : place + suc t.tail.len ≡ place + 1 + t.tail.len = omega arith in
+    let given = tag_tokens true start (place + 1 + t.tail.len) t in
+    rw n (errors_past_one rows t.tail.len (mode_after given switches mode) (name_after given name) place items items' more (drop (length given) switches) i h)
+tag_tells_on rows false start place t mode name items items' more switches i h =
+    let n : place + suc t.tail.len ≡ place + 1 + t.tail.len = omega arith in
+    let given = tag_tokens false start (place + 1 + t.tail.len) t in
+    rw n (errors_past_one rows t.tail.len (mode_after given switches mode) (name_after given name) place items items' more (drop (length given) switches) i h)
 
 second_of : (rest : List ℕ) (c : ℕ) → slice_get (c ∷ rest) 1 ≡ slice_get rest 0
 second_of rest c = refl
@@ -103,6 +133,13 @@ tag_more old new d d' c after s (e, st, en) first second k p =
       rw p.items (simp length-drop (omega arith)),
       record { count = rw (p.place, p.items) (simp length-drop (omega arith)); finished = p.finished; table = p.table; drained = going_on old new _ p.state (λ e. e) },
       p.name,
+      (λ more switches f.
+          let text = first_of old.input.queue.items more c (first more f) h in
+          let after_is : (c ≡ 47 → slice_get (drop 1 old.input.queue.items ++ more) 0 ≡ after) = λ slash. (rw text at (second slash more f)) in
+          let whole = e old.table.now (drop 1 old.input.queue.items ++ more) after_is in
+          rw (s, p.state, p.mode, p.name, p.place, p.items, p.table, st, en)
+          (ap (λ (t : WholeTag). tag_errors old.table.now d.is_end d.start old.place t old.mode old.last_name (old.input.queue.items ++ more) switches) (ap (λ (x : List ℕ). draft_tag old.table.now d x) text ∙ whole)
+          ∙ tag_tells_on old.table.now d.is_end d.start old.place (draft_tag old.table.now d' (drop 1 old.input.queue.items ++ more)) old.mode old.last_name old.input.queue.items _ more switches refl h)),
     )
 
 mode_same : (is_end : Bool) (t : WholeTag) (switch : Option TextMode) (mode : TextMode) → mode_after_kind (tag_kind is_end t) switch mode ≡ switch_to (tag_kind is_end t) switch (mode_after_tag is_end mode)
@@ -132,6 +169,14 @@ tag_given_at old new d d' c after self_closing n progress s (e, st, en, short) f
           (rw add-zero at (tokens_past old.table.now n 0 (switch_to (tag_kind d.is_end t) switch (mode_after_tag d.is_end old.mode)) (name_after_tag d.is_end d'.name old.last_name) old.place old.input.queue.items more switches fit))))),
       record { count = rw (p.place, p.items) (simp length-drop (omega arith)); finished = p.finished; table = p.table; drained = going_on old new _ p.state (λ e. e) },
       p.name ∙ (rw en (sym (name_same d.is_end t old.last_name))),
+      (λ more switch switches f.
+          let text = first_of old.input.queue.items more c (first more f) h in
+          let after_is : (c ≡ 47 → slice_get (drop 1 old.input.queue.items ++ more) 0 ≡ after) = λ slash. (rw text at (second slash more f)) in
+          let whole = e old.table.now (drop 1 old.input.queue.items ++ more) after_is in
+          rw (s, p.state, p.mode, p.name, p.place, p.items, p.table, en)
+          (ap (λ (x : WholeTag). tag_errors old.table.now d.is_end d.start old.place x old.mode old.last_name (old.input.queue.items ++ more) (switch ∷ switches)) (ap (λ (x : List ℕ). draft_tag old.table.now d x) text ∙ whole)
+          ∙ rw (mode_same d.is_end t switch old.mode, name_same d.is_end t old.last_name)
+          (errors_past_all old.table.now n (switch_to (tag_kind d.is_end t) switch (mode_after_tag d.is_end old.mode)) (name_after_tag d.is_end d'.name old.last_name) old.place old.input.queue.items more switches fit))),
     )
 
 pub tag_given : {E : Type 0} (r : Result Progress E) (old new : Machine) (d d' : TagDraft) (c : ℕ) (after : Option ℕ) (self_closing : Bool) (n : ℕ) → old.state ≡ Tag d → ReadsTag d c after (Closed self_closing n) d' →
@@ -161,10 +206,25 @@ tag_dropped rows (Tag d) mode name place switches h = rw (tag_open rows d.part d
 tag_dropped rows Section mode name place switches h = absurd h
 tag_dropped rows Ended mode name place switches h = absurd h
 
+tag_quiet : (rows : List Row) (state : State) (mode : TextMode) (name : Option (List ℕ)) (place : ℕ) (switches : List (Option TextMode)) → IsTag state →
+    errors_coming rows state mode name place [] switches ≡ told_in state mode name place [] ++ []
+tag_quiet rows (Text region) mode name place switches h = absurd h
+tag_quiet rows (Number d) mode name place switches h = absurd h
+tag_quiet rows (Second c start) mode name place switches h = absurd h
+tag_quiet rows (Comment d) mode name place switches h = absurd h
+tag_quiet rows (Doctype d) mode name place switches h = absurd h
+tag_quiet rows (Tag d) mode name place switches h = errors_end rows _ _ _ place _
+tag_quiet rows Section mode name place switches h = absurd h
+tag_quiet rows Ended mode name place switches h = absurd h
+
 pub tag_ends : (old new : Machine) → IsTag old.state → new ≡ record old { state = Ended } →
     ((more : List ℕ) → MayFollow old.input.finished more → old.input.queue.items ++ more ≡ []) → Steps old (Given (token kinds.Eof old.place old.place)) new
-tag_ends old new s n e =
-    ((λ more switch switches f. rw (e more f, n) (tag_dropped old.table.now old.state old.mode old.last_name old.place (switch ∷ switches) s)), rw n (record { count = refl; finished = refl; table = refl; drained = λ _ _. all_read old.input.finished old.input.queue.items e }), rw n refl)
+tag_ends old new s n e = (
+  (λ more switch switches f. rw (e more f, n) (tag_dropped old.table.now old.state old.mode old.last_name old.place (switch ∷ switches) s)),
+  rw n (record { count = refl; finished = refl; table = refl; drained = λ _ _. all_read old.input.finished old.input.queue.items e }),
+  rw n refl,
+  (λ more switch switches f. rw (e more f, n) (tag_quiet old.table.now old.state old.mode old.last_name old.place (switch ∷ switches) s)),
+)
 
 same_kind : (is_end : Bool) (k : ℕ) (t : WholeTag) → tag_kind is_end (tag_by k t) ≡ tag_kind is_end t
 same_kind true k t = refl
@@ -179,6 +239,15 @@ tag_steps_on rows is_end start place k t mode name items more switches h =
     let given = when t.tail.closed (token (tag_kind is_end t) start (place + k + t.tail.len)) in
     rw (n, kind) (ap (λ (ts : List Token). given ++ ts)
     (tokens_past rows k t.tail.len (mode_after given switches mode) (name_after given name) place items more (drop (length given) switches) h))
+
+tag_tells_by : (rows : List Row) (is_end : Bool) (start place k : ℕ) (t : WholeTag) (mode : TextMode) (name : Option (List ℕ)) (items more : List ℕ) (switches : List (Option TextMode)) →
+    k ≤ length items →
+    tag_errors rows is_end start place (tag_by k t) mode name (items ++ more) switches ≡ tag_errors rows is_end start (place + k) t mode name (drop k items ++ more) switches
+tag_tells_by rows is_end start place k t mode name items more switches h =
+    let n : place + (k + t.tail.len) ≡ place + k + t.tail.len = omega arith in
+    let kind : tag_kind is_end (tag_by k t) ≡ tag_kind is_end t = same_kind is_end k t in
+    let given = when t.tail.closed (token (tag_kind is_end t) start (place + k + t.tail.len)) in
+    rw (n, kind) (errors_past rows k t.tail.len (mode_after given switches mode) (name_after given name) place items more (drop (length given) switches) h)
 
 -- what a `&` in a value begins is read
 pub ref_more : (old new : Machine) (d d' : TagDraft) (found : ValueRef) → old.state ≡ Tag d → ReadsRef d found d' →
@@ -200,6 +269,18 @@ ref_more old new d d' found s (e, st, en) first h (b, some, fit) p = (
   rw p.items (simp length-drop (omega arith)),
   record { count = rw (p.place, p.items) (simp length-drop (omega arith)); finished = p.finished; table = p.table; drained = going_on old new _ p.state (λ e. e) },
   p.name,
+  (λ more switches f.
+      let items = old.input.queue.items in
+      let text : items ++ more ≡ 38 ∷ (drop 1 items ++ more) = first_of items more 38 (first more f) h in
+      let k = ref_len found in
+      let begins = rw text at (b more f) in
+      let some_len : k ≤ suc (length (drop 1 items ++ more)) = simp (length-append, length-drop) (omega arith) in
+      let past : drop k (38 ∷ (drop 1 items ++ more)) ≡ drop k items ++ more = ap (λ (x : List ℕ). drop k x) (sym text) ∙ drop-append-le k items more fit in
+      let whole : draft_tag old.table.now d (items ++ more) ≡ tag_by k (draft_tag old.table.now d' (drop k items ++ more)) =
+      ap (λ (x : List ℕ). draft_tag old.table.now d x) text ∙ e old.table.now (drop 1 items ++ more) begins some some_len ∙ ap (λ (x : List ℕ). tag_by k (draft_tag old.table.now d' x)) past in
+      rw (s, p.state, p.mode, p.name, p.place, p.items, p.table, st, en)
+      (ap (λ (t : WholeTag). tag_errors old.table.now d.is_end d.start old.place t old.mode old.last_name (items ++ more) switches) whole
+      ∙ tag_tells_by old.table.now d.is_end d.start old.place k (draft_tag old.table.now d' (drop k items ++ more)) old.mode old.last_name items more switches fit)),
 )
 
 -- a front of the rest is copied
@@ -212,4 +293,8 @@ tag_skips old new d d' n s (e, fit, st, en) p = (
       ∙ tag_steps_on old.table.now d.is_end d.start old.place n (draft_tag old.table.now d' (drop n old.input.queue.items ++ more)) old.mode old.last_name old.input.queue.items more switches fit)),
   record { count = rw (p.place, p.items) (simp length-drop (omega arith)); finished = p.finished; table = p.table; drained = going_on old new _ p.state (λ e. e) },
   p.name,
+  (λ more switches f.
+      rw (s, p.state, p.mode, p.name, p.place, p.items, p.table, st, en)
+      (ap (λ (t : WholeTag). tag_errors old.table.now d.is_end d.start old.place t old.mode old.last_name (old.input.queue.items ++ more) switches) (e old.table.now more)
+      ∙ tag_tells_by old.table.now d.is_end d.start old.place n (draft_tag old.table.now d' (drop n old.input.queue.items ++ more)) old.mode old.last_name old.input.queue.items more switches fit)),
 )

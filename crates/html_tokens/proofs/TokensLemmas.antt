@@ -36,7 +36,7 @@ unfolding tokens_after
 tokens_unroll rows mode name place c rest switches = refl
 
 -- what begins in any region is what begins in plain text
-begin_plain : (mode : TextMode) (region : Region) (name : Option (List ℕ)) (text : List ℕ) (b : Begin) → begin_at mode region name text ≡ b → is_stop b ≡ true → begin_at mode Plain name text ≡ b
+pub begin_plain : (mode : TextMode) (region : Region) (name : Option (List ℕ)) (text : List ℕ) (b : Begin) → begin_at mode region name text ≡ b → is_stop b ≡ true → begin_at mode Plain name text ≡ b
 begin_plain Data region name text b e s = e
 begin_plain Rcdata region name text b e s = e
 begin_plain Rawtext region name text b e s = e
@@ -68,7 +68,7 @@ mode_cases P same to back (Some Foreign) Script = same Script
 mode_cases P same to back (Some Foreign) Plaintext = same Plaintext
 mode_cases P same to back (Some Foreign) Foreign = same Foreign
 
-chars_turned : (said : Option TextMode) (mode : TextMode) (place : ℕ) (cs : List ℕ) → chars_at mode place cs ≡ chars_at (stays said mode) place cs
+pub chars_turned : (said : Option TextMode) (mode : TextMode) (place : ℕ) (cs : List ℕ) → chars_at mode place cs ≡ chars_at (stays said mode) place cs
 chars_turned said mode place [] = refl
 chars_turned said mode place (c ∷ cs) =
     let one : text_char mode c ≡ text_char (stays said mode) c = mode_cases (λ m n. text_char m c ≡ text_char n c) (λ m. refl) refl refl said mode in
@@ -86,22 +86,22 @@ front_foreign region name (c ∷ rest) =
     let stop : is_stop (begin_at Data region name (c ∷ rest)) ≡ is_stop (begin_at Foreign region name (c ∷ rest)) = stops_in (c == 60) (opens_section (c ∷ rest)) (cond (c == 38) begins.Reference begins.Char) in
     rw (stop, front_foreign Plain name rest) refl
 
-front_turned : (said : Option TextMode) (mode : TextMode) (region : Region) (name : Option (List ℕ)) (text : List ℕ) → front mode region name text ≡ front (stays said mode) region name text
+pub front_turned : (said : Option TextMode) (mode : TextMode) (region : Region) (name : Option (List ℕ)) (text : List ℕ) → front mode region name text ≡ front (stays said mode) region name text
 front_turned said mode region name text =
     mode_cases (λ m n. front m region name text ≡ front n region name text) (λ m. refl) (front_foreign region name text) (sym (front_foreign region name text)) said mode
 
 -- A FRONT OF TEXT
 
-front_stop : (mode : TextMode) (region : Region) (name : Option (List ℕ)) (c : ℕ) (rest : List ℕ) (b : Begin) → begin_at mode region name (c ∷ rest) ≡ b → is_stop b ≡ true → front mode region name (c ∷ rest) ≡ []
+pub front_stop : (mode : TextMode) (region : Region) (name : Option (List ℕ)) (c : ℕ) (rest : List ℕ) (b : Begin) → begin_at mode region name (c ∷ rest) ≡ b → is_stop b ≡ true → front mode region name (c ∷ rest) ≡ []
 unfolding front
 front_stop mode region name c rest b e s = rw (e, s) refl
 
-front_go : (mode : TextMode) (region : Region) (name : Option (List ℕ)) (c : ℕ) (rest : List ℕ) → begin_at mode region name (c ∷ rest) ≡ begins.Char →
+pub front_go : (mode : TextMode) (region : Region) (name : Option (List ℕ)) (c : ℕ) (rest : List ℕ) → begin_at mode region name (c ∷ rest) ≡ begins.Char →
     front mode region name (c ∷ rest) ≡ c ∷ front mode (region_in mode region (c ∷ rest)) name rest
 unfolding front
 front_go mode region name c rest e = rw e refl
 
-front_end : (mode : TextMode) (region : Region) (name : Option (List ℕ)) → front mode region name [] ≡ []
+pub front_end : (mode : TextMode) (region : Region) (name : Option (List ℕ)) → front mode region name [] ≡ []
 unfolding front
 front_end mode region name = refl
 

@@ -9,7 +9,7 @@ use Rattle.html_charref.specs.declared.table.Row.{Row}
 use Rattle.html_tokens.specs.Bounds.{Bounded, IsBounded, IsWithin}
 use Rattle.html_tokens.specs.Copied.{AllPass, CopiesTag, copied_in, is_copied}
 use Rattle.html_tokens.specs.Cut.{cut, ends_unquoted, is_space}
-use Rattle.html_tokens.specs.Fed.{EndsTagAt, Passes, Skips, Steps, new_tag}
+use Rattle.html_tokens.specs.Fed.{told_at, IsSilent, EndsTagAt, Passes, Skips, Steps, new_tag}
 use Rattle.html_tokens.specs.Input.{Decided, MayFollow}
 use Rattle.html_tokens.specs.Marks.{begin_at}
 use Rattle.html_tokens.specs.Short.{at_close}
@@ -324,8 +324,8 @@ copies_front d d' rest pushed name len c p fit a e at h t =
 -- A tag begins, and some of it is copied.
 pub begins_whole : (old passed : Machine) (d d' : TagDraft) (n : ℕ) → old.state ≡ Text Plain → 1 ≤ length old.input.queue.items → Decided old.input (begin_at old.mode Plain old.last_name) begins.Markup →
     ((more : List ℕ) → MayFollow old.input.finished more → begun_piece old.table.now begins.Markup old.place (old.input.queue.items ++ more) ≡ tag_piece old.table.now false 1 old.place (old.input.queue.items ++ more)) →
-    new_tag d false old.place → CopiesTag d (drop 1 old.input.queue.items) n d' → Passes old (1 + n) old.state passed → Skips old (record passed { state = Tag d' })
-begins_whole old passed d d' n s some begun piece fresh copies p =
+    IsSilent old → new_tag d false old.place → CopiesTag d (drop 1 old.input.queue.items) n d' → Passes old (1 + n) old.state passed → Skips old (record passed { state = Tag d' })
+begins_whole old passed d d' n s some begun piece silent fresh copies p =
     let a : Machine = at_close old 1 d in
     let opens : Steps old More a =
     tag_opens old a begins.Markup Plain false 1 s (d, fresh, record { items = refl; finished = refl; place = refl; mode = refl; name = refl; state = refl; table = refl }) (omega arith) some begun refl piece in
@@ -336,6 +336,7 @@ begins_whole old passed d d' n s some begun piece fresh copies p =
       (λ more switches f. opens.0 more switches f ∙ goes.0 more switches f),
       record { count = goes.1.count ∙ opens.2.count; finished = goes.1.finished ∙ opens.2.finished; table = goes.1.table ∙ opens.2.table; drained = λ h. goes.1.drained (opens.2.drained h) },
       goes.2 ∙ opens.3,
+      (λ more switches f. opens.4 more switches f ∙ rw (silent more f) (goes.3 more switches f)),
     )
 
 closes_at : (d : TagDraft) → d.part ≡ parts.Attributes → ReadsTag d 62 None (Closed false 1) d
@@ -355,11 +356,12 @@ is_named : (part : Part) (rest : List ℕ) (c : ℕ) → IsNamed part rest → s
 is_named part rest c (inl p) e h = p
 is_named part rest c (inr f) e h = absurd (false≢true (sym (f c e) ∙ h))
 
-gives_after : (old m new : Machine) (given : Token) → Skips old m → Steps m (Given given) new → Steps old (Given given) new
-gives_after old m new given skips gives = (
+gives_after : (old m new : Machine) (given : Token) → Skips old m → Steps m (Given given) new → IsSilent old → ((more : List ℕ) → told_at m more ≡ []) → Steps old (Given given) new
+gives_after old m new given skips gives silent quiet = (
   (λ more switch switches f. skips.0 more (switch ∷ switches) f ∙ gives.0 more switch switches (rw skips.1.finished f)),
   record { count = gives.1.count ∙ skips.1.count; finished = gives.1.finished ∙ skips.1.finished; table = gives.1.table ∙ skips.1.table; drained = λ h. gives.1.drained (skips.1.drained h) },
   gives.2 ∙ ap (λ (n : Option (List ℕ)). name_after_kind given.kind n) skips.2,
+  (λ more switch switches f. skips.3 more (switch ∷ switches) f ∙ gives.3 more switch switches (rw skips.1.finished f) ∙ rw (quiet more, silent more f) refl),
 )
 
 ends_as : (passed new : Machine) (d : TagDraft) (self_closing : Bool) (len : ℕ) (given : Token) → EndsTagAt passed d self_closing len (Given given) new → EndsTagAt (record passed { state = Tag d }) d self_closing len (Given given) new
@@ -367,21 +369,21 @@ ends_as passed new d self_closing len given e = record { given = e.given; items 
 
 -- It closes where it was copied to.
 pub closes_whole : (old passed new : Machine) (d : TagDraft) (self_closing : Bool) (len : ℕ) (given : Token) → Skips old (record passed { state = Tag d }) → IsNamed d.part passed.input.queue.items → ClosesTag passed.input.queue.items self_closing len →
-    EndsTagAt passed d self_closing len (Given given) new → Steps old (Given given) new
-closes_whole old passed new d self_closing len given skips named (inl (first, sc, one)) ends =
+    EndsTagAt passed d self_closing len (Given given) new → IsSilent old → Steps old (Given given) new
+closes_whole old passed new d self_closing len given skips named (inl (first, sc, one)) ends silent =
     let m = record passed { state = Tag d } in
     let items = passed.input.queue.items in
     let room = slice_get_within items 0 62 first in
     let p = is_named d.part items 62 named first refl in
     let ends' : EndsTagAt m d false 1 (Given given) new = rw (sc, one) at (ends_as passed new d self_closing len given ends) in
-    gives_after old m new given skips (tag_given_at m new d d 62 None false 1 (Given given) refl (closes_at d p) (λ more f. front_more items more 0 62 first) (λ h. absurd (false≢true (ap (λ (n : ℕ). n == 47) h))) (omega arith) ends')
-closes_whole old passed new d self_closing len given skips named (inr (first, second, sc, two)) ends =
+    gives_after old m new given skips (tag_given_at m new d d 62 None false 1 (Given given) refl (closes_at d p) (λ more f. front_more items more 0 62 first) (λ h. absurd (false≢true (ap (λ (n : ℕ). n == 47) h))) (omega arith) ends') silent (λ more. refl)
+closes_whole old passed new d self_closing len given skips named (inr (first, second, sc, two)) ends silent =
     let m = record passed { state = Tag d } in
     let items = passed.input.queue.items in
     let room = slice_get_within items 1 62 second in
     let p = is_named d.part items 47 named first refl in
     let ends' : EndsTagAt m d true 2 (Given given) new = rw (sc, two) at (ends_as passed new d self_closing len given ends) in
-    gives_after old m new given skips (tag_given_at m new d d 47 (Some 62) true 2 (Given given) refl (closes_itself d p) (λ more f. front_more items more 0 47 first) (λ h more f. front_more items more 1 62 second) (omega arith) ends')
+    gives_after old m new given skips (tag_given_at m new d d 47 (Some 62) true 2 (Given given) refl (closes_itself d p) (λ more f. front_more items more 0 47 first) (λ h more f. front_more items more 1 62 second) (omega arith) ends') silent (λ more. refl)
 
 -- the bounds after what was read of it
 pub whole_bounded : (old passed : Machine) (d d' : TagDraft) (n compared : ℕ) (f f' : Faults) → old.state ≡ Text Plain → d.attrs ≡ [] → KeepsBounds d n compared d' → passed.place ≡ old.place + (1 + n) →

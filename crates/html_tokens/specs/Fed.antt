@@ -1,4 +1,4 @@
--- Claimed, but for this crate's own functions: SameCount, to_come_after, Steps, Skips, Passes, IsComment, IsTag, IsDoctype, EndsDoctype, BeginsDoctype, EndsComment, new_tag, BeginsTag, mode_after_tag, name_after_tag, read_tag, EndsTagAt, EndsTag, GivesChars.
+-- Claimed, but for this crate's own functions: SameCount, to_come_after, errors_to_come_after, told_at, IsSilent, TellsAt, Tells, Steps, Skips, Passes, IsComment, IsTag, IsDoctype, EndsDoctype, BeginsDoctype, EndsComment, new_tag, BeginsTag, mode_after_tag, name_after_tag, read_tag, EndsTagAt, EndsTag, GivesChars.
 -- What a tokenizer has still to give, and what it was fed.
 use Rattle.std.specs.Prelude.{◌≡◌, ℕ, ◌+◌, ◌<◌, List, [], ◌∷◌, ◌++◌, length, drop, Bool, true, false, Option, Some, None}
 use Rattle.html_tokens.specs.Cut.{cut, section_mark}
@@ -9,6 +9,7 @@ use Rattle.html_tokens.specs.Input.{MayFollow, IsShort}
 use Rattle.html_tokens.specs.Tag.{draft_tag}
 use Rattle.html_tokens.specs.Tag.{Tag as WholeTag}
 use Rattle.html_tokens.specs.Tokens.{token, tokens_after, text_after, chars_at, tag_tokens, tag_kind, doctype_kind, stays, switch_of, switched, mode_after, name_after, name_after_kind}
+use Rattle.html_tokens.specs.Errors.{all_told, errors_after, IsQuiet, openings, told_in}
 use Rattle.html_tokens.specs.Marks.{front, name_len}
 use Rattle.html_tokens.specs.Reference.{numbered}
 use Rattle.html_charref.specs.Number.{char_of}
@@ -19,6 +20,8 @@ use Rattle.html_tokens.specs.declared.comment.CommentDraft.{CommentDraft}
 use Rattle.html_tokens.specs.declared.tag.TagDraft.{TagDraft}
 use Rattle.html_tokens.specs.declared.tag.Part.TheVariants as parts
 use Rattle.html_tokens.specs.declared.token.TextMode.TheVariants.{Data, Foreign}
+use Rattle.html_tokens.specs.declared.faults.Fault.{Fault}
+use Rattle.html_tokens.specs.declared.faults.Faults.{Faults}
 use Rattle.html_tokens.specs.declared.token.Token.{Token}
 use Rattle.html_tokens.specs.declared.token.TokenKind.{TokenKind}
 use Rattle.html_tokens.specs.declared.token.TokenKind.TheVariants as kinds
@@ -56,6 +59,35 @@ coming rows Ended mode name place rest switches = []
 
 abbrev pub to_come : Machine → List ℕ → List (Option TextMode) → List Token
 to_come t more switches = coming t.table.now t.state t.mode t.last_name t.place (t.input.queue.items ++ more) switches
+
+-- the errors from a place of text in a region on
+abbrev pub text_errors : List Row → List ℕ → TextMode → Option (List ℕ) → ℕ → List ℕ → List (Option TextMode) → List Fault
+text_errors rows chars mode name place text switches =
+    let given = chars_at mode place chars in
+    errors_after rows (length chars) (mode_after given switches mode) name place text (drop (length given) switches)
+
+-- the errors still to come from a state at a place, where this is the whole rest of the text
+abbrev pub errors_coming : List Row → State → TextMode → Option (List ℕ) → ℕ → List ℕ → List (Option TextMode) → List Fault
+errors_coming rows (Text Plain) mode name place rest switches = errors_after rows 0 mode name place rest switches
+errors_coming rows (Text Escaped) mode name place rest switches = text_errors rows (front mode Escaped name rest) mode name place rest switches
+errors_coming rows (Text Double) mode name place rest switches = text_errors rows (front mode Double name rest) mode name place rest switches
+errors_coming rows (Number draft) mode name place rest switches =
+    errors_after rows (numbered draft.base draft.value rest).len (stays (switch_of switches) mode) name place rest (drop 1 switches)
+errors_coming rows (Second c start) mode name place rest switches = errors_after rows 0 (stays (switch_of switches) mode) name place rest (drop 1 switches)
+errors_coming rows (Comment draft) mode name place rest switches = errors_after rows (draft_cut draft rest).len (stays (switch_of switches) mode) name place rest (drop 1 switches)
+errors_coming rows (Doctype draft) mode name place rest switches = errors_after rows (draft_doctype draft rest).len (stays (switch_of switches) mode) name place rest (drop 1 switches)
+errors_coming rows (Tag draft) mode name place rest switches =
+    let t = draft_tag rows draft rest in
+    let given = tag_tokens draft.is_end draft.start (place + t.tail.len) t in
+    errors_after rows t.tail.len (mode_after given switches mode) (name_after given name) place rest (drop (length given) switches)
+errors_coming rows Section mode name place rest switches =
+    let section = cut section_mark rest in
+    let given = chars_at Foreign place section.before in
+    errors_after rows section.len (mode_after given switches mode) name place rest (drop (length given) switches)
+errors_coming rows Ended mode name place rest switches = []
+
+abbrev pub errors_to_come : Machine → List ℕ → List (Option TextMode) → List Fault
+errors_to_come t more switches = errors_coming t.table.now t.state t.mode t.last_name t.place (t.input.queue.items ++ more) switches
 
 -- the end was given
 abbrev pub IsEnded : State → Type 0
@@ -95,14 +127,36 @@ switch_to kinds.Eof said mode = stays said mode
 abbrev pub to_come_after : Token → Option TextMode → Machine → List ℕ → List (Option TextMode) → List Token
 to_come_after given switch t more switches = coming t.table.now t.state (switch_to given.kind switch t.mode) t.last_name t.place (t.input.queue.items ++ more) switches
 
+abbrev pub errors_to_come_after : Token → Option TextMode → Machine → List ℕ → List (Option TextMode) → List Fault
+errors_to_come_after given switch t more switches = errors_coming t.table.now t.state (switch_to given.kind switch t.mode) t.last_name t.place (t.input.queue.items ++ more) switches
+
+abbrev pub told_at : Machine → List ℕ → List Fault
+told_at t more = told_in t.state t.mode t.last_name t.place (t.input.queue.items ++ more)
+
+-- whatever follows, a step tells nothing
+abbrev pub IsSilent : Machine → Type 0
+IsSilent t = (more : List ℕ) → MayFollow t.input.finished more → told_at t more ≡ []
+
+-- What a step tells, where no error was lost.
+abbrev pub TellsAt : Machine → Faults → Faults → Type 0
+TellsAt t old new = new.lost ≡ false → (old.lost ≡ false) × ((more : List ℕ) → MayFollow t.input.finished more → openings new.list ≡ all_told (openings old.list) (told_at t more))
+
+abbrev pub Tells : Machine → Progress → Faults → Faults → Type 0
+Tells t (Given given) old new = TellsAt t old new
+Tells t More old new = TellsAt t old new
+Tells t Wait old new = IsQuiet old new
+
 abbrev pub Steps : Machine → Progress → Machine → Type 0
 Steps old More new =
     ((more : List ℕ) (switches : List (Option TextMode)) → MayFollow old.input.finished more → to_come old more switches ≡ to_come new more switches)
     × (length new.input.queue.items < length old.input.queue.items) × SameCount old new × (new.last_name ≡ old.last_name)
+    × ((more : List ℕ) (switches : List (Option TextMode)) → MayFollow old.input.finished more → errors_to_come old more switches ≡ told_at old more ++ errors_to_come new more switches)
 Steps old (Given given) new =
     ((more : List ℕ) (switch : Option TextMode) (switches : List (Option TextMode)) → MayFollow old.input.finished more →
     to_come old more (switch ∷ switches) ≡ given ∷ to_come_after given switch new more switches)
     × SameCount old new × (new.last_name ≡ name_after_kind given.kind old.last_name)
+    × ((more : List ℕ) (switch : Option TextMode) (switches : List (Option TextMode)) → MayFollow old.input.finished more →
+    errors_to_come old more (switch ∷ switches) ≡ told_at old more ++ errors_to_come_after given switch new more switches)
 Steps old Wait new = (new ≡ old) × IsShort old.input (slack old.table.now old.last_name)
 
 -- Some of the rest was passed, and what is still to come is the same.
@@ -110,6 +164,7 @@ abbrev pub Skips : Machine → Machine → Type 0
 Skips old new =
     ((more : List ℕ) (switches : List (Option TextMode)) → MayFollow old.input.finished more → to_come old more switches ≡ to_come new more switches)
     × SameCount old new × (new.last_name ≡ old.last_name)
+    × ((more : List ℕ) (switches : List (Option TextMode)) → MayFollow old.input.finished more → errors_to_come old more switches ≡ errors_to_come new more switches)
 
 -- So many code points were passed, and the state is another. All else is as it was.
 pub record Passes (old : Machine) (count : ℕ) (after : State) (new : Machine) : Type 0 where

@@ -1,7 +1,8 @@
 -- Claimed.
 -- What callers of a tokenizer know of it: its run.
 use Rattle.std.specs.Prelude.{◌≡◌, ◌⊎◌, ℕ, ◌+◌, ◌-◌, ◌^◌, min, List, [], length, Bool, true, false, cond, Option}
-use Rattle.html_tokens.specs.Stream.{Run, Start, IsAt, gave, answered, tokens_of}
+use Rattle.html_tokens.specs.Stream.{AreTold, errors_of, Run, Start, IsAt, gave, answered, tokens_of}
+use Rattle.html_tokens.specs.Errors.{openings}
 use Rattle.html_charref.specs.declared.table.Row.{Row}
 use Rattle.html_tokens.specs.Runs.{is_text, plain_front}
 use Rattle.html_tokens.specs.Tokens.{is_data}
@@ -12,13 +13,14 @@ use Rattle.html_tokens.specs.declared.token.TextMode.{TextMode}
 use Rattle.html_tokens.specs.declared.faults.Fault.{Fault}
 use Rattle.html_tokens.specs.declared.tokenizer.Tokenizer.{Tokenizer}
 
--- The tokenizer is where this run leaves it.
+-- The tokenizer is where this run leaves it, and has told what the text so far tells.
 unfoldable pub Fed : Tokenizer → Run → Type 0
-Fed t run = IsAt t.machine run
+Fed t run = IsAt t.machine run × (t.faults.lost ≡ false) × AreTold t.machine t.faults run
 
 -- The tokenizer has just given a token, and may be told the mode of what follows.
 unfoldable pub Awaits : Tokenizer → Run → Token → Type 0
-Awaits t run given = (switch : Option TextMode) → IsAt (answered given switch t.machine) (gave run given switch)
+Awaits t run given = ((switch : Option TextMode) → IsAt (answered given switch t.machine) (gave run given switch)) × (t.faults.lost ≡ false)
+    × ((switch : Option TextMode) → AreTold (answered given switch t.machine) t.faults (gave run given switch))
 
 -- how many code points were fed
 unfoldable pub fed_len : Tokenizer → ℕ
@@ -60,6 +62,8 @@ pub record IsTold (start : Start) (text : List ℕ) (switches : List (Option Tex
   pub finished : run.finished ≡ true
   pub all : tokens_of run.text run.switches run.start ≡ run.given
   pub errors_are : told tokenizer ≡ errors
+  -- those of them that are told of what a `<` begins are those of the text
+  pub openings_are : openings errors ≡ errors_of text switches start
   pub steps_are : steps_taken tokenizer ≡ steps
 
 -- the plain text that comes next, as far as it was fed

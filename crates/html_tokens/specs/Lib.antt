@@ -4,6 +4,7 @@ pub mod Cost
 pub mod Cut
 pub mod Doctype
 pub mod Draft
+pub mod Errors
 pub mod Fed
 pub mod Given
 pub mod Input

@@ -1,12 +1,15 @@
 -- Claimed, but for this crate's own functions: GoesOn.
 -- What a tokenizer was fed and has given, however the text was cut.
-use Rattle.std.specs.Prelude.{◌≡◌, ℕ, ◌+◌, ◌≤◌, List, [], ◌∷◌, ◌++◌, length, Bool, true, Option}
+use Rattle.std.specs.Prelude.{◌≡◌, ℕ, ◌+◌, ◌≤◌, List, [], ◌∷◌, ◌++◌, length, Bool, true, false, Option}
 use Rattle.std.specs.List.{AllByRecursion}
 use Rattle.html_tokens.specs.Input.{MayFollow}
 use Rattle.html_tokens.specs.Tokens.{tokens_after, name_after_kind}
 use Rattle.html_charref.specs.Table.{IsTable}
 use Rattle.html_charref.specs.declared.table.Row.{Row}
-use Rattle.html_tokens.specs.Fed.{to_come, switch_to, slack, IsDrained}
+use Rattle.html_tokens.specs.Errors.{all_told, errors_after, openings}
+use Rattle.html_tokens.specs.Fed.{to_come, errors_to_come, switch_to, slack, IsDrained}
+use Rattle.html_tokens.specs.declared.faults.Fault.{Fault}
+use Rattle.html_tokens.specs.declared.faults.Faults.{Faults}
 use Rattle.html_tokens.specs.declared.token.Token.{Token}
 use Rattle.html_tokens.specs.declared.token.TextMode.{TextMode}
 use Rattle.html_tokens.specs.declared.machine.Machine.{Machine}
@@ -20,6 +23,10 @@ pub record Start : Type 0 where
 -- the tokens of a text, under what is said after each token of the mode for what follows
 abbrev pub tokens_of : List ℕ → List (Option TextMode) → Start → List Token
 tokens_of text switches start = tokens_after start.rows 0 start.mode start.name 0 text switches
+
+-- The errors of a text, under what is said after each token of the mode for what follows: in order of their places, and at one place as the text has them.
+abbrev pub errors_of : List ℕ → List (Option TextMode) → Start → List Fault
+errors_of text switches start = all_told [] (errors_after start.rows 0 start.mode start.name 0 text switches)
 
 -- What was fed, whether that is all, the tokens given, and for each what was said of the mode.
 pub record Run : Type 0 where
@@ -48,6 +55,11 @@ pub record IsAt (t : Machine) (run : Run) : Type 0 where
   pub rule : IsTable run.start.rows
   -- and where it has given the end, it has read all
   pub drained : IsDrained t
+
+-- However a run goes on, the errors told and those that are still to come are those of the text.
+abbrev pub AreTold : Machine → Faults → Run → Type 0
+AreTold t faults run = faults.lost ≡ false → (more : List ℕ) (switches : List (Option TextMode)) → MayFollow run.finished more →
+    errors_of (run.text ++ more) (run.switches ++ switches) run.start ≡ all_told (openings faults.list) (errors_to_come t more switches)
 
 -- the run after a token, and what is said of the mode after it
 abbrev pub gave : Run → Token → Option TextMode → Run

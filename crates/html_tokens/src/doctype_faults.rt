@@ -1,6 +1,7 @@
 // The parse errors that a doctype tells (HTML 13.2.5.53 to 13.2.5.68).
-ghost use Rattle.std.specs.Prelude.{◌≡◌, ℕ, ◌≤◌, ◌+◌, length};
+ghost use Rattle.std.specs.Prelude.{◌≡◌, ℕ, ◌≤◌, ◌+◌, false, length, IfSome};
 ghost use Rattle.html_tokens.specs.Bounds.{Told};
+ghost use Rattle.html_tokens.specs.Errors.{is_opening, IsQuiet};
 
 use crate::doctype::DoctypePart;
 use crate::fault_name::FaultName;
@@ -9,7 +10,11 @@ use crate::input::Peek;
 use crate::tag::is_space;
 
 /// What a code point tells where an id may begin: that no white space stands before its quote, or that it is no quote.
-fn id_fault(c: char, spaced: bool, unspaced: FaultName, unquoted: FaultName) -> Option<FaultName> {
+fn id_fault(c: char, spaced: bool, unspaced: FaultName, unquoted: FaultName) -> Option<FaultName>
+    requires unspaced { is_opening unspaced ≡ false }
+    requires unquoted { is_opening unquoted ≡ false }
+    ensures { IfSome result (λ name. is_opening name ≡ false) }
+{
     match c {
         '"' | '\'' if spaced => None,
         '"' | '\'' => Some(unspaced),
@@ -18,7 +23,9 @@ fn id_fault(c: char, spaced: bool, unspaced: FaultName, unquoted: FaultName) -> 
 }
 
 /// What a code point other than white space and `>` tells in a part of a doctype, where no keyword begins.
-fn part_fault(part: DoctypePart, c: char, spaced: bool) -> Option<FaultName> {
+fn part_fault(part: DoctypePart, c: char, spaced: bool) -> Option<FaultName>
+    ensures { IfSome result (λ name. is_opening name ≡ false) }
+{
     match part {
         DoctypePart::BeforeName if spaced => None,
         DoctypePart::BeforeName => Some(FaultName::MissingWhitespaceBeforeDoctypeName),
@@ -52,7 +59,9 @@ fn part_fault(part: DoctypePart, c: char, spaced: bool) -> Option<FaultName> {
 }
 
 /// What a `>` tells that closes a doctype in one of its parts.
-fn close_fault(part: DoctypePart) -> Option<FaultName> {
+fn close_fault(part: DoctypePart) -> Option<FaultName>
+    ensures { IfSome result (λ name. is_opening name ≡ false) }
+{
     match part {
         DoctypePart::BeforeName => Some(FaultName::MissingDoctypeName),
         DoctypePart::BeforePublic => Some(FaultName::MissingDoctypePublicIdentifier),
@@ -72,6 +81,7 @@ impl Faults {
     /// stands before it.
     pub(crate) fn doctype(&mut self, part: DoctypePart, spaced: bool, found: Peek, place: u64)
         ensures told { Told 2 0 self.old self.new }
+        ensures quiet { IsQuiet self.old self.new }
     {
         match found {
             Peek::Wait => {}
@@ -89,6 +99,7 @@ impl Faults {
     /// What the end tells in a part of a doctype.
     fn doctype_end(&mut self, part: DoctypePart, place: u64)
         ensures told { Told 1 0 self.old self.new }
+        ensures quiet { IsQuiet self.old self.new }
     {
         match part {
             DoctypePart::BadRest(_) => {}
@@ -97,7 +108,9 @@ impl Faults {
     }
 
     fn tell_named(&mut self, name: Option<FaultName>, place: u64)
+        requires other { IfSome name (λ name. is_opening name ≡ false) }
         ensures told { Told 1 0 self.old self.new }
+        ensures quiet { IsQuiet self.old self.new }
     {
         if let Some(name) = name {
             self.tell(name, place);

@@ -1,13 +1,15 @@
 // The parse errors that are told, and what they rest on.
-ghost use Rattle.std.specs.Prelude.{◌≡◌, [], false, MatchOption};
+ghost use Rattle.std.specs.Prelude.{◌≡◌, ◌+◌, ◌<◌, ◌≤◌, ◌^◌, ◌&&◌, ℕ, [], ◌∷◌, true, false, length, option_to_list, slice_get, IfSome, MatchOption, OnOk, Some};
 ghost use Rattle.html_tokens.specs.Order.{IsAdded};
 ghost use Rattle.html_tokens.specs.Bounds.{Told};
-ghost use Rattle.html_tokens.specs.Input.{IsShort};
+ghost use Rattle.html_tokens.specs.Errors.{bogus_error, fault, is_cdata, is_opening, IsQuiet, literal_error, Opens, opening_errors};
+ghost use Rattle.html_tokens.specs.Input.{Decided, IsShort};
+ghost use Rattle.html_tokens.specs.Tokens.{opened_len, opener};
 
 use crate::fault_list::FaultList;
 use crate::fault_name::FaultName;
 use crate::input::{Input, Peek};
-use crate::marks::is_at;
+use crate::marks::{is_at, stands};
 use crate::token::{Opener, Region};
 use html_charref::RefFault;
 use std::alloc::{AllocError, Global};
@@ -46,7 +48,9 @@ pub struct Faults {
 }
 
 /// The name of what is wrong with a number.
-fn number_name(fault: RefFault) -> FaultName {
+fn number_name(fault: RefFault) -> FaultName
+    ensures { is_opening result ≡ false }
+{
     match fault {
         RefFault::Null => FaultName::NullCharacterReference,
         RefFault::OutsideRange => FaultName::CharacterReferenceOutsideUnicodeRange,
@@ -64,27 +68,27 @@ fn is_other(input: &Input, at: usize, c: char) -> bool {
     }
 }
 
+/// What opens a section, after `<!`.
+const CDATA: [char; 7] = ['[', 'C', 'D', 'A', 'T', 'A', '['];
+
 /// Whether `[CDATA[` stands after `<!`.
 fn is_cdata(input: &Input) -> Option<bool>
-    ensures { MatchOption result (IsShort input.now 8) (λ _. Unit {0}) }
+    ensures { MatchOption result (IsShort input.now 8) (λ found. Decided input.now is_cdata found) }
 {
-    Some(
-        is_at(input, 2, '[')?
-            && is_at(input, 3, 'C')?
-            && is_at(input, 4, 'D')?
-            && is_at(input, 5, 'A')?
-            && is_at(input, 6, 'T')?
-            && is_at(input, 7, 'A')?
-            && is_at(input, 8, '[')?,
-    )
+    stands(input, &CDATA, 2)
 }
 
 /// What a `<` in data tells, by what it begins; nothing where more input is wanted.
 pub(crate) fn opening_fault(input: &Input, found: Opener, place: u64) -> Option<Option<Fault>>
-    ensures { MatchOption result (IsShort input.now 8) (λ _. Unit {0}) }
+    requires found { Decided input.now opener found }
+    requires some { 0 < opened_len found }
+    requires fit { opened_len found ≤ length input.now.queue.items }
+    requires room { place + length input.now.queue.items < 2 ^ 64 }
+    ensures told { MatchOption result (IsShort input.now 8) (λ fault. Decided input.now (opening_errors found place) (option_to_list fault)) }
+    ensures opening { IfSome result (λ fault. IfSome fault (λ f. is_opening f.name ≡ true)) }
 {
     Some(match found {
-        Opener::Literal => Some(literal_fault(input, place)),
+        Opener::Literal => Some(literal_fault(input, place)?),
         Opener::Empty => Some(Fault {
             name: FaultName::MissingEndTagName,
             place: place.saturating_add(2),
@@ -99,27 +103,36 @@ pub(crate) fn opening_fault(input: &Input, found: Opener, place: u64) -> Option<
 }
 
 /// What a `<` or `</` tells that is text.
-fn literal_fault(input: &Input, place: u64) -> Fault {
+fn literal_fault(input: &Input, place: u64) -> Option<Fault>
+    requires some { 0 < length input.now.queue.items }
+    requires room { place + length input.now.queue.items < 2 ^ 64 }
+    ensures told { MatchOption result (IsShort input.now 8) (λ f. Decided input.now (λ rest. literal_error (slice_get rest 1) place) f) }
+    ensures opening { IfSome result (λ f. is_opening f.name ≡ true) }
+{
     let next = place.saturating_add(1);
     match input.peek(1) {
-        Peek::Is(None) => Fault {
+        Peek::Wait => None,
+        Peek::Is(None) => Some(Fault {
             name: FaultName::EofBeforeTagName,
             place: next,
-        },
-        Peek::Is(Some('/')) => Fault {
+        }),
+        Peek::Is(Some('/')) => Some(Fault {
             name: FaultName::EofBeforeTagName,
             place: next.saturating_add(1),
-        },
-        Peek::Is(Some(_)) | Peek::Wait => Fault {
+        }),
+        Peek::Is(Some(_)) => Some(Fault {
             name: FaultName::InvalidFirstCharacterOfTagName,
             place: next,
-        },
+        }),
     }
 }
 
 /// What `<?`, `</` or `<!` tells that begins a bogus comment; nothing where more input is wanted.
 fn bogus_fault(input: &Input, place: u64) -> Option<Fault>
-    ensures { MatchOption result (IsShort input.now 8) (λ _. Unit {0}) }
+    requires two { 1 < length input.now.queue.items }
+    requires room { place + length input.now.queue.items < 2 ^ 64 }
+    ensures told { MatchOption result (IsShort input.now 8) (λ f. Decided input.now (bogus_error place) f) }
+    ensures opening { IfSome result (λ f. is_opening f.name ≡ true) }
 {
     let next = place.saturating_add(1);
     if is_at(input, 1, '?')? {
@@ -147,6 +160,7 @@ impl Faults {
     pub(crate) fn new(alloc: Global) -> Faults
         ensures list { result.list ≡ [] }
         ensures compared { result.compared ≡ 0 }
+        ensures kept { result.lost ≡ false }
     {
         Faults {
             list: FaultList::new(alloc),
@@ -162,12 +176,16 @@ impl Faults {
     }
 
     /// Whether an error could not be kept for want of memory.
-    pub(crate) fn is_lost(&self) -> bool {
+    pub(crate) fn is_lost(&self) -> bool
+        ensures { result ≡ self.now.lost }
+    {
         self.lost
     }
 
     /// Refused where an error could not be kept for want of memory.
-    pub(crate) fn check(&self) -> Result<(), AllocError> {
+    pub(crate) fn check(&self) -> Result<(), AllocError>
+        ensures { OnOk result (self.now.lost ≡ false) }
+    {
         if self.lost { Err(AllocError) } else { Ok(()) }
     }
 
@@ -179,6 +197,8 @@ impl Faults {
     /// Adds an error, or notes that memory was refused.
     pub(crate) fn tell(&mut self, name: FaultName, place: u64)
         ensures told { Told 1 0 self.old self.new }
+        ensures quiet { is_opening name ≡ false → IsQuiet self.old self.new }
+        ensures opens { is_opening name ≡ true → Opens (fault name place ∷ []) self.old self.new }
         ensures added { self.new.lost ≡ false → IsAdded self.old.list (record { name = name; place = place }) self.new.list }
         ensures compared { self.new.compared ≡ self.old.compared }
     {
@@ -189,7 +209,9 @@ impl Faults {
     }
 
     pub(crate) fn tell_some(&mut self, fault: Option<Fault>)
+        requires opening { IfSome fault (λ f. is_opening f.name ≡ true) }
         ensures told { Told 1 0 self.old self.new }
+        ensures opens { Opens (option_to_list fault) self.old self.new }
     {
         if let Some(Fault { name, place }) = fault {
             self.tell(name, place);
@@ -199,6 +221,7 @@ impl Faults {
     /// What a U+0000 tells.
     pub(crate) fn null(&mut self, c: char, place: u64)
         ensures told { Told 1 0 self.old self.new }
+        ensures quiet { IsQuiet self.old self.new }
     {
         if c == '\0' {
             self.tell(FaultName::UnexpectedNullCharacter, place);
@@ -208,6 +231,7 @@ impl Faults {
     /// What a code point of text tells.
     pub(crate) fn text_char(&mut self, c: char, place: u64)
         ensures told { Told 2 0 self.old self.new }
+        ensures quiet { IsQuiet self.old self.new }
     {
         self.letter(c, place);
         self.null(c, place);
@@ -216,6 +240,7 @@ impl Faults {
     /// What the end tells in a section.
     pub(crate) fn section_end(&mut self, place: u64)
         ensures told { Told 1 0 self.old self.new }
+        ensures quiet { IsQuiet self.old self.new }
     {
         self.tell(FaultName::EofInCdata, place);
     }
@@ -223,6 +248,7 @@ impl Faults {
     /// What the end tells in text.
     pub(crate) fn text_end(&mut self, region: Region, place: u64)
         ensures told { Told 1 0 self.old self.new }
+        ensures quiet { IsQuiet self.old self.new }
     {
         match region {
             Region::Plain => {}

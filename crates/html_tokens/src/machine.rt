@@ -1,9 +1,9 @@
 // The state machine.
 ghost use Rattle.std.specs.Prelude.{◌≡◌, ◌≤◌, ◌+◌, ◌^◌, ◌<◌, [], false, length, IfOk, OnErr, OnOk, IfSome, IfNone, true};
-ghost use Rattle.html_tokens.specs.Fed.{Steps, Passes};
+ghost use Rattle.html_tokens.specs.Fed.{Steps, Tells, Passes};
 ghost use Rattle.html_tokens.specs.Tokens.{switched, token};
 ghost use Rattle.html_tokens.specs.Bounds.{IsBounded, IsWithin};
-ghost use Rattle.html_tokens.specs.Stream.{Run, IsAt, gave, fed, ended, answered, IsPrompt, tokens_of};
+ghost use Rattle.html_tokens.specs.Stream.{AreTold, Run, IsAt, gave, fed, ended, answered, IsPrompt, tokens_of};
 ghost use Rattle.html_tokens.specs.declared.token.TextMode.{TextMode};
 ghost use Rattle.std.specs.Prelude.{Option};
 
@@ -83,6 +83,7 @@ impl<'a> Machine<'a> {
         last_name: Option<Name>,
     ) -> Machine<'a>
         ensures begins { IsAt result (record { start = record { rows = table.now; mode = mode; name = last_name }; text = []; finished = false; given = []; switches = [] }) }
+        ensures telling { (faults : Faults) → faults.list ≡ [] → AreTold result faults (record { start = record { rows = table.now; mode = mode; name = last_name }; text = []; finished = false; given = []; switches = [] }) }
         ensures going { result.input.finished ≡ false }
         ensures bounded { (faults : Faults) → faults.list ≡ [] → faults.compared ≡ 0 → IsBounded result faults }
         ensures room { result.place + length result.input.queue.items ≡ 0 }
@@ -123,6 +124,7 @@ impl<'a> Machine<'a> {
     pub(crate) fn feed(&mut self, text: &[char]) -> Result<(), AllocError>
         requires { self.old.input.finished ≡ false }
         ensures fed { OnOk result ((run : Run) → IsAt self.old run → IsAt self.new (fed run text.now)) }
+        ensures telling { OnOk result ((faults : Faults) (run : Run) → IsAt self.old run → AreTold self.old faults run → AreTold self.new faults (fed run text.now)) }
         ensures count { OnOk result (self.new.place + length self.new.input.queue.items ≡ self.old.place + length self.old.input.queue.items + length text.now) }
         ensures kept { self.new ≡ record self.old { input = self.new.input } }
         ensures finished { self.new.input.finished ≡ self.old.input.finished }
@@ -133,6 +135,7 @@ impl<'a> Machine<'a> {
 
     pub(crate) fn finish(&mut self)
         ensures ended { (run : Run) → IsAt self.old run → IsAt self.new (ended run) }
+        ensures telling { (faults : Faults) (run : Run) → AreTold self.old faults run → AreTold self.new faults (ended run) }
         ensures new { self.new ≡ record self.old { input = record self.old.input { finished = true } } }
         ensures room { self.new.place + length self.new.input.queue.items ≡ self.old.place + length self.old.input.queue.items }
     {
@@ -175,6 +178,7 @@ impl<'a> Machine<'a> {
         ensures finished { OnErr result (self.new.input.finished ≡ self.old.input.finished) }
         ensures bounded { IsBounded self.old faults.old → OnOk result (IsBounded self.new faults.new) }
         ensures within { IsBounded self.old faults.old → OnErr result (IsWithin self.new.place faults.new) }
+        ensures tells { IfOk result (λ progress. Tells self.old progress faults.old faults.new) }
     {
         match &self.state {
             State::Text(region) => {
@@ -203,6 +207,9 @@ impl<'a> Machine<'a> {
         ensures given { IfOk result (λ answer. IfSome answer (λ token. (run : Run) → IsAt self.old run → (switch : Option TextMode) → IsAt (answered token switch self.new) (gave run token switch))) }
         ensures prompt { IfOk result (λ answer. IfNone answer ((run : Run) → IsAt self.old run → IsAt self.new run × IsPrompt run)) }
         ensures all { IfOk result (λ answer. IfNone answer ((run : Run) → IsAt self.old run → run.finished ≡ true → tokens_of run.text run.switches run.start ≡ run.given)) }
+        ensures telling { IfOk result (λ answer. IfSome answer (λ token. (run : Run) → IsAt self.old run → AreTold self.old faults.old run → (switch : Option TextMode) → AreTold (answered token switch self.new) faults.new (gave run token switch))) }
+        ensures told { IfOk result (λ answer. IfNone answer ((run : Run) → IsAt self.old run → AreTold self.old faults.old run → AreTold self.new faults.new run)) }
+        ensures kept { faults.old.lost ≡ false → OnOk result (faults.new.lost ≡ false) }
         ensures room { self.new.place + length self.new.input.queue.items ≤ self.old.place + length self.old.input.queue.items }
         ensures finished { self.new.input.finished ≡ self.old.input.finished }
         ensures bounded { IsBounded self.old faults.old → OnOk result (IsBounded self.new faults.new) }
@@ -224,6 +231,9 @@ impl<'a> Machine<'a> {
         ensures given { IfOk result (λ answer. IfSome answer (λ token. (run : Run) → IsAt self.old run → (switch : Option TextMode) → IsAt (answered token switch self.new) (gave run token switch))) }
         ensures prompt { IfOk result (λ answer. IfNone answer ((run : Run) → IsAt self.old run → IsAt self.new run × IsPrompt run)) }
         ensures all { IfOk result (λ answer. IfNone answer ((run : Run) → IsAt self.old run → run.finished ≡ true → tokens_of run.text run.switches run.start ≡ run.given)) }
+        ensures telling { IfOk result (λ answer. IfSome answer (λ token. (run : Run) → IsAt self.old run → AreTold self.old faults.old run → (switch : Option TextMode) → AreTold (answered token switch self.new) faults.new (gave run token switch))) }
+        ensures told { IfOk result (λ answer. IfNone answer ((run : Run) → IsAt self.old run → AreTold self.old faults.old run → AreTold self.new faults.new run)) }
+        ensures kept { OnOk result (faults.new.lost ≡ false) }
         ensures room { self.new.place + length self.new.input.queue.items ≤ self.old.place + length self.old.input.queue.items }
         ensures finished { self.new.input.finished ≡ self.old.input.finished }
         ensures bounded { IsBounded self.old faults.old → OnOk result (IsBounded self.new faults.new) }
@@ -232,6 +242,7 @@ impl<'a> Machine<'a> {
         loop {
             self.read_on(faults)?;
             if let State::Ended = &self.state {
+                faults.check()?;
                 return Ok(None);
             }
             let progress = self.step(faults)?;

@@ -82,7 +82,7 @@ pub(crate) fn begins_word(input: &Input, word: &[char], from: usize) -> Option<b
 }
 
 /// Whether at a place of the rest stands this word, as it is written.
-fn stands(input: &Input, word: &[char], from: usize) -> Option<bool>
+pub(crate) fn stands(input: &Input, word: &[char], from: usize) -> Option<bool>
     requires { from + length word.now ≤ 9 }
     ensures { MatchOption result (IsShort input.now 8) (λ found. Decided input.now (stands word.now from) found × (found ≡ true → 0 < length word.now → from + length word.now ≤ length input.now.queue.items)) }
 {

@@ -3,7 +3,8 @@ ghost use Rattle.std.specs.Prelude.{chars, ◌≡◌, ℕ, ◌≤◌, ◌+◌, �
 ghost use Rattle.html_tokens.specs.Bounds.{IsBounded, IsWithin};
 ghost use Rattle.html_tokens.specs.Cut.{is};
 ghost use Rattle.html_tokens.specs.Copied.{AllPass, EndsAt, is_copied};
-ghost use Rattle.html_tokens.specs.Fed.{EndsTagAt, Skips, Steps};
+ghost use Rattle.html_tokens.specs.Errors.{IsQuiet};
+ghost use Rattle.html_tokens.specs.Fed.{EndsTagAt, IsSilent, Skips, Steps};
 ghost use Rattle.html_tokens.specs.Input.{Decided, MayFollow};
 ghost use Rattle.html_tokens.specs.Marks.{begin_at};
 ghost use Rattle.html_tokens.specs.Short.{at_close, short_draft};
@@ -151,6 +152,9 @@ impl<'a> Machine<'a> {
         ensures finished { self.new.input.finished ≡ self.old.input.finished }
         ensures bounded { IsBounded self.old faults.old → OnOk result (IsBounded self.new faults.new) }
         ensures within { IsBounded self.old faults.old → OnErr result (IsWithin self.new.place faults.new) }
+        ensures silent { IfOk result (λ answer. IfSome answer (λ given. IsSilent self.old)) }
+        ensures quiet { IsQuiet faults.old faults.new }
+        ensures lost { faults.new.lost ≡ faults.old.lost }
     {
         if !self.is_at_markup() {
             return Ok(None);
@@ -193,6 +197,7 @@ impl<'a> Machine<'a> {
         requires begun { Decided self.old.input (begin_at self.old.mode Region.Plain self.old.last_name) Begin.Markup }
         requires start { (more : List ℕ) → MayFollow self.old.input.finished more
             → begun_piece self.old.table.now Begin.Markup self.old.place (self.old.input.queue.items ++ more) ≡ tag_piece self.old.table.now false 1 self.old.place (self.old.input.queue.items ++ more) }
+        requires silent { IsSilent self.old }
         requires some { 1 ≤ length self.old.input.queue.items }
         requires room { self.old.place + length self.old.input.queue.items < 2 ^ 64 }
         ensures given { IfOk result (λ answer. IfSome answer (λ given. Steps self.old (Progress.Given given) self.new)) }
@@ -201,6 +206,8 @@ impl<'a> Machine<'a> {
         ensures finished { self.new.input.finished ≡ self.old.input.finished }
         ensures bounded { IsBounded self.old faults.old → OnOk result (IsBounded self.new faults.new) }
         ensures within { IsBounded self.old faults.old → OnErr result (IsWithin self.new.place faults.new) }
+        ensures quiet { IsQuiet faults.old faults.new }
+        ensures lost { faults.new.lost ≡ faults.old.lost }
     {
         let (len, closes) = self.name_len(1);
         if closes {

@@ -41,7 +41,8 @@ pub enum TokenError {
 }
 
 impl<'a> Tokenizer<'a> {
-    ghost use Rattle.html_tokens.specs.Stream.{Run, Start, gave, fed, ended, IsPrompt, tokens_of};
+    ghost use Rattle.html_tokens.specs.Errors.{openings};
+    ghost use Rattle.html_tokens.specs.Stream.{errors_of, Run, Start, gave, fed, ended, IsPrompt, tokens_of};
     ghost use Rattle.html_tokens.specs.Given.{Fed, Awaits, fed_len, is_stopped, is_finished, told, plain_next, steps_taken, visits_made, comparisons_made, MaySwitch, run_from};
     ghost use Rattle.html_tokens.specs.Runs.{gave_all};
     ghost use Rattle.html_tokens.specs.Marks.{front};
@@ -307,6 +308,8 @@ impl<'a> Tokenizer<'a> {
         ensures ordered { IsNonDecreasingBy (λ x. x.place) result.now }
         ensures bound { length result.now ≤ 11 * (fed_len self.now + 2) }
         ensures count { (run : Run) → Fed self.now run → fed_len self.now ≡ length run.text }
+        // Once all tokens were given, those told of what a `<` begins are those of the text.
+        ensures openings { (run : Run) → Fed self.now run → run.finished ≡ true → tokens_of run.text run.switches run.start ≡ run.given → openings result.now ≡ errors_of run.text run.switches run.start }
     {
         self.faults.list.as_slice()
     }

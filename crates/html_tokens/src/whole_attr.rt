@@ -2,6 +2,7 @@
 ghost use Rattle.std.specs.Prelude.{◌≡◌, ℕ, ◌≤◌, ◌+◌, ◌-◌, ◌<◌, ◌^◌, length, min, slice_get, take, Some, true, IfOk, IfSome, IfNone, OnErr, OnOk};
 ghost use Rattle.html_tokens.specs.Bounds.{IsBounded, IsWithin};
 ghost use Rattle.html_tokens.specs.Copied.{AllPass, CopiesTag, EndsAt, copied_in, is_copied};
+ghost use Rattle.html_tokens.specs.Errors.{IsQuiet};
 ghost use Rattle.html_tokens.specs.Fed.{Skips};
 ghost use Rattle.html_tokens.specs.Whole.{AddsOne, ClosesValue, IsValue, IsWholeAttr, OpensValue, quote_len, whole_len};
 
@@ -189,6 +190,8 @@ impl Faults {
     /// What was taken at once ends at this place.
     pub(crate) fn took(&mut self, taken: Taken, place: u64)
         ensures list { self.new.list ≡ self.old.list }
+        ensures lost { self.new.lost ≡ self.old.lost }
+        ensures quiet { IsQuiet self.old self.new }
         ensures compared { self.new.compared ≡ min (self.old.compared + taken.compared) (2 ^ 128 - 1) }
     {
         self.compared = self.compared.saturating_add(taken.compared);
@@ -203,6 +206,7 @@ impl<'a> Machine<'a> {
     pub(crate) fn attr_on(&mut self, faults: &mut Faults) -> Result<bool, AllocError>
         requires room { self.old.place + length self.old.input.queue.items < 2 ^ 64 }
         ensures skips { OnOk result (Skips self.old self.new) }
+        ensures quiet { IsQuiet faults.old faults.new }
         ensures fewer { IfOk result (λ on. on ≡ true → length self.new.input.queue.items < length self.old.input.queue.items) }
         ensures room { self.new.place + length self.new.input.queue.items ≤ self.old.place + length self.old.input.queue.items }
         ensures left { length self.new.input.queue.items ≤ length self.old.input.queue.items }

@@ -2,7 +2,8 @@
 ghost use Rattle.std.specs.Prelude.{◌≡◌, ℕ, ◌≤◌, ◌+◌, ◌<◌, ◌^◌, List, ◌++◌, drop, length, take, false, IfOk, IfSome, IfNone, OnErr, OnOk};
 ghost use Rattle.html_tokens.specs.Bounds.{IsBounded, IsWithin};
 ghost use Rattle.html_tokens.specs.Copied.{AllPass, CopiesTag, is_copied};
-ghost use Rattle.html_tokens.specs.Fed.{EndsTagAt, Skips, Steps};
+ghost use Rattle.html_tokens.specs.Errors.{IsQuiet};
+ghost use Rattle.html_tokens.specs.Fed.{EndsTagAt, IsSilent, Skips, Steps};
 ghost use Rattle.html_tokens.specs.Input.{Decided, MayFollow};
 ghost use Rattle.html_tokens.specs.Marks.{begin_at};
 ghost use Rattle.html_tokens.specs.Tokens.{begun_piece, tag_piece};
@@ -125,6 +126,7 @@ impl<'a> Machine<'a> {
         requires begun { Decided self.old.input (begin_at self.old.mode Region.Plain self.old.last_name) Begin.Markup }
         requires start { (more : List ℕ) → MayFollow self.old.input.finished more
             → begun_piece self.old.table.now Begin.Markup self.old.place (self.old.input.queue.items ++ more) ≡ tag_piece self.old.table.now false 1 self.old.place (self.old.input.queue.items ++ more) }
+        requires silent { IsSilent self.old }
         requires fit { 1 + name ≤ length self.old.input.queue.items }
         requires name { AllPass (is_copied Copied.Name) (take name (drop 1 self.old.input.queue.items)) }
         requires room { self.old.place + length self.old.input.queue.items < 2 ^ 64 }
@@ -134,6 +136,8 @@ impl<'a> Machine<'a> {
         ensures finished { self.new.input.finished ≡ self.old.input.finished }
         ensures bounded { IsBounded self.old faults.old → OnOk result (IsBounded self.new faults.new) }
         ensures within { IsBounded self.old faults.old → OnErr result (IsWithin self.new.place faults.new) }
+        ensures quiet { IsQuiet faults.old faults.new }
+        ensures lost { faults.new.lost ≡ faults.old.lost }
     {
         let mut draft = TagDraft::new(self.alloc, false, self.place);
         let taken = draft.take_front(&self.input.queue.unread()[1..], name)?;

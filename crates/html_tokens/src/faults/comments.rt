@@ -1,5 +1,6 @@
 // What comments tell.
 ghost use Rattle.html_tokens.specs.Bounds.{Told};
+ghost use Rattle.html_tokens.specs.Errors.{IsQuiet};
 
 use super::{Faults, is_other};
 use crate::comment::CommentKind;
@@ -10,6 +11,7 @@ impl Faults {
     /// What a code point of a comment tells.
     pub(crate) fn comment_char(&mut self, kind: CommentKind, found: Peek, place: u64)
         ensures told { Told 2 0 self.old self.new }
+        ensures quiet { IsQuiet self.old self.new }
     {
         let Peek::Is(Some(c)) = found else {
             return;
@@ -24,6 +26,7 @@ impl Faults {
     /// What a code point tells that may belong to a `<!--` inside a comment.
     fn nested_char(&mut self, c: char, place: u64)
         ensures told { Told 1 0 self.old self.new }
+        ensures quiet { IsQuiet self.old self.new }
     {
         match (self.watch.opened, c) {
             (_, '<') => self.watch.opened = 1,
@@ -40,6 +43,7 @@ impl Faults {
     /// What the end of a comment tells, where so many code points close it.
     pub(crate) fn comment_end(&mut self, kind: CommentKind, input: &Input, len: usize, place: u64)
         ensures told { Told 2 0 self.old self.new }
+        ensures quiet { IsQuiet self.old self.new }
     {
         match kind {
             CommentKind::Bogus => {}
@@ -54,6 +58,7 @@ impl Faults {
     /// What closes a comment may hold the dashes of a `<!--`.
     fn nested_end(&mut self, input: &Input, len: usize, place: u64)
         ensures told { Told 1 0 self.old self.new }
+        ensures quiet { IsQuiet self.old self.new }
     {
         let dashes = match self.watch.opened {
             2 => 2,
@@ -71,6 +76,7 @@ impl Faults {
     /// What closes a comment is `-->`, or `--!>`, or the end.
     fn declared_end(&mut self, input: &Input, len: usize, place: u64)
         ensures told { Told 1 0 self.old self.new }
+        ensures quiet { IsQuiet self.old self.new }
     {
         let end = place.saturating_add(len as u64);
         if len == 4 {

@@ -1,5 +1,6 @@
 // What references tell.
 ghost use Rattle.html_tokens.specs.Bounds.{Told};
+ghost use Rattle.html_tokens.specs.Errors.{IsQuiet};
 
 use super::{Faults, is_other, number_name};
 use crate::fault_name::FaultName;
@@ -12,6 +13,7 @@ impl Faults {
     /// A `&` begins a name that is in no table: the letters after it are watched.
     pub(crate) fn unknown(&mut self, place: u64)
         ensures told { Told 0 0 self.old self.new }
+        ensures quiet { IsQuiet self.old self.new }
     {
         self.watch.reference = place;
         self.watch.letters = Some(place.saturating_add(1));
@@ -20,6 +22,7 @@ impl Faults {
     /// What a code point tells after a `&` and letters or digits.
     pub(super) fn letter(&mut self, c: char, place: u64)
         ensures told { Told 1 0 self.old self.new }
+        ensures quiet { IsQuiet self.old self.new }
     {
         let Some(expected) = self.watch.letters else {
             return;
@@ -40,6 +43,7 @@ impl Faults {
     /// What a `&` tells that begins no reference and after which a `#` stands.
     pub(crate) fn no_digits(&mut self, place: u64)
         ensures told { Told 1 0 self.old self.new }
+        ensures quiet { IsQuiet self.old self.new }
     {
         self.tell(FaultName::AbsenceOfDigitsInNumericCharacterReference, place);
     }
@@ -47,6 +51,7 @@ impl Faults {
     /// What a name of this length tells.
     pub(crate) fn name(&mut self, input: &Input, len: usize, place: u64)
         ensures told { Told 1 0 self.old self.new }
+        ensures quiet { IsQuiet self.old self.new }
     {
         if 1 < len && is_other(input, len - 1, ';') {
             self.tell(FaultName::MissingSemicolonAfterCharacterReference, place);
@@ -56,6 +61,7 @@ impl Faults {
     /// What a number tells when it is whole.
     pub(crate) fn number(&mut self, value: u32, is_closed: bool, place: u64)
         ensures told { Told 2 0 self.old self.new }
+        ensures quiet { IsQuiet self.old self.new }
     {
         if !is_closed {
             self.tell(FaultName::MissingSemicolonAfterCharacterReference, place);
@@ -69,6 +75,7 @@ impl Faults {
     /// What the front of the rest of a value tells, where a `&` stands.
     pub(crate) fn value_ref(&mut self, input: &Input, part: Part, found: ValueRef, place: u64)
         ensures told { Told 3 0 self.old self.new }
+        ensures quiet { IsQuiet self.old self.new }
     {
         if let Part::Number(_, _, value) = part {
             self.number(value, false, self.watch.reference);

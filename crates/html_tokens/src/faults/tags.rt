@@ -1,6 +1,7 @@
 // What tags tell.
 ghost use Rattle.std.specs.Prelude.{◌≡◌, ◌+◌, ◌-◌, ◌^◌, min, length};
 ghost use Rattle.html_tokens.specs.Bounds.{Told};
+ghost use Rattle.html_tokens.specs.Errors.{IsQuiet};
 ghost use Rattle.html_tokens.specs.Places.{comparisons};
 
 use super::Faults;
@@ -13,6 +14,7 @@ impl Faults {
     /// What a code point of a tag tells that begins no reference; what follows a `/` is known.
     pub(crate) fn tag_char(&mut self, draft: &TagDraft, c: char, after: Option<char>, place: u64)
         ensures told { Told 5 (length draft.now.attrs) self.old self.new }
+        ensures quiet { IsQuiet self.old self.new }
     {
         match draft.part {
             Part::Name => self.solidus(c, after, place),
@@ -32,6 +34,7 @@ impl Faults {
     /// What a `/` tells that closes nothing.
     fn solidus(&mut self, c: char, after: Option<char>, place: u64)
         ensures told { Told 1 0 self.old self.new }
+        ensures quiet { IsQuiet self.old self.new }
     {
         match after {
             Some(next) if c == '/' && next != '>' => {
@@ -44,6 +47,7 @@ impl Faults {
     /// What a code point tells where an attribute may begin.
     fn between(&mut self, c: char, after: Option<char>, place: u64)
         ensures told { Told 3 0 self.old self.new }
+        ensures quiet { IsQuiet self.old self.new }
     {
         if is_space(c) || c == '>' {
             return;
@@ -64,6 +68,7 @@ impl Faults {
     /// What a code point of the name of an attribute tells.
     fn name_char(&mut self, c: char, place: u64)
         ensures told { Told 1 0 self.old self.new }
+        ensures quiet { IsQuiet self.old self.new }
     {
         if matches!(c, '"' | '\'' | '<') {
             self.tell(FaultName::UnexpectedCharacterInAttributeName, place);
@@ -73,6 +78,7 @@ impl Faults {
     /// What a code point tells in or just after the name of an attribute.
     fn attr_name(&mut self, draft: &TagDraft, c: char, after: Option<char>, place: u64)
         ensures told { Told 2 (length draft.now.attrs) self.old self.new }
+        ensures quiet { IsQuiet self.old self.new }
     {
         if ends_attr(c) {
             self.name_end(draft, place);
@@ -85,6 +91,7 @@ impl Faults {
     /// The name of an attribute is compared with those before it, up to the first equal one.
     fn name_end(&mut self, draft: &TagDraft, place: u64)
         ensures told { Told 1 (length draft.now.attrs) self.old self.new }
+        ensures quiet { IsQuiet self.old self.new }
         ensures compared { self.new.compared ≡ min (self.old.compared + comparisons draft.now.attr_name draft.now.attrs) (2 ^ 128 - 1) }
     {
         let (found, compared) = draft.attrs.search(&draft.attr_name);
@@ -97,6 +104,7 @@ impl Faults {
     /// What a code point tells after the name of an attribute and white space.
     fn after_name(&mut self, c: char, after: Option<char>, place: u64)
         ensures told { Told 1 0 self.old self.new }
+        ensures quiet { IsQuiet self.old self.new }
     {
         if c == '/' {
             self.solidus(c, after, place);
@@ -108,6 +116,7 @@ impl Faults {
     /// What a code point tells where a value may begin.
     fn value_start(&mut self, c: char, place: u64)
         ensures told { Told 2 0 self.old self.new }
+        ensures quiet { IsQuiet self.old self.new }
     {
         match c {
             '>' => self.tell(FaultName::MissingAttributeValue, place),
@@ -119,6 +128,7 @@ impl Faults {
     /// What a code point tells inside a value.
     fn value_char(&mut self, end: ValueEnd, c: char, place: u64)
         ensures told { Told 2 0 self.old self.new }
+        ensures quiet { IsQuiet self.old self.new }
     {
         match end {
             ValueEnd::DoubleQuote => self.quoted_char('"', c, place),
@@ -137,6 +147,7 @@ impl Faults {
 
     fn quoted_char(&mut self, quote: char, c: char, place: u64)
         ensures told { Told 1 0 self.old self.new }
+        ensures quiet { IsQuiet self.old self.new }
     {
         if c == quote {
             self.watch.quote = Some(place.saturating_add(1));
@@ -147,6 +158,7 @@ impl Faults {
     /// What a code point tells after the digits of a number in a value.
     fn number_char(&mut self, base: Base, value: u32, c: char)
         ensures told { Told 2 0 self.old self.new }
+        ensures quiet { IsQuiet self.old self.new }
     {
         match digit(c, base) {
             Some(_) => {}
@@ -157,6 +169,7 @@ impl Faults {
     /// What the `>` of an end tag tells.
     pub(crate) fn tag_close(&mut self, draft: &TagDraft, self_closing: bool, len: usize, place: u64)
         ensures told { Told 2 0 self.old self.new }
+        ensures quiet { IsQuiet self.old self.new }
     {
         if !draft.is_end {
             return;
@@ -173,6 +186,7 @@ impl Faults {
     /// What the end of the input tells in a tag.
     pub(crate) fn tag_end(&mut self, draft: &TagDraft, place: u64)
         ensures told { Told 3 (length draft.now.attrs) self.old self.new }
+        ensures quiet { IsQuiet self.old self.new }
     {
         match draft.part {
             Part::AttrName => self.name_end(draft, place),

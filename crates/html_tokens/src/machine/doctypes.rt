@@ -1,5 +1,6 @@
 // Steps in doctypes.
 ghost use Rattle.std.specs.Prelude.{◌≡◌, ◌≤◌, ◌+◌, ◌^◌, ◌<◌, length, IfOk, OnErr, OnOk};
+ghost use Rattle.html_tokens.specs.Errors.{IsQuiet};
 ghost use Rattle.html_tokens.specs.Fed.{Steps, IsDoctype, EndsDoctype};
 ghost use Rattle.html_tokens.specs.Bounds.{IsBounded, IsWithin};
 
@@ -20,6 +21,7 @@ impl<'a> Machine<'a> {
         ensures finished { OnErr result (self.new.input.finished ≡ self.old.input.finished) }
         ensures bounded { IsBounded self.old faults.old → OnOk result (IsBounded self.new faults.new) }
         ensures within { IsBounded self.old faults.old → OnErr result (IsWithin self.new.place faults.new) }
+        ensures quiet { IsQuiet faults.old faults.new }
     {
         let State::Doctype(draft) = &mut self.state else {
             return Ok(Progress::Wait);

@@ -1,5 +1,6 @@
 // Reading on as long as no token can come of it.
 ghost use Rattle.std.specs.Prelude.{◌≡◌, ◌≤◌, ◌+◌, ◌^◌, ◌<◌, length, IfOk, OnErr, OnOk, true};
+ghost use Rattle.html_tokens.specs.Errors.{IsQuiet};
 ghost use Rattle.html_tokens.specs.Fed.{Skips};
 ghost use Rattle.html_tokens.specs.Bounds.{IsBounded, IsWithin};
 
@@ -76,6 +77,7 @@ impl<'a> Machine<'a> {
     fn tag_on(&mut self, faults: &mut Faults) -> Result<bool, AllocError>
         requires room { self.old.place + length self.old.input.queue.items < 2 ^ 64 }
         ensures skips { OnOk result (Skips self.old self.new) }
+        ensures quiet { IsQuiet faults.old faults.new }
         ensures fewer { IfOk result (λ on. on ≡ true → length self.new.input.queue.items < length self.old.input.queue.items) }
         ensures room { self.new.place + length self.new.input.queue.items ≤ self.old.place + length self.old.input.queue.items }
         ensures left { length self.new.input.queue.items ≤ length self.old.input.queue.items }
@@ -109,6 +111,7 @@ impl<'a> Machine<'a> {
     fn go_on(&mut self, faults: &mut Faults) -> Result<bool, AllocError>
         requires room { self.old.place + length self.old.input.queue.items < 2 ^ 64 }
         ensures skips { OnOk result (Skips self.old self.new) }
+        ensures quiet { IsQuiet faults.old faults.new }
         ensures fewer { IfOk result (λ on. on ≡ true → length self.new.input.queue.items < length self.old.input.queue.items) }
         ensures room { self.new.place + length self.new.input.queue.items ≤ self.old.place + length self.old.input.queue.items }
         ensures left { length self.new.input.queue.items ≤ length self.old.input.queue.items }
@@ -128,6 +131,7 @@ impl<'a> Machine<'a> {
     pub(super) fn read_on(&mut self, faults: &mut Faults) -> Result<(), AllocError>
         requires room { self.old.place + length self.old.input.queue.items < 2 ^ 64 }
         ensures skips { OnOk result (Skips self.old self.new) }
+        ensures quiet { IsQuiet faults.old faults.new }
         ensures room { self.new.place + length self.new.input.queue.items ≤ self.old.place + length self.old.input.queue.items }
         ensures fewer { length self.new.input.queue.items ≤ length self.old.input.queue.items }
         ensures finished { self.new.input.finished ≡ self.old.input.finished }

@@ -1,6 +1,7 @@
 // What a `<` in data begins.
-ghost use Rattle.std.specs.Prelude.{◌≡◌, ◌≤◌, ◌+◌, ◌^◌, ◌<◌, [], length};
-ghost use Rattle.html_tokens.specs.Fed.{Steps, Passes, BeginsTag, BeginsDoctype};
+ghost use Rattle.std.specs.Prelude.{◌≡◌, ◌≤◌, ◌+◌, ◌^◌, ◌<◌, [], length, option_to_list, true, IfSome};
+ghost use Rattle.html_tokens.specs.Errors.{is_opening, opening_errors};
+ghost use Rattle.html_tokens.specs.Fed.{Tells, Steps, Passes, BeginsTag, BeginsDoctype};
 ghost use Rattle.html_tokens.specs.Input.{Decided};
 ghost use Rattle.html_tokens.specs.Tokens.{token, opener, opened_len};
 ghost use Rattle.html_tokens.specs.Bounds.{IsBounded};
@@ -24,6 +25,7 @@ impl<'a> Machine<'a> {
         requires room { self.old.place + length self.old.input.queue.items < 2 ^ 64 }
         ensures steps { Steps self.old result self.new }
         ensures bounded { IsBounded self.old faults.old → IsBounded self.new faults.new }
+        ensures tells { Tells self.old result faults.old faults.new }
     {
         let Some(found) = opener(&self.input) else {
             return Progress::Wait;
@@ -45,11 +47,14 @@ impl<'a> Machine<'a> {
         requires state { self.old.state ≡ State.Text region }
         requires markup { Decided self.old.input (begin_at self.old.mode region self.old.last_name) Begin.Markup }
         requires found { Decided self.old.input opener found }
+        requires told { Decided self.old.input (opening_errors found self.old.place) (option_to_list fault) }
+        requires opening { IfSome fault (λ f. is_opening f.name ≡ true) }
         requires some { 0 < opened_len found }
         requires fit { opened_len found ≤ length self.old.input.queue.items }
         requires room { self.old.place + length self.old.input.queue.items < 2 ^ 64 }
         ensures steps { Steps self.old result self.new }
         ensures bounded { IsBounded self.old faults.old → IsBounded self.new faults.new }
+        ensures tells { Tells self.old result faults.old faults.new }
     {
         faults.tell_some(fault);
         match found {

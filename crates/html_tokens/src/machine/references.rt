@@ -1,5 +1,6 @@
 // References in text.
 ghost use Rattle.std.specs.Prelude.{◌≡◌, ◌≤◌, ◌+◌, ◌^◌, ◌<◌, length};
+ghost use Rattle.html_tokens.specs.Errors.{IsQuiet};
 ghost use Rattle.html_tokens.specs.Fed.{Steps, Passes, GivesChars};
 ghost use Rattle.html_tokens.specs.Input.{Decided};
 ghost use Rattle.html_tokens.specs.Tokens.{token};
@@ -23,6 +24,7 @@ impl<'a> Machine<'a> {
         requires room { self.old.place + length self.old.input.queue.items < 2 ^ 64 }
         ensures steps { Steps self.old result self.new }
         ensures bounded { IsBounded self.old faults.old → IsBounded self.new faults.new }
+        ensures quiet { IsQuiet faults.old faults.new }
     {
         match ref_opener(&self.input) {
             None => Progress::Wait,
@@ -91,6 +93,7 @@ impl<'a> Machine<'a> {
         requires room { self.old.place + length self.old.input.queue.items < 2 ^ 64 }
         ensures steps { Steps self.old result self.new }
         ensures bounded { IsBounded self.old faults.old → IsBounded self.new faults.new }
+        ensures quiet { IsQuiet faults.old faults.new }
     {
         match self.input.peek(0) {
             Peek::Wait => Progress::Wait,

@@ -7,7 +7,7 @@ ghost use Rattle.html_tokens.specs.Bounds.{IsBounded, IsWithin};
 ghost use Rattle.std.specs.Prelude.{take};
 ghost use Rattle.html_tokens.specs.Copied.{AllPass};
 ghost use Rattle.html_tokens.specs.Runs.{is_plain, is_text, plain_front, plain_tokens, gave_all};
-ghost use Rattle.html_tokens.specs.Stream.{Run, IsAt, gave, answered, fed};
+ghost use Rattle.html_tokens.specs.Stream.{AreTold, Run, IsAt, gave, answered, fed};
 ghost use Rattle.html_tokens.specs.declared.faults.Faults.{Faults};
 ghost use Rattle.html_tokens.specs.declared.token.TextMode.{TextMode};
 ghost use Rattle.std.specs.Prelude.{Option, Some};
@@ -43,6 +43,8 @@ impl<'a> Machine<'a> {
     pub(crate) fn next_char(&mut self, faults: &mut Faults) -> Option<char>
         requires room { self.old.place + length self.old.input.queue.items < 2 ^ 64 }
         ensures given { IfSome result (λ c. (run : Run) → IsAt self.old run → (switch : Option TextMode) → IsAt (answered (token (TokenKind.Char c) self.old.place (self.old.place + 1)) switch self.new) (gave run (token (TokenKind.Char c) self.old.place (self.old.place + 1)) switch)) }
+        ensures telling { IfSome result (λ c. (run : Run) → IsAt self.old run → AreTold self.old faults.old run → (switch : Option TextMode) → AreTold (answered (token (TokenKind.Char c) self.old.place (self.old.place + 1)) switch self.new) faults.new (gave run (token (TokenKind.Char c) self.old.place (self.old.place + 1)) switch)) }
+        ensures still { IfNone result (faults.new ≡ faults.old) }
         ensures count { IfSome result (λ c. self.new.place ≡ self.old.place + 1) }
         ensures none { IfNone result (self.new ≡ self.old) }
         ensures room { self.new.place + length self.new.input.queue.items ≡ self.old.place + length self.old.input.queue.items }
@@ -70,6 +72,8 @@ impl<'a> Machine<'a> {
         ensures text { OnOk result (out.new.items ≡ out.old.items ++ cond (is_text self.old.state) (plain_front self.old.mode self.old.input.queue.items) []) }
         ensures place { IfOk result (λ found. MatchOption found (cond (is_text self.old.state) (plain_front self.old.mode self.old.input.queue.items) [] ≡ []) (λ place. place ≡ self.old.place)) }
         ensures given { OnOk result ((run : Run) → IsAt self.old run → IsAt self.new (gave_all run (plain_tokens self.old.place (cond (is_text self.old.state) (plain_front self.old.mode self.old.input.queue.items) [])))) }
+        ensures telling { OnOk result ((run : Run) → IsAt self.old run → AreTold self.old faults.old run → AreTold self.new faults.new (gave_all run (plain_tokens self.old.place (cond (is_text self.old.state) (plain_front self.old.mode self.old.input.queue.items) [])))) }
+        ensures kept { faults.old.lost ≡ false → OnOk result (faults.new.lost ≡ false) }
         ensures room { self.new.place + length self.new.input.queue.items ≤ self.old.place + length self.old.input.queue.items }
         ensures finished { self.new.input.finished ≡ self.old.input.finished }
         ensures bounded { IsBounded self.old faults.old → OnOk result (IsBounded self.new faults.new) }
@@ -99,6 +103,8 @@ impl<'a> Machine<'a> {
         ensures text { OnOk result (out.new.items ≡ out.old.items ++ plain_front self.old.mode self.old.input.queue.items) }
         ensures place { OnOk result (self.new.place ≡ self.old.place + length (plain_front self.old.mode self.old.input.queue.items)) }
         ensures given { OnOk result ((run : Run) → IsAt self.old run → IsAt self.new (gave_all run (plain_tokens self.old.place (plain_front self.old.mode self.old.input.queue.items)))) }
+        ensures telling { OnOk result ((run : Run) → IsAt self.old run → AreTold self.old faults.old run → AreTold self.new faults.new (gave_all run (plain_tokens self.old.place (plain_front self.old.mode self.old.input.queue.items)))) }
+        ensures keeps { OnOk result (faults.new.lost ≡ false) }
         ensures room { self.new.place + length self.new.input.queue.items ≤ self.old.place + length self.old.input.queue.items }
         ensures finished { self.new.input.finished ≡ self.old.input.finished }
         ensures bounded { IsBounded self.old faults.old → OnOk result (IsBounded self.new faults.new) }
@@ -163,6 +169,7 @@ impl<'a> Machine<'a> {
         requires going { self.old.input.finished ≡ false }
         requires room { self.old.place + length self.old.input.queue.items + length text.now < 2 ^ 64 }
         ensures given { (run : Run) → IsAt self.old run → IsAt self.new (gave_all (fed run text.now) (plain_tokens result text.now)) }
+        ensures telling { (faults : Faults) (run : Run) → IsAt self.old run → AreTold self.old faults run → AreTold self.new faults (gave_all (fed run text.now) (plain_tokens result text.now)) }
         ensures place { result ≡ self.old.place }
         ensures new { self.new ≡ record self.old { place = self.old.place + length text.now } }
         ensures bounded { (faults : Faults) → IsBounded self.old faults → IsBounded self.new faults }
@@ -180,6 +187,7 @@ impl<'a> Machine<'a> {
         requires going { self.old.input.finished ≡ false }
         requires room { self.old.place + length self.old.input.queue.items + length (spelling tag.now) < 2 ^ 64 }
         ensures given { IfOk result (λ given. (run : Run) → IsAt self.old run → (switch : Option TextMode) → IsAt (answered given switch self.new) (gave (fed run (spelling tag.now)) given switch)) }
+        ensures telling { IfOk result (λ given. (faults : Faults) (run : Run) → IsAt self.old run → AreTold self.old faults run → (switch : Option TextMode) → AreTold (answered given switch self.new) faults (gave (fed run (spelling tag.now)) given switch)) }
         ensures count { OnOk result (self.new.place ≡ self.old.place + length (spelling tag.now)) }
         ensures stays { OnErr result (self.new.place ≡ self.old.place) }
         ensures input { self.new.input ≡ self.old.input }

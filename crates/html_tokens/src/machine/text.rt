@@ -1,6 +1,7 @@
 // Text, code point by code point.
 ghost use Rattle.std.specs.Prelude.{◌≡◌, ◌≤◌, ◌+◌, ◌^◌, ◌<◌, Some, length, slice_get, MatchOption, cond};
-ghost use Rattle.html_tokens.specs.Fed.{Steps, slack};
+ghost use Rattle.html_tokens.specs.Errors.{IsQuiet};
+ghost use Rattle.html_tokens.specs.Fed.{Steps, Tells, slack};
 ghost use Rattle.html_tokens.specs.Input.{Decided, IsShort};
 ghost use Rattle.html_tokens.specs.Bounds.{IsBounded};
 ghost use Rattle.html_tokens.specs.Marks.{begin_at, is_end_mark, region_in};
@@ -18,6 +19,7 @@ impl<'a> Machine<'a> {
         requires room { self.old.place + length self.old.input.queue.items < 2 ^ 64 }
         ensures steps { Steps self.old result self.new }
         ensures bounded { IsBounded self.old faults.old → IsBounded self.new faults.new }
+        ensures tells { Tells self.old result faults.old faults.new }
     {
         match self.input.peek(0) {
             Peek::Wait => Progress::Wait,
@@ -117,6 +119,7 @@ impl<'a> Machine<'a> {
         requires room { self.old.place + length self.old.input.queue.items < 2 ^ 64 }
         ensures steps { Steps self.old result self.new }
         ensures bounded { IsBounded self.old faults.old → IsBounded self.new faults.new }
+        ensures quiet { IsQuiet faults.old faults.new }
     {
         let Some(after) = self.region_after(region) else {
             return Progress::Wait;

@@ -28,6 +28,7 @@ returns c =
       told_ordered = c.errors.ensures.ordered;
       told_few = c.errors.ensures.bound;
       fed = c.errors.ensures.count;
+      openings = c.errors.ensures.openings;
       errors_are = c.in_ok-errors.ensures.list;
       own_least = c.all_steps-steps.ensures.least;
       own_few = c.all_steps-steps.ensures.few;

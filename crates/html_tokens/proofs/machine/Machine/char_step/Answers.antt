@@ -1,6 +1,6 @@
 use Rattle.std.proofs.Common.{refl, arith}
 use Rattle.html_tokens.proofs.Cuts.{shorter}
-use Rattle.html_tokens.proofs.StepLemmas.{char_given}
+use Rattle.html_tokens.proofs.StepLemmas.{char_errors, char_given}
 use Rattle.html_tokens.proofs.machine.Machine.char_step.Goals as goal
 
 pub returns-clause-steps : goal.returns-clause-steps
@@ -10,4 +10,6 @@ returns-clause-steps c =
           (char_given t.table.now c.args.region _ t.mode t.last_name t.place _ _ _ _ _ more switch switches c.take-found.ensures.items (c.requires.text more h) (c.in-Some.ensures more h) c.text_char-c.ensures refl)),
       record { count = omega (arith, shorter _ _ _ c.take-found.ensures.items); finished = c.take-found.ensures.finished; table = refl; drained = λ _ h. absurd h },
       rw c.token.ensures refl,
+      (λ more switch switches h. rw (c.token.ensures, c.requires.state)
+          (char_errors t.table.now c.args.region _ t.mode t.last_name t.place _ _ _ _ more switch switches c.take-found.ensures.items (c.requires.text more h) (c.in-Some.ensures more h) refl)),
     )

@@ -1,12 +1,13 @@
 use Rattle.std.proofs.Common.{◌≡◌, ◌+◌, ◌∙◌, refl, arith, [], true, false}
-use Rattle.html_tokens.specs.Tokens.{token}
+use Rattle.html_tokens.specs.Tokens.{piece, token}
 use Rattle.html_tokens.specs.declared.comment.CommentKind.TheVariants.{Declared, Bogus}
 use Rattle.html_tokens.specs.declared.token.Begin.TheVariants as begins
 use Rattle.html_tokens.specs.declared.token.TokenKind.TheVariants as kinds
 use Rattle.html_tokens.proofs.BoundLemmas.{tag_begun, doctype_begun}
 use Rattle.html_tokens.proofs.TagLemmas.{tag_opens}
 use Rattle.html_tokens.proofs.DoctypeLemmas.{doctype_opens}
-use Rattle.html_tokens.proofs.StepLemmas.{comment_begins, empty_passed, open_more, open_gives, passes_to}
+use Rattle.html_tokens.proofs.StepLemmas.{comment_begins, comment_opens, empty_passed, errors_passed, open_more, open_gives, passes_to}
+use Rattle.html_tokens.proofs.ToldLemmas.{opens_told, tells_decided}
 use Rattle.html_tokens.proofs.machine.Machine.opened.Goals as goal
 
 pub returns-in-Empty-clause-steps : goal.returns-in-Empty-clause-steps
@@ -16,7 +17,8 @@ returns-in-Empty-clause-steps c =
     let fit = rw c.in-Empty.is at c.requires.fit in
     rw c.enter.ensures
     (open_more _ _ c.args.region 3 _ c.requires.state (passes_to _ _ 3 _ _ c.pass.ensures) some fit (λ e. e)
-    (λ more switches h. empty_passed _ begins.Markup c.args.region _ _ _ 3 _ more switches (c.requires.markup more h) refl (rw (is more h) refl) some fit))
+    (λ more switches h. empty_passed _ begins.Markup c.args.region _ _ _ 3 _ more switches (c.requires.markup more h) refl (rw (is more h) refl) some fit)
+    (λ more switches h. errors_passed _ begins.Markup c.args.region _ _ _ 3 _ more switches (piece [] 3) (c.requires.markup more h) refl (rw (is more h) refl) refl some fit))
 
 pub returns-in-Comment-clause-steps : goal.returns-in-Comment-clause-steps
 returns-in-Comment-clause-steps c =
@@ -25,6 +27,7 @@ returns-in-Comment-clause-steps c =
     let fit = rw c.in-Comment.is at c.requires.fit in
     open_more _ _ c.args.region 4 _ c.requires.state c.begin_comment.ensures some fit (λ e. e)
     (λ more switches h. comment_begins _ c.args.region _ Declared 4 _ _ _ more switches (c.requires.markup more h) (rw (is more h) refl) some fit)
+    (λ more switches h. comment_opens _ c.args.region _ Declared 4 _ _ _ more switches (c.requires.markup more h) (rw (is more h) refl) some fit)
 
 pub returns-in-Bogus-clause-steps : goal.returns-in-Bogus-clause-steps
 returns-in-Bogus-clause-steps c =
@@ -34,6 +37,7 @@ returns-in-Bogus-clause-steps c =
     let k = c.in-Bogus.opened in
     open_more _ _ c.args.region k _ c.requires.state c.begin_comment-in-Bogus.ensures some fit (λ e. e)
     (λ more switches h. comment_begins _ c.args.region _ Bogus k _ _ _ more switches (c.requires.markup more h) (rw (is more h) refl) some fit)
+    (λ more switches h. comment_opens _ c.args.region _ Bogus k _ _ _ more switches (c.requires.markup more h) (rw (is more h) refl) some fit)
 
 pub returns-in-ShortComment-clause-steps : goal.returns-in-ShortComment-clause-steps
 returns-in-ShortComment-clause-steps c =
@@ -83,3 +87,28 @@ returns-in-Doctype-clause-steps c =
 
 pub returns-in-Doctype-clause-bounded : goal.returns-in-Doctype-clause-bounded
 returns-in-Doctype-clause-bounded c = doctype_begun c.args.self.now c.begin_doctype.new.self c.args.region 1 c.args.faults.now c.tell_some.new.self c.requires.state c.begin_doctype.ensures c.tell_some.ensures.told (omega arith)
+
+pub returns-in-Empty-clause-tells : goal.returns-in-Empty-clause-tells
+returns-in-Empty-clause-tells c = tells_decided c.args.self.now _ c.args.faults.now c.tell_some.new.self (opens_told c.args.self.now c.args.region _ _ c.requires.state c.requires.markup c.requires.found c.requires.told) c.tell_some.ensures.opens
+
+pub returns-in-Comment-clause-tells : goal.returns-in-Comment-clause-tells
+returns-in-Comment-clause-tells c = tells_decided c.args.self.now _ c.args.faults.now c.tell_some.new.self (opens_told c.args.self.now c.args.region _ _ c.requires.state c.requires.markup c.requires.found c.requires.told) c.tell_some.ensures.opens
+
+pub returns-in-Bogus-clause-tells : goal.returns-in-Bogus-clause-tells
+returns-in-Bogus-clause-tells c = tells_decided c.args.self.now _ c.args.faults.now c.tell_some.new.self (opens_told c.args.self.now c.args.region _ _ c.requires.state c.requires.markup c.requires.found c.requires.told) c.tell_some.ensures.opens
+
+pub returns-in-ShortComment-clause-tells : goal.returns-in-ShortComment-clause-tells
+returns-in-ShortComment-clause-tells c = tells_decided c.args.self.now _ c.args.faults.now c.tell_some.new.self (opens_told c.args.self.now c.args.region _ _ c.requires.state c.requires.markup c.requires.found c.requires.told) c.tell_some.ensures.opens
+
+pub returns-in-StartTag-clause-tells : goal.returns-in-StartTag-clause-tells
+returns-in-StartTag-clause-tells c = tells_decided c.args.self.now _ c.args.faults.now c.tell_some.new.self (opens_told c.args.self.now c.args.region _ _ c.requires.state c.requires.markup c.requires.found c.requires.told) c.tell_some.ensures.opens
+
+pub returns-in-EndTag-clause-tells : goal.returns-in-EndTag-clause-tells
+returns-in-EndTag-clause-tells c = tells_decided c.args.self.now _ c.args.faults.now c.tell_some.new.self (opens_told c.args.self.now c.args.region _ _ c.requires.state c.requires.markup c.requires.found c.requires.told) c.tell_some.ensures.opens
+
+pub returns-in-Doctype-clause-tells : goal.returns-in-Doctype-clause-tells
+returns-in-Doctype-clause-tells c = tells_decided c.args.self.now _ c.args.faults.now c.tell_some.new.self (opens_told c.args.self.now c.args.region _ _ c.requires.state c.requires.markup c.requires.found c.requires.told) c.tell_some.ensures.opens
+
+pub returns-in-Literal-clause-tells : goal.returns-in-Literal-clause-tells
+returns-in-Literal-clause-tells c =
+    rw c.less_given.ensures.0 (tells_decided c.args.self.now _ c.args.faults.now c.tell_some.new.self (opens_told c.args.self.now c.args.region _ _ c.requires.state c.requires.markup c.requires.found c.requires.told) c.tell_some.ensures.opens)

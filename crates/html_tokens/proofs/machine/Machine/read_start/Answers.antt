@@ -10,7 +10,7 @@ returns-in-None-clause-begun c =
     let fit = c.requires.fit in
     let some : 1 ≤ length items = omega (arith, fit) in
     rw c.enter.ensures
-    (begins_whole c.args.self.now c.pass.new.self c.new-draft.result c.take_front.new.self c.in_ok-taken.taken.len c.requires.state some c.requires.begun c.requires.start c.new-draft.ensures
+    (begins_whole c.args.self.now c.pass.new.self c.new-draft.result c.take_front.new.self c.in_ok-taken.taken.len c.requires.state some c.requires.begun c.requires.start c.requires.silent c.new-draft.ensures
     (rw (c.unread.ensures, take_rest items 1) at c.in_ok-taken.ensures.copies) c.pass.ensures)
 
 pub returns-in-None-clause-bounded : goal.returns-in-None-clause-bounded
@@ -26,9 +26,9 @@ returns-in_ok-given-in-Some-clause-given c =
     let fit = c.requires.fit in
     let some : 1 ≤ length items = omega (arith, fit) in
     let skips =
-    begins_whole c.args.self.now c.pass.new.self c.new-draft.result c.take_front.new.self n c.requires.state some c.requires.begun c.requires.start c.new-draft.ensures (rw (c.unread.ensures, take_rest items 1) at c.in_ok-taken.ensures.copies) c.pass.ensures in
+    begins_whole c.args.self.now c.pass.new.self c.new-draft.result c.take_front.new.self n c.requires.state some c.requires.begun c.requires.start c.requires.silent c.new-draft.ensures (rw (c.unread.ensures, take_rest items 1) at c.in_ok-taken.ensures.copies) c.pass.ensures in
     let named = rw (c.unread.ensures, take_rest items 1, drop-drop n 1 items, ← c.pass.ensures.items) at c.in_ok-taken.ensures.named in
-    closes_whole c.args.self.now c.pass.new.self c.give_tag.new.self c.take_front.new.self c.in-Some.self_closing c.in-Some.len c.in_ok-given-in-Some.given skips named (rw c.unread-2.ensures at c.in-Some.ensures) c.in_ok-given-in-Some.ensures.ends
+    closes_whole c.args.self.now c.pass.new.self c.give_tag.new.self c.take_front.new.self c.in-Some.self_closing c.in-Some.len c.in_ok-given-in-Some.given skips named (rw c.unread-2.ensures at c.in-Some.ensures) c.in_ok-given-in-Some.ensures.ends c.requires.silent
 
 pub returns-in_ok-given-in-Some-clause-bounded : goal.returns-in_ok-given-in-Some-clause-bounded
 returns-in_ok-given-in-Some-clause-bounded c = λ b.

@@ -7,6 +7,7 @@ use Rattle.html_tokens.proofs.Cuts.{shorter}
 use Rattle.html_tokens.proofs.StepLemmas.{passes_length}
 use Rattle.html_tokens.proofs.BoundLemmas.{plain_bounded, run_bounded}
 use Rattle.html_tokens.proofs.RunLemmas.{HasTaken, taken_none, taken_more, taken_run, passes_one}
+use Rattle.html_tokens.proofs.ToldLemmas.{quiet_both, quiet_same}
 use Rattle.html_tokens.proofs.machine.Machine.take_plain.Goals as goal
 
 pub taking-init : goal.taking-init
@@ -20,6 +21,7 @@ taking-init c =
       mode = refl;
       count = passes_length now new n _ e.passes e.fit;
       finished = e.passes.finished;
+      quiet = quiet_same c.args.faults.now;
       bounded = λ b. run_bounded now new n c.args.faults.now c.requires.state e.passes b;
     }
 
@@ -43,5 +45,6 @@ taking-preserved c =
       mode = refl;
       count = omega (arith, shorter now.input.queue.items items c.in-Some.c first, c.taking.invariant.count, whole);
       finished = e.passes.finished ∙ c.in-Some.ensures.2 ∙ c.taking.invariant.finished;
+      quiet = quiet_both c.args.faults.now c.taking.faults c.text_char.new.self c.taking.invariant.quiet c.text_char.ensures.quiet;
       bounded = λ b. run_bounded mid new n c.text_char.new.self state e.passes (plain_bounded now mid c.taking.faults c.text_char.new.self state passes c.text_char.ensures.told (c.taking.invariant.bounded b));
     }

@@ -6,6 +6,6 @@ use Rattle.html_tokens.proofs.tokenizer.Tokenizer.steps.Goals as goal
 pub returns-clause-all : goal.returns-clause-all
 unfolding Fed
 returns-clause-all c = λ run fed f all.
-    let passed = all_passed _ run fed f all in
+    let passed = all_passed c.args.self.now.machine run fed.0 f all in
     let room = c.args.self.now.in_range in
     omega (arith, passed, room, c.saturating_add.ensures)

@@ -1,9 +1,14 @@
 use Rattle.html_tokens.specs.Bare.{spelling}
-use Rattle.html_tokens.specs.Given.{Fed}
+use Rattle.html_tokens.specs.Given.{Awaits, Fed}
 use Rattle.html_tokens.specs.Stream.{fed}
-use Rattle.html_tokens.proofs.StreamLemmas.{unsaid}
+use Rattle.html_tokens.proofs.FedLemmas.{after_unsaid}
 use Rattle.html_tokens.proofs.tokenizer.Tokenizer.take_tag.Goals as goal
 
 pub returns-in-Ok-clause-unsaid : goal.returns-in-Ok-clause-unsaid
 unfolding Fed
-returns-in-Ok-clause-unsaid c = λ run i. unsaid c.in-Ok.token c.take_bare.new.self (fed run (spelling c.args.tag.now)) (c.in-Ok.ensures.given run i)
+returns-in-Ok-clause-unsaid c = λ run h.
+    after_unsaid c.take_bare.new.self c.args.self.now.faults (fed run (spelling c.args.tag.now)) c.in-Ok.token (c.in-Ok.ensures.given run h.0, h.1, c.in-Ok.ensures.telling c.args.self.now.faults run h.0 h.2)
+
+pub returns-in-Ok-clause-given : goal.returns-in-Ok-clause-given
+unfolding Fed Awaits
+returns-in-Ok-clause-given c = λ run h. (c.in-Ok.ensures.given run h.0, h.1, c.in-Ok.ensures.telling c.args.self.now.faults run h.0 h.2)

@@ -1,0 +1,116 @@
+-- Claimed, but for this crate's own functions: told_in, Opens, IsQuiet.
+-- The parse errors of a text that are told of what a `<` begins (HTML 13.2.2, and 13.2.5.6, 13.2.5.7, 13.2.5.42, 13.2.5.43).
+use Rattle.std.specs.Prelude.{◌≡◌, ℕ, zero, suc, ◌+◌, ◌-◌, List, [], ◌∷◌, ◌++◌, length, drop, Bool, true, false, cond, Option, nat_le, slice_get, is_none}
+use Rattle.std.specs.List.{filter}
+use Rattle.html_tokens.specs.Cut.{is}
+use Rattle.html_tokens.specs.Marks.{begin_at, stands}
+use Rattle.html_tokens.specs.Tokens.{mode_after, name_after, next, opener}
+use Rattle.html_charref.specs.declared.table.Row.{Row}
+use Rattle.html_tokens.specs.declared.fault_name.FaultName.{FaultName}
+use Rattle.html_tokens.specs.declared.fault_name.FaultName.TheVariants as names
+use Rattle.html_tokens.specs.declared.faults.Fault.{Fault}
+use Rattle.html_tokens.specs.declared.faults.Faults.{Faults}
+use Rattle.html_tokens.specs.declared.machine.State.{State}
+use Rattle.html_tokens.specs.declared.machine.State.TheVariants.{Text, Number, Second, Comment, Doctype, Tag, Section, Ended}
+use Rattle.html_tokens.specs.declared.token.Begin.{Begin}
+use Rattle.html_tokens.specs.declared.token.Begin.TheVariants as begins
+use Rattle.html_tokens.specs.declared.token.Opener.{Opener}
+use Rattle.html_tokens.specs.declared.token.Opener.TheVariants as opens
+use Rattle.html_tokens.specs.declared.token.Region.TheVariants.{Plain}
+use Rattle.html_tokens.specs.declared.token.TextMode.{TextMode}
+
+-- the errors that are defined here
+abbrev pub is_opening : FaultName → Bool
+is_opening names.EofBeforeTagName = true
+is_opening names.InvalidFirstCharacterOfTagName = true
+is_opening names.UnexpectedQuestionMarkInsteadOfTagName = true
+is_opening names.MissingEndTagName = true
+is_opening names.AbruptClosingOfEmptyComment = true
+is_opening names.IncorrectlyOpenedComment = true
+is_opening names.CdataInHtmlContent = true
+is_opening other = false
+
+-- those of a list
+abbrev pub openings : List Fault → List Fault
+openings faults = filter (λ f. is_opening f.name) faults
+
+abbrev pub fault : FaultName → ℕ → Fault
+fault name place = record { name = name; place = place }
+
+-- one error more, behind those that have no later place
+unfoldable pub with_told : List Fault → Fault → List Fault
+with_told [] f = f ∷ []
+with_told (x ∷ more) f = cond (nat_le x.place f.place) (x ∷ with_told more f) (f ∷ x ∷ more)
+
+-- errors told one after another, in order of their places, and at one place as they are told
+unfoldable pub all_told : List Fault → List Fault → List Fault
+all_told told [] = told
+all_told told (f ∷ more) = all_told (with_told told f) more
+
+-- `[CDATA[`
+abbrev pub cdata_word : List ℕ
+cdata_word = 91 ∷ 67 ∷ 68 ∷ 65 ∷ 84 ∷ 65 ∷ 91 ∷ []
+
+-- it stands after two code points
+abbrev pub is_cdata : List ℕ → Bool
+is_cdata text = stands cdata_word 2 text
+
+-- what `<` tells that begins no tag (HTML 13.2.5.6), or `</` at the end (HTML 13.2.5.7)
+abbrev pub literal_error : Option ℕ → ℕ → Fault
+literal_error b place =
+    cond (is_none b) (fault names.EofBeforeTagName (place + 1))
+    (cond (is 47 b) (fault names.EofBeforeTagName (place + 2)) (fault names.InvalidFirstCharacterOfTagName (place + 1)))
+
+-- what begins a bogus comment: `<?` (HTML 13.2.5.6), `</` (HTML 13.2.5.7) or `<!` (HTML 13.2.5.42)
+abbrev pub bogus_error : ℕ → List ℕ → Fault
+bogus_error place text =
+    cond (is 63 (slice_get text 1)) (fault names.UnexpectedQuestionMarkInsteadOfTagName (place + 1))
+    (cond (is 47 (slice_get text 1)) (fault names.InvalidFirstCharacterOfTagName (place + 2))
+    (cond (is_cdata text) (fault names.CdataInHtmlContent (place + 2)) (fault names.IncorrectlyOpenedComment (place + 2))))
+
+-- what a `<` in data at a place tells by what it begins (HTML 13.2.5.6, 13.2.5.7, 13.2.5.42 to 13.2.5.44)
+abbrev pub opening_errors : Opener → ℕ → List ℕ → List Fault
+opening_errors opens.Literal place text = literal_error (slice_get text 1) place ∷ []
+opening_errors opens.StartTag place text = []
+opening_errors opens.EndTag place text = []
+opening_errors opens.Empty place text = fault names.MissingEndTagName (place + 2) ∷ []
+opening_errors (opens.Bogus opened) place text = bogus_error place text ∷ []
+opening_errors opens.Comment place text = []
+opening_errors (opens.ShortComment len) place text = fault names.AbruptClosingOfEmptyComment (place + len - 1) ∷ []
+opening_errors opens.Doctype place text = []
+
+-- the errors of the piece that begins: only data has markup
+abbrev pub piece_errors : Begin → ℕ → List ℕ → List Fault
+piece_errors begins.Char place text = []
+piece_errors begins.Markup place text = opening_errors (opener text) place text
+piece_errors begins.EndMark place text = []
+piece_errors begins.Reference place text = []
+piece_errors begins.Section place text = []
+
+-- The errors of the rest of a text at a place, after so many code points that belong to the piece before: those of its pieces.
+unfoldable pub errors_after : List Row → ℕ → TextMode → Option (List ℕ) → ℕ → List ℕ → List (Option TextMode) → List Fault
+errors_after rows passed mode name place [] switches = []
+errors_after rows zero mode name place (c ∷ rest) switches =
+    let first = next rows mode name place (c ∷ rest) in
+    piece_errors (begin_at mode Plain name (c ∷ rest)) place (c ∷ rest)
+    ++ errors_after rows (first.len - 1) (mode_after first.tokens switches mode) (name_after first.tokens name) (place + 1) rest (drop (length first.tokens) switches)
+errors_after rows (suc k) mode name place (c ∷ rest) switches = errors_after rows k mode name (place + 1) rest switches
+
+-- what a step tells in a state
+abbrev pub told_in : State → TextMode → Option (List ℕ) → ℕ → List ℕ → List Fault
+told_in (Text region) mode name place rest = piece_errors (begin_at mode region name rest) place rest
+told_in (Number draft) mode name place rest = []
+told_in (Second c start) mode name place rest = []
+told_in (Comment draft) mode name place rest = []
+told_in (Doctype draft) mode name place rest = []
+told_in (Tag draft) mode name place rest = []
+told_in Section mode name place rest = []
+told_in Ended mode name place rest = []
+
+-- These errors were told, where none was lost.
+abbrev pub Opens : List Fault → Faults → Faults → Type 0
+Opens told old new = new.lost ≡ false → (old.lost ≡ false) × (openings new.list ≡ all_told (openings old.list) told)
+
+-- None of them was told.
+abbrev pub IsQuiet : Faults → Faults → Type 0
+IsQuiet old new = new.lost ≡ false → (old.lost ≡ false) × (openings new.list ≡ openings old.list)
