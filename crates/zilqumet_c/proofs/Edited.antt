@@ -10,7 +10,7 @@ use Rattle.html_parser.specs.declared.page.Tree.{Tree}
 use Rattle.zilqumet_c.specs.Edits.{IsEdit, edit_status, with_nodes}
 use Rattle.zilqumet_c.specs.Reads.{tree_in}
 use Rattle.zilqumet_c.specs.declared.held.Held.{Held}
-use Rattle.zilqumet_c.specs.declared.held.Held.TheVariants.{Page, Entities, Parser, Buffer, Texts}
+use Rattle.zilqumet_c.specs.declared.held.Held.TheVariants.{Page, Entities, Parser, Buffer, Texts, Ledger}
 use Rattle.zilqumet_c.specs.declared.held.Rooted.{Rooted}
 
 pub no_refusal : (e : EditError) → edit_status e ≡ 0 → ⊥
@@ -33,6 +33,7 @@ is_page (Entities t) none = refl
 is_page (Parser p) none = refl
 is_page (Buffer v) none = refl
 is_page (Texts g) none = refl
+is_page (Ledger l) none = refl
 
 -- there is no page
 pub unedited : (h : Option Held) (fault : Nodes → ℕ → Option EditError) (Done : Nodes → Nodes → Type 0) → tree_in h ≡ None → IsEdit h h fault Done 12

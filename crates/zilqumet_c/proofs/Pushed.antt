@@ -20,7 +20,7 @@ use Rattle.zilqumet_c.specs.Pieces.{AreTakenIn, IsFedIn, IsPushed, IsRefusedIn, 
 use Rattle.zilqumet_c.specs.Reads.{context_in, parser_in, rows_in, table_in}
 use Rattle.zilqumet_c.specs.Status.{place_of, status_of}
 use Rattle.zilqumet_c.specs.declared.held.Held.{Held}
-use Rattle.zilqumet_c.specs.declared.held.Held.TheVariants.{Page, Entities, Parser, Buffer, Texts}
+use Rattle.zilqumet_c.specs.declared.held.Held.TheVariants.{Page, Entities, Parser, Buffer, Texts, Ledger}
 
 -- NUMBERS OF CAUSES
 
@@ -71,6 +71,7 @@ is_parser (Entities t) none = refl
 is_parser (Parser p) none = absurd (none p refl)
 is_parser (Buffer v) none = refl
 is_parser (Texts g) none = refl
+is_parser (Ledger l) none = refl
 
 ok_err : {T E : Type 0} (x : T) (e : E) → ◌≡◌ {A = Result T E} (Ok x) (Err e) → ⊥
 ok_err x e is = cc
@@ -87,6 +88,7 @@ no_table (Entities t) none = absurd (some_none (arc_value t) none)
 no_table (Parser p) none = refl
 no_table (Buffer v) none = refl
 no_table (Texts g) none = refl
+no_table (Ledger l) none = refl
 
 -- WHAT A PIECE CAME TO
 
