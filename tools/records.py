@@ -1,5 +1,4 @@
 """What the verdicts on a crate's edits follow from, and at which of it all were refused."""
-import collections
 import functools
 import hashlib
 import os
@@ -28,9 +27,10 @@ EMPTY = re.compile(r"\bimpl\b(?:(?!\bfor\b)[^{;])*\{\s*\}")
 MODULE = re.compile(r"\b(\w+)(?:\.|::)(specs|proofs)((?:(?:\.|::)\w+)+)")
 # the logic of the toolchain, which builds of one kit share: a verdict is about what can be proved, and all builds of a logic agree on that
 LOGIC = re.compile(rb"logic \w+")
-# what a file declares, and an impl that hangs on no name
-DECLARED = re.compile(r"\b(?:struct|enum|union|const|static|type|trait|fn|macro)\s+(\w+)")
-OF_TRAIT = re.compile(r"\bimpl\b[^{;]*\bfor\b")
+# what a file declares at its top, an impl there, and the type that it is of
+TOP = re.compile(r"(?m)^(?:pub(?:\([^)]*\))? )?(?:(?:const|unsafe|ghost|extern \"C\") )*(?:struct|enum|union|const|static|type|trait|fn|macro|macro_rules!)\s+(\w+)")
+IMPL = re.compile(r"(?m)^(?:unsafe )?impl\b")
+IMPLS = re.compile(r"(?m)^(?:unsafe )?impl\b(?:<(?:[^<>]|<[^<>]*>)*>)?\s+(?:(?:[^{;\n]|<[^{;]*>)*?\bfor\s+)?(?:&(?:'\w+ )?(?:mut )?)?(?:\w+::)*([A-Za-z_]?\w*)")
 
 
 functions_in = functools.lru_cache(maxsize=None)(functions_of_file)
@@ -98,8 +98,8 @@ def sums_of(folder):
 
 
 def bare(path):
-    """Returns the text of a file of definitions or lemmas without comments."""
-    return COMMENT[".antt"].sub("", Path(path).read_text(errors="replace"))
+    """Returns the text of a file without the comments that begin a line."""
+    return COMMENT[Path(path).suffix].sub("", Path(path).read_text(errors="replace"))
 
 
 @functools.lru_cache(maxsize=None)
@@ -119,11 +119,29 @@ def sources_seen(folder, words):
                 yield path, text
 
 
-def without_unnamed(texts, words):
-    """Returns the texts of files without those that declare names alone which neither the others nor these words have."""
-    counts = collections.Counter(word for text in texts.values() for word in {*re.findall(r"\w+", text)})
-    is_named = lambda it: it in words or counts[it] > 1
-    return {path: text for path, text in texts.items() if OF_TRAIT.search(text) or any(map(is_named, DECLARED.findall(text))) or not DECLARED.search(text)}
+def items_in(text):
+    """Returns the names of what a file declares at its top and of the types that its impls are of, and whether there is an impl of which the type is not read
+    so, or is a parameter."""
+    impls = IMPLS.findall(text)
+    is_open = len(impls) < len(IMPL.findall(text)) or any(len(it) < 2 for it in impls)
+    return {*TOP.findall(text), *impls}, is_open
+
+
+def reached(texts, words):
+    """Returns the texts of files that these words lead to: by the name of what a file declares at its top, by that of a type that has an impl there, or since
+    it declares nothing; and those that the words of such files lead to. What no name leads to occurs in no proof."""
+    left, found, words = dict(texts), {}, set(words)
+    while True:
+        more = {}
+        for path, text in left.items():
+            names, is_open = items_in(text)
+            if is_open or not names or names & words:
+                more[path] = text
+        if not more:
+            return found
+        found |= more
+        left = {path: text for path, text in left.items() if path not in more}
+        words |= {word for text in more.values() for word in re.findall(r"\w+", text)}
 
 
 def named_files(text, own, folders):
@@ -142,7 +160,7 @@ def seen_from(crate):
     folders = {it.name: it.folder for it in crate.below()}
     own = "\n".join(Path(it).read_text(errors="replace") for it in rt.rtlib.files_of(crate.folder))
     words = {*re.findall(r"\w+", own)}
-    found = without_unnamed({path: text for folder in folders.values() for path, text in sources_seen(folder, words)}, words)
+    found = reached({path: text for folder in folders.values() for path, text in sources_seen(folder, words)}, words)
     owner = lambda path: next(name for name, folder in folders.items() if path.startswith(f"{folder}/"))
     waiting = [*named_files(own, crate.name, folders)]
     waiting += [it for path, text in found.items() for it in named_files(text, owner(path), folders)]
@@ -161,8 +179,12 @@ def opened(name, folder, _sums):
 
 
 def own_sums(crate):
-    """Returns the files of the crate itself with their sums, those of definitions and lemmas without comments."""
-    return [(it, sum_of(bare(it).encode()) if it.endswith(".antt") else data) for it, data in sums_of(crate.folder)]
+    """Returns the files of the crate itself with their sums, those of definitions and lemmas without comments, and sources without those that begin a line."""
+    texts = {it: data for it, data in sums_of(crate.folder)}
+    for path in texts:
+        if Path(path).suffix in COMMENT:
+            texts[path] = sum_of(bare(path).encode())
+    return [*texts.items()]
 
 
 def digest(crate):

@@ -68,14 +68,11 @@ fn is_other(input: &Input, at: usize, c: char) -> bool {
     }
 }
 
-/// What opens a section, after `<!`.
-const CDATA: [char; 7] = ['[', 'C', 'D', 'A', 'T', 'A', '['];
-
 /// Whether `[CDATA[` stands after `<!`.
 fn is_cdata(input: &Input) -> Option<bool>
     ensures { MatchOption result (IsShort input.now 8) (λ found. Decided input.now is_cdata found) }
 {
-    stands(input, &CDATA, 2)
+    stands(input, &['[', 'C', 'D', 'A', 'T', 'A', '['], 2)
 }
 
 /// What a `<` in data tells, by what it begins; nothing where more input is wanted.
