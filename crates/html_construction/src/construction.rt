@@ -3,6 +3,7 @@ ghost use Rattle.std.specs.Prelude.{◌≡◌, ◌⊎◌, ◌<◌, ◌≤◌, �
 ghost use Rattle.html_arena.specs.declared.arena.Limits.{Limits};
 ghost use Rattle.html_ledger.specs.declared.setting.Setting.TheVariants.{Document, Fragment};
 ghost use Rattle.html_names.specs.declared.tag.Tag.TheVariants as tag;
+ghost use Rattle.html_tree.specs.Forests.{IsForest};
 ghost use Rattle.html_tree.specs.OpenTags.{open_tags};
 ghost use Rattle.html_tree.specs.Seats.{HasSeats};
 ghost use Rattle.html_tree.specs.States.{IsNamed, IsSound, document_state, fragment_state};
@@ -214,6 +215,13 @@ impl Construction {
         ensures tags { self.now.stack ≡ open_tags self.now.tree }
     {
         self.tree.laws();
+    }
+
+    /// What is always true of the nodes: a law.
+    pub fn forest(&self)
+        ensures forest { IsForest self.now.tree.tree }
+    {
+        self.tree.forest();
     }
 
     /// How many nodes there are.

@@ -25,7 +25,7 @@ use Rattle.html_laws.proofs.Counting.{IsGiven, due, extra, flat-extra, is_char, 
 use Rattle.html_laws.proofs.Entering.{entries-good, entries-one, entry-follows, entry-good, entry_plan, good-becomes, good-begun, of-entry}
 use Rattle.html_laws.proofs.Growing.{Grows, becomes-fates, fates, grows-same, grows-then, runs-fates}
 use Rattle.html_laws.proofs.Keeping.{keepless, runs-empty, runs-keepless}
-use Rattle.html_laws.proofs.Runs.{followed}
+use Rattle.html_modes.proofs.Planned.{followed}
 use Rattle.html_laws.proofs.Tables.{in-table-text, plans-due, plans-keepless, table-text-empties}
 use Rattle.html_laws.proofs.Words.{becomes-core}
 

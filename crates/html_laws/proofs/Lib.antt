@@ -1,4 +1,3 @@
-pub mod Conjunctions
 pub mod Stacks
 pub mod Nodes
 pub mod Adoptions

@@ -13,9 +13,9 @@ use Rattle.html_construction.specs.declared.mode.Mode.{Mode}
 use Rattle.html_construction.specs.Plans.{Adopt, Ask, By, CloseLink, Do, Each, Ending, Foster, IsMoved, Over, Plan, Reconstruct, Rules, Runs, Settle, Stop, adopts, asks, closes_link, does, does_each, ends_each, fosters, goes_by, reconstructs, settles, stops}
 use Rattle.html_construction.specs.States.{State}
 use Rattle.html_construction.specs.Words.{AddMarker, Becomes, BeginOwnPart, ClearTo, ClearToMarker, CloseForm, CloseNamed, CloseThrough, Drop, End, Enter, FramesetOff, Implied, Imply, ImplyHead, ImplyPart, ImplyRoot, ImplyVoid, Insert, InsertAt, InsertCharacter, InsertClosedForm, InsertComment, InsertCommentAt, InsertDoctype, InsertForeign, InsertForeignVoid, InsertForm, InsertHead, InsertListed, InsertPart, InsertRoot, InsertVoid, InsertVoidAt, Keep, Leave, MergeIntoBody, MergeIntoRoot, ParsesForeign, Pop, PopTemplate, PushTemplate, Query, Quirks, ReplaceBody, Reset, Switch, Word, after, answer, with_kept}
+use Rattle.html_modes.proofs.Planned.{halves as both}
 use Rattle.html_laws.specs.Likeness.{core}
 use Rattle.html_laws.specs.Outcomes.{IsNative}
-use Rattle.html_laws.proofs.Conjunctions.{both}
 use Rattle.html_laws.proofs.Words.{becomes-core}
 
 -- the words that make one, and the question before them

@@ -19,9 +19,9 @@ use Rattle.html_parser.specs.declared.faults.PageFault.{PageFault}
 use Rattle.html_parser.specs.Kinds.{kinds}
 use Rattle.html_parser.specs.Parsed.{Headline}
 use Rattle.html_parser.specs.Start.{Start, parses, text_start}
+use Rattle.html_modes.proofs.Planned.{halves as both}
 use Rattle.html_laws.specs.OnePage.{InputsHaveOnePage, InputsHaveOneTree, IsOnePage, RefusesForeign}
 use Rattle.html_laws.specs.Outcomes.{BeginAlike}
-use Rattle.html_laws.proofs.Conjunctions.{both}
 use Rattle.html_laws.proofs.Texts.{texts-one}
 
 none-at : (p : Fate → Bool) (fs : List Fate) (i : ℕ) (f : Fate) → list_all p fs ≡ true → slice_get fs i ≡ Some f → p f ≡ true

@@ -32,10 +32,10 @@ use Rattle.html_modes.specs.RulesInFrameset.{in_frameset}
 use Rattle.html_modes.specs.RulesAfterFrameset.{after_frameset}
 use Rattle.html_modes.specs.RulesAfterAfterBody.{after_after_body}
 use Rattle.html_modes.specs.RulesAfterAfterFrameset.{after_after_frameset}
+use Rattle.html_modes.proofs.Planned.{halves as both}
 use Rattle.html_laws.proofs.Counting.{AreDue, due, is_char, is_flat}
 use Rattle.html_laws.proofs.Keeping.{AreKeepless, empties, keepless}
 use Rattle.html_laws.proofs.Natives.{AreNative, native}
-use Rattle.html_laws.proofs.Conjunctions.{both}
 
 abbrev suits : Bool → Plan → Bool
 suits c p = native p && (is_flat p && due c true p)

@@ -1,13 +1,9 @@
 -- What a call does of the insertion mode in which it begins.
-use Rattle.std.proofs.Common.{ℕ, ◌≡◌, ◌||◌, Bool, true, false, List, [], ◌∷◌, Result, IfErr, refl, sym, ap, subst, ◌∙◌}
+use Rattle.std.proofs.Common.{ℕ, ◌≡◌, Bool, true, false, List, [], ◌∷◌, Result, IfErr, refl, sym, ap, subst, ◌∙◌}
 use Rattle.std.proofs.lemmas.Bool.{false≢true}
 use Rattle.std.proofs.lemmas.Result.{err_from_is_err_and}
 use Rattle.std.specs.Prelude.{IsErrAnd}
-use Rattle.html_names.specs.declared.tag.Tag.{Tag}
-use Rattle.html_names.specs.declared.tag.Tag.TheVariants as tag
-use Rattle.html_names.specs.Groups.{ends_select, ends_select_in_table}
 use Rattle.html_tokens.specs.declared.token.TokenKind.{TokenKind}
-use Rattle.html_tree.specs.Proper.{is_foreign_root}
 use Rattle.html_tree.specs.States.{State as Tree}
 use Rattle.html_ledger.specs.declared.symbol.Symbol.{Symbol}
 use Rattle.html_ledger.specs.Flags.{may_select}
@@ -77,7 +73,7 @@ out-body m n e = out-own m n (ap is_of_selects e) (ap is_of_frames e) (ap is_of_
 pub out-same : (m n : Mode) → n ≡ m → StaysOut m n
 out-same m n e = subst (λ x. StaysOut m x) (sym e) (record { select = λ p. p; frameset = λ p. p; column_group = λ p. p })
 
-out-then : (m n o : Mode) → StaysOut m n → StaysOut n o → StaysOut m o
+pub out-then : (m n o : Mode) → StaysOut m n → StaysOut n o → StaysOut m o
 out-then m n o s t = record { select = λ p. s.select (t.select p); frameset = λ p. s.frameset (t.frameset p); column_group = λ p. s.column_group (t.column_group p) }
 
 -- any other token than a code point, the same mode, and modes that are none of those
@@ -89,9 +85,6 @@ stays-same y m n e = record { out = λ p. out-same m n e }
 
 pub stays-own : (y : Symbol) (m n : Mode) → is_of_selects n ≡ false → is_of_frames n ≡ false → is_of_column_groups n ≡ false → TextStays y m n
 stays-own y m n e f g = record { out = λ p. out-own m n e f g }
-
-pub stays-out : (y : Symbol) (m n : Mode) → StaysOut m n → TextStays y m n
-stays-out y m n s = record { out = λ p. s }
 
 -- an entry after others, between which the mode stays
 pub stays-then : (y : Symbol) (m n k o : Mode) → TextStays y m n → k ≡ n → TextStays y k o → TextStays y m o
@@ -113,33 +106,11 @@ run-founded a b e f = let z = runs-own a.mode e in founded-other b (ap is_of_sel
 
 -- FOREIGN CONTENT
 
-pub native-ends_select : (t : Tag) → ends_select t ≡ true → is_foreign_root t ≡ false
-native-ends_select tag.Input e = refl
-native-ends_select tag.Keygen e = refl
-native-ends_select tag.Textarea e = refl
-native-ends_select _ e = absurd (false≢true e)
-
-pub native-ends_select_in_table : (t : Tag) → ends_select_in_table t ≡ true → is_foreign_root t ≡ false
-native-ends_select_in_table tag.Svg e = absurd (false≢true e)
-native-ends_select_in_table tag.Math e = absurd (false≢true e)
-native-ends_select_in_table _ e = refl
-
 pub ignores-done : (y : Symbol) → Ignores Done y
 ignores-done y = record { done = λ e. refl }
 
-pub ignores-not : (o : Outcome) (y : Symbol) → begins_foreign y ≡ false → Ignores o y
-ignores-not o y e = record { done = λ f. absurd (false≢true (sym e ∙ f)) }
-
 pub ignores-in : (m : Mode) (o : Outcome) (y : Symbol) → Ignores o y → IgnoresIn m o y
 ignores-in m o y i = record { done = λ e. i }
-
-either-not : (a b : Bool) → a ≡ false → b ≡ false → (a || b) ≡ false
-either-not false false e f = refl
-either-not true b e f = absurd (false≢true (sym e))
-either-not false true e f = absurd (false≢true (sym f))
-
-pub ignores-other : (m : Mode) (o : Outcome) (y : Symbol) → is_of_selects m ≡ false → is_of_frames m ≡ false → IgnoresIn m o y
-ignores-other m o y e f = record { done = λ p. absurd (false≢true (sym (either-not (is_of_selects m) (is_of_frames m) e f) ∙ p)) }
 
 pub first-in : (a : State) (o : Outcome) (y : Symbol) → IgnoresIn a.mode o y → IgnoresFirst a o y
 first-in a o y i = record { done = λ w e. i }
@@ -184,14 +155,6 @@ pub ruleset begun_rules = (founded-other, founded-select, founded-frames, out-bo
 
 pub ruleset text_stays = (stays-other, stays-same, stays-own)
 
-pub ruleset ignoring_rules = (ignores-done, ignores-not, native-ends_select, native-ends_select_in_table)
-
-pub ruleset modes_ignoring = (ignores-in, ignores-other)
-
 pub ruleset first_rules = (first-in, first-done, first-astray)
 
 pub ruleset run_begun = (run-gives, out-same, run-founded)
-
-pub ruleset out_rules = (out-own)
-
-pub ruleset text_leaves = (stays-out)

@@ -20,7 +20,6 @@ use Rattle.html_ledger.specs.Entries.{Entries, number_of}
 use Rattle.html_ledger.specs.Flags.{may_embed, must_drop}
 use Rattle.html_ledger.specs.MayDrop.{is_foreign_root}
 use Rattle.html_ledger.specs.Spaces.{is_space}
-use Rattle.html_ledger.specs.Symbols.{starts}
 use Rattle.html_tree.specs.declared.groups.Target.TheVariants.{Current}
 use Rattle.html_tree.specs.Foreign.{found_foreign, left_foreign}
 use Rattle.html_tree.specs.Listing.{IsReopened}
@@ -43,15 +42,14 @@ use Rattle.html_modes.specs.declared.outcome.Outcome.{Outcome}
 use Rattle.html_modes.specs.declared.outcome.Outcome.TheVariants.{Done, Reprocess, Foreign}
 use Rattle.html_modes.specs.declared.outcome.Foreign.{Foreign as Root}
 use Rattle.html_modes.specs.declared.outcome.Foreign.TheVariants as root
-use Rattle.html_modes.specs.Begun.{IgnoresIn}
 use Rattle.html_modes.specs.Fitting.{is_loose}
 use Rattle.html_modes.specs.Foreign.{Follows, FollowsForeign, IsCommented, IsEmbedded, IsIgnored, IsInserted, IsRootMade, Stayed, Stays, around_foreign, breaks_out, closed_foreign, ends_any, ends_foreign, frameset_ok_after, goes_by_foreign, goes_on, if_goes, leaves_foreign, stack_after}
 use Rattle.html_modes.specs.Guards.{is_table_text}
 use Rattle.html_modes.specs.Ranks.{rank, top_rank}
 use Rattle.html_modes.specs.Plain.{IsNextInBody, TurnsInBody, is_plain_tag}
-use Rattle.html_modes.specs.RawText.{HasOpened, Opens, holds_text_alone}
+use Rattle.html_modes.specs.RawText.{HasOpened}
 use Rattle.html_modes.specs.Steps.{Counted, Falls, Grows, Settles, Spends, Steps, Worked, root_of, root_space}
-use Rattle.html_modes.proofs.RawText.{adds-other, ends-other, opens-not, push-last, text-loose}
+use Rattle.html_modes.proofs.RawText.{ends-other, push-last, text-loose}
 use Rattle.html_modes.proofs.Counting.{Settles-grows}
 use Rattle.html_modes.proofs.Moded.{top_rank-loose}
 use Rattle.html_modes.proofs.Settled.{Counted-entry, Counted-worked, Fits-loose, Spends-one}
@@ -234,13 +232,13 @@ closed-root name z e = rw e (record { tree_is = refl })
 
 pub ruleset closing_rules = (goes-start, goes-ended, goes-any, stack-left, stack-closed, stack-same, closed-root)
 
-pub ruleset embed_rules = (heavier-foreign, embedded-closed, embedded-opened, opened-foreign, any-refused)
+pub ruleset embed_rules = (heavier-foreign, embedded-closed, embedded-opened, any-refused)
 
 pub ruleset root_rules = (root-made, outside-root, may-root)
 
 pub ruleset char_rules = (inserted-null, inserted-char, inserted-flag, kept-null, kept-space, turned-off, history-foreign, any-refused, char-refused)
 
--- the roots are no elements of a plain page, and none that hold text alone
+-- the roots are no elements of a plain page
 root-plain : (name : Root) (t : Tag) → Start t ≡ root_of name → is_plain_tag t ≡ false
 root-plain root.Svg t e = let k : t ≡ tag.Svg = (let z = e in cc) in ap is_plain_tag k
 root-plain root.Math t e = let k : t ≡ tag.Math = (let z = e in cc) in ap is_plain_tag k
@@ -256,14 +254,7 @@ turns-root o name t k a b e = by o
     by Reprocess = never
     by (Foreign other) = never
 
-pub opens-root : (o : Outcome) (name : Root) (t : Tag) (b : State) → Start t ≡ root_of name → Opens o (Start t) b
-opens-root o name t b e = opens-not o (Start t) b (by name t e)
-  where
-    by : (n : Root) (u : Tag) → Start u ≡ root_of n → starts holds_text_alone (Start u) ≡ false
-    by root.Svg u e = let k : u ≡ tag.Svg = (let z = e in cc) in ap holds_text_alone k
-    by root.Math u e = let k : u ≡ tag.Math = (let z = e in cc) in ap holds_text_alone k
-
-pub ruleset body_roots = (turns-root, opens-root, outside-root, may-root, asked-parsed)
+pub ruleset body_roots = (turns-root, outside-root, may-root, asked-parsed)
 
 pub ruleset stay_rules = (commented, history-foreign, around-outside, may-around, asked-around, any-refused)
 
@@ -310,9 +301,6 @@ module _ (o : Outcome) (y : Symbol) (t : TokenKind) (a m b : State) (r : m ≡ r
       by Done s = λ n. (sym (ap (λ (x : State). x.ledger.kept) r) ∙ (s n).0, (s n).1 ∙ ap (λ (x : State). length x.ledger.fates + 1) r)
       by Reprocess s = tt
       by (Foreign name) s = tt
-
-  pub Ignores-after : IgnoresIn m.mode o y → IgnoresIn a.mode o y
-  Ignores-after i = subst (λ x. IgnoresIn x o y) mode-after i
 
 -- the token stays
 or-first : (a b : Bool) → (a || b) ≡ false → a ≡ false
@@ -392,6 +380,6 @@ follows-astray o y k a b n = record { follows = λ g f h d s r. absurd (n s r) }
 pub follows-some : (o : Outcome) (y : Symbol) (k : TokenKind) (g : Tag) (a b : State) → around_foreign a y k ≡ Some g → (goes_on a.tree y k ≡ false → Follows g o y k a b) → FollowsForeign o y k a b
 follows-some o y k g a b e f = record { follows = λ u v h d s r. subst (λ x. Follows x o y k a b) (let z : Some g ≡ Some u = sym e ∙ v in cc) (f h) }
 
-pub ruleset step_foreign = (around-loose, around-tag, follows-none, follows-native, follows-table_text, follows-dropped, follows-astray, follows-some, text-loose, adds-other, ends-other)
+pub ruleset step_foreign = (around-loose, around-tag, follows-none, follows-native, follows-table_text, follows-dropped, follows-astray, follows-some, text-loose, ends-other)
 
 pub ruleset foreign_rules = (Fits-loose, any-refused)

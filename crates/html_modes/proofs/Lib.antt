@@ -15,6 +15,10 @@ pub mod RawText
 pub mod Embedding
 pub mod Words
 pub mod Following
+pub mod TextAlone
+pub mod TextGoingOn
+pub mod Planned
+pub mod Outside
 pub mod Ruled
 pub mod RulesInBody
 pub mod RulesInHead

@@ -41,6 +41,7 @@ use Rattle.html_modes.specs.Guards.{is_table_text}
 use Rattle.html_modes.specs.Plain.{AreListed, EndsCurrent, GoesOn, HasSeen, IsNext, IsPlainState, IsTurn, StandsIn, Turns, closes, is_next, is_plain_tag, next_fate, next_list, next_mode, next_nodes, next_stack, next_tags}
 use Rattle.html_modes.specs.declared.outcome.Outcome.{Outcome}
 use Rattle.html_modes.specs.declared.outcome.Outcome.TheVariants.{Done, Reprocess, Foreign}
+use Rattle.html_modes.proofs.Planned.{halves}
 
 -- WHAT IS LISTED
 
@@ -174,10 +175,6 @@ listed-unlisted es s x n h = elim (listed-split es s x h) [
 and-false : (b : Bool) → (b && false) ≡ false
 and-false true = refl
 and-false false = refl
-
-halves : (a b : Bool) → (a && b) ≡ true → (a ≡ true) × (b ≡ true)
-halves true b e = (refl, e)
-halves false b e = absurd (false≢true e)
 
 and : (a b : Bool) → a ≡ true → b ≡ true → (a && b) ≡ true
 and a b e f = rw (e, f) refl

@@ -18,7 +18,7 @@ ghost use Rattle.html_modes.specs.Steps.{Counted, Falls, Pays, Settles, Spends, 
 ghost use Rattle.html_modes.specs.Ranks.{top_rank};
 ghost use Rattle.html_construction.specs.Modes.{is_of_frames, is_of_selects};
 ghost use Rattle.html_modes.specs.Guards.{is_droppable, is_table_text};
-ghost use Rattle.html_modes.specs.RawText.{Adds, AddsBy, Ends, EndsBy, Opens, OpensBy};
+ghost use Rattle.html_modes.specs.RawText.{AddsBy, Ends, EndsBy, OpensBy};
 
 use crate::guards::{is_astray, is_table_text, is_unfounded};
 use crate::modes::after::{after_after_body, after_body};
@@ -86,6 +86,7 @@ pub fn take(
             Outcome::Done => {
                 settle(page);
                 page.laws();
+                page.forest();
                 return Ok(None);
             }
             Outcome::Reprocess => {}
@@ -113,7 +114,7 @@ fn settle(page: &mut Construction)
 }
 
 /// One entry: the text of a table, what every mode drops, the rules for foreign content, or those of the mode that is set (13.2.6).
-#[tactic(auto, using(crate::proofs::Settled::step_rules, crate::proofs::Plain::step_plain, crate::proofs::RawText::step_texts, crate::proofs::Begun::first_rules, crate::proofs::Begun::text_stays, crate::proofs::Embedding::step_foreign, crate::proofs::Dispatching::entries))]
+#[tactic(auto, using(crate::proofs::Settled::step_rules, crate::proofs::Plain::step_plain, crate::proofs::RawText::step_texts, crate::proofs::Begun::first_rules, crate::proofs::Begun::text_stays, crate::proofs::Outside::outside, crate::proofs::Embedding::step_foreign, crate::proofs::Dispatching::entries))]
 fn step(page: &mut Construction, token: &TokenKind, symbol: Symbol) -> Result<Outcome, Refusal>
     requires symbol { symbol_of token.now ≡ symbol }
     requires fits { Fits page.old }
@@ -127,8 +128,6 @@ fn step(page: &mut Construction, token: &TokenKind, symbol: Symbol) -> Result<Ou
     ensures ignores { IfOk result (λ o. IgnoresFirst page.old o symbol) }
     ensures settles { IfOk result (λ o. Settles o symbol page.old page.new) }
     ensures plain { IfOk result (λ o. Turns o symbol token.now page.old page.new) }
-    ensures opens { IfOk result (λ o. Opens o symbol page.new) }
-    ensures adds { IfOk result (λ o. Adds o symbol page.old page.new) }
     ensures ends { IfOk result (λ o. Ends o symbol token.now page.old page.new) }
     ensures foreign { IfOk result (λ o. FollowsForeign o symbol token.now page.old page.new) }
     ensures refuses { IfErr result (λ e. Refuses token.now e page.old page.new) }
@@ -155,7 +154,7 @@ fn step(page: &mut Construction, token: &TokenKind, symbol: Symbol) -> Result<Ou
 }
 
 /// The tree construction dispatcher (13.2.6), where foreign content was made or is the context.
-#[tactic(auto, using(crate::proofs::Settled::step_rules, crate::proofs::Plain::step_plain, crate::proofs::RawText::step_texts, crate::proofs::Begun::text_stays, crate::proofs::Embedding::step_foreign, crate::proofs::Dispatching::entries))]
+#[tactic(auto, using(crate::proofs::Settled::step_rules, crate::proofs::Plain::step_plain, crate::proofs::RawText::step_texts, crate::proofs::Begun::text_stays, crate::proofs::Outside::outside, crate::proofs::Embedding::step_foreign, crate::proofs::Dispatching::entries))]
 #[inline(never)]
 fn dispatch(page: &mut Construction, token: &TokenKind, symbol: Symbol) -> Result<Outcome, Refusal>
     requires symbol { symbol_of token.now ≡ symbol }
@@ -178,8 +177,6 @@ fn dispatch(page: &mut Construction, token: &TokenKind, symbol: Symbol) -> Resul
     ensures ignores { IfOk result (λ o. IgnoresIn page.old.mode o symbol) }
     ensures settles { IfOk result (λ o. Settles o symbol page.old page.new) }
     ensures plain { IfOk result (λ o. Turns o symbol token.now page.old page.new) }
-    ensures opens { IfOk result (λ o. Opens o symbol page.new) }
-    ensures adds { IfOk result (λ o. Adds o symbol page.old page.new) }
     ensures ends { IfOk result (λ o. Ends o symbol token.now page.old page.new) }
     ensures foreign { IfOk result (λ o. FollowsForeign o symbol token.now page.old page.new) }
     ensures refuses { IfErr result (λ e. Refuses token.now e page.old page.new) }
@@ -222,7 +219,6 @@ fn foreign_rules(
     ensures counts { IfOk result (λ o. Counted 26 o token.now page.old page.new) }
     ensures ignores { IfOk result (λ o. IgnoresIn page.old.mode o symbol) }
     ensures settles { IfOk result (λ o. Settles o symbol page.old page.new) }
-    ensures opens { IfOk result (λ o. Opens o symbol page.new) }
     ensures follows { IfOk result (λ o. goes_on page.old.tree symbol token.now ≡ false → Follows around o symbol token.now page.old page.new) }
     ensures refuses { IfErr result (λ e. Refuses token.now e page.old page.new) }
     ensures on { IfOk result (λ o. goes_on page.old.tree symbol token.now ≡ true → FollowsOn (plan page.old.mode symbol) o symbol token.now page.old page.new) }
@@ -236,7 +232,7 @@ fn foreign_rules(
 }
 
 /// The rules of the mode that is set.
-#[tactic(auto, using(crate::proofs::Settled::rules_rules, crate::proofs::Plain::rules_plain, crate::proofs::RawText::other_rules, crate::proofs::Begun::modes_ignoring, crate::proofs::Dispatching::plans))]
+#[tactic(auto, using(crate::proofs::Settled::rules_rules, crate::proofs::Plain::rules_plain, crate::proofs::RawText::other_rules, crate::proofs::Dispatching::plans))]
 #[inline(always)]
 fn rules(page: &mut Construction, token: &TokenKind, symbol: Symbol) -> Result<Outcome, Refusal>
     requires symbol { symbol_of token.now ≡ symbol }
@@ -252,14 +248,10 @@ fn rules(page: &mut Construction, token: &TokenKind, symbol: Symbol) -> Result<O
     ensures takes { IfOk result (λ o. Steps o token.now page.old page.new) }
     ensures parses { OnOk result (page.new.parses_foreign ≡ page.old.parses_foreign) }
     ensures falls { IfOk result (λ o. Falls o symbol page.old page.new) }
-    ensures out { OnOk result (TextStays symbol page.old.mode page.new.mode) }
     ensures spends { OnOk result (Spends 2 page.old page.new) }
     ensures counts { IfOk result (λ o. Counted 24 o token.now page.old page.new) }
-    ensures ignores { IfOk result (λ o. IgnoresIn page.old.mode o symbol) }
     ensures settles { IfOk result (λ o. Settles o symbol page.old page.new) }
     ensures plain { IfOk result (λ o. Turns o symbol token.now page.old page.new) }
-    ensures opens { IfOk result (λ o. Opens o symbol page.new) }
-    ensures adds { IfOk result (λ o. Adds o symbol page.old page.new) }
     ensures ends { IfOk result (λ o. Ends o symbol token.now page.old page.new) }
     ensures refuses { IfErr result (λ e. Refuses token.now e page.old page.new) }
     ensures follows { IfOk result (λ o. FollowsPlan (plan page.old.mode symbol) token.now o page.old page.new) }

@@ -6,12 +6,10 @@ ghost use Rattle.html_ledger.specs.Entries.{ended};
 ghost use Rattle.html_construction.specs.Budgets.{Refuses};
 ghost use Rattle.html_construction.specs.Built.{Takes};
 ghost use Rattle.html_construction.specs.Calls.{is_idle};
-ghost use Rattle.html_modes.specs.Begun.{TextStays};
 ghost use Rattle.html_modes.specs.Fitting.{Fits, Calls};
 ghost use Rattle.html_modes.specs.Plain.{Turns};
 ghost use Rattle.html_modes.specs.Steps.{Falls, Grows, Steps, Worked};
 ghost use Rattle.html_modes.specs.declared.outcome.Outcome.TheVariants.{Done};
-ghost use Rattle.html_modes.specs.RawText.{Opens};
 ghost use Rattle.html_construction.specs.Plans.{Ask, Do};
 ghost use Rattle.html_construction.specs.Words.{IsFragment, Switch};
 ghost use Rattle.html_modes.specs.RuleForms.{done_with};
@@ -30,7 +28,7 @@ use html_tokens::TokenKind;
 use html_tree::Target;
 
 /// The rules for the "after body" insertion mode (13.2.6.4.19).
-#[tactic(auto, using(crate::proofs::Settled::mode_rules, crate::proofs::RawText::open_rules, crate::proofs::Begun::text_stays, crate::proofs::RulesAfterBody::arms))]
+#[tactic(auto, using(crate::proofs::Settled::mode_rules, crate::proofs::RulesAfterBody::arms))]
 pub(crate) fn after_body(
     page: &mut Construction,
     token: &TokenKind,
@@ -45,11 +43,9 @@ pub(crate) fn after_body(
     ensures takes { IfOk result (λ o. Steps o token.now page.old page.new) }
     ensures parses { OnOk result (page.new.parses_foreign ≡ page.old.parses_foreign) }
     ensures falls { IfOk result (λ o. Falls o symbol page.old page.new) }
-    ensures out { OnOk result (TextStays symbol page.old.mode page.new.mode) }
     ensures grows { IfOk result (λ o. Grows o page.old page.new) }
     ensures works { IfOk result (λ o. Worked o token.now page.old page.new) }
     ensures plain { IfOk result (λ o. Turns o symbol token.now page.old page.new) }
-    ensures opens { IfOk result (λ o. Opens o symbol page.new) }
     ensures refuses { IfErr result (λ e. Refuses token.now e page.old page.new) }
     ensures follows { IfOk result (λ o. Follows (after_body symbol) token.now o page.old page.new) }
 {
@@ -114,7 +110,7 @@ fn end_page(page: &mut Construction, token: &TokenKind) -> Result<(), Refusal>
 }
 
 /// The rules for the "after after body" insertion mode (13.2.6.4.22).
-#[tactic(auto, using(crate::proofs::Settled::mode_rules, crate::proofs::RawText::open_rules, crate::proofs::Begun::text_stays, crate::proofs::RulesAfterAfterBody::arms))]
+#[tactic(auto, using(crate::proofs::Settled::mode_rules, crate::proofs::RulesAfterAfterBody::arms))]
 pub(crate) fn after_after_body(
     page: &mut Construction,
     token: &TokenKind,
@@ -129,11 +125,9 @@ pub(crate) fn after_after_body(
     ensures takes { IfOk result (λ o. Steps o token.now page.old page.new) }
     ensures parses { OnOk result (page.new.parses_foreign ≡ page.old.parses_foreign) }
     ensures falls { IfOk result (λ o. Falls o symbol page.old page.new) }
-    ensures out { OnOk result (TextStays symbol page.old.mode page.new.mode) }
     ensures grows { IfOk result (λ o. Grows o page.old page.new) }
     ensures works { IfOk result (λ o. Worked o token.now page.old page.new) }
     ensures plain { IfOk result (λ o. Turns o symbol token.now page.old page.new) }
-    ensures opens { IfOk result (λ o. Opens o symbol page.new) }
     ensures refuses { IfErr result (λ e. Refuses token.now e page.old page.new) }
     ensures follows { IfOk result (λ o. Follows (after_after_body symbol) token.now o page.old page.new) }
 {

@@ -10,7 +10,6 @@ ghost use Rattle.html_construction.specs.Built.{Takes, TakesRun};
 ghost use Rattle.html_construction.specs.Grown.{Grown};
 ghost use Rattle.html_construction.specs.Works.{Works};
 ghost use Rattle.html_construction.specs.Weights.{weight};
-ghost use Rattle.html_modes.specs.Begun.{TextStays};
 ghost use Rattle.html_modes.specs.Fitting.{Fits, Calls};
 ghost use Rattle.html_modes.specs.Guards.{is_root_end};
 ghost use Rattle.html_modes.specs.Rules.{Follows};
@@ -23,7 +22,6 @@ ghost use Rattle.html_tree.specs.Proper.{is_foreign_root};
 ghost use Rattle.html_modes.specs.Foreign.{IsRootMade};
 ghost use Rattle.html_modes.specs.declared.outcome.Outcome.TheVariants as outcome;
 ghost use Rattle.html_modes.specs.declared.outcome.Outcome.TheVariants.{Done};
-ghost use Rattle.html_modes.specs.RawText.{Opens};
 
 use crate::modes::body_end::{body_end, html_end};
 use crate::modes::body_start::body_start;
@@ -38,7 +36,7 @@ use html_names::{Space, Tag};
 use html_tokens::TokenKind;
 
 /// The rules for the "in body" insertion mode (13.2.6.4.7).
-#[tactic(auto, using(crate::proofs::Settled::mode_rules, crate::proofs::RawText::open_rules, crate::proofs::Begun::text_stays, crate::proofs::RulesInBody::arms))]
+#[tactic(auto, using(crate::proofs::Settled::mode_rules, crate::proofs::RulesInBody::arms))]
 pub(crate) fn in_body(
     page: &mut Construction,
     token: &TokenKind,
@@ -53,11 +51,9 @@ pub(crate) fn in_body(
     ensures takes { IfOk result (λ o. Steps o token.now page.old page.new) }
     ensures parses { OnOk result (page.new.parses_foreign ≡ page.old.parses_foreign) }
     ensures falls { IfOk result (λ o. Falls o symbol page.old page.new) }
-    ensures out { OnOk result (TextStays symbol page.old.mode page.new.mode) }
     ensures grows { IfOk result (λ o. Grows o page.old page.new) }
     ensures works { IfOk result (λ o. Worked o token.now page.old page.new) }
     ensures plain { IfOk result (λ o. Turns o symbol token.now page.old page.new) }
-    ensures opens { IfOk result (λ o. Opens o symbol page.new) }
     ensures refuses { IfErr result (λ e. Refuses token.now e page.old page.new) }
     ensures follows { IfOk result (λ o. Follows (in_body symbol) token.now o page.old page.new) }
 {
@@ -80,7 +76,7 @@ pub(crate) fn in_body(
 }
 
 /// The rules of the mode in body that other modes share: all but those for the end tag of the root, which no other mode takes from it.
-#[tactic(auto, using(crate::proofs::Settled::body_rules, crate::proofs::RawText::open_rules, crate::proofs::Begun::text_stays, crate::proofs::RulesInBody::arms))]
+#[tactic(auto, using(crate::proofs::Settled::body_rules, crate::proofs::RulesInBody::arms))]
 pub(crate) fn body_rules(
     page: &mut Construction,
     token: &TokenKind,
@@ -93,11 +89,9 @@ pub(crate) fn body_rules(
     ensures takes { IfOk result (λ o. Steps o token.now page.old page.new) }
     ensures parses { OnOk result (page.new.parses_foreign ≡ page.old.parses_foreign) }
     ensures falls { IfOk result (λ o. Falls o symbol page.old page.new) }
-    ensures out { OnOk result (TextStays symbol page.old.mode page.new.mode) }
     ensures grows { IfOk result (λ o. Grows o page.old page.new) }
     ensures works { IfOk result (λ o. Worked o token.now page.old page.new) }
     ensures plain { IfOk result (λ o. TurnsInBody o symbol token.now page.old page.new) }
-    ensures opens { IfOk result (λ o. Opens o symbol page.new) }
     ensures refuses { IfErr result (λ e. Refuses token.now e page.old page.new) }
     ensures follows { IfOk result (λ o. is_root_end symbol ≡ false → Follows (in_body symbol) token.now o page.old page.new) }
 {
@@ -125,7 +119,7 @@ pub(crate) fn body_rules(
 }
 
 /// A start tag.
-#[tactic(auto, using(crate::proofs::Settled::body_rules, crate::proofs::RawText::open_rules, crate::proofs::RulesInBodyStart::arms))]
+#[tactic(auto, using(crate::proofs::Settled::body_rules, crate::proofs::RulesInBodyStart::arms))]
 fn any_start(page: &mut Construction, token: &TokenKind, tag: Tag) -> Result<Outcome, Refusal>
     requires symbol { symbol_of token.now ≡ Symbol.Start tag }
     requires calls { Calls page.old }
@@ -136,7 +130,6 @@ fn any_start(page: &mut Construction, token: &TokenKind, tag: Tag) -> Result<Out
     ensures grows { IfOk result (λ o. Grows o page.old page.new) }
     ensures works { IfOk result (λ o. Worked o token.now page.old page.new) }
     ensures plain { IfOk result (λ o. TurnsInBody o (Symbol.Start tag) token.now page.old page.new) }
-    ensures opens { IfOk result (λ o. Opens o (Symbol.Start tag) page.new) }
     ensures refuses { IfErr result (λ e. Refuses token.now e page.old page.new) }
     ensures follows { IfOk result (λ o. Follows (in_body_start tag) token.now o page.old page.new) }
 {
@@ -151,7 +144,7 @@ fn any_start(page: &mut Construction, token: &TokenKind, tag: Tag) -> Result<Out
 }
 
 /// The start tag of a root of foreign content, which is refused or parsed.
-#[tactic(auto, using(crate::proofs::Settled::body_rules, crate::proofs::RawText::open_rules, crate::proofs::Embedding::body_roots, crate::proofs::RulesInBodyStart::root_arms))]
+#[tactic(auto, using(crate::proofs::Settled::body_rules, crate::proofs::Embedding::body_roots, crate::proofs::RulesInBodyStart::root_arms))]
 fn any_root_start(
     page: &mut Construction,
     token: &TokenKind,
@@ -168,7 +161,6 @@ fn any_root_start(
     ensures grows { IfOk result (λ o. Grows o page.old page.new) }
     ensures works { IfOk result (λ o. Worked o token.now page.old page.new) }
     ensures plain { IfOk result (λ o. TurnsInBody o (Symbol.Start tag) token.now page.old page.new) }
-    ensures opens { IfOk result (λ o. Opens o (Symbol.Start tag) page.new) }
     ensures refused { IfOk result (λ o. page.old.parses_foreign ≡ false → o ≡ outcome.Foreign name) }
     ensures parsed { IfOk result (λ o. page.old.parses_foreign ≡ true → IsRootMade (root_space name) (Symbol.Start tag) token.now page.old page.new) }
     ensures refuses { IfErr result (λ e. Refuses token.now e page.old page.new) }

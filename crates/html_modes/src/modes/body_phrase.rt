@@ -10,7 +10,7 @@ ghost use Rattle.html_modes.specs.Fitting.{Fits, Calls};
 ghost use Rattle.html_modes.specs.Plain.{TurnsInBody};
 ghost use Rattle.html_modes.specs.Steps.{Falls, Grows, Worked};
 ghost use Rattle.html_modes.specs.declared.outcome.Outcome.TheVariants.{Done};
-ghost use Rattle.html_modes.specs.RawText.{HasOpened, holds_text_alone, is_body_text};
+ghost use Rattle.html_modes.specs.RawText.{holds_text_alone, is_body_text};
 ghost use Rattle.html_names.specs.Sets.{is_formatting, is_headish};
 ghost use Rattle.html_names.specs.Tags.{is_same as same_tag};
 ghost use Rattle.html_construction.specs.Tokens.{opens_own};
@@ -36,7 +36,7 @@ use html_tokens::TokenKind;
 use html_tree::Group;
 
 /// A start tag: what stands among text.
-#[tactic(auto, using(crate::proofs::Settled::body_rules, crate::proofs::RawText::body_names, crate::proofs::RulesInBodyStart::phrase_arms))]
+#[tactic(auto, using(crate::proofs::Settled::body_rules, crate::proofs::RulesInBodyStart::phrase_arms))]
 pub(crate) fn phrase_start(
     page: &mut Construction,
     token: &TokenKind,
@@ -54,7 +54,6 @@ pub(crate) fn phrase_start(
     ensures grows { OnOk result (Grows Done page.old page.new) }
     ensures works { OnOk result (Worked Done token.now page.old page.new) }
     ensures plain { OnOk result (TurnsInBody Done (Symbol.Start tag) token.now page.old page.new) }
-    ensures opens { OnOk result (HasOpened tag page.new) }
     ensures refuses { IfErr result (λ e. Refuses token.now e page.old page.new) }
     ensures follows { OnOk result (Follows (in_body_start_phrase tag) token.now Done page.old page.new) }
 {
@@ -89,7 +88,7 @@ pub(crate) fn phrase_start(
 }
 
 /// A start tag: selects, what is ignored, and all others.
-#[tactic(auto, using(crate::proofs::Settled::body_rules, crate::proofs::RawText::body_names, crate::proofs::RulesInBodyStart::rest_arms))]
+#[tactic(auto, using(crate::proofs::Settled::body_rules, crate::proofs::RulesInBodyStart::rest_arms))]
 fn other_start(page: &mut Construction, token: &TokenKind, tag: Tag) -> Result<(), Refusal>
     requires small { weight_of tag ≤ 4 }
     requires named { same_tag tag Tag.Image ≡ false }

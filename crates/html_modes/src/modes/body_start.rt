@@ -10,7 +10,6 @@ ghost use Rattle.html_modes.specs.Fitting.{Fits, Calls};
 ghost use Rattle.html_modes.specs.Plain.{TurnsInBody};
 ghost use Rattle.html_modes.specs.Steps.{Falls, Grows, Worked, compared};
 ghost use Rattle.html_modes.specs.declared.outcome.Outcome.TheVariants.{Done};
-ghost use Rattle.html_modes.specs.RawText.{HasOpened};
 ghost use Rattle.html_construction.specs.Calls.{item_group};
 ghost use Rattle.html_construction.specs.Plans.{Ask, Do, Passes};
 ghost use Rattle.html_construction.specs.Words.{FramesetOff, Insert, InsertVoid, IsQuirks};
@@ -33,7 +32,7 @@ use html_tokens::TokenKind;
 use html_tree::Group;
 
 /// A start tag: the parts of a page, and blocks.
-#[tactic(auto, using(crate::proofs::Settled::body_rules, crate::proofs::RawText::body_names, crate::proofs::RulesInBodyStart::arms))]
+#[tactic(auto, using(crate::proofs::Settled::body_rules, crate::proofs::RulesInBodyStart::arms))]
 pub(crate) fn body_start(
     page: &mut Construction,
     token: &TokenKind,
@@ -49,7 +48,6 @@ pub(crate) fn body_start(
     ensures grows { OnOk result (Grows Done page.old page.new) }
     ensures works { OnOk result (Worked Done token.now page.old page.new) }
     ensures plain { OnOk result (TurnsInBody Done (Symbol.Start tag) token.now page.old page.new) }
-    ensures opens { OnOk result (HasOpened tag page.new) }
     ensures refuses { IfErr result (λ e. Refuses token.now e page.old page.new) }
     ensures follows { OnOk result (Follows (in_body_start tag) token.now Done page.old page.new) }
 {

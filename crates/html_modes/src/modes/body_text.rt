@@ -7,7 +7,7 @@ ghost use Rattle.html_construction.specs.Weights.{weight_of};
 ghost use Rattle.html_modes.specs.Fitting.{Fits, Calls};
 ghost use Rattle.html_modes.specs.Steps.{Falls, Grows, Worked};
 ghost use Rattle.html_modes.specs.declared.outcome.Outcome.TheVariants.{Done};
-ghost use Rattle.html_modes.specs.RawText.{HasOpened, is_body_text};
+ghost use Rattle.html_modes.specs.RawText.{is_body_text};
 ghost use Rattle.html_construction.specs.Tokens.{opens_own};
 ghost use Rattle.html_construction.specs.Plans.{Do, Reconstruct};
 ghost use Rattle.html_construction.specs.Words.{FramesetOff, Insert};
@@ -23,7 +23,7 @@ use html_names::Tag;
 use html_tokens::TokenKind;
 
 /// An element of the body that holds text alone.
-#[tactic(auto, using(crate::proofs::Settled::text_rules, crate::proofs::RawText::body_names, crate::proofs::RulesInBodyStart::text_arms))]
+#[tactic(auto, using(crate::proofs::Settled::text_rules, crate::proofs::RulesInBodyStart::text_arms))]
 pub(crate) fn body_text_start(
     page: &mut Construction,
     token: &TokenKind,
@@ -40,7 +40,6 @@ pub(crate) fn body_text_start(
     ensures falls { OnOk result (Falls Done (Symbol.Start tag) page.old page.new) }
     ensures grows { OnOk result (Grows Done page.old page.new) }
     ensures works { OnOk result (Worked Done token.now page.old page.new) }
-    ensures opens { OnOk result (HasOpened tag page.new) }
     ensures refuses { IfErr result (λ e. Refuses token.now e page.old page.new) }
     ensures follows { OnOk result (Follows (in_body_start_phrase tag) token.now Done page.old page.new) }
 {
@@ -73,7 +72,6 @@ fn textarea_start(page: &mut Construction, token: &TokenKind) -> Result<(), Refu
     ensures falls { OnOk result (Falls Done (Symbol.Start Tag.Textarea) page.old page.new) }
     ensures grows { OnOk result (Grows Done page.old page.new) }
     ensures works { OnOk result (Worked Done token.now page.old page.new) }
-    ensures opens { OnOk result (HasOpened Tag.Textarea page.new) }
     ensures refuses { IfErr result (λ e. Refuses token.now e page.old page.new) }
     ensures follows { OnOk result (Follows (Do FramesetOff (holding_text Insert)) token.now Done page.old page.new) }
 {
@@ -91,7 +89,6 @@ fn xmp_start(page: &mut Construction, token: &TokenKind) -> Result<(), Refusal>
     ensures falls { OnOk result (Falls Done (Symbol.Start Tag.Xmp) page.old page.new) }
     ensures grows { OnOk result (Grows Done page.old page.new) }
     ensures works { OnOk result (Worked Done token.now page.old page.new) }
-    ensures opens { OnOk result (HasOpened Tag.Xmp page.new) }
     ensures refuses { IfErr result (λ e. Refuses token.now e page.old page.new) }
     ensures follows { OnOk result (Follows (closing_p (Reconstruct (Do FramesetOff (holding_text Insert)))) token.now Done page.old page.new) }
 {
@@ -111,7 +108,6 @@ fn iframe_start(page: &mut Construction, token: &TokenKind) -> Result<(), Refusa
     ensures falls { OnOk result (Falls Done (Symbol.Start Tag.Iframe) page.old page.new) }
     ensures grows { OnOk result (Grows Done page.old page.new) }
     ensures works { OnOk result (Worked Done token.now page.old page.new) }
-    ensures opens { OnOk result (HasOpened Tag.Iframe page.new) }
     ensures refuses { IfErr result (λ e. Refuses token.now e page.old page.new) }
     ensures follows { OnOk result (Follows (Do FramesetOff (holding_text Insert)) token.now Done page.old page.new) }
 {

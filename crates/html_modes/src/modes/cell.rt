@@ -7,12 +7,10 @@ ghost use Rattle.html_construction.specs.Built.{Keeps, Takes};
 ghost use Rattle.html_construction.specs.Grown.{Grown};
 ghost use Rattle.html_construction.specs.Works.{Works};
 ghost use Rattle.html_construction.specs.Weights.{weight, weight_of};
-ghost use Rattle.html_modes.specs.Begun.{TextStays};
 ghost use Rattle.html_modes.specs.Fitting.{Fits, Calls};
 ghost use Rattle.html_modes.specs.Steps.{Falls, Grows, Steps, Worked};
 ghost use Rattle.html_modes.specs.declared.outcome.Outcome.TheVariants.{Done};
 ghost use Rattle.html_tree.specs.Seats.{is_part};
-ghost use Rattle.html_modes.specs.RawText.{Opens};
 ghost use Rattle.html_names.specs.declared.sets.Scope.TheVariants as scope;
 ghost use Rattle.html_tree.specs.declared.groups.Group.TheVariants as group;
 ghost use Rattle.html_tree.specs.declared.groups.Stop.TheVariants as stop;
@@ -58,7 +56,7 @@ pub(crate) fn cell_start(
 }
 
 /// The rules for the "in cell" insertion mode (13.2.6.4.15).
-#[tactic(auto, using(crate::proofs::Settled::part_rules, crate::proofs::RawText::open_rules, crate::proofs::Begun::text_stays, crate::proofs::RulesInCell::arms))]
+#[tactic(auto, using(crate::proofs::Settled::part_rules, crate::proofs::RulesInCell::arms))]
 pub(crate) fn in_cell(
     page: &mut Construction,
     token: &TokenKind,
@@ -73,10 +71,8 @@ pub(crate) fn in_cell(
     ensures takes { IfOk result (λ o. Steps o token.now page.old page.new) }
     ensures parses { OnOk result (page.new.parses_foreign ≡ page.old.parses_foreign) }
     ensures falls { IfOk result (λ o. Falls o symbol page.old page.new) }
-    ensures out { OnOk result (TextStays symbol page.old.mode page.new.mode) }
     ensures grows { IfOk result (λ o. Grows o page.old page.new) }
     ensures works { IfOk result (λ o. Worked o token.now page.old page.new) }
-    ensures opens { IfOk result (λ o. Opens o symbol page.new) }
     ensures refuses { IfErr result (λ e. Refuses token.now e page.old page.new) }
     ensures follows { IfOk result (λ o. Follows (in_cell symbol) token.now o page.old page.new) }
 {
@@ -97,7 +93,7 @@ pub(crate) fn in_cell(
     }
 }
 
-#[tactic(auto, using(crate::proofs::Settled::part_rules, crate::proofs::RawText::open_rules, crate::proofs::RulesInCell::arms))]
+#[tactic(auto, using(crate::proofs::Settled::part_rules, crate::proofs::RulesInCell::arms))]
 fn start_in_cell(page: &mut Construction, token: &TokenKind, tag: Tag) -> Result<Outcome, Refusal>
     requires mode { page.old.mode ≡ Mode.InCell }
     requires symbol { symbol_of token.now ≡ Symbol.Start tag }
@@ -108,7 +104,6 @@ fn start_in_cell(page: &mut Construction, token: &TokenKind, tag: Tag) -> Result
     ensures falls { IfOk result (λ o. Falls o (Symbol.Start tag) page.old page.new) }
     ensures grows { IfOk result (λ o. Grows o page.old page.new) }
     ensures works { IfOk result (λ o. Worked o token.now page.old page.new) }
-    ensures opens { IfOk result (λ o. Opens o (Symbol.Start tag) page.new) }
     ensures refuses { IfErr result (λ e. Refuses token.now e page.old page.new) }
     ensures follows { IfOk result (λ o. Follows (in_cell_start tag) token.now o page.old page.new) }
 {

@@ -19,7 +19,6 @@ ghost use Rattle.html_construction.specs.Weights.{weight};
 ghost use Rattle.html_construction.specs.Works.{Works};
 ghost use Rattle.html_modes.specs.Fitting.{Calls, Fits};
 ghost use Rattle.html_modes.specs.Foreign.{IsEmbedded, IsInserted, IsRootMade, Stays, around_foreign, breaks_out, closed_foreign, ends_any, ends_foreign, frameset_ok_after, goes_by_foreign, goes_on, has_font_attr, is_html_point_here, stack_after, takes_char, takes_start};
-ghost use Rattle.html_modes.specs.RawText.{HasOpened, Opens};
 ghost use Rattle.html_modes.specs.Steps.{Falls, Grows, Worked};
 ghost use Rattle.html_modes.specs.declared.outcome.Outcome.TheVariants.{Done};
 
@@ -195,7 +194,6 @@ pub(crate) fn stay(
     ensures ended { ends_any symbol ≡ true → OnOk result (page.new.tree ≡ page.old.tree) }
     ensures stays { OnOk result (Stays around symbol token.now page.old page.new) }
     ensures frameset { OnOk result (page.new.frameset_ok ≡ frameset_ok_after symbol page.old.frameset_ok) }
-    ensures opens { OnOk result (Opens Done symbol page.new) }
     ensures refuses { IfErr result (λ e. Refuses token.now e page.old page.new) }
 {
     match symbol {
@@ -287,7 +285,6 @@ fn embed(page: &mut Construction, token: &TokenKind, tag: Tag, space: Space) -> 
     ensures heavier { OnOk result (weight page.new.stack ≤ weight page.old.stack + 4) }
     ensures opened { OnOk result (0 < length page.new.stack) }
     ensures embedded { OnOk result (IsEmbedded space (Symbol.Start tag) token.now page.old page.new) }
-    ensures opens { OnOk result (HasOpened tag page.new) }
     ensures refuses { IfErr result (λ e. Refuses token.now e page.old page.new) }
     ensures follows { OnOk result (FollowsPlan (Ask ClosesItself (Do (InsertForeignVoid space) over) (Do (InsertForeign space) over)) token.now Done page.old page.new) }
 {

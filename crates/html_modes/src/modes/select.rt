@@ -8,15 +8,12 @@ ghost use Rattle.html_construction.specs.Grown.{Grown};
 ghost use Rattle.html_construction.specs.Modes.{is_of_selects, is_reset};
 ghost use Rattle.html_construction.specs.Works.{Works};
 ghost use Rattle.html_construction.specs.Weights.{weight};
-ghost use Rattle.html_modes.specs.Begun.{Ignores, TextStays};
-ghost use Rattle.html_tree.specs.Proper.{is_foreign_root};
 ghost use Rattle.html_modes.specs.Fitting.{Fits, Calls, is_loose};
 ghost use Rattle.html_modes.specs.Steps.{Falls, Grows, Steps, Worked};
 ghost use Rattle.html_modes.specs.Ranks.{rank};
 ghost use Rattle.html_modes.specs.declared.outcome.Outcome.TheVariants.{Done};
 ghost use Rattle.html_ledger.specs.MayDrop.{is_in_select};
 ghost use Rattle.html_modes.specs.Guards.{is_droppable};
-ghost use Rattle.html_modes.specs.RawText.{Opens};
 ghost use Rattle.html_ledger.specs.declared.fate.Cause.TheVariants.{InSelect};
 ghost use Rattle.html_construction.specs.Plans.{Chooses, Passes};
 ghost use Rattle.html_modes.specs.RuleForms.{again, ignored};
@@ -38,7 +35,7 @@ use html_tokens::TokenKind;
 use html_tree::Group;
 
 /// The rules for the "in select" insertion mode (13.2.6.4.16).
-#[tactic(auto, using(crate::proofs::Settled::mode_rules, crate::proofs::RawText::open_rules, crate::proofs::Begun::text_stays, crate::proofs::RulesInSelect::arms))]
+#[tactic(auto, using(crate::proofs::Settled::mode_rules, crate::proofs::RulesInSelect::arms))]
 pub(crate) fn in_select(
     page: &mut Construction,
     token: &TokenKind,
@@ -55,11 +52,8 @@ pub(crate) fn in_select(
     ensures takes { IfOk result (λ o. Steps o token.now page.old page.new) }
     ensures parses { OnOk result (page.new.parses_foreign ≡ page.old.parses_foreign) }
     ensures falls { IfOk result (λ o. Falls o symbol page.old page.new) }
-    ensures out { OnOk result (TextStays symbol page.old.mode page.new.mode) }
     ensures grows { IfOk result (λ o. Grows o page.old page.new) }
     ensures works { IfOk result (λ o. Worked o token.now page.old page.new) }
-    ensures ignores { IfOk result (λ o. Ignores o symbol) }
-    ensures opens { IfOk result (λ o. Opens o symbol page.new) }
     ensures refuses { IfErr result (λ e. Refuses token.now e page.old page.new) }
     ensures follows { IfOk result (λ o. Follows (in_select symbol) token.now o page.old page.new) }
 {
@@ -68,7 +62,7 @@ pub(crate) fn in_select(
 }
 
 /// The rules that both modes share.
-#[tactic(auto, using(crate::proofs::Settled::reset_rules, crate::proofs::RawText::open_rules, crate::proofs::Begun::ignoring_rules, crate::proofs::Begun::text_stays, crate::proofs::RulesInSelect::arms))]
+#[tactic(auto, using(crate::proofs::Settled::reset_rules, crate::proofs::RulesInSelect::arms))]
 fn select_rules(
     page: &mut Construction,
     token: &TokenKind,
@@ -84,11 +78,8 @@ fn select_rules(
     ensures takes { IfOk result (λ o. Steps o token.now page.old page.new) }
     ensures parses { OnOk result (page.new.parses_foreign ≡ page.old.parses_foreign) }
     ensures falls { IfOk result (λ o. Falls o symbol page.old page.new) }
-    ensures out { OnOk result (TextStays symbol page.old.mode page.new.mode) }
     ensures grows { IfOk result (λ o. Grows o page.old page.new) }
     ensures works { IfOk result (λ o. Worked o token.now page.old page.new) }
-    ensures ignores { IfOk result (λ o. Ignores o symbol) }
-    ensures opens { IfOk result (λ o. Opens o symbol page.new) }
     ensures refuses { IfErr result (λ e. Refuses token.now e page.old page.new) }
     ensures follows { IfOk result (λ o. Follows (in_select symbol) token.now o page.old page.new) }
 {
@@ -115,7 +106,7 @@ fn select_rules(
     Ok(Outcome::Done)
 }
 
-#[tactic(auto, using(crate::proofs::Settled::reset_rules, crate::proofs::RawText::head_names, crate::proofs::Begun::ignoring_rules, crate::proofs::RulesInSelect::arms))]
+#[tactic(auto, using(crate::proofs::Settled::reset_rules, crate::proofs::RawText::headish_names, crate::proofs::RulesInSelect::arms))]
 fn select_start_tag(
     page: &mut Construction,
     token: &TokenKind,
@@ -132,8 +123,6 @@ fn select_start_tag(
     ensures falls { IfOk result (λ o. Falls o (Symbol.Start tag) page.old page.new) }
     ensures grows { IfOk result (λ o. Grows o page.old page.new) }
     ensures works { IfOk result (λ o. Worked o token.now page.old page.new) }
-    ensures ignores { IfOk result (λ o. Ignores o (Symbol.Start tag)) }
-    ensures opens { IfOk result (λ o. Opens o (Symbol.Start tag) page.new) }
     ensures refuses { IfErr result (λ e. Refuses token.now e page.old page.new) }
     ensures follows { IfOk result (λ o. Follows (in_select_start tag) token.now o page.old page.new) }
 {
@@ -260,11 +249,10 @@ fn close_grouped_option(page: &mut Construction)
 }
 
 /// A start tag that closes the select, and is dropped where none is in scope.
-#[tactic(auto, using(crate::proofs::Settled::reset_rules, crate::proofs::RawText::open_rules, crate::proofs::Begun::ignoring_rules, crate::proofs::RulesInSelect::arms))]
+#[tactic(auto, using(crate::proofs::Settled::reset_rules, crate::proofs::RulesInSelect::arms))]
 fn leave_select(page: &mut Construction, token: &TokenKind, tag: Tag) -> Result<Outcome, Refusal>
     requires seen { may_select page.old.ledger.history ≡ true }
     requires began { is_of_selects page.old.began ≡ true }
-    requires native { is_foreign_root tag ≡ false }
     requires high { 7 ≤ rank page.old.mode (Symbol.Start tag) }
     requires outside { is_in_select tag ≡ false }
     requires symbol { symbol_of token.now ≡ Symbol.Start tag }
@@ -275,8 +263,6 @@ fn leave_select(page: &mut Construction, token: &TokenKind, tag: Tag) -> Result<
     ensures falls { IfOk result (λ o. Falls o (Symbol.Start tag) page.old page.new) }
     ensures grows { IfOk result (λ o. Grows o page.old page.new) }
     ensures works { IfOk result (λ o. Worked o token.now page.old page.new) }
-    ensures ignores { IfOk result (λ o. Ignores o (Symbol.Start tag)) }
-    ensures opens { IfOk result (λ o. Opens o (Symbol.Start tag) page.new) }
     ensures refuses { IfErr result (λ e. Refuses token.now e page.old page.new) }
     ensures follows { IfOk result (λ o. Follows (closing_select again (ignored InSelect)) token.now o page.old page.new) }
 {
@@ -311,7 +297,7 @@ fn close_select(page: &mut Construction) -> bool
 }
 
 /// The rules for the "in select in table" insertion mode (13.2.6.4.17).
-#[tactic(auto, using(crate::proofs::Settled::select_rules, crate::proofs::RawText::open_rules, crate::proofs::Begun::ignoring_rules, crate::proofs::Begun::text_stays, crate::proofs::RulesInSelectInTable::arms))]
+#[tactic(auto, using(crate::proofs::Settled::select_rules, crate::proofs::RulesInSelectInTable::arms))]
 pub(crate) fn in_select_in_table(
     page: &mut Construction,
     token: &TokenKind,
@@ -328,11 +314,8 @@ pub(crate) fn in_select_in_table(
     ensures takes { IfOk result (λ o. Steps o token.now page.old page.new) }
     ensures parses { OnOk result (page.new.parses_foreign ≡ page.old.parses_foreign) }
     ensures falls { IfOk result (λ o. Falls o symbol page.old page.new) }
-    ensures out { OnOk result (TextStays symbol page.old.mode page.new.mode) }
     ensures grows { IfOk result (λ o. Grows o page.old page.new) }
     ensures works { IfOk result (λ o. Worked o token.now page.old page.new) }
-    ensures ignores { IfOk result (λ o. Ignores o symbol) }
-    ensures opens { IfOk result (λ o. Opens o symbol page.new) }
     ensures refuses { IfErr result (λ e. Refuses token.now e page.old page.new) }
     ensures follows { IfOk result (λ o. Follows (in_select_in_table symbol) token.now o page.old page.new) }
 {

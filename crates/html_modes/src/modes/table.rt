@@ -8,7 +8,6 @@ ghost use Rattle.html_construction.specs.Grown.{Grown};
 ghost use Rattle.html_construction.specs.Modes.{is_reset};
 ghost use Rattle.html_construction.specs.Works.{Works};
 ghost use Rattle.html_construction.specs.Weights.{weight};
-ghost use Rattle.html_modes.specs.Begun.{TextStays};
 ghost use Rattle.html_modes.specs.Fitting.{Fits, Calls, is_loose, is_table_mode};
 ghost use Rattle.html_modes.specs.Steps.{Falls, Grows, Steps, Worked};
 ghost use Rattle.html_modes.specs.declared.outcome.Outcome.TheVariants.{Done};
@@ -36,7 +35,7 @@ use html_tokens::TokenKind;
 use html_tree::TableContext;
 
 /// The rules for the "in table" insertion mode (13.2.6.4.9).
-#[tactic(auto, using(crate::proofs::Settled::table_rules, crate::proofs::RawText::table_names, crate::proofs::Begun::text_stays, crate::proofs::RulesInTable::arms))]
+#[tactic(auto, using(crate::proofs::Settled::table_rules, crate::proofs::RawText::headish_names, crate::proofs::RulesInTable::arms))]
 pub(crate) fn in_table(
     page: &mut Construction,
     token: &TokenKind,
@@ -51,10 +50,8 @@ pub(crate) fn in_table(
     ensures takes { IfOk result (λ o. Steps o token.now page.old page.new) }
     ensures parses { OnOk result (page.new.parses_foreign ≡ page.old.parses_foreign) }
     ensures falls { IfOk result (λ o. Falls o symbol page.old page.new) }
-    ensures out { OnOk result (TextStays symbol page.old.mode page.new.mode) }
     ensures grows { IfOk result (λ o. Grows o page.old page.new) }
     ensures works { IfOk result (λ o. Worked o token.now page.old page.new) }
-    ensures opens { IfOk result (λ o. Opens o symbol page.new) }
     ensures refuses { IfErr result (λ e. Refuses token.now e page.old page.new) }
     ensures follows { IfOk result (λ o. Follows (in_table symbol) token.now o page.old page.new) }
 {
@@ -70,7 +67,7 @@ pub(crate) fn in_table(
     }
 }
 
-#[tactic(auto, using(crate::proofs::Settled::table_rules, crate::proofs::RawText::table_names, crate::proofs::RulesInTable::arms))]
+#[tactic(auto, using(crate::proofs::Settled::table_rules, crate::proofs::RawText::headish_names, crate::proofs::RulesInTable::arms))]
 fn start_in_table(page: &mut Construction, token: &TokenKind, tag: Tag) -> Result<Outcome, Refusal>
     requires symbol { symbol_of token.now ≡ Symbol.Start tag }
     requires mode { page.old.mode ≡ Mode.InTable }
@@ -81,7 +78,6 @@ fn start_in_table(page: &mut Construction, token: &TokenKind, tag: Tag) -> Resul
     ensures falls { IfOk result (λ o. Falls o (Symbol.Start tag) page.old page.new) }
     ensures grows { IfOk result (λ o. Grows o page.old page.new) }
     ensures works { IfOk result (λ o. Worked o token.now page.old page.new) }
-    ensures opens { IfOk result (λ o. Opens o (Symbol.Start tag) page.new) }
     ensures refuses { IfErr result (λ e. Refuses token.now e page.old page.new) }
     ensures follows { IfOk result (λ o. Follows (in_table_start tag) token.now o page.old page.new) }
 {
@@ -149,7 +145,7 @@ fn imply_section(page: &mut Construction) -> Result<(), Refusal>
 }
 
 /// The rules of the mode in table that the modes in table body and in row share.
-#[tactic(auto, using(crate::proofs::Settled::table_rules, crate::proofs::RawText::table_names, crate::proofs::Begun::text_stays, crate::proofs::RulesInTable::arms))]
+#[tactic(auto, using(crate::proofs::Settled::table_rules, crate::proofs::RawText::headish_names, crate::proofs::RulesInTable::arms))]
 pub(crate) fn table_rules(
     page: &mut Construction,
     token: &TokenKind,
@@ -163,10 +159,8 @@ pub(crate) fn table_rules(
     ensures takes { IfOk result (λ o. Steps o token.now page.old page.new) }
     ensures parses { OnOk result (page.new.parses_foreign ≡ page.old.parses_foreign) }
     ensures falls { IfOk result (λ o. Falls o symbol page.old page.new) }
-    ensures out { OnOk result (TextStays symbol page.old.mode page.new.mode) }
     ensures grows { IfOk result (λ o. Grows o page.old page.new) }
     ensures works { IfOk result (λ o. Worked o token.now page.old page.new) }
-    ensures opens { IfOk result (λ o. Opens o symbol page.new) }
     ensures refuses { IfErr result (λ e. Refuses token.now e page.old page.new) }
     ensures follows { IfOk result (λ o. Follows (in_table_other symbol) token.now o page.old page.new) }
 {
@@ -199,7 +193,7 @@ pub(crate) fn table_rules(
     Ok(Outcome::Done)
 }
 
-#[tactic(auto, using(crate::proofs::Settled::table_rules, crate::proofs::Begun::text_stays, crate::proofs::RulesInTable::arms))]
+#[tactic(auto, using(crate::proofs::Settled::table_rules, crate::proofs::RulesInTable::arms))]
 fn table_rules_char(page: &mut Construction, token: &TokenKind, c: char) -> Result<Outcome, Refusal>
     requires mode { is_table_mode page.old.mode ≡ true }
     requires free { IsTrue (is_free page.old.ledger.history (Symbol.Char c)) }
@@ -209,7 +203,6 @@ fn table_rules_char(page: &mut Construction, token: &TokenKind, c: char) -> Resu
     ensures takes { IfOk result (λ o. Steps o token.now page.old page.new) }
     ensures parses { OnOk result (page.new.parses_foreign ≡ page.old.parses_foreign) }
     ensures falls { IfOk result (λ o. Falls o (Symbol.Char c) page.old page.new) }
-    ensures out { OnOk result (TextStays (Symbol.Char c) page.old.mode page.new.mode) }
     ensures grows { IfOk result (λ o. Grows o page.old page.new) }
     ensures works { IfOk result (λ o. Worked o token.now page.old page.new) }
     ensures refuses { IfErr result (λ e. Refuses token.now e page.old page.new) }
@@ -236,7 +229,7 @@ fn collects_text(page: &mut Construction) -> bool
     tag.is_fostering() || tag.is(Tag::Template)
 }
 
-#[tactic(auto, using(crate::proofs::Settled::table_rules, crate::proofs::RawText::table_names, crate::proofs::RulesInTable::arms))]
+#[tactic(auto, using(crate::proofs::Settled::table_rules, crate::proofs::RawText::headish_names, crate::proofs::RulesInTable::arms))]
 fn table_rules_start(
     page: &mut Construction,
     token: &TokenKind,
@@ -251,7 +244,6 @@ fn table_rules_start(
     ensures falls { IfOk result (λ o. Falls o (Symbol.Start tag) page.old page.new) }
     ensures grows { IfOk result (λ o. Grows o page.old page.new) }
     ensures works { IfOk result (λ o. Worked o token.now page.old page.new) }
-    ensures opens { IfOk result (λ o. Opens o (Symbol.Start tag) page.new) }
     ensures refuses { IfErr result (λ e. Refuses token.now e page.old page.new) }
     ensures follows { IfOk result (λ o. Follows (in_table_other_start tag) token.now o page.old page.new) }
 {
@@ -410,7 +402,7 @@ fn form_in_table(page: &mut Construction, token: &TokenKind) -> Result<(), Refus
 }
 
 /// The rules of the mode in body for what can't stand in a table: it is put before the table.
-#[tactic(auto, using(crate::proofs::Settled::foster_rules, crate::proofs::RawText::table_names, crate::proofs::Begun::text_stays, crate::proofs::RulesInTable::arms))]
+#[tactic(auto, using(crate::proofs::Settled::foster_rules, crate::proofs::RawText::headish_names, crate::proofs::RulesInTable::arms))]
 fn foster_rules(
     page: &mut Construction,
     token: &TokenKind,
@@ -423,10 +415,8 @@ fn foster_rules(
     ensures takes { IfOk result (λ o. Steps o token.now page.old page.new) }
     ensures parses { OnOk result (page.new.parses_foreign ≡ page.old.parses_foreign) }
     ensures falls { IfOk result (λ o. Falls o symbol page.old page.new) }
-    ensures out { OnOk result (TextStays symbol page.old.mode page.new.mode) }
     ensures grows { IfOk result (λ o. Grows o page.old page.new) }
     ensures works { IfOk result (λ o. Worked o token.now page.old page.new) }
-    ensures opens { IfOk result (λ o. Opens o symbol page.new) }
     ensures refuses { IfErr result (λ e. Refuses token.now e page.old page.new) }
     ensures follows { IfOk result (λ o. is_root_end symbol ≡ false → Follows fostering token.now o page.old page.new) }
 {

@@ -7,11 +7,9 @@ ghost use Rattle.html_construction.specs.Built.{Keeps, Takes};
 ghost use Rattle.html_construction.specs.Grown.{Grown};
 ghost use Rattle.html_construction.specs.Works.{Works};
 ghost use Rattle.html_construction.specs.Weights.{weight};
-ghost use Rattle.html_modes.specs.Begun.{TextStays};
 ghost use Rattle.html_modes.specs.Fitting.{Fits, Calls};
 ghost use Rattle.html_modes.specs.declared.outcome.Outcome.TheVariants.{Done};
 ghost use Rattle.html_modes.specs.Steps.{Falls, Grows, Steps, Worked};
-ghost use Rattle.html_modes.specs.RawText.{Opens};
 ghost use Rattle.html_names.specs.declared.sets.Scope.TheVariants as scope;
 ghost use Rattle.html_tree.specs.declared.groups.Group.TheVariants as group;
 ghost use Rattle.html_tree.specs.declared.groups.Stop.TheVariants as stop;
@@ -32,7 +30,7 @@ use html_tokens::TokenKind;
 use html_tree::{Group, TableContext};
 
 /// The rules for the "in table body" insertion mode (13.2.6.4.13).
-#[tactic(auto, using(crate::proofs::Settled::part_rules, crate::proofs::RawText::table_names, crate::proofs::Begun::text_stays, crate::proofs::RulesInTableBody::arms))]
+#[tactic(auto, using(crate::proofs::Settled::part_rules, crate::proofs::RawText::headish_names, crate::proofs::RulesInTableBody::arms))]
 pub(crate) fn in_table_body(
     page: &mut Construction,
     token: &TokenKind,
@@ -47,10 +45,8 @@ pub(crate) fn in_table_body(
     ensures takes { IfOk result (λ o. Steps o token.now page.old page.new) }
     ensures parses { OnOk result (page.new.parses_foreign ≡ page.old.parses_foreign) }
     ensures falls { IfOk result (λ o. Falls o symbol page.old page.new) }
-    ensures out { OnOk result (TextStays symbol page.old.mode page.new.mode) }
     ensures grows { IfOk result (λ o. Grows o page.old page.new) }
     ensures works { IfOk result (λ o. Worked o token.now page.old page.new) }
-    ensures opens { IfOk result (λ o. Opens o symbol page.new) }
     ensures refuses { IfErr result (λ e. Refuses token.now e page.old page.new) }
     ensures follows { IfOk result (λ o. Follows (in_table_body symbol) token.now o page.old page.new) }
 {
@@ -71,7 +67,7 @@ pub(crate) fn in_table_body(
     }
 }
 
-#[tactic(auto, using(crate::proofs::Settled::part_rules, crate::proofs::RawText::table_names, crate::proofs::RulesInTableBody::arms))]
+#[tactic(auto, using(crate::proofs::Settled::part_rules, crate::proofs::RawText::headish_names, crate::proofs::RulesInTableBody::arms))]
 fn table_body_start(
     page: &mut Construction,
     token: &TokenKind,
@@ -86,7 +82,6 @@ fn table_body_start(
     ensures falls { IfOk result (λ o. Falls o (Symbol.Start tag) page.old page.new) }
     ensures grows { IfOk result (λ o. Grows o page.old page.new) }
     ensures works { IfOk result (λ o. Worked o token.now page.old page.new) }
-    ensures opens { IfOk result (λ o. Opens o (Symbol.Start tag) page.new) }
     ensures refuses { IfErr result (λ e. Refuses token.now e page.old page.new) }
     ensures follows { IfOk result (λ o. Follows (in_table_body_start tag) token.now o page.old page.new) }
 {
@@ -205,7 +200,7 @@ fn close_section(page: &mut Construction) -> bool
 }
 
 /// The rules for the "in row" insertion mode (13.2.6.4.14).
-#[tactic(auto, using(crate::proofs::Settled::part_rules, crate::proofs::RawText::table_names, crate::proofs::Begun::text_stays, crate::proofs::RulesInRow::arms))]
+#[tactic(auto, using(crate::proofs::Settled::part_rules, crate::proofs::RawText::headish_names, crate::proofs::RulesInRow::arms))]
 pub(crate) fn in_row(
     page: &mut Construction,
     token: &TokenKind,
@@ -220,10 +215,8 @@ pub(crate) fn in_row(
     ensures takes { IfOk result (λ o. Steps o token.now page.old page.new) }
     ensures parses { OnOk result (page.new.parses_foreign ≡ page.old.parses_foreign) }
     ensures falls { IfOk result (λ o. Falls o symbol page.old page.new) }
-    ensures out { OnOk result (TextStays symbol page.old.mode page.new.mode) }
     ensures grows { IfOk result (λ o. Grows o page.old page.new) }
     ensures works { IfOk result (λ o. Worked o token.now page.old page.new) }
-    ensures opens { IfOk result (λ o. Opens o symbol page.new) }
     ensures refuses { IfErr result (λ e. Refuses token.now e page.old page.new) }
     ensures follows { IfOk result (λ o. Follows (in_row symbol) token.now o page.old page.new) }
 {
@@ -244,7 +237,7 @@ pub(crate) fn in_row(
     }
 }
 
-#[tactic(auto, using(crate::proofs::Settled::part_rules, crate::proofs::RawText::table_names, crate::proofs::RulesInRow::arms))]
+#[tactic(auto, using(crate::proofs::Settled::part_rules, crate::proofs::RawText::headish_names, crate::proofs::RulesInRow::arms))]
 fn row_start(page: &mut Construction, token: &TokenKind, tag: Tag) -> Result<Outcome, Refusal>
     requires mode { page.old.mode ≡ Mode.InRow }
     requires symbol { symbol_of token.now ≡ Symbol.Start tag }
@@ -255,7 +248,6 @@ fn row_start(page: &mut Construction, token: &TokenKind, tag: Tag) -> Result<Out
     ensures falls { IfOk result (λ o. Falls o (Symbol.Start tag) page.old page.new) }
     ensures grows { IfOk result (λ o. Grows o page.old page.new) }
     ensures works { IfOk result (λ o. Worked o token.now page.old page.new) }
-    ensures opens { IfOk result (λ o. Opens o (Symbol.Start tag) page.new) }
     ensures refuses { IfErr result (λ e. Refuses token.now e page.old page.new) }
     ensures follows { IfOk result (λ o. Follows (in_row_start tag) token.now o page.old page.new) }
 {

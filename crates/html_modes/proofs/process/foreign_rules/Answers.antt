@@ -1,9 +1,11 @@
-use Rattle.std.proofs.Common.{ap, sym, ◌∙◌}
+use Rattle.std.proofs.Common.{ap, subst, sym, ◌∙◌}
 use Rattle.std.proofs.lemmas.Bool.{false≢true}
 use Rattle.html_construction.specs.States.{State}
 use Rattle.html_modes.proofs.Begun.{ignores-done, ignores-in}
 use Rattle.html_modes.proofs.Dispatching.{left-on}
-use Rattle.html_modes.proofs.Embedding.{Counted-stayed, Falls-after, Falls-stayed, Ignores-after, Settles-after, Settles-stayed, Spends-after, Spends-stayed, Steps-after, follows-done}
+use Rattle.html_modes.specs.Begun.{IgnoresIn, TextStays}
+use Rattle.html_modes.proofs.Outside.{ignores-planned, stays-planned}
+use Rattle.html_modes.proofs.Embedding.{Counted-stayed, Falls-after, Falls-stayed, Settles-after, Settles-stayed, Spends-after, Spends-stayed, Steps-after, follows-done}
 use Rattle.html_modes.proofs.Settled.{Counted-after}
 use Rattle.html_modes.proofs.process.foreign_rules.Goals as goal
 
@@ -20,7 +22,12 @@ pub returns-then-goes_on-clause-settles : goal.returns-then-goes_on-clause-settl
 returns-then-goes_on-clause-settles c = Settles-after c.in_ok-outcome.outcome c.args.symbol c.args.token.now c.args.page.now c.goes_on.new.page c.rules.new.page c.goes_on.ensures.rest c.in_ok-outcome.ensures.settles
 
 pub returns-then-goes_on-clause-ignores : goal.returns-then-goes_on-clause-ignores
-returns-then-goes_on-clause-ignores c = Ignores-after c.in_ok-outcome.outcome c.args.symbol c.args.token.now c.args.page.now c.goes_on.new.page c.rules.new.page c.goes_on.ensures.rest c.in_ok-outcome.ensures.ignores
+returns-then-goes_on-clause-ignores c = subst (λ m. IgnoresIn m c.in_ok-outcome.outcome c.args.symbol) (ap (λ (x : State). x.mode) c.goes_on.ensures.rest)
+    (ignores-planned c.in_ok-outcome.outcome c.args.symbol c.args.token.now c.goes_on.new.page.mode c.goes_on.new.page c.rules.new.page c.requires.symbol c.in_ok-outcome.ensures.follows)
+
+pub returns-then-goes_on-clause-out : goal.returns-then-goes_on-clause-out
+returns-then-goes_on-clause-out c = subst (λ m. TextStays c.args.symbol m c.rules.new.page.mode) (ap (λ (x : State). x.mode) c.goes_on.ensures.rest)
+    (stays-planned c.in_ok-outcome.outcome c.args.symbol c.args.token.now c.goes_on.new.page.mode c.goes_on.new.page c.rules.new.page c.requires.symbol c.in_ok-outcome.ensures.follows)
 
 pub returns-then-goes_on-clause-counts : goal.returns-then-goes_on-clause-counts
 returns-then-goes_on-clause-counts c = Counted-after c.in_ok-outcome.outcome c.args.token.now c.args.page.now c.goes_on.new.page c.rules.new.page c.goes_on.ensures.grown c.goes_on.ensures.works c.in_ok-outcome.ensures.counts

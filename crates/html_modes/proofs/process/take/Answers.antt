@@ -3,14 +3,15 @@ use Rattle.html_open.proofs.Keeps.{cases_bool}
 use Rattle.html_construction.specs.States.{State}
 use Rattle.html_modes.specs.Dispatching.{Entries, IsEntry, last, next}
 use Rattle.html_modes.specs.Entering.{Enters}
-use Rattle.html_modes.specs.Guards.{is_text}
 use Rattle.html_modes.specs.Steps.{Steps, Toils, compared}
 use Rattle.html_modes.proofs.Dispatching.{counted-becomes}
 use Rattle.html_modes.proofs.Entering.{enters-done, enters-next}
 use Rattle.html_modes.proofs.Settled.{Entered, entered-next, toils-done}
 use Rattle.html_modes.proofs.Following.{follows-on, follows-once}
 use Rattle.html_modes.proofs.Plain.{IsAlike, alike-begun, alike-counted, alike-then, goes-not, goes-on, next-alike}
-use Rattle.html_modes.proofs.RawText.{adds-done, adds-not, ends-done, leaving-on, opens-settled}
+use Rattle.html_modes.proofs.RawText.{ends-done, leaving-on}
+use Rattle.html_modes.proofs.TextAlone.{entries-open}
+use Rattle.html_modes.proofs.TextGoingOn.{entries-add}
 use Rattle.html_modes.specs.Begun.{TextStays, ignores_foreign}
 use Rattle.html_modes.proofs.Begun.{accepts-done, accepts-gives, began-own, begins-root, begun-refuses, done-foreign, done-not, first-entry, founded-begun, stays-settled, stays-then}
 use Rattle.html_modes.proofs.process.take.Goals as goal
@@ -45,11 +46,6 @@ steps-preserved c =
           (subst (λ o. IsEntry o c.args.symbol c.args.token.now c.count_steps.new.self c.step.new.page) c.in-Reprocess.is c.in_ok-step.ensures.entry) k
           );
       falls = e.1.1.1.1.1.1.1;
-      adds = λ m p. absurd (
-          adds-not c.in_ok-step.field-0 c.args.symbol c.begin_call.new.self c.count_steps.new.self c.step.new.page c.in-Reprocess.is
-          (alike-then c.begin_call.new.self c.steps.page c.count_steps.new.self (i.adds m p) (alike-counted c.steps.page c.count_steps.new.self c.count_steps.ensures.rest c.count_steps.ensures.same))
-          c.in_ok-step.ensures.adds m p
-          );
       ends = leaving-on c.in_ok-step.field-0 c.args.symbol c.args.token.now c.begin_call.new.self c.steps.page c.count_steps.new.self c.step.new.page c.in-Reprocess.is i.ends
           (alike-counted c.steps.page c.count_steps.new.self c.count_steps.ensures.rest c.count_steps.ensures.same) (λ h w. c.count_steps.ensures.keeps h (i.keeps h w)) c.count_steps.ensures.keeps c.in_ok-step.ensures.ends c.in_ok-step.ensures.takes;
       foreign = λ g h. absurd (
@@ -88,17 +84,20 @@ returns-in-Done-clause-plain c = λ n h.
 
 pub returns-in-Done-clause-opens : goal.returns-in-Done-clause-opens
 returns-in-Done-clause-opens c = λ n.
-    opens-settled c.in_ok-step.field-0 c.args.symbol c.step.new.page c.settle.new.page c.in-Done.is c.in_ok-step.ensures.opens c.settle.ensures.rest c.settle.ensures.same
+    entries-open c.args.symbol c.args.token.now c.steps.page c.settle.new.page c.requires.symbol c.forest.ensures.forest (
+    last c.steps.page c.count_steps.new.self c.step.new.page c.settle.new.page (counted-becomes c.steps.page c.count_steps.new.self c.count_steps.ensures.rest c.count_steps.ensures.same)
+    (subst (λ o. IsEntry o c.args.symbol c.args.token.now c.count_steps.new.self c.step.new.page) c.in-Done.is c.in_ok-step.ensures.entry) c.settle.ensures.settled
+    )
 
 pub returns-in-Done-clause-adds : goal.returns-in-Done-clause-adds
-returns-in-Done-clause-adds c = λ n.
-    let begun : IsAlike c.args.page.now c.begin_call.new.self = alike-begun c.args.page.now c.begin_call.new.self c.args.page.now.mode (length c.args.page.now.stack) (length c.args.page.now.tree.tree.labels) c.begin_call.ensures.rest in
-    adds-done c.in_ok-step.field-0 c.args.symbol c.args.page.now c.count_steps.new.self c.step.new.page c.settle.new.page c.in-Done.is
-    (λ m p. alike-then c.args.page.now c.begin_call.new.self c.count_steps.new.self begun (
-    alike-then c.begin_call.new.self c.steps.page c.count_steps.new.self (c.steps.invariant.adds (ap (λ (x : State). is_text x.mode) begun.same ∙ m) p)
-    (alike-counted c.steps.page c.count_steps.new.self c.count_steps.ensures.rest c.count_steps.ensures.same)
-    ))
-    c.in_ok-step.ensures.adds c.settle.ensures.same
+returns-in-Done-clause-adds c = λ n. entries-add c.args.symbol c.args.token.now c.args.page.now c.settle.new.page c.requires.symbol (
+    subst (λ (x : State). Entries c.args.symbol c.args.token.now x c.settle.new.page) c.begin_call.ensures.rest (
+    c.steps.invariant.run c.settle.new.page (
+    last c.steps.page c.count_steps.new.self c.step.new.page c.settle.new.page (counted-becomes c.steps.page c.count_steps.new.self c.count_steps.ensures.rest c.count_steps.ensures.same)
+    (subst (λ o. IsEntry o c.args.symbol c.args.token.now c.count_steps.new.self c.step.new.page) c.in-Done.is c.in_ok-step.ensures.entry) c.settle.ensures.settled
+    )
+    )
+    )
 
 pub returns-in-Done-clause-ends : goal.returns-in-Done-clause-ends
 returns-in-Done-clause-ends c = λ n.

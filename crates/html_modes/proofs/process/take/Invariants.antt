@@ -35,7 +35,6 @@ invariant-steps l = record {
   counts : l.page.tree.steps + length l.initial.page.ledger.fates * fee_of l.page + (weight l.page.stack + rank l.page.mode l.symbol) * turn_of l.page
       ≤ l.initial.page.tree.steps + length l.page.ledger.fates * fee_of l.page + (weight l.initial.page.stack + rank l.initial.page.mode l.symbol) * turn_of l.page;
   fates : length l.initial.page.ledger.fates ≤ length l.page.ledger.fates;
-  adds : is_text l.initial.page.mode ≡ true → is_code_point l.symbol ≡ true → IsAlike l.initial.page l.page;
   ends : is_text l.initial.page.mode ≡ true → is_code_point l.symbol ≡ false → Leaving l.token l.initial.page l.page;
   foreign : (g : Tag) → StaysIn g l.symbol l.token l.initial.page → IsAlike l.initial.page l.page;
   plain : IsNext l.symbol l.token l.initial.page → IsAlike l.initial.page l.page;
