@@ -119,24 +119,23 @@ def sources_seen(folder, words):
                 yield path, text
 
 
-def items_in(text):
-    """Returns the names of what a file declares at its top and of the types that its impls are of, and whether there is an impl of which the type is not read
-    so, or is a parameter."""
-    impls = IMPLS.findall(text)
-    is_open = len(impls) < len(IMPL.findall(text)) or any(len(it) < 2 for it in impls)
-    return {*TOP.findall(text), *impls}, is_open
+def impls_in(text):
+    """Returns the types that a file's impls are of, an empty word among them where one is not read so."""
+    found = IMPLS.findall(text)
+    return {*found, *([""] if len(found) < len(IMPL.findall(text)) else [])}
 
 
 def reached(texts, words):
-    """Returns the texts of files that these words lead to: by the name of what a file declares at its top, by that of a type that has an impl there, or since
-    it declares nothing; and those that the words of such files lead to. What no name leads to occurs in no proof."""
+    """Returns the texts of files that these words lead to: by the name of what a file declares at its top, or of the type of an impl there, or since it
+    declares nothing, or has an impl of a type that is none of these files'; and those that the words of such files lead to. What no name leads to occurs in no
+    proof."""
+    declared = {path: {*TOP.findall(text)} for path, text in texts.items()}
+    impls = {path: impls_in(text) for path, text in texts.items()}
+    known = set().union(*declared.values())
     left, found, words = dict(texts), {}, set(words)
     while True:
-        more = {}
-        for path, text in left.items():
-            names, is_open = items_in(text)
-            if is_open or not names or names & words:
-                more[path] = text
+        leads = lambda path: not declared[path] | impls[path] or impls[path] - known or (declared[path] | impls[path]) & words
+        more = {path: text for path, text in left.items() if leads(path)}
         if not more:
             return found
         found |= more
