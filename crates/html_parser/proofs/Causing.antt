@@ -11,6 +11,8 @@ use Rattle.html_tokens.specs.declared.tokenizer.Tokenizer.{Tokenizer}
 use Rattle.html_arena.specs.declared.arena.Limits.{Limits}
 use Rattle.html_ledger.specs.declared.setting.Setting.{Setting}
 use Rattle.html_tokens.specs.declared.token.TokenKind.{TokenKind}
+use Rattle.html_tokens.specs.declared.token.TokenKind.TheVariants.{Eof}
+use Rattle.html_ledger.specs.declared.fate.Fate.{Fate}
 use Rattle.html_builder.specs.Errors.{IsTextTold, IsTold}
 use Rattle.html_builder.specs.Handed.{Handed, HaveFates, IsBuildCause, IsForeignRefused, IsTextCause, fates_of}
 use Rattle.html_builder.specs.Builders.{BuilderState}
@@ -21,6 +23,7 @@ use Rattle.html_construction.specs.States.{State}
 use Rattle.html_parser.specs.Causes.{IsTokenAt, IsTokenCause, IsToldIn, build_cause}
 use Rattle.html_parser.specs.Kinds.{kinds}
 use Rattle.html_parser.specs.Spent.{AreTooManySteps}
+use Rattle.html_parser.specs.Gathered.{HasRest}
 use Rattle.html_parser.specs.Staged.{IsRun}
 use Rattle.html_parser.specs.Said.{AreSaid}
 use Rattle.html_parser.specs.Start.{Start, parses}
@@ -30,6 +33,7 @@ use Rattle.html_parser.specs.declared.error.ParseError.{ParseError}
 use Rattle.html_parser.specs.declared.error.ParseError.TheVariants.{StepBudget}
 use Rattle.html_parser.specs.declared.stages.Stages.{Stages}
 use Rattle.html_parser.proofs.Ends.{kinds-append}
+use Rattle.html_parser.proofs.Further.{rest_of}
 use Rattle.html_parser.proofs.Openings.{one_listed}
 use Rattle.html_parser.proofs.Refusals.{build-told}
 use Rattle.html_parser.proofs.Switching.{kept-more, says-text}
@@ -46,7 +50,7 @@ said_each start finished p bytes run r =
     r.said.count ∙ kinds-length run.given
 
 -- a token that was given, and then refused
-one-at : (start : Start) (finished : Bool) (p : Stages) (bytes : List ℕ) (run : Run) (t : Tokenizer) (token : Token) (at : ℕ) → IsRun start finished p bytes run
+one-at : (start : Start) (finished : Bool) (p : Stages) (bytes : List ℕ) (run : Run) (t : Tokenizer) (token : Token) (at : ℕ) → HasRest start finished p bytes run
     → HaveFates start.setting (kinds run.given) (fates_of p.builder) → Fed t (gave run token None) → token.span.start ≡ at → IsTokenAt start finished run.text at
 one-at start finished p bytes run t token at r h f e = record {
   before = run.given;
@@ -67,7 +71,7 @@ pub not-parsed : (f : Foreign) → parses f ≡ false → f ≡ Refuse
 not-parsed Refuse e = refl
 not-parsed Parse e = absurd (true≢false e)
 
-pub token_refused : (start : Start) (finished : Bool) (p : Stages) (bytes : List ℕ) (run : Run) (t : Tokenizer) (token : Token) (z : State) (e : BuildError) → IsRun start finished p bytes run
+pub token_refused : (start : Start) (finished : Bool) (p : Stages) (bytes : List ℕ) (run : Run) (t : Tokenizer) (token : Token) (z : State) (e : BuildError) → HasRest start finished p bytes run
     → HaveFates start.setting (kinds run.given) (fates_of p.builder) → Fed t (gave run token None) → IsForeignRefused p.builder e
     → IsBuildCause start.setting start.limits (kinds run.given) (fates_of p.builder) token.kind token.span.start e → IsTold start.limits token.kind z e
     → IsTokenCause start finished run.text (build_cause e)
@@ -101,7 +105,7 @@ build_refused start finished p bytes run t token z spent e r h f limited (inl (i
     let set : start.limits ≡ Some l.0 = sym r.handed.built.limits ∙ l.1 in
     subst (IsTokenCause start finished run.text) (sym is) (
       inl (record {
-        token = one-at start finished p bytes run t token token.span.start r h f refl;
+        token = one-at start finished p bytes run t token token.span.start (rest_of start finished p bytes run r) h f refl;
         spent = record {
           tokenizer = p.tokenizer;
           run = run;
@@ -119,7 +123,7 @@ build_refused start finished p bytes run t token z spent e r h f limited (inl (i
     )
 build_refused start finished p bytes run t token z spent e r h f limited (inr (x, is, refused, cause, told)) =
     subst (IsTokenCause start finished run.text) (sym is)
-    (token_refused start finished p bytes run t token z x r h f refused (cause start.setting start.limits (kinds run.given) r.handed)
+    (token_refused start finished p bytes run t token z x (rest_of start finished p bytes run r) h f refused (cause start.setting start.limits (kinds run.given) r.handed)
     (told start.setting start.limits (kinds run.given) r.handed))
 
 -- what a budget tells then of the state of tree construction
@@ -187,3 +191,63 @@ text_refused start finished p bytes run t place text z (build.HeldBudget at) r h
 text_refused start finished p bytes run t place text z (build.ForeignContent name at) r h f c told = absurd c
 text_refused start finished p bytes run t place text z build.BadContext r h f c told = absurd c
 text_refused start finished p bytes run t place text z build.Stopped r h f c told = absurd c
+
+-- THE TOKEN BEHIND A TEXT THAT WAS GATHERED
+
+pub last_refused : (start : Start) (finished : Bool) (p : Stages) (bytes : List ℕ) (run : Run) (t : Tokenizer) (token : Token) (z : State) (e : ParseError)
+    → HasRest start finished p bytes run → HaveFates start.setting (kinds run.given) (fates_of p.builder) → Fed t (gave run token None) → IsRefusal false token p.builder z e
+    → IsTokenCause start finished run.text e
+last_refused start finished p bytes run t token z e r h f (inl (is, over)) = absurd (true≢false (sym over))
+last_refused start finished p bytes run t token z e r h f (inr (x, is, refused, cause, told)) =
+    subst (IsTokenCause start finished run.text) (sym is)
+    (token_refused start finished p bytes run t token z x r h f refused (cause start.setting start.limits (kinds run.given) r.handed)
+    (told start.setting start.limits (kinds run.given) r.handed))
+
+pub last_told : (start : Start) (finished : Bool) (p : Stages) (bytes : List ℕ) (run : Run) (token : Token) (z : State) (e : ParseError)
+    → HasRest start finished p bytes run → IsRefusal false token p.builder z e → IsToldIn start.limits z e
+last_told start finished p bytes run token z e r (inl (is, over)) = absurd (true≢false (sym over))
+last_told start finished p bytes run token z e r (inr (x, is, refused, cause, told)) =
+    subst (IsToldIn start.limits z) (sym is) (build-told start.limits token.kind z x (told start.setting start.limits (kinds run.given) r.handed))
+
+pub last_unspent : (token : Token) (b : BuilderState) (z : State) (e : ParseError) (at : ℕ) → IsRefusal false token b z e → e ≡ StepBudget at → ⊥
+last_unspent token b z e at (inl (is, over)) told = true≢false (sym over)
+last_unspent token b z e at (inr (x, is, refused, cause, passed)) told = never-spent x at (sym is ∙ told)
+
+-- Why a text was refused.
+abbrev pub IsTextRefusal : BuilderState → List ℕ → ℕ → State → ParseError → Type 0
+IsTextRefusal old text start z e = (x : BuildError) × (e ≡ build_cause x) × ((s : Setting) (l : Option Limits) (tokens : List TokenKind) → Handed s l tokens old
+    → IsTextCause s l tokens (fates_of old) text start x × IsTextTold l z x)
+
+pub run_refused : (start : Start) (finished : Bool) (p : Stages) (bytes : List ℕ) (run : Run) (t : Tokenizer) (place : ℕ) (text : List ℕ) (z : State) (e : ParseError) → IsRun start finished p bytes run
+    → HaveFates start.setting (kinds run.given) (fates_of p.builder) → Fed t (gave_all run (plain_tokens place text)) → IsTextRefusal p.builder text place z e → IsTokenCause start finished run.text e
+run_refused start finished p bytes run t place text z e r h f (x, is, why) =
+    let both = why start.setting start.limits (kinds run.given) r.handed in
+    subst (IsTokenCause start finished run.text) (sym is) (text_refused start finished p bytes run t place text z x r h f both.0 both.1)
+
+-- A TEXT THAT WAS GATHERED: without limits it is refused for want of memory alone
+
+no-limits : (limits : Option Limits) (l : Limits) → limits ≡ None → limits ≡ Some l → ⊥
+no-limits limits l none some = absurd (let e = sym none ∙ some in cc)
+
+unlimited : (start : Start) (finished : Bool) (run : Run) (fates : List Fate) (text : List ℕ) (x : BuildError) → start.limits ≡ None
+    → IsTextCause start.setting start.limits (kinds run.given) fates text 0 x → IsTokenCause start finished run.text (build_cause x)
+unlimited start finished run fates text build.OutOfMemory none c = tt
+unlimited start finished run fates text (build.NodeBudget at) none (low, high, set) = absurd (no-limits start.limits set.0 none set.1)
+unlimited start finished run fates text (build.HeldBudget at) none (low, high, set) = absurd (no-limits start.limits set.0 none set.1)
+unlimited start finished run fates text (build.ForeignContent name at) none c = absurd c
+unlimited start finished run fates text build.BadContext none c = absurd c
+unlimited start finished run fates text build.Stopped none c = absurd c
+
+pub joined_refused : (start : Start) (finished : Bool) (p : Stages) (bytes : List ℕ) (run : Run) (text : List ℕ) (z : State) (e : ParseError) → p.builder.page.tree.tree.limits ≡ None
+    → HasRest start finished p bytes run → IsTextRefusal p.builder text 0 z e → IsTokenCause start finished run.text e
+joined_refused start finished p bytes run text z e none r (x, is, why) =
+    subst (IsTokenCause start finished run.text) (sym is)
+    (unlimited start finished run (fates_of p.builder) text x (sym r.handed.built.limits ∙ none) (why start.setting start.limits (kinds run.given) r.handed).0)
+
+pub joined_told : (start : Start) (finished : Bool) (p : Stages) (bytes : List ℕ) (run : Run) (text : List ℕ) (place : ℕ) (z : State) (e : ParseError)
+    → HasRest start finished p bytes run → IsTextRefusal p.builder text place z e → IsToldIn start.limits z e
+joined_told start finished p bytes run text place z e r (x, is, why) =
+    subst (IsToldIn start.limits z) (sym is) (build-told start.limits Eof z x ((why start.setting start.limits (kinds run.given) r.handed).1 Eof))
+
+pub joined_unspent : (p : BuilderState) (text : List ℕ) (place : ℕ) (z : State) (e : ParseError) (at : ℕ) → IsTextRefusal p text place z e → e ≡ StepBudget at → ⊥
+joined_unspent p text place z e at (x, is, why) told = never-spent x at (sym is ∙ told)

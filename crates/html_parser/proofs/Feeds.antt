@@ -1,5 +1,5 @@
 -- The stages after a piece of the input.
-use Rattle.std.proofs.Common.{ℕ, ◌≡◌, ◌∙◌, ◌<◌, Bool, true, false, Option, Some, List, [], ◌++◌, length, Result, Ok, Err, inl, inr, refl, sym, ap, subst, append_assoc, arith}
+use Rattle.std.proofs.Common.{ℕ, ◌≡◌, ◌∙◌, ◌<◌, Bool, true, false, Some, List, [], ◌++◌, length, Result, Ok, Err, inr, refl, sym, ap, subst, append_assoc, arith}
 use Rattle.std.specs.Prelude.{◌↔◌, ◌||◌}
 use Rattle.std.proofs.lemmas.List.{append-nil}
 use Rattle.html_input.proofs.Feeding.{Fed-all}

@@ -2,7 +2,7 @@
 use Rattle.std.proofs.Common.{ℕ, ◌≡◌, ◌∙◌, Bool, true, false, List, [], ◌∷◌, ◌++◌, Option, refl, sym, ap, subst}
 use Rattle.html_input.specs.Fed.{Fed as Decodes}
 use Rattle.html_tokens.specs.Given.{Fed, is_stopped as tokenizer_stopped}
-use Rattle.html_tokens.specs.Runs.{gave_all, plain_tokens}
+use Rattle.html_tokens.specs.Runs.{gave_all}
 use Rattle.html_tokens.specs.Stream.{Run, gave}
 use Rattle.html_tokens.specs.declared.token.Token.{Token}
 use Rattle.html_ledger.specs.Runs.{last_of}
@@ -15,67 +15,98 @@ use Rattle.html_tokens.specs.declared.token.TokenKind.{TokenKind}
 use Rattle.html_parser.specs.Said.{AreSaid, MaySayAfter}
 use Rattle.html_parser.specs.Kinds.{kinds, starts_of}
 use Rattle.html_parser.specs.Causes.{IsTokenCause}
+use Rattle.html_parser.specs.Gathered.{HasRest}
 use Rattle.html_parser.specs.Staged.{IsFurther, IsHandedOn, IsRun}
 use Rattle.html_parser.specs.declared.error.ParseError.{ParseError}
 use Rattle.html_parser.specs.Start.{Start, most_input}
 use Rattle.html_parser.specs.declared.stages.Stages.{Stages}
 use Rattle.html_parser.proofs.Ends.{kinds-append}
 use Rattle.html_parser.proofs.Switching.{says-one, says-text}
-use Rattle.html_parser.proofs.Taken.{kinds-plain, starts-append}
+use Rattle.html_parser.proofs.Taken.{starts-append}
 use Rattle.html_parser.proofs.Tokenizing.{given-all}
-use Rattle.html_parser.proofs.Unsaid.{gave-finished, gave-start, gave-switches, gave-text}
+use Rattle.html_parser.proofs.Unsaid.{chars-switches, gave-finished, gave-start, gave-text}
 
--- What a call did that handed on plain text.
-pub record HandsText (old new : Stages) (place : ℕ) (text : List ℕ) : Type 0 where
+-- The stages, but for where the tokenizer is.
+pub rest_of : (start : Start) (finished : Bool) (p : Stages) (bytes : List ℕ) (run : Run) → IsRun start finished p bytes run → HasRest start finished p bytes run
+rest_of start finished p bytes run r = record {
+  begun = r.begun;
+  ended = r.ended;
+  decoded = r.decoded;
+  handed = r.handed;
+  said = r.said;
+  foreign = r.foreign;
+  starts = r.starts;
+  tokens = r.tokens;
+  building = r.building;
+}
+
+pub run_of : (start : Start) (finished : Bool) (p : Stages) (bytes : List ℕ) (run : Run) → HasRest start finished p bytes run → Fed p.tokenizer run → tokenizer_stopped p.tokenizer ≡ false
+    → IsRun start finished p bytes run
+run_of start finished p bytes run r f running = record {
+  begun = r.begun;
+  ended = r.ended;
+  decoded = r.decoded;
+  tokenized = f;
+  handed = r.handed;
+  said = r.said;
+  foreign = r.foreign;
+  starts = r.starts;
+  tokens = r.tokens;
+  running = running;
+  building = r.building;
+}
+
+-- What a call did that handed on code points, of these tokens.
+pub record HandsText (old new : Stages) (tokens : List Token) (text : List ℕ) : Type 0 where
+  pub are : kinds tokens ≡ chars_of text
   pub decoder : new.decoder ≡ old.decoder
-  pub given : (run : Run) → Fed old.tokenizer run → Fed new.tokenizer (gave_all run (plain_tokens place text))
   pub takes : HandsIn (chars_of text) old.builder new.builder
   pub grows : AddsFates old.builder new.builder
-  pub starts : new.kept.starts ≡ old.kept.starts ++ starts_of (plain_tokens place text)
-  pub tokens : old.kept.keeps_tokens ≡ true → new.kept.tokens ≡ old.kept.tokens ++ plain_tokens place text
+  pub starts : new.kept.starts ≡ old.kept.starts ++ starts_of tokens
+  pub tokens_are : old.kept.keeps_tokens ≡ true → new.kept.tokens ≡ old.kept.tokens ++ tokens
   pub keeps : new.kept.keeps_tokens ≡ old.kept.keeps_tokens
-  pub running : tokenizer_stopped new.tokenizer ≡ false
   pub building : builder_stopped new.builder ≡ builder_stopped old.builder
   pub parses : parses_foreign new.builder ≡ parses_foreign old.builder
 
-pub text_further : (start : Start) (finished : Bool) (bytes : List ℕ) (run : Run) (old new : Stages) (place : ℕ) (text : List ℕ)
-    → HandsText old new place text → HaveFates start.setting (kinds run.given) (fates_of old.builder) → IsRun start finished old bytes run
-    → IsFurther start finished new bytes run.text
-text_further start finished bytes run old new place text s h r =
-    let tokens = plain_tokens place text in
+pub text_rest : (start : Start) (finished : Bool) (bytes : List ℕ) (run : Run) (old new : Stages) (tokens : List Token) (text : List ℕ)
+    → HandsText old new tokens text → HaveFates start.setting (kinds run.given) (fates_of old.builder) → HasRest start finished old bytes run
+    → HasRest start finished new bytes (gave_all run tokens)
+text_rest start finished bytes run old new tokens text s h r =
     let after = gave_all run tokens in
     let given : after.given ≡ run.given ++ tokens = given-all run tokens in
     let are : kinds after.given ≡ kinds run.given ++ chars_of text
-    = ap kinds given ∙ kinds-append run.given tokens ∙ ap (λ ks. kinds run.given ++ ks) (kinds-plain place text) in
+    = ap kinds given ∙ kinds-append run.given tokens ∙ ap (λ ks. kinds run.given ++ ks) s.are in
     let grown = s.grows start.setting start.limits (kinds run.given) r.handed in
     record {
-      run = after;
-      is_run = record {
-        begun = gave-start run tokens ∙ r.begun;
-        ended = gave-finished run tokens ∙ r.ended;
-        decoded = subst (λ x. Decodes (most_input start) finished new.decoder bytes x) (sym (gave-text run tokens))
-            (subst (λ d. Decodes (most_input start) finished d bytes run.text) (sym s.decoder) r.decoded);
-        tokenized = s.given run r.tokenized;
-        handed = subst (λ ks. Handed start.setting start.limits ks new.builder) (sym are) (s.takes start.setting start.limits (kinds run.given) r.handed);
-        said = subst (λ ks. AreSaid start.setting ks (fates_of new.builder) after.switches) (sym are)
-            (subst (λ fs. AreSaid start.setting (kinds run.given ++ chars_of text) fs after.switches) (sym grown.1)
-            (subst (AreSaid start.setting (kinds run.given ++ chars_of text) (fates_of old.builder ++ grown.0)) (sym (gave-switches run place text))
-            (says-text start.setting (kinds run.given) text (fates_of old.builder) grown.0 run.switches h r.said)));
-        foreign = s.parses ∙ r.foreign;
-        starts = s.starts ∙ ap (λ x. x ++ starts_of tokens) r.starts ∙ sym (ap starts_of given ∙ starts-append run.given tokens);
-        tokens = λ keeps.
-            let kept = sym s.keeps ∙ keeps in
-            s.tokens kept ∙ ap (λ x. x ++ tokens) (r.tokens kept) ∙ sym given;
-        running = s.running;
-        building = s.building ∙ r.building;
-      };
-      text_is = gave-text run tokens;
+      begun = gave-start run tokens ∙ r.begun;
+      ended = gave-finished run tokens ∙ r.ended;
+      decoded = subst (λ x. Decodes (most_input start) finished new.decoder bytes x) (sym (gave-text run tokens))
+          (subst (λ d. Decodes (most_input start) finished d bytes run.text) (sym s.decoder) r.decoded);
+      handed = subst (λ ks. Handed start.setting start.limits ks new.builder) (sym are) (s.takes start.setting start.limits (kinds run.given) r.handed);
+      said = subst (λ ks. AreSaid start.setting ks (fates_of new.builder) after.switches) (sym are)
+          (subst (λ fs. AreSaid start.setting (kinds run.given ++ chars_of text) fs after.switches) (sym grown.1)
+          (subst (AreSaid start.setting (kinds run.given ++ chars_of text) (fates_of old.builder ++ grown.0)) (sym (chars-switches run tokens text s.are))
+          (says-text start.setting (kinds run.given) text (fates_of old.builder) grown.0 run.switches h r.said)));
+      foreign = s.parses ∙ r.foreign;
+      starts = s.starts ∙ ap (λ x. x ++ starts_of tokens) r.starts ∙ sym (ap starts_of given ∙ starts-append run.given tokens);
+      tokens = λ keeps.
+          let kept = sym s.keeps ∙ keeps in
+          s.tokens_are kept ∙ ap (λ x. x ++ tokens) (r.tokens kept) ∙ sym given;
+      building = s.building ∙ r.building;
     }
 
--- What a call did that handed on one token, with what was said of the text after it.
+pub text_further : (start : Start) (finished : Bool) (bytes : List ℕ) (run : Run) (old new : Stages) (tokens : List Token) (text : List ℕ)
+    → HandsText old new tokens text → HaveFates start.setting (kinds run.given) (fates_of old.builder) → IsRun start finished old bytes run
+    → Fed new.tokenizer (gave_all run tokens) → tokenizer_stopped new.tokenizer ≡ false → IsFurther start finished new bytes run.text
+text_further start finished bytes run old new tokens text s h r f running = record {
+  run = gave_all run tokens;
+  is_run = run_of start finished new bytes (gave_all run tokens) (text_rest start finished bytes run old new tokens text s h (rest_of start finished old bytes run r)) f running;
+  text_is = gave-text run tokens;
+}
+
+-- What a call did that handed on one token, of which this is said.
 pub record HandsOne (old new : Stages) (token : Token) (said : Option TextMode) : Type 0 where
   pub decoder : new.decoder ≡ old.decoder
-  pub given : (run : Run) → Fed old.tokenizer run → Fed new.tokenizer (gave run token said)
   pub may : (s : Setting) (ts : List TokenKind) → (new.builder.page.ledger.history.foreign ≡ true → MayBeForeign s (symbols ts) (fates_of new.builder))
       → MaySayAfter s ts (fates_of new.builder) token.kind (last_of (fates_of new.builder)) said
   pub takes : HandsIn (token.kind ∷ []) old.builder new.builder
@@ -91,8 +122,8 @@ pub one_further : (start : Start) (finished : Bool) (bytes : List ℕ) (run : Ru
     → HandsOne old new token said → HaveFates start.setting (kinds run.given) (fates_of old.builder)
     → HaveFates start.setting (kinds run.given ++ token.kind ∷ []) (fates_of new.builder)
     → (new.builder.page.ledger.history.foreign ≡ true → MayBeForeign start.setting (symbols (kinds run.given ++ token.kind ∷ [])) (fates_of new.builder))
-    → IsRun start finished old bytes run → IsFurther start finished new bytes run.text
-one_further start finished bytes run old new token said s h k known r =
+    → HasRest start finished old bytes run → Fed new.tokenizer (gave run token said) → IsFurther start finished new bytes run.text
+one_further start finished bytes run old new token said s h k known r f =
     let are : kinds (run.given ++ token ∷ []) ≡ kinds run.given ++ token.kind ∷ [] = kinds-append run.given (token ∷ []) in
     let grown = s.grows start.setting start.limits (kinds run.given) r.handed in
     let both : HaveFates start.setting (kinds run.given ++ token.kind ∷ []) (fates_of old.builder ++ grown.0)
@@ -103,7 +134,7 @@ one_further start finished bytes run old new token said s h k known r =
         begun = r.begun;
         ended = r.ended;
         decoded = subst (λ d. Decodes (most_input start) finished d bytes run.text) (sym s.decoder) r.decoded;
-        tokenized = s.given run r.tokenized;
+        tokenized = f;
         handed = subst (λ ks. Handed start.setting start.limits ks new.builder) (sym are) (s.takes start.setting start.limits (kinds run.given) r.handed);
         said = subst (λ ks. AreSaid start.setting ks (fates_of new.builder) (run.switches ++ said ∷ [])) (sym are)
             (subst (λ fs. AreSaid start.setting (kinds run.given ++ token.kind ∷ []) fs (run.switches ++ said ∷ [])) (sym grown.1)

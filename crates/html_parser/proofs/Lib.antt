@@ -7,6 +7,7 @@ pub mod Feeds
 pub mod Finding
 pub mod Fronts
 pub mod Further
+pub mod Gathers
 pub mod Ordering
 pub mod Making
 pub mod MaySaying

@@ -1,9 +1,8 @@
 -- What tree construction answers to a token is something that the token may say.
-use Rattle.std.proofs.Common.{◌≡◌, ◌∙◌, ◌⊎◌, inl, inr, refl, sym, ap, subst, List, Bool, true, false, Option, Some, None, ℕ, if◌then◌else◌}
+use Rattle.std.proofs.Common.{◌≡◌, ◌⊎◌, inl, inr, refl, sym, subst, List, Bool, true, false, Option, Some, None, ℕ, if◌then◌else◌}
 use Rattle.html_names.specs.declared.tag.Tag.{Tag}
 use Rattle.html_tokens.specs.declared.attributes.Attr.{Attr}
 use Rattle.html_tokens.specs.declared.token.TextMode.{TextMode}
-use Rattle.html_tokens.specs.declared.token.TextMode.TheVariants.{Data, Foreign}
 use Rattle.html_tokens.specs.declared.token.TokenKind.{TokenKind}
 use Rattle.html_tokens.specs.declared.token.TokenKind.TheVariants.{Start, End, Char, Comment, Doctype, Eof}
 use Rattle.html_ledger.specs.declared.fate.Fate.{Fate}

@@ -1,5 +1,5 @@
 -- A parser that owns its table.
-use Rattle.std.proofs.Common.{ℕ, ◌≡◌, ◌∙◌, ◌++◌, Bool, true, false, List, length, Option, Some, None, Result, Ok, Err, refl, sym, ap, subst}
+use Rattle.std.proofs.Common.{ℕ, ◌≡◌, ◌∙◌, Bool, true, false, List, Option, Some, None, Result, Ok, Err, sym, subst}
 use Rattle.std.specs.Prelude.{◌↔◌, IfErr, OnOk}
 use Rattle.std.specs.Arc.{arc_value}
 use Rattle.html_charref.specs.declared.table.Row.{Row}

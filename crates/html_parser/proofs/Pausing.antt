@@ -17,7 +17,7 @@ use Rattle.html_parser.specs.Feeding.{AreHandedOn}
 use Rattle.html_parser.specs.Kinds.{kinds, starts_of}
 use Rattle.html_parser.specs.Paused.{ArePaused, HavePaused, KeepsPaused, MayResume}
 use Rattle.html_parser.specs.Said.{AreSaid}
-use Rattle.html_parser.specs.Staged.{AreStaged, HasRead, IsRun, KeepsTokens}
+use Rattle.html_parser.specs.Staged.{AreStaged, HasRead, KeepsTokens}
 use Rattle.html_parser.specs.Start.{Start, most_input, parses}
 use Rattle.html_parser.specs.Tokenizing.{IsTokenizing}
 use Rattle.html_parser.specs.declared.error.ParseError.{ParseError}

@@ -1,8 +1,7 @@
 -- The stages after a plain text that was taken by itself.
-use Rattle.std.proofs.Common.{ℕ, zero, suc, ◌+◌, ◌-◌, ◌<◌, ◌≤◌, ◌≡◌, ◌≢◌, ◌∙◌, ◌⊎◌, inl, inr, arith, Bool, true, false, not, ◌&&◌, ◌||◌, ◌==◌, Option, List, [], ◌∷◌, ◌++◌, All, cond, length, drop, take, replicate, None, refl, sym, ap, ap₂, subst, append_assoc, length-append, take-append-drop, encode_utf8_all}
+use Rattle.std.proofs.Common.{ℕ, zero, suc, ◌+◌, ◌-◌, ◌<◌, ◌≤◌, ◌≡◌, ◌≢◌, ◌∙◌, ◌⊎◌, inl, inr, arith, Bool, true, false, ◌&&◌, List, [], ◌∷◌, ◌++◌, All, cond, length, drop, take, replicate, None, refl, sym, ap, ap₂, subst, append_assoc, length-append, take-append-drop, encode_utf8_all}
 use Rattle.std.specs.List.{list_all}
 use Rattle.std.proofs.lemmas.Bool.{false≢true}
-use Rattle.std.proofs.lemmas.Bool.Decides.{nat_tests}
 use Rattle.std.proofs.lemmas.List.{append-nil}
 use Rattle.std.proofs.lemmas.List.Elements.{All-cons, All-nil}
 use Rattle.std.proofs.lemmas.List.Folds.{list_all-append}
@@ -12,7 +11,6 @@ use Rattle.html_tokens.specs.Given.{Fed, is_stopped as tokenizer_stopped}
 use Rattle.html_tokens.specs.Input.{MayFollow}
 use Rattle.html_tokens.specs.Runs.{gave_all, plain_tokens}
 use Rattle.html_tokens.specs.Stream.{Run, fed, tokens_of}
-use Rattle.html_tokens.specs.declared.token.TextMode.{TextMode}
 use Rattle.html_tokens.specs.declared.token.Token.{Token}
 use Rattle.html_tokens.specs.declared.tokenizer.Tokenizer.{Tokenizer}
 use Rattle.html_builder.specs.Handed.{AddsFates, HandsIn, HaveFates, Handed, IsTextCause, fates_of, is_stopped as builder_stopped, parses_foreign}

@@ -1,22 +1,20 @@
 -- What tokens say of the text after them, as more tokens come.
-use Rattle.std.proofs.Common.{ℕ, zero, suc, ◌+◌, ◌-◌, ◌<◌, ◌≤◌, ◌≡◌, ◌∙◌, ◌⊎◌, inl, inr, Bool, true, false, arith, List, [], ◌∷◌, ◌++◌, length, take, replicate, Option, Some, None, refl, sym, ap, subst, append_assoc, length-append}
+use Rattle.std.proofs.Common.{ℕ, zero, suc, ◌+◌, ◌-◌, ◌<◌, ◌≤◌, ◌≡◌, ◌∙◌, inl, inr, Bool, true, false, arith, List, [], ◌∷◌, ◌++◌, length, take, replicate, Option, Some, None, refl, sym, ap, subst, append_assoc, length-append}
 use Rattle.std.specs.Prelude.{slice_get}
 use Rattle.std.proofs.lemmas.Bool.{cases_lt}
-use Rattle.std.proofs.lemmas.Option.{slice_get_within}
-use Rattle.html_names.specs.declared.tag.Tag.{Tag}
 use Rattle.html_tokens.specs.declared.token.TextMode.{TextMode}
 use Rattle.html_tokens.specs.declared.token.TokenKind.{TokenKind}
 use Rattle.html_tokens.specs.declared.token.TokenKind.TheVariants.{Start, End, Char, Comment, Doctype, Eof}
 use Rattle.html_ledger.specs.declared.fate.Fate.{Fate}
 use Rattle.html_ledger.specs.declared.setting.Setting.{Setting}
 use Rattle.html_ledger.specs.declared.symbol.Symbol.{Symbol}
-use Rattle.html_ledger.specs.MayDrop.{MayBeForeign, Since, any_token, embeds}
+use Rattle.html_ledger.specs.MayDrop.{MayBeForeign}
 use Rattle.html_ledger.specs.Runs.{last_of}
 use Rattle.html_ledger.specs.Symbols.{symbol_of}
 use Rattle.html_construction.specs.Built.{chars_of, symbols}
 use Rattle.html_builder.specs.Handed.{HaveFates}
 use Rattle.html_builder.specs.Switches.{switch_after, switch_by, switches_by}
-use Rattle.html_parser.specs.Said.{AreSaid, AreSaidByFates, IsData, MaySayAfter}
+use Rattle.html_parser.specs.Said.{AreSaid, AreSaidByFates, MaySayAfter}
 
 -- MORE OF A LIST
 

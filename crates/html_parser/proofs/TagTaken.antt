@@ -1,8 +1,6 @@
 -- The stages after a tag that was taken by itself.
-use Rattle.std.proofs.Common.{ℕ, ◌+◌, ◌≤◌, ◌≡◌, ◌∙◌, ◌⊎◌, inl, inr, arith, Bool, true, false, Option, Some, None, List, [], ◌∷◌, ◌++◌, cond, length, take, refl, sym, ap, subst}
+use Rattle.std.proofs.Common.{ℕ, ◌+◌, ◌≤◌, ◌≡◌, ◌∙◌, ◌⊎◌, inl, inr, arith, Bool, true, false, Option, Some, None, List, [], ◌∷◌, ◌++◌, length, take, refl, sym, ap, subst}
 use Rattle.std.proofs.Common.{length-append, length-take}
-use Rattle.std.proofs.lemmas.List.{append-nil}
-use Rattle.html_arena.specs.declared.arena.Limits.{Limits}
 use Rattle.html_input.specs.Fed.{Fed as Decodes}
 use Rattle.html_input.specs.declared.decoder.Decoder.{Decoder}
 use Rattle.html_tokens.specs.Given.{Fed, is_stopped as tokenizer_stopped, steps_taken}

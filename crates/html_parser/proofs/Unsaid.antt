@@ -11,7 +11,11 @@ use Rattle.html_tokens.specs.Stream.{Run, gave, tokens_of}
 use Rattle.html_tokens.specs.Tokens.{mode_after, mode_after_kind, name_after, next, token, tokens_after}
 use Rattle.html_tokens.specs.declared.token.TextMode.{TextMode}
 use Rattle.html_tokens.specs.declared.token.Token.{Token}
+use Rattle.html_tokens.specs.declared.token.TokenKind.{TokenKind}
 use Rattle.html_tokens.specs.declared.token.TokenKind.TheVariants.{Char}
+use Rattle.html_construction.specs.Built.{chars_of}
+use Rattle.html_parser.specs.Kinds.{kinds}
+use Rattle.html_parser.proofs.Taken.{kinds-plain}
 use Rattle.html_tokens.specs.declared.tokenizer.Tokenizer.{Tokenizer}
 use Rattle.html_parser.proofs.Openings.{opened}
 use Rattle.html_parser.proofs.Tokenizing.{given-all}
@@ -61,10 +65,26 @@ said_before rows (suc k) mode name place (c ∷ rest) front ss rs before t later
 
 -- THE RUN AFTER PLAIN TEXT
 
+all-switches : (run : Run) (tokens : List Token) → (gave_all run tokens).switches ≡ run.switches ++ replicate (length tokens) None
+all-switches run [] = sym (append-nil run.switches)
+all-switches run (t ∷ ts) = all-switches (gave run t None) ts ∙ append_assoc run.switches (None ∷ []) (replicate (length ts) None)
+
+abbrev others_kinds : List TokenKind → List TokenKind
+others_kinds [] = []
+others_kinds (k ∷ ks) = ks
+
+-- tokens that are code points
+chars-length : (tokens : List Token) (text : List ℕ) → kinds tokens ≡ chars_of text → length tokens ≡ length text
+chars-length [] [] e = refl
+chars-length [] (c ∷ cs) e = cc
+chars-length (t ∷ ts) [] e = cc
+chars-length (t ∷ ts) (c ∷ cs) e = ap suc (chars-length ts cs (ap others_kinds e))
+
+pub chars-switches : (run : Run) (tokens : List Token) (text : List ℕ) → kinds tokens ≡ chars_of text → (gave_all run tokens).switches ≡ run.switches ++ replicate (length text) None
+chars-switches run tokens text e = all-switches run tokens ∙ ap (λ n. run.switches ++ replicate n None) (chars-length tokens text e)
+
 pub gave-switches : (run : Run) (place : ℕ) (text : List ℕ) → (gave_all run (plain_tokens place text)).switches ≡ run.switches ++ replicate (length text) None
-gave-switches run place [] = sym (append-nil run.switches)
-gave-switches run place (c ∷ cs) =
-    gave-switches (gave run (token (Char c) place (place + 1)) None) (place + 1) cs ∙ append_assoc run.switches (None ∷ []) (replicate (length cs) None)
+gave-switches run place text = chars-switches run (plain_tokens place text) text (kinds-plain place text)
 
 pub gave-text : (run : Run) (tokens : List Token) → (gave_all run tokens).text ≡ run.text
 gave-text run [] = refl

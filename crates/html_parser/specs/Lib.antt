@@ -15,6 +15,7 @@ pub mod Spent
 pub mod Staged
 pub mod Start
 -- For this crate's own functions.
+pub mod Gathered
 pub mod Made
 pub mod Making
 pub mod Saying

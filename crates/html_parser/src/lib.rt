@@ -5,6 +5,7 @@
 mod error;
 mod faults;
 mod feeder;
+mod gathering;
 mod kept;
 mod made;
 mod normalising;

@@ -1,11 +1,12 @@
 //! The stages of parsing, one behind the other: the decoder, the tokenizer, tree construction.
 
-ghost use Rattle.std.specs.Prelude.{◌≡◌, ◌++◌, ◌∷◌, ◌≤◌, ◌<◌, ◌+◌, ◌-◌, ◌^◌, ◌⊎◌, ℕ, Bool, List, [], None, Option, Some, true, false, IfErr, IfOk, OnOk, cond, encode_utf8_all, length, min, take};
+ghost use Rattle.std.specs.Prelude.{◌≡◌, ◌++◌, ◌∷◌, ◌≤◌, ◌<◌, ◌+◌, ◌-◌, ◌^◌, ◌⊎◌, ℕ, Bool, List, [], None, Option, Some, true, false, IfErr, IfOk, IfSome, OnOk, cond, encode_utf8_all, length, min, take};
 ghost use Rattle.std.specs.List.{list_all};
 ghost use Rattle.html_charref.specs.Plain.{is_plain_byte};
 ghost use Rattle.html_arena.specs.declared.arena.Limits.{Limits as LimitsType};
-ghost use Rattle.html_builder.specs.Errors.{IsTold};
-ghost use Rattle.html_builder.specs.Handed.{AddsFates, Handed, HandsIn, IsBuildCause, IsForeignRefused, fates_of, is_stopped as builder_stopped, parses_foreign};
+ghost use Rattle.html_builder.specs.Errors.{IsTextTold, IsTold};
+ghost use Rattle.html_construction.specs.Built.{chars_of};
+ghost use Rattle.html_builder.specs.Handed.{AddsFates, Handed, HandsIn, IsBuildCause, IsForeignRefused, IsTextCause, fates_of, is_stopped as builder_stopped, parses_foreign};
 ghost use Rattle.html_builder.specs.declared.error.BuildError.{BuildError as BuildErrorKind};
 ghost use Rattle.html_ledger.specs.declared.setting.Setting.{Setting};
 ghost use Rattle.html_tokens.specs.declared.token.TokenKind.{TokenKind};
@@ -16,12 +17,14 @@ ghost use Rattle.html_tokens.specs.Given.{Awaits, Fed, fed_len, is_stopped as to
 ghost use Rattle.html_tokens.specs.Stream.{Run, gave};
 ghost use Rattle.html_tokens.specs.declared.token.Token.{Token as TokenType};
 ghost use Rattle.html_parser.specs.Causes.{IsCause, IsFeedCause, IsTokenCause, IsToldIn, build_cause};
+ghost use Rattle.html_parser.specs.Kinds.{starts_of};
 ghost use Rattle.html_parser.specs.Parsed.{IsPageOf, IsTreeOf};
 ghost use Rattle.html_parser.specs.Start.{Start};
 ghost use Rattle.html_parser.specs.Saying.{MaySay};
 ghost use Rattle.html_parser.specs.Tokenizing.{IsTokenizing};
 
 use crate::error::ParseError;
+use crate::gathering::{gather, gather_char};
 use crate::kept::Kept;
 use crate::made::{Made, make};
 use crate::page::{Page, Tree};
@@ -30,7 +33,7 @@ use html_builder::Builder;
 use html_charref::{EntityTable, PlainText, plain_len, plain_start};
 use html_input::Decoder;
 use html_token_list::Tokens;
-use html_tokens::{BareTag, TextMode, Token, Tokenizer};
+use html_tokens::{BareTag, TextMode, Token, TokenKind, Tokenizer};
 use std::alloc::Global;
 
 /// How many bytes are decoded at once, so that the text on its way takes little room however long a piece is.
@@ -64,6 +67,7 @@ pub(crate) struct Stages<'a> {
 }
 
 impl<'a> Stages<'a> {
+    ghost use Rattle.html_parser.specs.Gathered.{AreAwaiting, Follows, Gives, HasRest};
     ghost use Rattle.html_parser.specs.Spent.{AreFewSteps, AreTooManySteps, counts_steps};
     ghost use Rattle.html_parser.specs.Staged.{HasRead, HasTaken, IsBeginning, IsEnded, IsFurther, IsHandedOn, IsRun, KeepsTokens};
 
@@ -452,7 +456,7 @@ impl<'a> Stages<'a> {
         let Some(place) = self.tokenizer.next_run(&mut self.run)? else {
             return Ok(());
         };
-        self.builder.process_text(self.run.as_slice(), place)?;
+        put(&mut self.builder, self.run.as_slice(), place)?;
         self.kept.push_run(self.run.as_slice(), place)?;
         let is_spent = self.is_spent();
         self.is_past = is_spent;
@@ -480,6 +484,12 @@ impl<'a> Stages<'a> {
         let Some(token) = self.tokenizer.next()? else {
             return Ok(false);
         };
+        if let Some(c) = self.joining(&token, is_over) {
+            self.hand_joined(token, c)?;
+            let is_past = self.is_spent();
+            self.is_past = is_past;
+            return Ok(true);
+        }
         let mode = match build(&mut self.builder, &token, is_over) {
             Ok(mode) => mode,
             Err(cause) => {
@@ -493,6 +503,81 @@ impl<'a> Stages<'a> {
         let is_past = self.is_spent();
         self.is_past = is_past;
         Ok(true)
+    }
+
+    /// The code point of a token, where it is handed on together with the text behind it: where there are no limits, so that no token is to be told from the
+    /// next one, and not in foreign content, where a code point may change how the text after it is read.
+    fn joining(&self, token: &Token, is_over: bool) -> Option<char>
+        ensures char { IfSome result (λ c. token.now.kind ≡ TokenKind.Char c) }
+        ensures unlimited { IfSome result (λ c. self.now.builder.page.tree.tree.limits ≡ None) }
+        ensures in_time { IfSome result (λ c. is_over ≡ false) }
+    {
+        match token.kind {
+            TokenKind::Char(c)
+                if !is_over && self.builder.limits().is_none() && !self.builder.reads_foreign() => {
+                Some(c)
+            }
+            _ => None,
+        }
+    }
+
+    /// Hands on a code point that the tokenizer has given, the text that comes next, references included, and the token behind it, if any.
+    #[inline(never)]
+    fn hand_joined(&mut self, token: Token, c: char) -> Result<(), ParseError>
+        requires char { token.kind ≡ TokenKind.Char c }
+        requires unlimited { self.old.builder.page.tree.tree.limits ≡ None }
+        requires going { tokenizer_stopped self.old.tokenizer ≡ false }
+        requires given { IsTokenizing self.old.tokenizer (self.old.kept.starts ++ starts_of (token ∷ [])) }
+        ensures further { OnOk result ((start : Start) (finished : Bool) (bytes : List ℕ) (run : Run) → HasRest start finished self.old bytes run → Gives self.old.tokenizer token run
+            → IsFurther start finished self.new bytes run.text) }
+        ensures more { OnOk result (length self.old.kept.starts < length self.new.kept.starts) }
+        ensures unspent { IfErr result (λ e. (at : ℕ) → e ≡ ParseError.StepBudget at → ⊥) }
+        ensures cause { IfErr result (λ e. (start : Start) (finished : Bool) (bytes : List ℕ) (run : Run) → HasRest start finished self.old bytes run → Gives self.old.tokenizer token run
+            → IsTokenCause start finished run.text e) }
+        ensures told { IfErr result (λ e. (start : Start) (finished : Bool) (bytes : List ℕ) (run : Run) → HasRest start finished self.old bytes run → IsToldIn start.limits self.new.builder.page e) }
+        ensures keeps { self.new.kept.keeps_tokens ≡ self.old.kept.keeps_tokens }
+        ensures running { OnOk result (tokenizer_stopped self.new.tokenizer ≡ false) }
+        ensures count { OnOk result (fed_len self.new.tokenizer ≤ fed_len self.old.tokenizer) }
+    {
+        self.run.clear();
+        self.builder.counted();
+        gather_char(&mut self.kept, &mut self.run, token, c)?;
+        let answer = gather(&mut self.tokenizer, &mut self.kept, &mut self.run)?;
+        put(&mut self.builder, self.run.as_slice(), 0)?;
+        self.hand_answer(answer)?;
+        Ok(())
+    }
+
+    /// Hands on a token that the tokenizer has given, if any.
+    fn hand_answer(&mut self, answer: Option<Token>) -> Result<(), ParseError>
+        requires going { tokenizer_stopped self.old.tokenizer ≡ false }
+        requires awaiting { AreAwaiting self.old.tokenizer self.old.kept.starts answer }
+        ensures further { OnOk result ((start : Start) (finished : Bool) (bytes : List ℕ) (run : Run) → HasRest start finished self.old bytes run → Follows self.old.tokenizer answer run
+            → IsFurther start finished self.new bytes run.text) }
+        ensures least { OnOk result (length self.old.kept.starts ≤ length self.new.kept.starts) }
+        ensures unspent { IfErr result (λ e. (at : ℕ) → e ≡ ParseError.StepBudget at → ⊥) }
+        ensures cause { IfErr result (λ e. (start : Start) (finished : Bool) (bytes : List ℕ) (run : Run) → HasRest start finished self.old bytes run → Follows self.old.tokenizer answer run
+            → IsTokenCause start finished run.text e) }
+        ensures told { IfErr result (λ e. (start : Start) (finished : Bool) (bytes : List ℕ) (run : Run) → HasRest start finished self.old bytes run → IsToldIn start.limits self.new.builder.page e) }
+        ensures keeps { self.new.kept.keeps_tokens ≡ self.old.kept.keeps_tokens }
+        ensures running { OnOk result (tokenizer_stopped self.new.tokenizer ≡ false) }
+        ensures count { OnOk result (fed_len self.new.tokenizer ≤ fed_len self.old.tokenizer) }
+    {
+        let Some(token) = answer else {
+            return Ok(());
+        };
+        self.builder.counted();
+        let mode = match build(&mut self.builder, &token, false) {
+            Ok(mode) => mode,
+            Err(cause) => {
+                let_go(token);
+                return Err(cause);
+            }
+        };
+        self.builder.counted();
+        tell(&mut self.tokenizer, mode);
+        self.kept.push(token)?;
+        Ok(())
     }
 
     /// What was made of an input that was ended.
@@ -607,6 +692,19 @@ fn passes(limits: Option<Limits>, steps: u128) -> bool
 #[cold]
 #[inline(never)]
 fn let_go(_token: Token) {}
+
+/// Hands a text to tree construction, whose first code point stands at a place and each other one at the next. It stands here alone, since it is long.
+fn put(builder: &mut Builder, text: &[char], start: u64) -> Result<(), ParseError>
+    ensures takes { OnOk result (HandsIn (chars_of text.now) builder.old builder.new) }
+    ensures grows { OnOk result (AddsFates builder.old builder.new) }
+    ensures parses { OnOk result (parses_foreign builder.new ≡ parses_foreign builder.old) }
+    ensures ok { OnOk result (builder_stopped builder.new ≡ builder_stopped builder.old) }
+    ensures cause { IfErr result (λ e. (b : BuildErrorKind) × (e ≡ build_cause b) × ((s : Setting) (l : Option LimitsType) (tokens : List TokenKind) → Handed s l tokens builder.old
+        → IsTextCause s l tokens (fates_of builder.old) text.now start b × IsTextTold l builder.new.page b)) }
+{
+    builder.process_text(text, start)?;
+    Ok(())
+}
 
 /// Hands a token to tree construction, unless more steps were counted before it than the limit.
 #[inline(always)]

@@ -202,6 +202,7 @@ impl<'a> Machine<'a> {
     }
 
     /// The next token; nothing where more input is wanted, or all was given.
+    #[inline(always)]
     pub(crate) fn next(&mut self, faults: &mut Faults) -> Result<Option<Token>, AllocError>
         requires room { self.old.place + length self.old.input.queue.items < 2 ^ 64 }
         ensures given { IfOk result (λ answer. IfSome answer (λ token. (run : Run) → IsAt self.old run → (switch : Option TextMode) → IsAt (answered token switch self.new) (gave run token switch))) }

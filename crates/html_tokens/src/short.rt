@@ -144,6 +144,7 @@ impl<'a> Machine<'a> {
     }
 
     /// The tag at the front of the rest, where it was fed whole and tells no error. A start tag that begins so is being read from then on.
+    #[inline(always)]
     pub(crate) fn whole_tag(&mut self, faults: &mut Faults) -> Result<Option<Token>, AllocError>
         requires room { self.old.place + length self.old.input.queue.items < 2 ^ 64 }
         ensures given { IfOk result (λ answer. IfSome answer (λ given. Steps self.old (Progress.Given given) self.new)) }

@@ -153,6 +153,7 @@ impl<'a> Tokenizer<'a> {
     ///
     /// Refused with `Stopped` after a refusal, else with `OutOfMemory`.
     #[tactic(auto, using(crate::proofs::StreamLemmas::unsaid, crate::proofs::StreamLemmas::said), unfolding(crate::specs::Given::Fed, crate::specs::Given::Awaits, crate::specs::Given::fed_len, crate::specs::Given::is_stopped, crate::specs::Given::is_finished))]
+    #[inline(always)]
     pub fn next(&mut self) -> Result<Option<Token>, TokenError>
         // A token that is given is the next of the text, however it goes on and was cut.
         ensures given { IfOk result (λ answer. IfSome answer (λ token. (run : Run) → Fed self.old run → Awaits self.new run token)) }
@@ -195,6 +196,7 @@ impl<'a> Tokenizer<'a> {
     ///
     /// Refused with `Stopped` after a refusal, else with `OutOfMemory`; `out` is then as it was.
     #[tactic(auto, using(crate::proofs::StreamLemmas::unsaid, crate::proofs::StreamLemmas::said), unfolding(crate::specs::Given::Fed, crate::specs::Given::Awaits, crate::specs::Given::fed_len, crate::specs::Given::is_stopped, crate::specs::Given::is_finished, crate::specs::Given::plain_next))]
+    #[inline(always)]
     pub fn next_run(&mut self, out: &mut Vec<char>) -> Result<Option<u64>, TokenError>
         ensures text { OnOk result (out.new.items ≡ out.old.items ++ plain_next self.old) }
         ensures refused { OnErr result (out.new.items ≡ out.old.items) }

@@ -62,6 +62,7 @@ impl<'a> Machine<'a> {
     }
 
     /// Appends the plain text that comes next, as far as it was fed; the place where it begins, where there is some.
+    #[inline(always)]
     pub(crate) fn next_run(
         &mut self,
         faults: &mut Faults,
@@ -96,6 +97,7 @@ impl<'a> Machine<'a> {
     }
 
     /// Appends the plain text at the front of the rest; where that is refused, some of it.
+    #[inline(always)]
     fn take_plain(&mut self, faults: &mut Faults, out: &mut Vec<char>) -> Result<(), AllocError>
         requires state { self.old.state ≡ State.Text Region.Plain }
         requires room { self.old.place + length self.old.input.queue.items < 2 ^ 64 }

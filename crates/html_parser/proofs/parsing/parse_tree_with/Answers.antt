@@ -1,4 +1,4 @@
-use Rattle.std.proofs.Common.{◌≡◌, ◌<◌, ◌∙◌, inl, inr, length, subst, sym}
+use Rattle.std.proofs.Common.{◌<◌, ◌∙◌, inl, inr, length, subst, sym}
 use Rattle.std.proofs.lemmas.Result.{IfErr-weaker, IfOk-weaker, err_from_is_err_and}
 use Rattle.html_input.specs.Decode.{code_points}
 use Rattle.html_parser.specs.Causes.{IsCause}

@@ -1,10 +1,9 @@
-use Rattle.std.proofs.Common.{◌≡◌, ◌∙◌, ◌++◌, ℕ, List, refl, sym, subst}
+use Rattle.std.proofs.Common.{◌∙◌, ◌++◌, ℕ, List, refl, sym, subst}
 use Rattle.std.specs.Prelude.{IsSomeAnd}
 use Rattle.std.specs.Arc.{arc_value}
 use Rattle.html_tokens.specs.declared.token.Token.{Token}
 use Rattle.html_parser.specs.Causes.{IsFeedCause, IsToldIn}
 use Rattle.html_parser.specs.Feeding.{AreHandedOn}
-use Rattle.html_parser.specs.Owned.{IsOwnedFed}
 use Rattle.html_parser.specs.Paused.{HavePaused, MayResume}
 use Rattle.html_parser.specs.Start.{Start}
 use Rattle.html_parser.proofs.Owning.{at_err, at_ok, going_by, may_in, paused_in}

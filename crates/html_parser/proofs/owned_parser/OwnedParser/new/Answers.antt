@@ -1,4 +1,4 @@
-use Rattle.std.proofs.Common.{[], sym, subst}
+use Rattle.std.proofs.Common.{[], subst}
 use Rattle.std.specs.Arc.{arc_value}
 use Rattle.html_parser.specs.Options.{start_of}
 use Rattle.html_parser.specs.Paused.{HavePaused}

@@ -1,4 +1,4 @@
-use Rattle.std.proofs.Common.{◌∙◌, refl, sym}
+use Rattle.std.proofs.Common.{refl, sym}
 use Rattle.html_parser.specs.Options.{start_of}
 use Rattle.html_parser.proofs.parser.Parser.new.Goals as goal
 

@@ -1,4 +1,4 @@
-use Rattle.std.proofs.Common.{All, ◌≢◌, ◌≡◌, ◌⊎◌, ◌++◌, ◌∷◌, ◌∙◌, [], None, false, inl, refl, subst, sym}
+use Rattle.std.proofs.Common.{All, ◌≢◌, ◌++◌, ◌∷◌, ◌∙◌, [], None, false, inl, refl, subst, sym}
 use Rattle.std.proofs.lemmas.Result.{err_from_is_err_and}
 use Rattle.html_input.specs.Fed.{Fed as Decodes}
 use Rattle.html_tokens.specs.Bare.{spelling}

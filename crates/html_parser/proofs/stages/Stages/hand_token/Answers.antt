@@ -1,17 +1,12 @@
 use Rattle.std.proofs.Common.{◌∙◌, ◌++◌, ◌∷◌, [], None, inl, refl}
+use Rattle.std.proofs.lemmas.Result.{err_from_is_err_and}
 use Rattle.html_parser.specs.Kinds.{kinds}
 use Rattle.html_parser.proofs.Causing.{build_refused, build_spent, refused_told}
-use Rattle.html_parser.proofs.Further.{one_further}
+use Rattle.html_parser.proofs.Further.{one_further, rest_of}
+use Rattle.html_parser.proofs.Gathers.{same_further, same_rest}
 use Rattle.html_parser.proofs.MaySaying.{may_say, may_tell}
-use Rattle.html_parser.proofs.Tokenizing.{not_stopped, one_either, same_run}
+use Rattle.html_parser.proofs.Tokenizing.{not_stopped, one_either}
 use Rattle.html_parser.proofs.stages.Stages.hand_token.Goals as goal
-
-pub invariant_of-self-in_default : goal.invariant_of-self-in_default
-invariant_of-self-in_default c = record {
-  tokenizing = same_run c.args.self.now.tokenizer c.next.new.self c.args.self.now.kept.starts
-      (not_stopped c.next.result _ _ c.in_ok-token.was c.next.ensures.stopped) c.args.self.now.tokenizing
-      (λ run fed. ((rw c.in_default.is at c.in_ok-token.ensures.prompt) run fed).0);
-}
 
 pub returns-in_default-clause-none : goal.returns-in_default-clause-none
 returns-in_default-clause-none c =
@@ -73,7 +68,6 @@ returns-clause-further c =
     λ start finished bytes run r. one_further start finished bytes run c.args.self.now _ token c.in-Ok.mode
     (record {
       decoder = refl;
-      given = λ run fed. c.tell.ensures.told run token (unsaid run fed) (given run fed) says;
       may = λ s ts. may_tell s ts token.kind c.build.new.builder c.in-Ok.mode c.in-Ok.ensures.said;
       parses = c.in-Ok.ensures.parses;
       takes = c.in-Ok.ensures.takes;
@@ -88,7 +82,8 @@ returns-clause-further c =
     (c.counted-2.ensures.counted start.setting start.limits (kinds run.given ++ token.kind ∷ [])
     (c.in-Ok.ensures.takes start.setting start.limits (kinds run.given) r.handed))
     (c.counted-2.ensures.foreign start.setting start.limits (kinds run.given ++ token.kind ∷ [])
-    (c.in-Ok.ensures.takes start.setting start.limits (kinds run.given) r.handed)) r
+    (c.in-Ok.ensures.takes start.setting start.limits (kinds run.given) r.handed)) (rest_of start finished c.args.self.now bytes run r)
+    (c.tell.ensures.told run token (unsaid run r.tokenized) (given run r.tokenized) says)
 
 pub invariant_of-self-2 : goal.invariant_of-self-2
 invariant_of-self-2 c =
@@ -101,3 +96,27 @@ invariant_of-self-2 c =
           (not_stopped c.next.result _ _ c.in_ok-token.was c.next.ensures.stopped) c.args.self.now.tokenizing
           (λ run fed. c.tell.ensures.told run token (unsaid run fed) (given run fed) says) c.push.ensures.either;
     }
+
+pub returns-in_err-hand_joined-clause-cause : goal.returns-in_err-hand_joined-clause-cause
+returns-in_err-hand_joined-clause-cause c =
+    let p = err_from_is_err_and c.from_residual-in_err-hand_joined.result c.from_residual-in_err-hand_joined.ensures.1 in
+    let given = rw c.in-Some.is at c.in_ok-token.ensures.given in
+    let unsaid = rw c.in-Some.is at c.in_ok-token.ensures.unsaid in
+    rw (p.1, p.2) (λ start finished bytes run r. c.in_err-hand_joined.ensures.cause start finished bytes run
+    (same_rest start finished bytes run c.args.self.now _ refl refl refl (rest_of start finished c.args.self.now bytes run r))
+    (record { awaits = given run r.tokenized; unsaid = unsaid run r.tokenized }))
+
+pub returns-in_err-hand_joined-clause-told : goal.returns-in_err-hand_joined-clause-told
+returns-in_err-hand_joined-clause-told c =
+    let p = err_from_is_err_and c.from_residual-in_err-hand_joined.result c.from_residual-in_err-hand_joined.ensures.1 in
+    rw (p.1, p.2) (λ start finished bytes run r. c.in_err-hand_joined.ensures.told start finished bytes run
+    (same_rest start finished bytes run c.args.self.now _ refl refl refl (rest_of start finished c.args.self.now bytes run r)))
+
+pub returns-in-Some-joining-clause-further : goal.returns-in-Some-joining-clause-further
+returns-in-Some-joining-clause-further c =
+    let given = rw c.in-Some.is at c.in_ok-token.ensures.given in
+    let unsaid = rw c.in-Some.is at c.in_ok-token.ensures.unsaid in
+    λ start finished bytes run r. same_further start finished bytes run.text c.hand_joined.new.self _ refl refl refl refl
+    (c.in_ok-hand_joined.ensures.further start finished bytes run
+    (same_rest start finished bytes run c.args.self.now _ refl refl refl (rest_of start finished c.args.self.now bytes run r))
+    (record { awaits = given run r.tokenized; unsaid = unsaid run r.tokenized }))

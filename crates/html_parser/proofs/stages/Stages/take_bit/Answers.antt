@@ -1,4 +1,4 @@
-use Rattle.std.proofs.Common.{◌≡◌, ◌++◌, ◌∙◌, [], ap, ap₂, sym, take, take-append-drop}
+use Rattle.std.proofs.Common.{◌++◌, ◌∙◌, [], sym}
 use Rattle.std.proofs.lemmas.List.{append-nil}
 use Rattle.std.proofs.lemmas.Result.{err_from_is_err_and}
 use Rattle.html_parser.proofs.Feeds.{all_taken, bit_refused, some_none}

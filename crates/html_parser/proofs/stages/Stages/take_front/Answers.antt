@@ -1,6 +1,6 @@
 use Rattle.std.proofs.Common.{[], ◌++◌, take}
 use Rattle.std.proofs.lemmas.Result.{err_from_is_err_and}
-use Rattle.html_parser.proofs.PlainTaken.{front_read, front_refused, none_read, read_after, refused_after}
+use Rattle.html_parser.proofs.PlainTaken.{front_refused, none_read, read_after, refused_after}
 use Rattle.html_parser.proofs.stages.Stages.take_front.Goals as goal
 
 pub returns-in_err-take_chars-clause-cause : goal.returns-in_err-take_chars-clause-cause

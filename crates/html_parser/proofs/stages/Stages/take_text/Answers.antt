@@ -1,12 +1,11 @@
-use Rattle.std.proofs.Common.{All, ◌≢◌, ◌≡◌, ◌⊎◌, ◌++◌, ◌∙◌, encode_utf8_all, false, inl, refl, subst, sym}
+use Rattle.std.proofs.Common.{All, ◌≢◌, ◌++◌, ◌∙◌, encode_utf8_all, false, inl, refl, subst, sym}
 use Rattle.std.proofs.lemmas.Result.{err_from_is_err_and}
 use Rattle.html_input.specs.Fed.{Fed as Decodes}
 use Rattle.html_tokens.specs.Runs.{plain_tokens}
-use Rattle.html_parser.specs.Kinds.{kinds, starts_of}
+use Rattle.html_parser.specs.Kinds.{kinds}
 use Rattle.html_parser.specs.Start.{most_input}
 use Rattle.html_parser.proofs.PlainTaken.{free_of, memory_refused, plain_either, plain_read, plain_refused, stages_same}
 use Rattle.html_parser.proofs.Refusals.{build-told}
-use Rattle.html_parser.proofs.Taken.{same_starts}
 use Rattle.html_tokens.specs.declared.token.TokenKind.TheVariants as kind
 use Rattle.html_parser.proofs.stages.Stages.take_text.Goals as goal
 
