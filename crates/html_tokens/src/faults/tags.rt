@@ -12,6 +12,7 @@ use html_charref::Base;
 
 impl Faults {
     /// What a code point of a tag tells that begins no reference; what follows a `/` is known.
+    #[inline(always)]
     pub(crate) fn tag_char(&mut self, draft: &TagDraft, c: char, after: Option<char>, place: u64)
         ensures told { Told 5 (length draft.now.attrs) self.old self.new }
         ensures quiet { IsQuiet self.old self.new }
@@ -126,6 +127,7 @@ impl Faults {
     }
 
     /// What a code point tells inside a value.
+    #[inline(always)]
     fn value_char(&mut self, end: ValueEnd, c: char, place: u64)
         ensures told { Told 2 0 self.old self.new }
         ensures quiet { IsQuiet self.old self.new }

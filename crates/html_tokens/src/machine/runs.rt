@@ -40,6 +40,7 @@ impl<'a> Machine<'a> {
     }
 
     /// Takes a code point of plain text, where one comes next.
+    #[inline(always)]
     pub(crate) fn next_char(&mut self, faults: &mut Faults) -> Option<char>
         requires room { self.old.place + length self.old.input.queue.items < 2 ^ 64 }
         ensures given { IfSome result (λ c. (run : Run) → IsAt self.old run → (switch : Option TextMode) → IsAt (answered (token (TokenKind.Char c) self.old.place (self.old.place + 1)) switch self.new) (gave run (token (TokenKind.Char c) self.old.place (self.old.place + 1)) switch)) }
