@@ -22,3 +22,5 @@ mod pieces;
 mod same;
 #[cfg(test)]
 mod stack;
+#[cfg(test)]
+mod tags;

@@ -30,7 +30,7 @@ use html_builder::Builder;
 use html_charref::{EntityTable, PlainText, plain_len, plain_start};
 use html_input::Decoder;
 use html_token_list::Tokens;
-use html_tokens::{BareTag, TextMode, Token, Tokenizer};
+use html_tokens::{BareTag, StartTag, TextMode, Token, Tokenizer};
 use std::alloc::Global;
 
 /// How many bytes are decoded at once, so that the text on its way takes little room however long a piece is.
@@ -38,6 +38,9 @@ pub(crate) const PIECE: usize = 16384;
 
 /// From how many bytes on a plain text is taken by itself.
 const LONG: usize = 64;
+
+/// Where so many more start tags were not taken by themselves than were, texts are not cut for the next.
+const MOST_MISSES: u32 = 4;
 
 /// How many bytes of input a node has at least, in most pages.
 const BYTES_A_NODE: usize = 12;
@@ -142,8 +145,9 @@ impl<'a> Stages<'a> {
         ensures keeps { self.new.kept.keeps_tokens ≡ self.old.kept.keeps_tokens }
     {
         let mut rest = piece;
+        let mut misses = 0;
         'fronts: while rest.len() >= LONG {
-            let len = self.take_front(rest)?;
+            let len = self.take_front(rest, &mut misses)?;
             let (_, behind) = rest.split_at(len);
             rest = behind;
         }
@@ -151,8 +155,8 @@ impl<'a> Stages<'a> {
         Ok(())
     }
 
-    /// Takes a front of some bytes: a plain text by itself where it is long, else what stands before the next one. How many bytes they were.
-    fn take_front(&mut self, piece: &[u8]) -> Result<usize, ParseError>
+    /// Takes a front of some bytes: a plain text by itself where it is long, or a tag, else what stands before the next one. How many bytes they were.
+    fn take_front(&mut self, piece: &[u8], misses: &mut u32) -> Result<usize, ParseError>
         requires some { 0 < length piece.now }
         ensures some { IfOk result (λ n. 0 < n) }
         ensures within { IfOk result (λ n. n ≤ length piece.now) }
@@ -161,19 +165,20 @@ impl<'a> Stages<'a> {
         ensures told { IfErr result (λ e. (start : Start) (bytes : List ℕ) (run : Run) → IsRun start false self.old bytes run → IsToldIn start.limits self.new.builder.page e) }
         ensures keeps { self.new.kept.keeps_tokens ≡ self.old.kept.keeps_tokens }
     {
-        let plain = plain_len(piece);
-        let taken = self.take_lane(piece, plain)?;
+        let plain = plain_front(piece);
+        let taken = self.take_lane(piece, plain, *misses)?;
         if taken > 0 {
+            note_taken(piece, misses);
             return Ok(taken);
         }
-        let end = self.front_end(piece, plain);
+        let end = self.front_end(piece, plain, misses);
         self.take_chars(&piece[..end])?;
         Ok(end)
     }
 
-    /// Takes by itself what stands at the front of some bytes, of which so many at the front are plain, where that goes: a plain text, or a tag without
-    /// attributes. How many bytes they were, which may be none.
-    fn take_lane(&mut self, piece: &[u8], plain: usize) -> Result<usize, ParseError>
+    /// Takes by itself what stands at the front of some bytes, of which so many at the front are plain, where that goes: a plain text, or a tag. Of the
+    /// start tags before, so many more were not taken by themselves than were. How many bytes they were, which may be none.
+    fn take_lane(&mut self, piece: &[u8], plain: usize, misses: u32) -> Result<usize, ParseError>
         requires within { plain ≤ length piece.now }
         requires plain { list_all is_plain_byte (take plain piece.now) ≡ true }
         ensures within { IfOk result (λ n. n ≤ length piece.now) }
@@ -185,7 +190,7 @@ impl<'a> Stages<'a> {
         if plain == 0 {
             return self.take_tag(piece);
         }
-        if plain < LONG && BareTag::of(&piece[plain..]).is_none() {
+        if plain < LONG && !may_take(&piece[plain..], misses) {
             return Ok(0);
         }
         let taken = self.take_plain(&piece[..plain])?;
@@ -193,8 +198,8 @@ impl<'a> Stages<'a> {
     }
 
     /// How many bytes are taken code point by code point, of some of which so many at the front are plain: all where each token is to be counted for by
-    /// itself, else those before the next long plain text.
-    fn front_end(&self, piece: &[u8], plain: usize) -> usize
+    /// itself, else those of a start tag, where few were missed, or before the next long plain text.
+    fn front_end(&self, piece: &[u8], plain: usize, misses: &mut u32) -> usize
         requires some { 0 < length piece.now }
         requires within { plain ≤ length piece.now }
         ensures some { 0 < result }
@@ -202,6 +207,9 @@ impl<'a> Stages<'a> {
     {
         if self.counts_steps() {
             piece.len()
+        } else if is_start(&piece[plain..]) && note_missed(misses) {
+            let front = plain.max(1);
+            front + tag_len(&piece[front..])
         } else {
             next_text(piece, plain)
         }
@@ -251,7 +259,7 @@ impl<'a> Stages<'a> {
         Ok(true)
     }
 
-    /// Takes the tag without attributes at the front of some bytes by itself, where that goes: how many bytes it has, or none.
+    /// Takes the tag at the front of some bytes by itself, where that goes: how many bytes it has, or none.
     fn take_tag(&mut self, piece: &[u8]) -> Result<usize, ParseError>
         ensures within { IfOk result (λ n. n ≤ length piece.now) }
         ensures reads { IfOk result (λ n. (start : Start) (bytes : List ℕ) (run : Run) → IsRun start false self.old bytes run → HasRead start self.new (bytes ++ take n piece.now)) }
@@ -263,7 +271,7 @@ impl<'a> Stages<'a> {
             return Ok(0);
         }
         let Some(tag) = BareTag::of(piece) else {
-            return Ok(0);
+            return self.take_start(piece);
         };
         let len = tag.as_str().len();
         let taken = self.hand_tag(&tag)?;
@@ -295,6 +303,53 @@ impl<'a> Stages<'a> {
         };
         self.builder.counted();
         tell(&mut self.tokenizer, said);
+        self.kept.push(token)?;
+        let is_spent = self.is_spent();
+        self.is_past = is_spent;
+        Ok(true)
+    }
+
+    /// Takes the start tag with attributes at the front of some bytes by itself, where that goes: how many bytes it has, or none.
+    fn take_start(&mut self, piece: &[u8]) -> Result<usize, ParseError>
+        ensures within { IfOk result (λ n. n ≤ length piece.now) }
+        ensures reads { IfOk result (λ n. (start : Start) (bytes : List ℕ) (run : Run) → IsRun start false self.old bytes run → HasRead start self.new (bytes ++ take n piece.now)) }
+        ensures cause { IfErr result (λ e. (start : Start) (bytes : List ℕ) (run : Run) → IsRun start false self.old bytes run → IsFeedCause start (bytes ++ piece.now) e) }
+        ensures told { IfErr result (λ e. (start : Start) (bytes : List ℕ) (run : Run) → IsRun start false self.old bytes run → IsToldIn start.limits self.new.builder.page e) }
+        ensures keeps { self.new.kept.keeps_tokens ≡ self.old.kept.keeps_tokens }
+    {
+        let Some(tag) = StartTag::of(self.alloc, piece)? else {
+            return Ok(0);
+        };
+        let len = tag.as_str().len();
+        let taken = self.hand_start(tag)?;
+        Ok(if taken { len } else { 0 })
+    }
+
+    /// Takes a start tag with attributes by itself, where that goes: whether it was taken.
+    fn hand_start(&mut self, tag: StartTag<'_>) -> Result<bool, ParseError>
+        ensures reads { IfOk result (λ taken. (start : Start) (bytes : List ℕ) (run : Run) → IsRun start false self.old bytes run → HasRead start self.new (bytes ++ cond taken tag.entry [])) }
+        ensures cause { IfErr result (λ e. (start : Start) (bytes : List ℕ) (run : Run) → IsRun start false self.old bytes run → IsFeedCause start (bytes ++ tag.entry) e) }
+        ensures told { IfErr result (λ e. (start : Start) (bytes : List ℕ) (run : Run) → IsRun start false self.old bytes run → IsToldIn start.limits self.new.builder.page e) }
+        ensures keeps { self.new.kept.keeps_tokens ≡ self.old.kept.keeps_tokens }
+    {
+        let text = tag.as_str();
+        if !self.decoder.take_text(text, text.len()) {
+            return Ok(false);
+        }
+        self.builder.counted();
+        let is_over = self.is_over();
+        let Some(token) = self.tokenizer.take_start(tag)? else {
+            return Err(ParseError::OutOfMemory);
+        };
+        let answer = match build(&mut self.builder, &token, is_over) {
+            Ok(answer) => answer,
+            Err(cause) => {
+                let_go(token);
+                return Err(cause);
+            }
+        };
+        self.builder.counted();
+        tell(&mut self.tokenizer, answer);
         self.kept.push(token)?;
         let is_spent = self.is_spent();
         self.is_past = is_spent;
@@ -561,6 +616,46 @@ impl<'a> Stages<'a> {
     }
 }
 
+/// How many bytes at the front are plain: those up to a tag, where none stands there.
+fn plain_front(bytes: &[u8]) -> usize
+    ensures within { result ≤ length bytes.now }
+    ensures plain { list_all is_plain_byte (take result bytes.now) ≡ true }
+{
+    match bytes.get(0) {
+        Some(b'<') => 0,
+        _ => plain_len(bytes),
+    }
+}
+
+/// Whether a start tag may stand at the front.
+fn is_start(bytes: &[u8]) -> bool {
+    match (bytes.get(0), bytes.get(1)) {
+        (Some(b'<'), Some(c)) => c.is_ascii_alphabetic(),
+        _ => false,
+    }
+}
+
+/// Whether the tag at the front is likely to be taken by itself, where so many start tags more were not than were.
+fn may_take(bytes: &[u8], misses: u32) -> bool {
+    (misses < MOST_MISSES && is_start(bytes)) || BareTag::of(bytes).is_some()
+}
+
+/// Notes that the front was taken by itself.
+fn note_taken(bytes: &[u8], misses: &mut u32) {
+    if is_start(bytes) {
+        *misses = misses.saturating_sub(1);
+    }
+}
+
+/// Notes that a start tag was not taken by itself: whether the next may be.
+fn note_missed(misses: &mut u32) -> bool {
+    let few = *misses < MOST_MISSES;
+    if few {
+        *misses += 1;
+    }
+    few
+}
+
 /// How many bytes at the end may begin a code point that does not end there.
 fn tail_len(bytes: &[u8]) -> usize
     ensures few { result ≤ length bytes.now }
@@ -590,6 +685,17 @@ fn next_text(bytes: &[u8], front: usize) -> usize
 {
     let from = front.max(1);
     from + plain_start(&bytes[from..])
+}
+
+/// How many bytes stand up to the first `>`, it included, or all.
+fn tag_len(bytes: &[u8]) -> usize
+    ensures within { result ≤ length bytes.now }
+{
+    let mut len = 0;
+    'tag: while len < bytes.len() && bytes[len] != b'>' {
+        len += 1;
+    }
+    if len < bytes.len() { len + 1 } else { len }
 }
 
 /// Whether so many steps are more than the limit, if there is one.

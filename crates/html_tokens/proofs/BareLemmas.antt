@@ -94,14 +94,14 @@ copied_digit c l h = rw (
   under 65 90 c (omega arith),
 ) refl
 
-copied_bare : (c : ℕ) → is_bare_char c ≡ true → is_copied copied.Name c ≡ true
+pub copied_bare : (c : ℕ) → is_bare_char c ≡ true → is_copied copied.Name c ≡ true
 unfolding Between
 copied_bare c h = elim (ranges c h) [
   | inl r ↦ copied_letter c r.0 r.1
   | inr r ↦ copied_digit c r.0 r.1
 ]
 
-all_copied : (cs : List ℕ) → list_all is_bare_char cs ≡ true → AllPass (is_copied copied.Name) cs
+pub all_copied : (cs : List ℕ) → list_all is_bare_char cs ≡ true → AllPass (is_copied copied.Name) cs
 all_copied [] h = tt
 all_copied (c ∷ cs) h = (copied_bare c (both-left _ _ h), all_copied cs (both-right _ _ h))
 
@@ -207,7 +207,7 @@ opens_end c e f g w h =
     let l = r.0 in
     rw (differs c 62 (inr (omega (arith, l))), outside 65 90 c (omega (arith, l)), h) refl
 
-start_opener : (c : ℕ) (rest : List ℕ) → between 97 122 c ≡ true → opener (60 ∷ c ∷ rest) ≡ opens.StartTag
+pub start_opener : (c : ℕ) (rest : List ℕ) → between 97 122 c ≡ true → opener (60 ∷ c ∷ rest) ≡ opens.StartTag
 start_opener c rest h =
     let text : List ℕ = 60 ∷ c ∷ rest in
     opens_start c (slice_get text 2) (slice_get text 3) (slice_get text 4) (slice_get text 5) (spells_word doctype_word 2 text) h

@@ -27,3 +27,5 @@ pub mod ComparisonLemmas
 pub mod ScriptLemmas
 pub mod PlainLemmas
 pub mod BareLemmas
+pub mod StartLemmas
+pub mod StartTaken

@@ -25,4 +25,5 @@ pub mod Order
 pub mod Places
 pub mod Queue
 pub mod Short
+pub mod Starts
 pub mod Whole

@@ -88,7 +88,7 @@ fn behind<'a>(bytes: &'a [u8], opened: usize, is_end: bool) -> Option<BareTag<'a
 }
 
 /// How many bytes at the front can stand in the name.
-fn name_len(bytes: &[u8]) -> usize
+pub(crate) fn name_len(bytes: &[u8]) -> usize
     ensures within { result ≤ length bytes.now }
     ensures name { list_all is_bare_char (take result bytes.now) ≡ true }
 {
@@ -99,13 +99,13 @@ fn name_len(bytes: &[u8]) -> usize
     len
 }
 
-fn is_small_letter(byte: u8) -> bool
+pub(crate) fn is_small_letter(byte: u8) -> bool
     ensures { result ≡ between 97 122 byte }
 {
     byte.is_ascii_lowercase()
 }
 
-fn is_bare_byte(byte: u8) -> bool
+pub(crate) fn is_bare_byte(byte: u8) -> bool
     ensures { result ≡ is_bare_char byte }
 {
     is_small_letter(byte) || byte.is_ascii_digit()

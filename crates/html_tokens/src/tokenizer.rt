@@ -10,6 +10,7 @@ ghost use Rattle.html_tokens.specs.Tokens.{token};
 use crate::bare_tag::BareTag;
 use crate::faults::{Fault, Faults};
 use crate::machine::{Machine, token};
+use crate::start_tag::StartTag;
 use crate::token::{Name, TextMode, Token, TokenKind};
 use html_charref::{EntityTable, PlainText};
 use std::alloc::Global;
@@ -273,6 +274,41 @@ impl<'a> Tokenizer<'a> {
             return Ok(None);
         }
         match self.machine.take_bare(tag) {
+            Ok(token) => Ok(Some(token)),
+            Err(_) => {
+                self.failed = true;
+                Err(TokenError::OutOfMemory)
+            }
+        }
+    }
+
+    /// Takes the next piece of the text, which is a start tag, and gives its token. It is as `feed` and then one call of `next`. Nothing, and then nothing
+    /// changed, where other text waits, where text is not read as data, or after a refusal or the end of the text.
+    ///
+    /// Refused with `OutOfMemory` alone.
+    #[tactic(auto, using(crate::proofs::StreamLemmas::unsaid, crate::proofs::StreamLemmas::said), unfolding(crate::specs::Given::Fed, crate::specs::Given::Awaits, crate::specs::Given::fed_len, crate::specs::Given::is_stopped, crate::specs::Given::is_finished))]
+    pub fn take_start(&mut self, tag: StartTag<'_>) -> Result<Option<Token>, TokenError>
+        ensures given { IfOk result (λ answer. IfSome answer (λ token. (run : Run) → Fed self.old run → Awaits self.new (fed run tag.entry) token)) }
+        ensures unsaid { IfOk result (λ answer. IfSome answer (λ token. (run : Run) → Fed self.old run → Fed self.new (gave (fed run tag.entry) token Option.None))) }
+        ensures count { IfOk result (λ answer. IfSome answer (λ token. fed_len self.new ≡ fed_len self.old + length tag.entry)) }
+        ensures none { IfOk result (λ answer. IfNone answer (self.new ≡ self.old)) }
+        ensures going { IfOk result (λ answer. IfSome answer (λ token. is_stopped self.old ≡ false)) }
+        ensures stopped { OnOk result (is_stopped self.new ≡ is_stopped self.old) }
+        ensures cause { IfErr result (λ e. e ≡ TokenError.OutOfMemory) }
+        ensures err { OnErr result (is_stopped self.new ≡ true) }
+        ensures finished { is_finished self.new ≡ is_finished self.old }
+    {
+        let is_data = self.machine.is_data();
+        if self.failed
+            || self.machine.is_finished()
+            || !self.machine.is_idle()
+            || !is_data
+            || !self.faults.is_quiet()
+            || !self.machine.has_room(tag.as_str().len())
+        {
+            return Ok(None);
+        }
+        match self.machine.take_start_tag(tag, &mut self.faults) {
             Ok(token) => Ok(Some(token)),
             Err(_) => {
                 self.failed = true;

@@ -17,7 +17,9 @@ use crate::attributes::Attrs;
 use crate::bare_tag::BareTag;
 use crate::faults::Faults;
 use crate::short::keep_text;
+use crate::start_tag::StartTag;
 use crate::token::{Region, TextMode, Token, TokenKind};
+use crate::whole_attr::{NOTHING, Taken};
 use html_charref::{PlainText, Str};
 use std::alloc::AllocError;
 
@@ -230,6 +232,47 @@ impl<'a> Machine<'a> {
             name,
             attrs: Attrs::new(self.alloc),
             self_closing: false,
+        };
+        Ok(token(kind, start, self.place))
+    }
+
+    /// Goes past a start tag, which was not fed before: its token.
+    pub(crate) fn take_start_tag(
+        &mut self,
+        tag: StartTag<'_>,
+        faults: &mut Faults,
+    ) -> Result<Token, AllocError>
+        requires text { is_text self.old.state ≡ true }
+        requires mode { self.old.mode ≡ TextMode.Data }
+        requires empty { self.old.input.queue.items ≡ [] }
+        requires going { self.old.input.finished ≡ false }
+        requires room { self.old.place + length self.old.input.queue.items + length tag < 2 ^ 64 }
+        ensures given { IfOk result (λ given. (run : Run) → IsAt self.old run → (switch : Option TextMode) → IsAt (answered given switch self.new) (gave (fed run tag.entry) given switch)) }
+        ensures telling { IfOk result (λ given. (run : Run) → IsAt self.old run → AreTold self.old faults.old run → (switch : Option TextMode) → AreTold (answered given switch self.new) faults.new (gave (fed run tag.entry) given switch)) }
+        ensures count { OnOk result (self.new.place ≡ self.old.place + length tag.entry) }
+        ensures stays { OnErr result (self.new.place ≡ self.old.place) }
+        ensures input { self.new.input ≡ self.old.input }
+        ensures bounded { IsBounded self.old faults.old → OnOk result (IsBounded self.new faults.new) }
+        ensures same { OnErr result (faults.new ≡ faults.old) }
+        ensures lost { faults.new.lost ≡ faults.old.lost }
+    {
+        let start = self.place;
+        let size = tag.as_str().len();
+        let (text, attrs, self_closing, compared) = tag.into_parts();
+        let name = Str::of(self.alloc, text)?;
+        keep_text(&mut self.last_name, self.alloc, text)?;
+        self.place += size as u64;
+        faults.took(
+            Taken {
+                compared,
+                ..NOTHING
+            },
+            self.place,
+        );
+        let kind = TokenKind::Start {
+            name,
+            attrs,
+            self_closing,
         };
         Ok(token(kind, start, self.place))
     }
