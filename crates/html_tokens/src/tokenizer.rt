@@ -244,8 +244,11 @@ impl<'a> Tokenizer<'a> {
         Some(self.machine.pass_text(text))
     }
 
-    /// Whether a plain text would be taken by `take_plain`, as far as places count.
-    pub fn takes_plain(&self) -> bool {
+    /// Whether a plain text would be taken by `take_plain`, as far as places count: never after a refusal.
+    #[tactic(auto, unfolding(crate::specs::Given::is_stopped))]
+    pub fn takes_plain(&self) -> bool
+        ensures going { result ≡ true → is_stopped self.now ≡ false }
+    {
         !self.failed && self.machine.is_idle() && self.faults.is_quiet()
     }
 
@@ -283,8 +286,10 @@ impl<'a> Tokenizer<'a> {
         }
     }
 
-    /// Whether a tag without attributes would be taken by `take_tag`, as far as places count.
-    pub fn takes_tags(&self) -> bool {
+    /// Whether a tag without attributes would be taken by `take_tag`, as far as places count: never after a refusal.
+    pub fn takes_tags(&self) -> bool
+        ensures going { result ≡ true → is_stopped self.now ≡ false }
+    {
         self.takes_plain() && self.machine.is_data()
     }
 
