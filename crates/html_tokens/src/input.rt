@@ -72,6 +72,12 @@ impl Input {
         front_without('<', '&', self.queue.unread())
     }
 
+    /// Whether `<` comes next.
+    #[inline(always)]
+    pub(crate) fn is_at_less_than(&self) -> bool {
+        self.queue.unread().get(0) == Some(&'<')
+    }
+
     /// Takes the first code point where it is plain text.
     #[tactic(auto, unfolding(crate::specs::Runs::plain_front))]
     pub(crate) fn take_plain(&mut self, mode: TextMode) -> Option<char>

@@ -52,6 +52,10 @@ impl<'a> Machine<'a> {
         ensures finished { self.new.input.finished ≡ self.old.input.finished }
         ensures bounded { IsBounded self.old faults.old → IsBounded self.new faults.new }
     {
+        // (most often a tag comes next, and nothing that is plain)
+        if self.input.is_at_less_than() {
+            return None;
+        }
         if !self.is_text() {
             return None;
         }
