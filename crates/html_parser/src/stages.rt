@@ -486,8 +486,8 @@ impl<'a> Stages<'a> {
         };
         if let Some(c) = self.joining(&token, is_over) {
             self.hand_joined(token, c)?;
-            let is_past = self.is_spent();
-            self.is_past = is_past;
+            let is_spent = self.is_spent();
+            self.is_past = is_spent;
             return Ok(true);
         }
         let mode = match build(&mut self.builder, &token, is_over) {
@@ -567,15 +567,15 @@ impl<'a> Stages<'a> {
             return Ok(());
         };
         self.builder.counted();
-        let mode = match build(&mut self.builder, &token, false) {
-            Ok(mode) => mode,
+        let switch = match build(&mut self.builder, &token, false) {
+            Ok(switch) => switch,
             Err(cause) => {
                 let_go(token);
                 return Err(cause);
             }
         };
         self.builder.counted();
-        tell(&mut self.tokenizer, mode);
+        tell(&mut self.tokenizer, switch);
         self.kept.push(token)?;
         Ok(())
     }

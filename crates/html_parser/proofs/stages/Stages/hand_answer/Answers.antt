@@ -28,13 +28,13 @@ returns-in-Err-clause-unspent c = λ at told. last_unspent c.in-Some.token c.arg
 pub returns-clause-further : goal.returns-clause-further
 returns-clause-further c =
     let token = c.in-Some.token in
-    let says = may_say token.kind c.build.new.builder c.in-Ok.mode c.in-Ok.ensures.said in
+    let says = may_say token.kind c.build.new.builder c.in-Ok.switch c.in-Ok.ensures.said in
     λ start finished bytes run r f.
     let g = rw c.in-Some.is at f in
-    one_further start finished bytes run c.args.self.now _ token c.in-Ok.mode
+    one_further start finished bytes run c.args.self.now _ token c.in-Ok.switch
     (record {
       decoder = refl;
-      may = λ s ts. may_tell s ts token.kind c.build.new.builder c.in-Ok.mode c.in-Ok.ensures.said;
+      may = λ s ts. may_tell s ts token.kind c.build.new.builder c.in-Ok.switch c.in-Ok.ensures.said;
       parses = c.in-Ok.ensures.parses;
       takes = c.in-Ok.ensures.takes;
       grows = c.in-Ok.ensures.grows;
@@ -54,8 +54,8 @@ returns-clause-further c =
 pub invariant_of-self-2 : goal.invariant_of-self-2
 invariant_of-self-2 c =
     let token = c.in-Some.token in
-    let says = may_say token.kind c.build.new.builder c.in-Ok.mode c.in-Ok.ensures.said in
+    let says = may_say token.kind c.build.new.builder c.in-Ok.switch c.in-Ok.ensures.said in
     record {
-      tokenizing = awaiting_either c.args.self.now.tokenizer c.tell.new.tokenizer c.args.self.now.kept.starts c.push.new.self.starts token c.in-Ok.mode
+      tokenizing = awaiting_either c.args.self.now.tokenizer c.tell.new.tokenizer c.args.self.now.kept.starts c.push.new.self.starts token c.in-Ok.switch
           c.requires.going (rw c.in-Some.is at c.requires.awaiting) (λ run g. c.tell.ensures.told run token g.unsaid g.awaits says) c.push.ensures.either;
     }
