@@ -39,7 +39,7 @@ pub(crate) fn gather(
     }
 }
 
-/// Appends the plain text that comes next.
+/// Appends the plain text that comes next, and keeps its tokens.
 fn gather_run(
     tokenizer: &mut Tokenizer<'_>,
     kept: &mut Kept,
@@ -61,7 +61,7 @@ fn gather_run(
     Ok(())
 }
 
-/// Appends the code point of a token.
+/// Appends the code point of a token, and keeps the token.
 pub(crate) fn gather_char(
     kept: &mut Kept,
     text: &mut Vec<char>,
