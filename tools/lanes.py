@@ -10,6 +10,7 @@ from kit import Unexpected, rt
 # the longest chain of crates, lowest first, each of which is proved before others take processors from it; and those of them that little else can be
 # done beside, so that they get all processors
 CHAIN = (
+    "html_text",
     "html_charref",
     "html_tokens",
     "html_arena",

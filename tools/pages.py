@@ -65,9 +65,9 @@ def unescaped(text):
 
 
 def worked_pages():
-    """Returns the rows of page_cases, but those in a form or in quirks mode, as the arguments and the bytes that the program takes."""
+    """Returns the rows of test_pages, but those in a form or in quirks mode, as the arguments and the bytes that the program takes."""
     rows = []
-    for line in (TOP / "crates/page_cases/stdin").read_bytes().decode().split("\n")[1:]:
+    for line in (TOP / "crates/test_pages/stdin").read_bytes().decode().split("\n")[1:]:
         if line.count("|") < 2:
             continue
         _, words, page = line.split("|", 2)

@@ -1,5 +1,6 @@
 //! How fast the layers below tree construction are. Without words it does a small run of each measure, under its name, and prints no time,
 //! so that what it prints is fixed. With words it does one of them in full:
+//! A program, imported by nobody.
 //!
 //! - `decoding` decodes 64 MiB of each of four inputs.
 //! - `references FILE` reads a file of named references, and finds the references of a long text.

@@ -2,6 +2,7 @@
 //! bytes, the times, the least and the median time of a parse and the least time in which a tree was let go, in milliseconds, the nodes,
 //! and the most memory that the process had, in kilobytes (0 where the system doesn't tell). `ledger FILE REPS` does the same with a parser
 //! that keeps the tokens and their fates. Without an argument it parses small pages, and prints how large their trees are.
+//! A program, imported by nobody.
 #![tactic(auto)]
 
 use anyhow::{Result, bail};

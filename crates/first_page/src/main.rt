@@ -1,4 +1,5 @@
 //! Parses a page, prints the names of its elements in tree order, and writes the page normalised.
+//! A program, imported by nobody.
 #![tactic(auto)]
 
 mod names;

@@ -1,4 +1,5 @@
 //! A sanitizer: of each line, which is a piece of a page, what a list of elements, attributes and schemes allows. The first line has named references.
+//! A program, imported by nobody.
 #![tactic(auto)]
 
 mod clean;

@@ -3,7 +3,7 @@ ghost use Rattle.std.specs.Prelude.{◌≡◌, ◌++◌, IfOk, OnOk, cond};
 ghost use Rattle.html_arena.specs.Merge.{has_name, lacking, merged};
 ghost use Rattle.html_arena.specs.Weight.{attr_weight, attrs_weight, capped};
 
-use html_charref::Str;
+use html_text::Str;
 use html_tokens::{Attr, Attrs};
 use std::alloc::{AllocError, Global};
 

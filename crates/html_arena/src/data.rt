@@ -8,8 +8,8 @@ ghost use Rattle.html_arena.specs.Weight.{weight, attrs_weight, optional_weight,
 
 use crate::attributes::attrs_held;
 use crate::links::NodeId;
-use html_charref::{PlainText, Str, WideStr};
 use html_names::Tag;
+use html_text::{PlainText, Str, WideStr};
 use html_tokens::{Attr, Attrs, OptionalStr};
 use std::alloc::AllocError;
 

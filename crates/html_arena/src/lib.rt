@@ -1,4 +1,5 @@
 //! The nodes of a page and the links between them.
+//! Imported by crates of this workspace.
 #![tactic(auto)]
 
 mod arena;

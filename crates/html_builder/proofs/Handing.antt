@@ -32,8 +32,6 @@ use Rattle.html_construction.specs.declared.mode.Mode.TheVariants as mode
 use Rattle.html_construction.specs.Copies.{implied_count, most_clones}
 use Rattle.html_construction.specs.Weights.{weight}
 use Rattle.html_construction.specs.Works.{reach_of, span_of}
-use Rattle.html_construction.specs.declared.refusal.Refusal.{Refusal}
-use Rattle.html_construction.specs.declared.refusal.Refusal.TheVariants as refusal
 use Rattle.html_modes.specs.Begun.{Gives, GivesIn, StaysOut, ignores_foreign}
 use Rattle.html_modes.proofs.Begun.{accepts-gives, founded-other, run-gives}
 use Rattle.html_modes.proofs.Constructing.{constructs-one, constructs-then}
@@ -298,34 +296,34 @@ passed-set None t z limit k = absurd (let q : Ok tt ≡ Err limit = k.answer_is 
 passed-set (Some m) t z limit k = (m, refl)
 
 -- what is told of a budget is so of the limits that were handed in
-told-as : (l : Option Limits) (t : TokenKind) (z : State) (at : ℕ) (r : Refusal) → IsRefused l t z r → IsTold l t z (error_at r at)
-told-as l t z at refusal.OutOfMemory k = tt
-told-as l t z at refusal.NodeBudget k = k.reason
-told-as l t z at refusal.HeldBudget k = k.reason
+told-as : (l : Option Limits) (t : TokenKind) (z : State) (at : ℕ) (r : ArenaError) → IsRefused l t z r → IsTold l t z (error_at r at)
+told-as l t z at arena.OutOfMemory k = tt
+told-as l t z at arena.NodeBudget k = k.reason
+told-as l t z at arena.HeldBudget k = k.reason
 
-pub told-at : (s : Setting) (l : Option Limits) (ts : List TokenKind) (u v : BuilderState) (t : TokenKind) (r : Refusal) (at : ℕ) (z : State) (e : BuildError) → u ≡ v → Refuses t r u.page z → e ≡ error_at r at → Handed s l ts v → IsTold l t z e
+pub told-at : (s : Setting) (l : Option Limits) (ts : List TokenKind) (u v : BuilderState) (t : TokenKind) (r : ArenaError) (at : ℕ) (z : State) (e : BuildError) → u ≡ v → Refuses t r u.page z → e ≡ error_at r at → Handed s l ts v → IsTold l t z e
 told-at s l ts u v t r at z e q k i h =
     subst (λ x. IsTold l t z x) (sym i) (told-as l t z at r (k (given s l ts) (subst (λ (x : BuilderState). IsBuilt (given s l ts) x.page) (sym q) h.built)))
 
-pub text-told-at : (s : Setting) (l : Option Limits) (ts : List TokenKind) (u v : BuilderState) (r : Refusal) (at : ℕ) (z : State) (e : BuildError) → u ≡ v → RefusesAny r u.page z → e ≡ error_at r at → Handed s l ts v → IsTextTold l z e
+pub text-told-at : (s : Setting) (l : Option Limits) (ts : List TokenKind) (u v : BuilderState) (r : ArenaError) (at : ℕ) (z : State) (e : BuildError) → u ≡ v → RefusesAny r u.page z → e ≡ error_at r at → Handed s l ts v → IsTextTold l z e
 text-told-at s l ts u v r at z e q k i h = λ t.
     subst (λ x. IsTold l t z x) (sym i) (told-as l t z at r ((k (given s l ts) (subst (λ (x : BuilderState). IsBuilt (given s l ts) x.page) (sym q) h.built)).any t))
 
-cause-as : (s : Setting) (l : Option Limits) (ts : List TokenKind) (fs : List Fate) (t : TokenKind) (at : ℕ) (r : Refusal) (z : State) → IsRefused l t z r → IsBuildCause s l ts fs t at (error_at r at)
-cause-as s l ts fs t at refusal.OutOfMemory z k = tt
-cause-as s l ts fs t at refusal.NodeBudget z k = (refl, passed-set l t z arena.NodeBudget k.reason)
-cause-as s l ts fs t at refusal.HeldBudget z k = (refl, passed-set l t z arena.HeldBudget k.reason)
+cause-as : (s : Setting) (l : Option Limits) (ts : List TokenKind) (fs : List Fate) (t : TokenKind) (at : ℕ) (r : ArenaError) (z : State) → IsRefused l t z r → IsBuildCause s l ts fs t at (error_at r at)
+cause-as s l ts fs t at arena.OutOfMemory z k = tt
+cause-as s l ts fs t at arena.NodeBudget z k = (refl, passed-set l t z arena.NodeBudget k.reason)
+cause-as s l ts fs t at arena.HeldBudget z k = (refl, passed-set l t z arena.HeldBudget k.reason)
 
-pub cause-at : (s : Setting) (l : Option Limits) (ts : List TokenKind) (fs : List Fate) (u v : BuilderState) (t : TokenKind) (r : Refusal) (at : ℕ) (z : State) (e : BuildError) → u ≡ v → Refuses t r u.page z → e ≡ error_at r at → Handed s l ts v → IsBuildCause s l ts fs t at e
+pub cause-at : (s : Setting) (l : Option Limits) (ts : List TokenKind) (fs : List Fate) (u v : BuilderState) (t : TokenKind) (r : ArenaError) (at : ℕ) (z : State) (e : BuildError) → u ≡ v → Refuses t r u.page z → e ≡ error_at r at → Handed s l ts v → IsBuildCause s l ts fs t at e
 cause-at s l ts fs u v t r at z e q k i h =
     subst (λ x. IsBuildCause s l ts fs t at x) (sym i) (cause-as s l ts fs t at r z (k (given s l ts) (subst (λ (x : BuilderState). IsBuilt (given s l ts) x.page) (sym q) h.built)))
 
-text-cause-as : (s : Setting) (l : Option Limits) (ts : List TokenKind) (fs : List Fate) (text : List ℕ) (at : ℕ) (t : TokenKind) (r : Refusal) (z : State) → 0 < length text → IsRefused l t z r → IsTextCause s l ts fs text at (error_at r at)
-text-cause-as s l ts fs text at t refusal.OutOfMemory z n k = tt
-text-cause-as s l ts fs text at t refusal.NodeBudget z n k = (omega arith, omega (arith, n), passed-set l t z arena.NodeBudget k.reason)
-text-cause-as s l ts fs text at t refusal.HeldBudget z n k = (omega arith, omega (arith, n), passed-set l t z arena.HeldBudget k.reason)
+text-cause-as : (s : Setting) (l : Option Limits) (ts : List TokenKind) (fs : List Fate) (text : List ℕ) (at : ℕ) (t : TokenKind) (r : ArenaError) (z : State) → 0 < length text → IsRefused l t z r → IsTextCause s l ts fs text at (error_at r at)
+text-cause-as s l ts fs text at t arena.OutOfMemory z n k = tt
+text-cause-as s l ts fs text at t arena.NodeBudget z n k = (omega arith, omega (arith, n), passed-set l t z arena.NodeBudget k.reason)
+text-cause-as s l ts fs text at t arena.HeldBudget z n k = (omega arith, omega (arith, n), passed-set l t z arena.HeldBudget k.reason)
 
-pub text-cause-at : (s : Setting) (l : Option Limits) (ts : List TokenKind) (fs : List Fate) (text : List ℕ) (u v : BuilderState) (r : Refusal) (at : ℕ) (z : State) (e : BuildError) → 0 < length text → u ≡ v → RefusesAny r u.page z → e ≡ error_at r at → Handed s l ts v
+pub text-cause-at : (s : Setting) (l : Option Limits) (ts : List TokenKind) (fs : List Fate) (text : List ℕ) (u v : BuilderState) (r : ArenaError) (at : ℕ) (z : State) (e : BuildError) → 0 < length text → u ≡ v → RefusesAny r u.page z → e ≡ error_at r at → Handed s l ts v
     → IsTextCause s l ts fs text at e
 text-cause-at s l ts fs text u v r at z e n q k i h =
     subst (λ x. IsTextCause s l ts fs text at x) (sym i) (text-cause-as s l ts fs text at kind.Eof r z n ((k (given s l ts) (subst (λ (x : BuilderState). IsBuilt (given s l ts) x.page) (sym q) h.built)).any kind.Eof))
@@ -371,13 +369,13 @@ foreign-outside u v s l ts name at e q h f i =
     (subst (λ (x : BuilderState). ignores_foreign x.page.mode ≡ false) q (f (subst (λ (x : BuilderState). IsFounded x.page) (sym q) h.founded)))
 
 -- no other refusal tells of foreign content
-pub refusal-outside : (m : Mode) (r : Refusal) (at : ℕ) (e : BuildError) → e ≡ error_at r at → IsForeignOutside m e
+pub refusal-outside : (m : Mode) (r : ArenaError) (at : ℕ) (e : BuildError) → e ≡ error_at r at → IsForeignOutside m e
 refusal-outside m r at e q = subst (λ x. IsForeignOutside m x) (sym q) (by r)
   where
-    by : (r : Refusal) → IsForeignOutside m (error_at r at)
-    by refusal.OutOfMemory = tt
-    by refusal.NodeBudget = tt
-    by refusal.HeldBudget = tt
+    by : (r : ArenaError) → IsForeignOutside m (error_at r at)
+    by arena.OutOfMemory = tt
+    by arena.NodeBudget = tt
+    by arena.HeldBudget = tt
 
 -- a builder that was stopped was not handed tokens alone
 pub going-not : (s : Setting) (l : Option Limits) (ts : List TokenKind) (u v : BuilderState) → u ≡ v → u.stopped ≡ true → Handed s l ts v → ⊥
@@ -402,10 +400,10 @@ take-one [] = omega arith
 take-one (x ∷ xs) = omega arith
 
 -- no refusal is told as stopped
-pub not-stopped : (r : Refusal) (at : ℕ) → error_at r at ≡ error.Stopped → ⊥
-not-stopped refusal.OutOfMemory at e = absurd (let k = e in cc)
-not-stopped refusal.NodeBudget at e = absurd (let k = e in cc)
-not-stopped refusal.HeldBudget at e = absurd (let k = e in cc)
+pub not-stopped : (r : ArenaError) (at : ℕ) → error_at r at ≡ error.Stopped → ⊥
+not-stopped arena.OutOfMemory at e = absurd (let k = e in cc)
+not-stopped arena.NodeBudget at e = absurd (let k = e in cc)
+not-stopped arena.HeldBudget at e = absurd (let k = e in cc)
 
 pub ruleset begin_rules = (none-fated)
 

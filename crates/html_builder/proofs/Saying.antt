@@ -23,8 +23,8 @@ use Rattle.html_construction.specs.Modes.{is_reset}
 use Rattle.html_construction.specs.States.{State}
 use Rattle.html_construction.specs.Works.{reach_of}
 use Rattle.html_construction.specs.declared.mode.Mode.TheVariants as mode
-use Rattle.html_construction.specs.declared.refusal.Refusal.{Refusal}
-use Rattle.html_construction.specs.declared.refusal.Refusal.TheVariants as refusal
+use Rattle.html_arena.specs.declared.arena.ArenaError.{ArenaError}
+use Rattle.html_arena.specs.declared.arena.ArenaError.TheVariants as refusal
 use Rattle.html_modes.specs.declared.outcome.Foreign.{Foreign}
 use Rattle.html_builder.specs.Builders.{BuilderState}
 use Rattle.html_builder.specs.Errors.{error_at}
@@ -52,10 +52,10 @@ pub foreign-refused : (u v : BuilderState) (name : Foreign) (at : ℕ) (e : Buil
 foreign-refused u v name at e q f i = subst (λ x. IsForeignRefused v x) (sym i) (sym (ap (λ (b : BuilderState). b.page.parses_foreign) q) ∙ f)
 
 -- no other refusal tells of foreign content
-pub refused-other : (b : BuilderState) (r : Refusal) (at : ℕ) (e : BuildError) → e ≡ error_at r at → IsForeignRefused b e
+pub refused-other : (b : BuilderState) (r : ArenaError) (at : ℕ) (e : BuildError) → e ≡ error_at r at → IsForeignRefused b e
 refused-other b r at e q = subst (λ x. IsForeignRefused b x) (sym q) (by r)
   where
-    by : (r : Refusal) → IsForeignRefused b (error_at r at)
+    by : (r : ArenaError) → IsForeignRefused b (error_at r at)
     by refusal.OutOfMemory = tt
     by refusal.NodeBudget = tt
     by refusal.HeldBudget = tt

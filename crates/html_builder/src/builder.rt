@@ -36,10 +36,10 @@ use crate::context::Context;
 use crate::error::BuildError;
 use crate::switches::mode_said;
 use html_arena::{Arena, Limits};
-use html_charref::PlainText;
-use html_construction::{Construction, Mode, Refusal};
+use html_construction::{ArenaError, Construction, Mode};
 use html_ledger::{Fates, Symbol};
 use html_modes::{take, take_front, take_plain_front};
+use html_text::PlainText;
 use html_tokens::{TextMode, Token};
 use std::alloc::Global;
 use std::marker::Model;
@@ -479,7 +479,7 @@ impl Builder {
 }
 
 /// The tree construction of a document, within limits, where there are any.
-fn begun_document(alloc: Global, limits: Option<Limits>) -> Result<Construction, Refusal>
+fn begun_document(alloc: Global, limits: Option<Limits>) -> Result<Construction, ArenaError>
     ensures built { IfOk result (λ b. IsBuilt (nothing_of Document limits) b) }
     ensures first { IfOk result (λ b. IsFirst Document limits b) }
     ensures mode { IfOk result (λ b. b.mode ≡ Mode.Initial) }
@@ -494,7 +494,7 @@ fn begun_document(alloc: Global, limits: Option<Limits>) -> Result<Construction,
     ensures ledger { IfOk result (λ b. b.ledger ≡ begun Document) }
     ensures fostering { IfOk result (λ b. b.fostering ≡ false) }
     ensures context { IfOk result (λ b. b.context ≡ None) }
-    ensures cause { IfErr result (λ e. (e ≡ Refusal.OutOfMemory) ⊎ ((e ≡ Refusal.NodeBudget) × AreSo limits (λ m. m.nodes < 1))) }
+    ensures cause { IfErr result (λ e. (e ≡ ArenaError.OutOfMemory) ⊎ ((e ≡ ArenaError.NodeBudget) × AreSo limits (λ m. m.nodes < 1))) }
 {
     match limits {
         None => Construction::document(alloc),
@@ -507,7 +507,7 @@ fn begun_fragment(
     alloc: Global,
     context: &Context,
     limits: Option<Limits>,
-) -> Result<Construction, Refusal>
+) -> Result<Construction, ArenaError>
     ensures built { IfOk result (λ b. IsBuilt (nothing_of (setting_of context.now) limits) b) }
     ensures first { IfOk result (λ b. IsFirst (setting_of context.now) limits b) }
     ensures reset { IfOk result (λ b. is_reset b.mode ≡ true) }
@@ -521,7 +521,7 @@ fn begun_fragment(
     ensures uncloned { IfOk result (λ b. most_clones b.tree.tree.labels ≡ 0) }
     ensures implied { IfOk result (λ b. implied_count b.tree.tree.labels ≤ 1) }
     ensures counted { IfOk result (λ b. b.tree.steps ≤ 2 + reach_of b) }
-    ensures cause { IfErr result (λ e. (e ≡ Refusal.OutOfMemory) ⊎ (((e ≡ Refusal.NodeBudget) × AreSo limits (λ m. m.nodes < 1)) ⊎ ((e ≡ Refusal.HeldBudget) × AreSo limits (λ m. m.held < 4)))) }
+    ensures cause { IfErr result (λ e. (e ≡ ArenaError.OutOfMemory) ⊎ (((e ≡ ArenaError.NodeBudget) × AreSo limits (λ m. m.nodes < 1)) ⊎ ((e ≡ ArenaError.HeldBudget) × AreSo limits (λ m. m.held < 4)))) }
 {
     match limits {
         None => Construction::fragment(alloc, context.tag(), context.in_form, context.quirks),

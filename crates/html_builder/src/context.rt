@@ -7,8 +7,8 @@ ghost use Rattle.html_names.specs.Foreign.{adjusted_name, lowered};
 ghost use Rattle.html_builder.specs.Contexts.{begins_name, ends_name, is_good_local, is_lower, is_tag_name, local_of, stays_in_name};
 
 use crate::switches::text_mode_of;
-use html_charref::Str;
 use html_names::{Space, Tag, adjusted_name, is_html_encoding, local_name};
+use html_text::Str;
 use html_tokens::TextMode;
 use std::alloc::{AllocError, Global};
 

@@ -1,6 +1,6 @@
 // Why a call was refused.
 
-use html_construction::Refusal;
+use html_construction::ArenaError;
 use html_modes::Foreign;
 use std::alloc::AllocError;
 use thiserror::Error;
@@ -30,25 +30,25 @@ impl BuildError {
     ghost use Rattle.html_builder.specs.Errors.{error_at};
 
     /// The error of a token that begins at a place.
-    pub(crate) fn at(refusal: Refusal, at: u64) -> BuildError
+    pub(crate) fn at(refusal: ArenaError, at: u64) -> BuildError
         ensures value { result ≡ error_at refusal at }
     {
         match refusal {
-            Refusal::OutOfMemory => BuildError::OutOfMemory,
-            Refusal::NodeBudget => BuildError::NodeBudget { at },
-            Refusal::HeldBudget => BuildError::HeldBudget { at },
+            ArenaError::OutOfMemory => BuildError::OutOfMemory,
+            ArenaError::NodeBudget => BuildError::NodeBudget { at },
+            ArenaError::HeldBudget => BuildError::HeldBudget { at },
         }
     }
 }
 
 /// A beginning stands at 0.
-impl From<Refusal> for BuildError {
+impl From<ArenaError> for BuildError {
     ghost use Rattle.std.specs.Prelude.{◌≡◌};
     ghost use Rattle.html_builder.specs.Errors.{error_at};
 
     ghost from_gives = { λ r e. e ≡ error_at r 0 };
 
-    fn from(refusal: Refusal) -> BuildError {
+    fn from(refusal: ArenaError) -> BuildError {
         BuildError::at(refusal, 0)
     }
 }

@@ -1,6 +1,3 @@
-pub mod Texts
-pub mod Ascii
-pub mod Encoding
 pub mod NumberLemmas
 pub mod Names
 pub mod Rows
@@ -13,5 +10,3 @@ pub mod CoreLemmas
 pub mod Maximum
 pub mod FirstBad
 pub mod RangeLemmas
-pub mod PlainTexts
-pub mod Marks

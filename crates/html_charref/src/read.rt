@@ -12,9 +12,9 @@ ghost use Rattle.serde_json.specs.Find.{as_object};
 ghost use Rattle.html_charref.specs.Table.{longest_len, NamesFit};
 ghost use Rattle.html_charref.specs.Entities.{is_name, number_of, numbers_of, ref_text, codes_of, text_of, row_of, rows_of, entities_of, json_of, IsFirstBad, core_rows};
 
-use crate::key::Key;
 use crate::ranges::ranges_of;
 use crate::table::{EntityTable, Name, RefText, Row};
+use html_text::Key;
 use serde_json::{Map, Value};
 use std::alloc::{AllocFailed, Global};
 use thiserror::Error;

@@ -21,3 +21,4 @@ pub mod Doing
 pub mod Resetting
 pub mod Homing
 pub mod Founding
+pub mod Planned

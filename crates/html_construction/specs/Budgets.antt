@@ -6,7 +6,6 @@ use Rattle.html_names.specs.declared.tag.Tag.{Tag}
 use Rattle.html_names.specs.Groups.{is_outermost}
 use Rattle.html_names.specs.Names.{name_of}
 use Rattle.html_arena.specs.declared.arena.ArenaError.{ArenaError}
-use Rattle.html_arena.specs.declared.arena.ArenaError.TheVariants as arena
 use Rattle.html_arena.specs.declared.arena.Limits.{Limits}
 use Rattle.html_arena.specs.declared.data.NewNode.{NewNode}
 use Rattle.html_arena.specs.declared.data.NewNode.TheVariants.{Document, Element, CloneOf, Text, Comment, Doctype}
@@ -24,8 +23,7 @@ use Rattle.html_open.specs.Entries.{has_node}
 use Rattle.html_ledger.specs.declared.symbol.Symbol.TheVariants as symbol
 use Rattle.html_ledger.specs.Runs.{last_of}
 use Rattle.html_ledger.specs.Symbols.{symbol_of}
-use Rattle.html_construction.specs.declared.refusal.Refusal.{Refusal}
-use Rattle.html_construction.specs.declared.refusal.Refusal.TheVariants.{OutOfMemory, NodeBudget, HeldBudget}
+use Rattle.html_arena.specs.declared.arena.ArenaError.TheVariants.{OutOfMemory, NodeBudget, HeldBudget}
 use Rattle.html_construction.specs.Built.{Handed, IsBuilt}
 use Rattle.html_construction.specs.Origins.{foreign_if, is_made_alone}
 use Rattle.html_construction.specs.States.{State}
@@ -91,22 +89,22 @@ pub record IsPassed (limits : Option Limits) (t : TokenKind) (a : State) (limit 
   pub added : MayAdd t a nodes held
   pub answer_is : budget_of limits (length a.tree.tree.labels + nodes) (more a.tree.tree.held held) ≡ Err limit
 
-abbrev pub IsReason : Option Limits → TokenKind → State → Refusal → Type 0
+abbrev pub IsReason : Option Limits → TokenKind → State → ArenaError → Type 0
 IsReason limits t a OutOfMemory = Unit {0}
-IsReason limits t a NodeBudget = IsPassed limits t a arena.NodeBudget
-IsReason limits t a HeldBudget = IsPassed limits t a arena.HeldBudget
+IsReason limits t a NodeBudget = IsPassed limits t a NodeBudget
+IsReason limits t a HeldBudget = IsPassed limits t a HeldBudget
 
 -- A budget is told only where the next node, or the next code points, would pass it. Of want of memory nothing is said.
-pub record IsRefused (limits : Option Limits) (t : TokenKind) (a : State) (e : Refusal) : Type 0 where
+pub record IsRefused (limits : Option Limits) (t : TokenKind) (a : State) (e : ArenaError) : Type 0 where
   pub reason : IsReason limits t a e
 
 -- so of the limits that were handed in, from one state to a later one, in which the call was refused, with a token in hand
-abbrev pub Refuses : TokenKind → Refusal → State → State → Type 0
+abbrev pub Refuses : TokenKind → ArenaError → State → State → Type 0
 Refuses t e a b = (h : Handed) → IsBuilt h a → IsRefused h.limits t b e
 
 -- the same whatever the token in hand: nothing of it was to be added
-pub record IsRefusedAny (limits : Option Limits) (a : State) (e : Refusal) : Type 0 where
+pub record IsRefusedAny (limits : Option Limits) (a : State) (e : ArenaError) : Type 0 where
   pub any : (t : TokenKind) → IsRefused limits t a e
 
-abbrev pub RefusesAny : Refusal → State → State → Type 0
+abbrev pub RefusesAny : ArenaError → State → State → Type 0
 RefusesAny e a b = (h : Handed) → IsBuilt h a → IsRefusedAny h.limits b e

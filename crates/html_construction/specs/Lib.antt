@@ -5,7 +5,6 @@ pub mod Begun
 pub mod Budgets
 pub mod Built
 pub mod Calls
-pub mod Causes
 pub mod Copies
 pub mod Foreign
 pub mod Grown

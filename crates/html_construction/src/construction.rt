@@ -3,6 +3,7 @@ ghost use Rattle.std.specs.Prelude.{◌≡◌, ◌⊎◌, ◌<◌, ◌≤◌, �
 ghost use Rattle.html_arena.specs.declared.arena.Limits.{Limits};
 ghost use Rattle.html_ledger.specs.declared.setting.Setting.TheVariants.{Document, Fragment};
 ghost use Rattle.html_names.specs.declared.tag.Tag.TheVariants as tag;
+ghost use Rattle.html_tree.specs.Forests.{IsForest};
 ghost use Rattle.html_tree.specs.OpenTags.{open_tags};
 ghost use Rattle.html_tree.specs.Seats.{HasSeats};
 ghost use Rattle.html_tree.specs.States.{IsNamed, IsSound, document_state, fragment_state};
@@ -23,9 +24,8 @@ ghost use Rattle.html_construction.specs.Works.{Works, reach_of};
 ghost use Rattle.html_construction.specs.Modes.{is_of_frames, is_of_selects, is_reset};
 
 use crate::mode::Mode;
-use crate::refusal::Refusal;
 use crate::registers::Registers;
-use html_arena::{Arena, Limits};
+use html_arena::{Arena, ArenaError, Limits};
 use html_ledger::{Fates, Ledger, Setting};
 use html_names::Tag;
 use html_tree::OpenTree;
@@ -87,7 +87,7 @@ impl Construction {
     /// # Errors
     ///
     /// `OutOfMemory`.
-    pub fn document(alloc: Global) -> Result<Construction, Refusal>
+    pub fn document(alloc: Global) -> Result<Construction, ArenaError>
         ensures built { IfOk result (λ b. IsBuilt (nothing_of Document None) b) }
         ensures first { IfOk result (λ b. IsFirst Document None b) }
         ensures mode { IfOk result (λ b. b.mode ≡ Mode.Initial) }
@@ -103,7 +103,7 @@ impl Construction {
         ensures fostering { IfOk result (λ b. b.fostering ≡ false) }
         ensures context { IfOk result (λ b. b.context ≡ None) }
         ensures refuses { IfOk result (λ b. b.parses_foreign ≡ false) }
-        ensures cause { IfErr result (λ e. e ≡ Refusal.OutOfMemory) }
+        ensures cause { IfErr result (λ e. e ≡ ArenaError.OutOfMemory) }
     {
         let tree = OpenTree::document(alloc)?;
         Ok(Construction::of_document(alloc, tree))
@@ -122,7 +122,7 @@ impl Construction {
     /// # Errors
     ///
     /// `NodeBudget` where not even the document is within them; `OutOfMemory`.
-    pub fn document_within(alloc: Global, limits: Limits) -> Result<Construction, Refusal>
+    pub fn document_within(alloc: Global, limits: Limits) -> Result<Construction, ArenaError>
         ensures built { IfOk result (λ b. IsBuilt (nothing_of Document (Some limits)) b) }
         ensures first { IfOk result (λ b. IsFirst Document (Some limits) b) }
         ensures mode { IfOk result (λ b. b.mode ≡ Mode.Initial) }
@@ -138,7 +138,7 @@ impl Construction {
         ensures fostering { IfOk result (λ b. b.fostering ≡ false) }
         ensures context { IfOk result (λ b. b.context ≡ None) }
         ensures refuses { IfOk result (λ b. b.parses_foreign ≡ false) }
-        ensures cause { IfErr result (λ e. (e ≡ Refusal.OutOfMemory) ⊎ ((e ≡ Refusal.NodeBudget) × (limits.nodes < 1))) }
+        ensures cause { IfErr result (λ e. (e ≡ ArenaError.OutOfMemory) ⊎ ((e ≡ ArenaError.NodeBudget) × (limits.nodes < 1))) }
     {
         let tree = OpenTree::document_within(alloc, limits)?;
         Ok(Construction::of_document(alloc, tree))
@@ -154,7 +154,7 @@ impl Construction {
         context: Tag,
         in_form: bool,
         quirks: bool,
-    ) -> Result<Construction, Refusal>
+    ) -> Result<Construction, ArenaError>
         ensures built { IfOk result (λ b. IsBuilt (nothing_of (Fragment context in_form) None) b) }
         ensures first { IfOk result (λ b. IsFirst (Fragment context in_form) None b) }
         ensures reset { IfOk result (λ b. is_reset b.mode ≡ true) }
@@ -169,7 +169,7 @@ impl Construction {
         ensures uncloned { IfOk result (λ b. most_clones b.tree.tree.labels ≡ 0) }
         ensures implied { IfOk result (λ b. implied_count b.tree.tree.labels ≤ 1) }
         ensures counted { IfOk result (λ b. b.tree.steps ≤ 2 + reach_of b) }
-        ensures cause { IfErr result (λ e. e ≡ Refusal.OutOfMemory) }
+        ensures cause { IfErr result (λ e. e ≡ ArenaError.OutOfMemory) }
     {
         let tree = OpenTree::fragment(alloc)?;
         Construction::of_fragment(alloc, tree, context, in_form, quirks)
@@ -186,7 +186,7 @@ impl Construction {
         in_form: bool,
         quirks: bool,
         limits: Limits,
-    ) -> Result<Construction, Refusal>
+    ) -> Result<Construction, ArenaError>
         ensures built { IfOk result (λ b. IsBuilt (nothing_of (Fragment context in_form) (Some limits)) b) }
         ensures first { IfOk result (λ b. IsFirst (Fragment context in_form) (Some limits) b) }
         ensures reset { IfOk result (λ b. is_reset b.mode ≡ true) }
@@ -201,7 +201,7 @@ impl Construction {
         ensures uncloned { IfOk result (λ b. most_clones b.tree.tree.labels ≡ 0) }
         ensures implied { IfOk result (λ b. implied_count b.tree.tree.labels ≤ 1) }
         ensures counted { IfOk result (λ b. b.tree.steps ≤ 2 + reach_of b) }
-        ensures cause { IfErr result (λ e. (e ≡ Refusal.OutOfMemory) ⊎ (((e ≡ Refusal.NodeBudget) × (limits.nodes < 1)) ⊎ ((e ≡ Refusal.HeldBudget) × (limits.held < 4)))) }
+        ensures cause { IfErr result (λ e. (e ≡ ArenaError.OutOfMemory) ⊎ (((e ≡ ArenaError.NodeBudget) × (limits.nodes < 1)) ⊎ ((e ≡ ArenaError.HeldBudget) × (limits.held < 4)))) }
     {
         let tree = OpenTree::fragment_within(alloc, limits)?;
         Construction::of_fragment(alloc, tree, context, in_form, quirks)
@@ -214,6 +214,13 @@ impl Construction {
         ensures tags { self.now.stack ≡ open_tags self.now.tree }
     {
         self.tree.laws();
+    }
+
+    /// What is always true of the nodes: a law.
+    pub fn forest(&self)
+        ensures forest { IsForest self.now.tree.tree }
+    {
+        self.tree.forest();
     }
 
     /// How many nodes there are.
@@ -293,7 +300,7 @@ impl Construction {
         context: Tag,
         in_form: bool,
         quirks: bool,
-    ) -> Result<Construction, Refusal>
+    ) -> Result<Construction, ArenaError>
         requires begun { (l : Option Limits) × (k : ℕ) × (tree ≡ fragment_state l k) }
         ensures built { (l : Option Limits) (k : ℕ) → tree ≡ fragment_state l k → IfOk result (λ b. IsBuilt (nothing_of (Fragment context in_form) l) b) }
         ensures first { (l : Option Limits) (k : ℕ) → tree ≡ fragment_state l k → IfOk result (λ b. IsFirst (Fragment context in_form) l b) }
@@ -309,7 +316,7 @@ impl Construction {
         ensures uncloned { IfOk result (λ b. most_clones b.tree.tree.labels ≡ 0) }
         ensures implied { IfOk result (λ b. implied_count b.tree.tree.labels ≤ 1) }
         ensures counted { IfOk result (λ b. b.tree.steps ≤ tree.steps + reach_of b) }
-        ensures cause { IfErr result (λ e. e ≡ Refusal.OutOfMemory) }
+        ensures cause { IfErr result (λ e. e ≡ ArenaError.OutOfMemory) }
     {
         let outer_form = in_form || context.is(Tag::Form);
         let mut construction = Construction {
@@ -322,7 +329,7 @@ impl Construction {
     }
 
     /// The mode that a context calls for, before the first token.
-    fn enter_context(&mut self, context: Tag) -> Result<(), Refusal>
+    fn enter_context(&mut self, context: Tag) -> Result<(), ArenaError>
         ensures rest { OnOk result (self.new ≡ record self.old { mode = self.new.mode; templates = self.new.templates }) }
         ensures keeps { OnOk result (Keeps self.old self.new) }
         ensures grown { OnOk result (Grown 0 0 0 0 0 self.old self.new) }
@@ -332,7 +339,7 @@ impl Construction {
         ensures frameset { OnOk result (is_of_frames self.new.mode ≡ true → context ≡ tag.Frameset) }
         ensures entered { (in_form : Bool) → self.old.templates ≡ [] → self.old.tree.head ≡ None → OnOk result (self.new.mode ≡ first_mode (Fragment context in_form)) }
         ensures pushed { (in_form : Bool) → self.old.templates ≡ [] → OnOk result (self.new.templates ≡ first_templates (Fragment context in_form)) }
-        ensures cause { IfErr result (λ e. e ≡ Refusal.OutOfMemory) }
+        ensures cause { IfErr result (λ e. e ≡ ArenaError.OutOfMemory) }
     {
         if context.is_template() {
             self.push_template_mode(Mode::InTemplate)?;

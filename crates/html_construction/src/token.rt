@@ -9,8 +9,8 @@ ghost use Rattle.html_ledger.specs.Symbols.{symbol_of};
 ghost use Rattle.html_ledger.specs.declared.symbol.Symbol.TheVariants.{Start};
 ghost use Rattle.html_construction.specs.Tokens.{attrs_of, data_of, element_name, element_tag, foreign_attr, foreign_attrs, foreign_name, name_id, public_id, system_id, tag_name};
 
-use html_charref::Str;
 use html_names::{Space, Tag, adjusted_attr, adjusted_name};
+use html_text::Str;
 use html_tokens::{Attr, Attrs, OptionalStr, TokenKind};
 use std::alloc::{AllocError, Global};
 

@@ -10,7 +10,7 @@ use crate::names::is_same_text;
 use crate::reads::get;
 use crate::walks::descendants;
 use html_arena::{Arena, NodeData, NodeId};
-use html_charref::Str;
+use html_text::Str;
 use html_tokens::Attr;
 
 /// The names of the elements and of the attributes that may stand in a tree. An element of SVG or MathML has a name of two words, as `svg path`.

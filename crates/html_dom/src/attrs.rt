@@ -12,7 +12,7 @@ use crate::error::EditError;
 use crate::names::{is_attr_name, is_same_text};
 use crate::places::is_node;
 use html_arena::{Arena, NodeData, NodeId};
-use html_charref::Str;
+use html_text::Str;
 use html_tokens::{Attr, Attrs};
 use std::alloc::{AllocError, Global};
 

@@ -1,4 +1,5 @@
 //! Nodes read and edited as callers of the DOM are used to. Each call takes any number of a node, and refuses what would break the tree.
+//! Imported by users, as `html_parser::dom`.
 #![tactic(auto)]
 
 mod allowed;

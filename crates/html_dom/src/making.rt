@@ -14,7 +14,7 @@ ghost use Rattle.html_dom.specs.Names.{is_element_name};
 use crate::error::EditError;
 use crate::names::is_element_name;
 use html_arena::{Arena, NewNode, NodeId, Origin};
-use html_charref::{Str, WideStr};
+use html_text::{Str, WideStr};
 use html_tokens::Attrs;
 use std::alloc::{AllocError, Global};
 

@@ -12,19 +12,19 @@ option_rule name = record (new_rule name) { long = Some name; value_names = 1 }
 abbrev pub flag_rule : Text → Rule
 flag_rule name = record (new_rule name) { long = Some name; action = Some SetTrue }
 
--- `INPUT`
-abbrev pub input_rule : Rule
-input_rule = new_rule (codes "INPUT")
+-- `INPUT...`, any number
+abbrev pub inputs_rule : Rule
+inputs_rule = record (new_rule (codes "INPUT")) { action = Some Append }
 
 -- `FILE...`, one or more
 abbrev pub files_rule : Rule
 files_rule = record (new_rule (codes "FILE")) { action = Some Append; required = true }
 
--- a command on one page
+-- a command on pages
 abbrev pub page_app : Text → App
 page_app name =
     with_rule (with_rule (with_rule (with_rule (with_rule (with_rule (with_rule (with_rule (with_rule (new_app name) (option_rule (codes "entities"))) (option_rule (codes "fragment")))
-    (option_rule (codes "context-encoding"))) (option_rule (codes "foreign"))) (option_rule (codes "max-nodes"))) (option_rule (codes "max-held"))) (option_rule (codes "max-input"))) (option_rule (codes "max-steps"))) input_rule
+    (option_rule (codes "context-encoding"))) (option_rule (codes "foreign"))) (option_rule (codes "max-nodes"))) (option_rule (codes "max-held"))) (option_rule (codes "max-input"))) (option_rule (codes "max-steps"))) inputs_rule
 
 -- the command that prints the parse errors of a page
 abbrev pub errors_app : App
@@ -36,7 +36,8 @@ normalise_app = with_rule (page_app (codes "normalise")) (option_rule (codes "pr
 
 -- the command on files of test cases
 abbrev pub suite_app : App
-suite_app = with_rule (with_rule (with_rule (new_app (codes "suite")) (option_rule (codes "entities"))) (option_rule (codes "foreign"))) files_rule
+suite_app =
+    with_rule (with_rule (with_rule (with_rule (new_app (codes "suite")) (option_rule (codes "entities"))) (option_rule (codes "foreign"))) (flag_rule (codes "verbose"))) files_rule
 
 -- the program, with no command: one is wanted, and `help` is none
 abbrev pub empty_line : App

@@ -8,8 +8,8 @@ use Rattle.html_job.specs.declared.jobs.Command.{Command}
 use Rattle.html_job.specs.declared.jobs.Command.TheVariants.{Tree, Errors, Audit, Normalise, Counts, Suite}
 use Rattle.html_job.specs.declared.jobs.Foreign.{Foreign}
 use Rattle.html_job.specs.declared.jobs.Foreign.TheVariants.{Refuse, Parse}
-use Rattle.html_job.specs.declared.jobs.Profile.{Profile}
-use Rattle.html_job.specs.declared.jobs.Profile.TheVariants.{One, Two}
+use Rattle.html_page.specs.declared.profile.Profile.{Profile}
+use Rattle.html_page.specs.declared.profile.Profile.TheVariants.{One, Two}
 use Rattle.html_job.specs.declared.jobs.Job.{Job}
 use Rattle.html_job.specs.declared.jobs.JobFault.{JobFault}
 use Rattle.html_job.specs.declared.jobs.JobFault.TheVariants.{Words, Version, OutOfMemory}
@@ -52,7 +52,6 @@ IsFlag b (Some t) = (t ≡ codes "true" → b ≡ true) × (t ≡ codes "false" 
 -- the job has what stands in the rows of its command
 pub record Reads (job : Job) (rows : List Row) : Type 0 where
   pub entities : option_map (λ s. s.now) job.entities ≡ first_of (codes "entities") rows
-  pub input : option_map (λ s. s.now) job.input ≡ first_of (codes "INPUT") rows
   pub fragment : option_map (λ s. s.now) job.fragment ≡ first_of (codes "fragment") rows
   pub context_encoding : option_map (λ s. s.now) job.context_encoding ≡ first_of (codes "context-encoding") rows
   pub foreign : foreign_text job.foreign ≡ unwrap_or (first_of (codes "foreign") rows) (codes "refuse")
@@ -62,6 +61,8 @@ pub record Reads (job : Job) (rows : List Row) : Type 0 where
   pub max_steps : IsNumber job.max_steps (first_of (codes "max-steps") rows)
   pub profile : profile_text job.profile ≡ unwrap_or (first_of (codes "profile") rows) (codes "1")
   pub lines : IsFlag job.lines (one_of (codes "lines") rows)
+  pub verbose : IsFlag job.verbose (one_of (codes "verbose") rows)
+  pub inputs : map (λ s. s.now) job.inputs.items ≡ unwrap_or (all_of (codes "INPUT") rows) []
   pub files : map (λ s. s.now) job.files.items ≡ unwrap_or (all_of (codes "FILE") rows) []
 
 -- the job is that of the words: clap's matches have its command, with these rows

@@ -4,6 +4,7 @@ ghost use Rattle.std.specs.Prelude.{◌≡◌, ◌≢◌, IfSome, IsNone};
 ghost use Rattle.html_job.specs.Read.{name_of};
 ghost use Rattle.html_job.specs.declared.jobs.Command.{Command as CommandType};
 
+use html_page::Profile;
 use std::alloc::AllocError;
 use thiserror::Error;
 
@@ -22,13 +23,6 @@ pub enum Command {
     Counts,
     /// Run files of test cases.
     Suite,
-}
-
-/// Which characters are escaped in the values of attributes: `&`, U+00A0 and `"` (`One`), or also `<` and `>` (`Two`).
-#[derive(Clone, Copy, Debug, PartialEq, Eq)]
-pub enum Profile {
-    One,
-    Two,
 }
 
 /// What is done with foreign content, SVG and MathML: a page is refused where it begins, or it is parsed.
@@ -62,8 +56,10 @@ pub struct Job<'a> {
     pub profile: Profile,
     /// Whether `Errors` tells places by lines and columns; no for the other commands.
     pub lines: bool,
-    /// The file of the page. `-`, or none, is standard input.
-    pub input: Option<&'a str>,
+    /// Whether `Suite` shows what was expected of a case that failed, and what came of it; no for the other commands.
+    pub verbose: bool,
+    /// The files of pages, in order. `-` is standard input, and so is an empty list.
+    pub inputs: Vec<&'a str>,
     /// The files of test cases, one or more, of `Suite`; else none.
     pub files: Vec<&'a str>,
 }

@@ -3,7 +3,7 @@
 ghost use Rattle.std.specs.Prelude.{◌≡◌, IfOk, codes, true, false};
 ghost use Rattle.clap.specs.Words.{app_of, rule_of, with_subcommand};
 ghost use Rattle.clap.specs.declared.builder.command.Command.TheViews.{out-Command as fields_of};
-ghost use Rattle.html_job.specs.Line.{option_rule, flag_rule, input_rule, files_rule, page_app, errors_app, normalise_app, suite_app, empty_line, line};
+ghost use Rattle.html_job.specs.Line.{option_rule, flag_rule, inputs_rule, files_rule, page_app, errors_app, normalise_app, suite_app, empty_line, line};
 
 use clap::{Arg, ArgAction, Command};
 use std::alloc::{AllocError, Global};
@@ -19,12 +19,14 @@ fn text_option<'a>(alloc: Global, name: &'a str, value: &'a str, help: &'a str) 
         .help(help)
 }
 
-/// The file of the page.
-fn input<'a>(alloc: Global) -> Arg<'a>
-    ensures rule { rule_of result ≡ input_rule }
+/// The files of pages.
+fn inputs<'a>(alloc: Global) -> Arg<'a>
+    ensures rule { rule_of result ≡ inputs_rule }
     ensures local { result.global ≡ false }
 {
-    Arg::new(alloc, "INPUT").help("The page, or - for standard input")
+    Arg::new(alloc, "INPUT").action(ArgAction::Append).help(
+        "The page, or - for standard input; of several pages, each is shown under its name",
+    )
 }
 
 /// One file or more.
@@ -155,7 +157,18 @@ fn lines<'a>(alloc: Global) -> Arg<'a>
         )
 }
 
-/// A command on one page, with an example of it.
+/// Whether more is told of what failed.
+fn verbose<'a>(alloc: Global) -> Arg<'a>
+    ensures rule { rule_of result ≡ flag_rule (codes "verbose") }
+    ensures local { result.global ≡ false }
+{
+    Arg::new(alloc, "verbose")
+        .long("verbose")
+        .action(ArgAction::SetTrue)
+        .help("Show what was expected of each case that failed, and what came of it")
+}
+
+/// A command on pages, with an example of it.
 fn page_command<'a>(
     alloc: Global,
     name: &'a str,
@@ -176,7 +189,7 @@ fn page_command<'a>(
         .arg(max_held(alloc))?
         .arg(max_input(alloc))?
         .arg(max_steps(alloc))?
-        .arg(input(alloc))
+        .arg(inputs(alloc))
 }
 
 /// The command that prints the parse errors of a page.
@@ -225,6 +238,7 @@ fn suite<'a>(alloc: Global) -> Result<Command<'a>, AllocError>
         )
         .arg(entities(alloc))?
         .arg(foreign(alloc))?
+        .arg(verbose(alloc))?
         .arg(files(alloc))
 }
 

@@ -5,10 +5,11 @@ ghost use Rattle.clap.specs.Words.{IsAmong, all_of, first_of, one_of, found_of, 
 ghost use Rattle.html_job.specs.Line.{line};
 ghost use Rattle.html_job.specs.Read.{HasBadValue, IsBadForeign, IsBadNumber, IsBadProfile, IsFlag, IsJobOf, IsNumber, IsRefused, IsVersion, IsWords, Reads, foreign_text, profile_text};
 
-use crate::jobs::{Command, Foreign, Job, JobFault, Profile};
+use crate::jobs::{Command, Foreign, Job, JobFault};
 use crate::line::line;
 use clap::error::ErrorKind;
 use clap::{ArgMatches, Error};
+use html_page::Profile;
 use std::alloc::{AllocError, Global};
 use std::convert::AsStr;
 
@@ -71,7 +72,8 @@ fn job_of<'a>(
     let max_held = number(alloc, matches, "max-held")?;
     let max_input = number(alloc, matches, "max-input")?;
     let max_steps = number(alloc, matches, "max-steps")?;
-    let files = files(alloc, matches)?;
+    let inputs = files(alloc, matches, "INPUT")?;
+    let files = files(alloc, matches, "FILE")?;
     Ok(Job {
         command,
         entities: text(matches, "entities"),
@@ -84,7 +86,8 @@ fn job_of<'a>(
         max_steps,
         profile,
         lines: flag(matches, "lines"),
-        input: text(matches, "INPUT"),
+        verbose: flag(matches, "verbose"),
+        inputs,
         files,
     })
 }
@@ -132,11 +135,15 @@ fn number(alloc: Global, matches: &ArgMatches<'_>, name: &str) -> Result<Option<
     }
 }
 
-/// The files that stand in the words.
-fn files<'a>(alloc: Global, matches: &ArgMatches<'a>) -> Result<Vec<&'a str>, AllocError>
-    ensures { IfOk result (λ v. map (λ s. s.now) v.items ≡ unwrap_or (all_of (codes "FILE") (rows_of (found_of matches.entry.now))) []) }
+/// The files that stand at an argument.
+fn files<'a>(
+    alloc: Global,
+    matches: &ArgMatches<'a>,
+    name: &str,
+) -> Result<Vec<&'a str>, AllocError>
+    ensures { IfOk result (λ v. map (λ s. s.now) v.items ≡ unwrap_or (all_of name.now (rows_of (found_of matches.entry.now))) []) }
 {
-    match matches.get_strs("FILE") {
+    match matches.get_strs(name) {
         Some(files) => Vec::from_slice(alloc, files),
         None => Ok(Vec::new(alloc)),
     }

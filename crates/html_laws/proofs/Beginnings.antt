@@ -25,7 +25,7 @@ steps-core : (s : Setting) (l : Option Limits) (q f : Bool) (k : ℕ) → core (
 steps-core Document l q f k = refl
 steps-core (Fragment context in_form) l q f k = refl
 
-first-core : (s : Setting) (l : Option Limits) (a : State) → IsFirst s l a → core (begun a) ≡ core (begun (first_state s l a.quirks a.parses_foreign 0))
+pub first-core : (s : Setting) (l : Option Limits) (a : State) → IsFirst s l a → core (begun a) ≡ core (begun (first_state s l a.quirks a.parses_foreign 0))
 first-core s l a k = ap (λ v. core (begun v)) k.state_is ∙ steps-core s l a.quirks a.parses_foreign a.tree.steps
 
 pub first-one : (s : Setting) (l : Option Limits) (a b : State) → IsFirst s l a → IsFirst s l b → a.quirks ≡ b.quirks → a.parses_foreign ≡ b.parses_foreign → core (begun a) ≡ core (begun b)

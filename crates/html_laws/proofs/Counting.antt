@@ -11,7 +11,7 @@ use Rattle.html_construction.specs.Plans.{Adopt, Again, Ask, By, CloseLink, Do, 
 use Rattle.html_construction.specs.States.{State}
 use Rattle.html_construction.specs.Tokens.{char_of}
 use Rattle.html_construction.specs.Words.{AddMarker, Becomes, BeginOwnPart, ClearTo, ClearToMarker, CloseForm, CloseNamed, CloseThrough, Drop, End, Enter, FramesetOff, Implied, Imply, ImplyHead, ImplyPart, ImplyRoot, ImplyVoid, Insert, InsertAt, InsertCharacter, InsertClosedForm, InsertComment, InsertCommentAt, InsertDoctype, InsertForeign, InsertForeignVoid, InsertForm, InsertHead, InsertListed, InsertPart, InsertRoot, InsertVoid, InsertVoidAt, Keep, Leave, MergeIntoBody, MergeIntoRoot, Pop, PopTemplate, PushTemplate, Quirks, ReplaceBody, Reset, Switch, Word, after, answer, with_kept}
-use Rattle.html_laws.proofs.Conjunctions.{both}
+use Rattle.html_construction.proofs.Planned.{halves as both}
 use Rattle.html_laws.proofs.Words.{becomes-core}
 
 -- WHAT A PLAN SAYS OF FATES

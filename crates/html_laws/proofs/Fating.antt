@@ -25,7 +25,7 @@ use Rattle.html_laws.proofs.Counting.{IsGiven, due, extra, flat-extra, is_char, 
 use Rattle.html_laws.proofs.Entering.{entries-good, entries-one, entry-follows, entry-good, entry_plan, good-becomes, good-begun, of-entry}
 use Rattle.html_laws.proofs.Growing.{Grows, becomes-fates, fates, grows-same, grows-then, runs-fates}
 use Rattle.html_laws.proofs.Keeping.{keepless, runs-empty, runs-keepless}
-use Rattle.html_laws.proofs.Runs.{followed}
+use Rattle.html_construction.proofs.Planned.{followed}
 use Rattle.html_laws.proofs.Tables.{in-table-text, plans-due, plans-keepless, table-text-empties}
 use Rattle.html_laws.proofs.Words.{becomes-core}
 
@@ -147,7 +147,7 @@ module _ (t : TokenKind) where
 waiting-begun : (a : State) → IsWaiting a → IsWaiting (begun a)
 waiting-begun a k = record { none = k.none }
 
-constructs-grows : (ts : List TokenKind) (a z : State) → IsReady a → IsWaiting a → Constructs ts a z → Grows (fates a) (fates z)
+pub constructs-grows : (ts : List TokenKind) (a z : State) → IsReady a → IsWaiting a → Constructs ts a z → Grows (fates a) (fates z)
 constructs-grows [] a z g k c = grows-same (fates a) (fates z) (sym (ap (λ (v : State). fates v) c))
 constructs-grows (t ∷ ts) a z g k c =
     let h = good-begun a g in

@@ -10,7 +10,7 @@ use Rattle.html_construction.specs.Plans.{Adopt, Ask, By, CloseLink, Do, Each, E
 use Rattle.html_construction.specs.States.{State}
 use Rattle.html_construction.specs.Words.{AddMarker, Becomes, BeginOwnPart, ClearTo, ClearToMarker, CloseForm, CloseNamed, CloseThrough, Drop, End, Enter, FramesetOff, Implied, Imply, ImplyHead, ImplyPart, ImplyRoot, ImplyVoid, Insert, InsertAt, InsertCharacter, InsertClosedForm, InsertComment, InsertCommentAt, InsertDoctype, InsertForeign, InsertForeignVoid, InsertForm, InsertHead, InsertListed, InsertPart, InsertRoot, InsertVoid, InsertVoidAt, Keep, Leave, MergeIntoBody, MergeIntoRoot, Pop, PopTemplate, PushTemplate, Quirks, ReplaceBody, Reset, Switch, Word, after, answer, with_kept}
 use Rattle.html_modes.specs.Guards.{is_table_text}
-use Rattle.html_laws.proofs.Conjunctions.{both}
+use Rattle.html_construction.proofs.Planned.{halves as both}
 use Rattle.html_laws.proofs.Words.{becomes-core}
 
 -- the word keeps no code point
@@ -43,7 +43,7 @@ AreKeepless r = (m : Mode) (y : Symbol) → is_table_text m ≡ false → keeple
 abbrev kept : State → List ℕ
 kept a = a.ledger.kept
 
-not-true : (b : Bool) → not b ≡ true → b ≡ false
+pub not-true : (b : Bool) → not b ≡ true → b ≡ false
 not-true true h = absurd (false≢true h)
 not-true false h = refl
 

@@ -13,9 +13,9 @@ use Rattle.html_construction.specs.declared.mode.Mode.{Mode}
 use Rattle.html_construction.specs.Plans.{Adopt, Ask, By, CloseLink, Do, Each, Ending, Foster, IsMoved, Over, Plan, Reconstruct, Rules, Runs, Settle, Stop, adopts, asks, closes_link, does, does_each, ends_each, fosters, goes_by, reconstructs, settles, stops}
 use Rattle.html_construction.specs.States.{State}
 use Rattle.html_construction.specs.Words.{AddMarker, Becomes, BeginOwnPart, ClearTo, ClearToMarker, CloseForm, CloseNamed, CloseThrough, Drop, End, Enter, FramesetOff, Implied, Imply, ImplyHead, ImplyPart, ImplyRoot, ImplyVoid, Insert, InsertAt, InsertCharacter, InsertClosedForm, InsertComment, InsertCommentAt, InsertDoctype, InsertForeign, InsertForeignVoid, InsertForm, InsertHead, InsertListed, InsertPart, InsertRoot, InsertVoid, InsertVoidAt, Keep, Leave, MergeIntoBody, MergeIntoRoot, ParsesForeign, Pop, PopTemplate, PushTemplate, Query, Quirks, ReplaceBody, Reset, Switch, Word, after, answer, with_kept}
+use Rattle.html_construction.proofs.Planned.{halves as both}
 use Rattle.html_laws.specs.Likeness.{core}
 use Rattle.html_laws.specs.Outcomes.{IsNative}
-use Rattle.html_laws.proofs.Conjunctions.{both}
 use Rattle.html_laws.proofs.Words.{becomes-core}
 
 -- the words that make one, and the question before them
@@ -114,7 +114,7 @@ word-native (InsertForeignVoid s) t a h k = absurd (false≢true h)
 word-native Keep t a h k = same-native a (after Keep t a) refl refl k
 word-native BeginOwnPart t a h k = same-native a (after BeginOwnPart t a) refl refl k
 
-asked-none : (q : Query) (t : TokenKind) (a : State) → a.parses_foreign ≡ false → asks_foreign q ≡ true → answer q t a ≡ false
+pub asked-none : (q : Query) (t : TokenKind) (a : State) → a.parses_foreign ≡ false → asks_foreign q ≡ true → answer q t a ≡ false
 asked-none ParsesForeign t a n h = n
 asked-none q t a n h = absurd (false≢true h)
 

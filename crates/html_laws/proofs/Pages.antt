@@ -1,5 +1,6 @@
 -- Two answers of parsing for one input.
-use Rattle.std.proofs.Common.{◌≡◌, ℕ, suc, zero, Bool, true, false, not, List, [], ◌∷◌, Some, inl, inr, sym, ◌∙◌, ap}
+use Rattle.html_names.specs.declared.tag.Tag.TheVariants as tag
+use Rattle.std.proofs.Common.{◌≡◌, ◌≤◌, ℕ, suc, zero, Bool, true, false, not, List, [], ◌∷◌, Some, inl, inr, sym, ◌∙◌, ap}
 use Rattle.std.specs.Prelude.{slice_get}
 use Rattle.std.specs.List.{list_all}
 use Rattle.std.proofs.lemmas.Bool.{false≢true}
@@ -19,9 +20,13 @@ use Rattle.html_parser.specs.declared.faults.PageFault.{PageFault}
 use Rattle.html_parser.specs.Kinds.{kinds}
 use Rattle.html_parser.specs.Parsed.{Headline}
 use Rattle.html_parser.specs.Start.{Start, parses, text_start}
+use Rattle.html_construction.proofs.Planned.{halves as both}
+use Rattle.html_laws.specs.Elements.{InputsHaveOneBody, InputsHaveOneRoot, TreesHaveOneBody, TreesHaveOneRoot, count_of}
 use Rattle.html_laws.specs.OnePage.{InputsHaveOnePage, InputsHaveOneTree, IsOnePage, RefusesForeign}
 use Rattle.html_laws.specs.Outcomes.{BeginAlike}
-use Rattle.html_laws.proofs.Conjunctions.{both}
+use Rattle.html_laws.proofs.Bodies.{built-body}
+use Rattle.html_laws.proofs.Founding.{pages-root}
+use Rattle.html_laws.proofs.Reading.{built-reads}
 use Rattle.html_laws.proofs.Texts.{texts-one}
 
 none-at : (p : Fate → Bool) (fs : List Fate) (i : ℕ) (f : Fate) → list_all p fs ≡ true → slice_get fs i ≡ Some f → p f ≡ true
@@ -66,3 +71,25 @@ inputs-page start bytes page page' r p q e =
 pub inputs-tree : InputsHaveOneTree
 inputs-tree start bytes tree tree' r p q e =
     (headlines-one start bytes r p.tokens q.tokens p.fates q.fates tree.arena tree'.arena tree.root tree'.root tree.n tree'.n tree.steps tree'.steps tree.errors.items tree'.errors.items p.is q.is e).outcome.same_nodes
+
+pub inputs-root : InputsHaveOneRoot
+inputs-root start bytes page r p =
+    pages-root start.setting start.limits (kinds page.tokens) page.fates page.arena r.no_context (built start bytes r page.tokens page.fates page.arena p.built)
+
+pub trees-root : TreesHaveOneRoot
+trees-root start bytes tree r p =
+    pages-root start.setting start.limits (kinds p.tokens) p.fates tree.arena r.no_context (built start bytes r p.tokens p.fates tree.arena p.is.built)
+
+-- the bodies of what was built of an input
+headline-body : (start : Start) (bytes : List ℕ) (ts : List Token) (fs : List Fate) (t : Nodes) (root n steps : ℕ) (errors : List PageFault) → RefusesForeign start → Headline start bytes ts fs t root errors n steps → count_of tag.Body t.labels ≤ 1
+headline-body start bytes ts fs t root n steps errors r p =
+    let b = built start bytes r ts fs t p.built in
+    built-body start.setting start.limits (kinds ts) fs t r.no_context b
+    (built-reads start.setting start.limits (decode bytes) (text_start start) ts p.tokens_are.said fs t r.no_context p.tokens_are.are
+    (p.tokens_are.by_fates (not-foreign start.setting (symbols (kinds ts)) fs (p.native r.refused r.no_context) r.no_context)) b)
+
+pub inputs-body : InputsHaveOneBody
+inputs-body start bytes page r p = headline-body start bytes page.tokens page.fates page.arena page.root page.n page.steps page.errors.items r p
+
+pub trees-body : TreesHaveOneBody
+trees-body start bytes tree r p = headline-body start bytes p.tokens p.fates tree.arena tree.root tree.n tree.steps tree.errors.items r p.is

@@ -56,7 +56,7 @@ module _ (p : ℕ → Bool) where
   parts true x ls us xs k = part-head x (ls ++ us) xs k
   parts false x ls us xs k = part-cond (p x) xs (x ∷ xs) (x ∷ xs) (part-tail x xs xs (part-self xs)) (part-self (x ∷ xs))
 
-  part-both : (xs : List ℕ) → IsPart (below p xs ++ above p xs) xs
+  pub part-both : (xs : List ℕ) → IsPart (below p xs ++ above p xs) xs
   part-both [] = part-self []
   part-both (x ∷ xs) = parts (list_any p xs) x (below p xs) (above p xs) xs (part-both xs)
 

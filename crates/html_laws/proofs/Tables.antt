@@ -32,10 +32,10 @@ use Rattle.html_modes.specs.RulesInFrameset.{in_frameset}
 use Rattle.html_modes.specs.RulesAfterFrameset.{after_frameset}
 use Rattle.html_modes.specs.RulesAfterAfterBody.{after_after_body}
 use Rattle.html_modes.specs.RulesAfterAfterFrameset.{after_after_frameset}
+use Rattle.html_construction.proofs.Planned.{halves as both}
 use Rattle.html_laws.proofs.Counting.{AreDue, due, is_char, is_flat}
 use Rattle.html_laws.proofs.Keeping.{AreKeepless, empties, keepless}
 use Rattle.html_laws.proofs.Natives.{AreNative, native}
-use Rattle.html_laws.proofs.Conjunctions.{both}
 
 abbrev suits : Bool → Plan → Bool
 suits c p = native p && (is_flat p && due c true p)
@@ -59,7 +59,7 @@ due-if : (b c d : Bool) (p n : Plan) → due c d (if b then p else n) ≡ (if b 
 due-if true c d p n = refl
 due-if false c d p n = refl
 
-if-same : (b : Bool) → (if b then true else true) ≡ true
+pub if-same : (b : Bool) → (if b then true else true) ≡ true
 if-same true = refl
 if-same false = refl
 

@@ -1,4 +1,6 @@
 -- Claimed.
+pub mod Elements
 pub mod Likeness
 pub mod OnePage
 pub mod Outcomes
+pub mod Reads

@@ -1,4 +1,12 @@
 // That the rules of tree construction have one outcome (13.2.6), and parsing with them.
+ghost use Rattle.html_laws.specs.Elements.{
+  InputsHaveOneBody,
+  InputsHaveOneRoot,
+  PagesHaveOneBody,
+  PagesHaveOneRoot,
+  TreesHaveOneBody,
+  TreesHaveOneRoot,
+};
 ghost use Rattle.html_laws.specs.OnePage.{InputsHaveOnePage, InputsHaveOneTree};
 ghost use Rattle.html_laws.specs.Outcomes.{PagesHaveOneTree, PlansHaveOneEnd, TokensHaveOneEnd};
 
@@ -19,4 +27,19 @@ pub fn construction_has_one_outcome()
 pub fn parsing_has_one_outcome()
     ensures page { InputsHaveOnePage }
     ensures tree { InputsHaveOneTree }
+{}
+
+/// A law: a page has one `html` element at most, clones apart, where foreign content is refused and is not the context; and so has the page of an input.
+pub fn pages_have_one_root()
+    ensures tokens { PagesHaveOneRoot }
+    ensures page { InputsHaveOneRoot }
+    ensures tree { TreesHaveOneRoot }
+{}
+
+/// A law: a page has one `body` element at most, clones apart and one that a frameset replaced among them, where foreign content is refused and is not the
+/// context, and where no start tag comes in the text of an element; and so has the page of an input, where none can.
+pub fn pages_have_one_body()
+    ensures tokens { PagesHaveOneBody }
+    ensures page { InputsHaveOneBody }
+    ensures tree { TreesHaveOneBody }
 {}

@@ -14,8 +14,8 @@ use crate::bools::{both, either};
 use crate::fate::Fate;
 use crate::setting::Setting;
 use crate::symbol::{Symbol, is_space};
-use html_charref::PlainText;
 use html_names::Tag;
+use html_text::PlainText;
 
 /// What the tokens so far, or the context of a fragment, settle about the fates of later ones. "Made" is said of start tags alone.
 #[derive(Clone, Copy, Debug)]

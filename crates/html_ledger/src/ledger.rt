@@ -18,7 +18,7 @@ use crate::history::History;
 use crate::setting::Setting;
 use crate::symbol::Symbol;
 use html_arena::NodeId;
-use html_charref::PlainText;
+use html_text::PlainText;
 use std::alloc::{AllocError, Global};
 use std::marker::Model;
 

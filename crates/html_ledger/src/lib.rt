@@ -1,4 +1,5 @@
 //! The ledger of tree construction: what becomes of each token, and what that settles about the fates of later tokens.
+//! Imported by crates of this workspace.
 #![tactic(auto)]
 
 mod allowed;

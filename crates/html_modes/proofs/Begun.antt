@@ -1,27 +1,22 @@
 -- What a call does of the insertion mode in which it begins.
-use Rattle.std.proofs.Common.{ℕ, ◌≡◌, ◌||◌, Bool, true, false, List, [], ◌∷◌, Result, IfErr, refl, sym, ap, subst, ◌∙◌}
+use Rattle.std.proofs.Common.{ℕ, ◌≡◌, Bool, true, false, List, [], ◌∷◌, Result, IfErr, refl, sym, ap, subst, ◌∙◌}
 use Rattle.std.proofs.lemmas.Bool.{false≢true}
 use Rattle.std.proofs.lemmas.Result.{err_from_is_err_and}
 use Rattle.std.specs.Prelude.{IsErrAnd}
-use Rattle.html_names.specs.declared.tag.Tag.{Tag}
-use Rattle.html_names.specs.declared.tag.Tag.TheVariants as tag
-use Rattle.html_names.specs.Groups.{ends_select, ends_select_in_table}
 use Rattle.html_tokens.specs.declared.token.TokenKind.{TokenKind}
-use Rattle.html_tree.specs.Proper.{is_foreign_root}
-use Rattle.html_tree.specs.States.{State as Tree}
 use Rattle.html_ledger.specs.declared.symbol.Symbol.{Symbol}
 use Rattle.html_ledger.specs.Flags.{may_select}
 use Rattle.html_construction.specs.declared.mode.Mode.{Mode}
 use Rattle.html_construction.specs.declared.mode.Mode.TheVariants as mode
 use Rattle.html_construction.specs.Begun.{IsFounded, IsUnder}
 use Rattle.html_construction.specs.Budgets.{Refuses, RefusesAny}
-use Rattle.html_construction.specs.declared.refusal.Refusal.{Refusal}
+use Rattle.html_arena.specs.declared.arena.ArenaError.{ArenaError}
 use Rattle.html_construction.specs.Built.{Accepts, AcceptsRun, Begins, Handed, IsBuilt, Keeps, chars_of, in_call, with_tokens}
 use Rattle.html_construction.specs.Modes.{is_of_column_groups, is_of_frames, is_of_selects}
 use Rattle.html_construction.specs.States.{State}
-use Rattle.html_modes.specs.Begun.{GivesIn, Ignores, IgnoresFirst, IgnoresIn, StaysOut, TextStays, begins_foreign, ignores_foreign}
+use Rattle.html_modes.specs.Begun.{GivesIn, StaysOut, begins_foreign}
 use Rattle.html_modes.specs.Guards.{takes_runs}
-use Rattle.html_modes.specs.Steps.{Steps, is_code_point, root_of}
+use Rattle.html_modes.specs.Steps.{Steps, root_of}
 use Rattle.html_modes.specs.declared.outcome.Foreign.{Foreign as Root}
 use Rattle.html_modes.specs.declared.outcome.Foreign.TheVariants as root
 use Rattle.html_modes.specs.declared.outcome.Outcome.{Outcome}
@@ -44,10 +39,10 @@ pub accepts-done : (t : TokenKind) (o : Outcome) (a i m n b d : State) → o ≡
 accepts-done t o a i m n b d q f k l s z = λ h w. z (with_tokens (in_call h a) (t ∷ [])) ((subst (λ x. Steps x t n b) q s) (in_call h a) (l (in_call h a) (k (in_call h a) (f h w))))
 
 -- what a call is refused for, as told by its `?`
-pub begun-refuses : {A : Type 0} (r : Result A Refusal) (t : TokenKind) (a i z : State) (e : Refusal) → IsErrAnd r (λ f. f ≡ e) → Begins a i → Refuses t e i z → IfErr r (λ f. Refuses t f a z)
+pub begun-refuses : {A : Type 0} (r : Result A ArenaError) (t : TokenKind) (a i z : State) (e : ArenaError) → IsErrAnd r (λ f. f ≡ e) → Begins a i → Refuses t e i z → IfErr r (λ f. Refuses t f a z)
 begun-refuses r t a i z e q b k = let p = err_from_is_err_and r q in rw p.1 (subst (λ f. Refuses t f a z) (sym p.2) (λ h w. k (in_call h a) (b h w)))
 
-pub begun-refuses-any : {A : Type 0} (r : Result A Refusal) (a i z : State) (e : Refusal) → IsErrAnd r (λ f. f ≡ e) → Begins a i → RefusesAny e i z → IfErr r (λ f. RefusesAny f a z)
+pub begun-refuses-any : {A : Type 0} (r : Result A ArenaError) (a i z : State) (e : ArenaError) → IsErrAnd r (λ f. f ≡ e) → Begins a i → RefusesAny e i z → IfErr r (λ f. RefusesAny f a z)
 begun-refuses-any r a i z e q b k = let p = err_from_is_err_and r q in rw p.1 (subst (λ f. RefusesAny f a z) (sym p.2) (λ h w. k (in_call h a) (b h w)))
 
 -- MODES
@@ -77,28 +72,8 @@ out-body m n e = out-own m n (ap is_of_selects e) (ap is_of_frames e) (ap is_of_
 pub out-same : (m n : Mode) → n ≡ m → StaysOut m n
 out-same m n e = subst (λ x. StaysOut m x) (sym e) (record { select = λ p. p; frameset = λ p. p; column_group = λ p. p })
 
-out-then : (m n o : Mode) → StaysOut m n → StaysOut n o → StaysOut m o
+pub out-then : (m n o : Mode) → StaysOut m n → StaysOut n o → StaysOut m o
 out-then m n o s t = record { select = λ p. s.select (t.select p); frameset = λ p. s.frameset (t.frameset p); column_group = λ p. s.column_group (t.column_group p) }
-
--- any other token than a code point, the same mode, and modes that are none of those
-pub stays-other : (y : Symbol) (m n : Mode) → is_code_point y ≡ false → TextStays y m n
-stays-other y m n e = record { out = λ p. absurd (false≢true (sym e ∙ p)) }
-
-pub stays-same : (y : Symbol) (m n : Mode) → n ≡ m → TextStays y m n
-stays-same y m n e = record { out = λ p. out-same m n e }
-
-pub stays-own : (y : Symbol) (m n : Mode) → is_of_selects n ≡ false → is_of_frames n ≡ false → is_of_column_groups n ≡ false → TextStays y m n
-stays-own y m n e f g = record { out = λ p. out-own m n e f g }
-
-pub stays-out : (y : Symbol) (m n : Mode) → StaysOut m n → TextStays y m n
-stays-out y m n s = record { out = λ p. s }
-
--- an entry after others, between which the mode stays
-pub stays-then : (y : Symbol) (m n k o : Mode) → TextStays y m n → k ≡ n → TextStays y k o → TextStays y m o
-stays-then y m n k o s e t = record { out = λ p. out-then m n o (s.out p) (subst (λ x. StaysOut x o) e (t.out p)) }
-
-pub stays-settled : (y : Symbol) (m n o : Mode) → TextStays y m n → StaysOut n o → TextStays y m o
-stays-settled y m n o s t = record { out = λ p. out-then m n o (s.out p) t }
 
 -- a run leaves the mode, to which nothing has to lead
 runs-own : (m : Mode) → takes_runs m ≡ true → (is_of_selects m ≡ false) × (is_of_frames m ≡ false)
@@ -110,58 +85,6 @@ runs-own _ e = absurd (false≢true e)
 
 pub run-founded : (a b : State) → takes_runs a.mode ≡ true → b.mode ≡ a.mode → IsFounded b
 run-founded a b e f = let z = runs-own a.mode e in founded-other b (ap is_of_selects f ∙ z.0) (ap is_of_frames f ∙ z.1)
-
--- FOREIGN CONTENT
-
-pub native-ends_select : (t : Tag) → ends_select t ≡ true → is_foreign_root t ≡ false
-native-ends_select tag.Input e = refl
-native-ends_select tag.Keygen e = refl
-native-ends_select tag.Textarea e = refl
-native-ends_select _ e = absurd (false≢true e)
-
-pub native-ends_select_in_table : (t : Tag) → ends_select_in_table t ≡ true → is_foreign_root t ≡ false
-native-ends_select_in_table tag.Svg e = absurd (false≢true e)
-native-ends_select_in_table tag.Math e = absurd (false≢true e)
-native-ends_select_in_table _ e = refl
-
-pub ignores-done : (y : Symbol) → Ignores Done y
-ignores-done y = record { done = λ e. refl }
-
-pub ignores-not : (o : Outcome) (y : Symbol) → begins_foreign y ≡ false → Ignores o y
-ignores-not o y e = record { done = λ f. absurd (false≢true (sym e ∙ f)) }
-
-pub ignores-in : (m : Mode) (o : Outcome) (y : Symbol) → Ignores o y → IgnoresIn m o y
-ignores-in m o y i = record { done = λ e. i }
-
-either-not : (a b : Bool) → a ≡ false → b ≡ false → (a || b) ≡ false
-either-not false false e f = refl
-either-not true b e f = absurd (false≢true (sym e))
-either-not false true e f = absurd (false≢true (sym f))
-
-pub ignores-other : (m : Mode) (o : Outcome) (y : Symbol) → is_of_selects m ≡ false → is_of_frames m ≡ false → IgnoresIn m o y
-ignores-other m o y e f = record { done = λ p. absurd (false≢true (sym (either-not (is_of_selects m) (is_of_frames m) e f) ∙ p)) }
-
-pub first-in : (a : State) (o : Outcome) (y : Symbol) → IgnoresIn a.mode o y → IgnoresFirst a o y
-first-in a o y i = record { done = λ w e. i }
-
-pub first-done : (a : State) (y : Symbol) → IgnoresFirst a Done y
-first-done a y = first-in a Done y (ignores-in a.mode Done y (ignores-done y))
-
--- the first entry goes by the rules of the mode
-pub first-astray : (r : Bool) (a : State) (o : Outcome) (y : Symbol) → r ≡ true → (IsFounded a → a.began ≡ a.mode → r ≡ false) → IgnoresFirst a o y
-first-astray r a o y e f = record { done = λ w b. absurd (false≢true (sym (f w b) ∙ e)) }
-
-founded-tree : (a : State) (t : Tree) → IsFounded a → IsFounded (record a { tree = t })
-founded-tree a t w = record { select = w.select; frameset = w.frameset }
-
--- an entry before which nothing but steps was counted in the call
-pub first-entry : (i m n : State) (o : Outcome) (y : Symbol) → (ignores_foreign i.mode ≡ true → IsFounded i → begins_foreign y ≡ true → m ≡ i) → n ≡ record m { tree = n.tree } → i.began ≡ i.mode → IgnoresFirst n o y
-    → ignores_foreign i.mode ≡ true → IsFounded i → begins_foreign y ≡ true → o ≡ Done
-first-entry i m n o y f r b g k w z =
-    let q : n ≡ record i { tree = n.tree } = r ∙ ap (λ (x : State). record x { tree = n.tree }) (f k w z) in
-    let own : IsFounded n = subst IsFounded (sym q) (founded-tree i n.tree w) in
-    let began : n.began ≡ n.mode = ap (λ (x : State). x.began) q ∙ b ∙ sym (ap (λ (x : State). x.mode) q) in
-    ((g.done own began).done (ap (λ (x : State). ignores_foreign x.mode) q ∙ k)).done z
 
 -- a call has begun
 pub founded-begun : (a i : State) (d k : ℕ) → i ≡ record a { began = a.mode; depth = d; nodes = k } → IsFounded a → IsFounded i
@@ -180,18 +103,6 @@ done-not o e f = (let k : Done ≡ Reprocess = sym e ∙ f in cc)
 pub done-foreign : (o : Outcome) (name : Root) → o ≡ Done → o ≡ Foreign name → ⊥
 done-foreign o name e f = (let k : Done ≡ Foreign name = sym e ∙ f in cc)
 
-pub ruleset begun_rules = (founded-other, founded-select, founded-frames, out-body, out-same)
+pub ruleset begun_rules = (founded-other, founded-select, founded-frames)
 
-pub ruleset text_stays = (stays-other, stays-same, stays-own)
-
-pub ruleset ignoring_rules = (ignores-done, ignores-not, native-ends_select, native-ends_select_in_table)
-
-pub ruleset modes_ignoring = (ignores-in, ignores-other)
-
-pub ruleset first_rules = (first-in, first-done, first-astray)
-
-pub ruleset run_begun = (run-gives, out-same, run-founded)
-
-pub ruleset out_rules = (out-own)
-
-pub ruleset text_leaves = (stays-out)
+pub ruleset run_begun = (run-gives, run-founded)

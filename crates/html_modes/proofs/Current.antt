@@ -45,7 +45,7 @@ snoc-same (z ∷ xs) (w ∷ ys) x y h =
 
 -- WHAT IS LISTED LAST
 
-has-last : (x : ℕ) (xs : List ℕ) → has x (xs ++ x ∷ []) ≡ true
+pub has-last : (x : ℕ) (xs : List ℕ) → has x (xs ++ x ∷ []) ≡ true
 has-last x xs = has-append x xs (x ∷ []) ∙ elim (cases_bool (has x xs)) [ inl e ↦ rw e refl | inr e ↦ rw (e, eqb-self x) refl ]
 
 pub listed-last : (es : List Entry) (xs : List ℕ) (x : ℕ) → AreListed es (xs ++ x ∷ []) → Distinct (xs ++ x ∷ []) → has_node x es ≡ true → (fs : List Entry) × (es ≡ fs ++ Node x ∷ [])

@@ -1,5 +1,5 @@
 -- Which rules an entry follows, and all the entries of a call.
-use Rattle.std.proofs.Common.{◌≡◌, ◌||◌, Bool, true, false, not, Option, Some, None, refl, sym, ap, subst, ◌∙◌}
+use Rattle.std.proofs.Common.{◌≡◌, ◌||◌, Bool, true, false, not, cond, inl, inr, Option, Some, None, refl, sym, ap, subst, ◌∙◌}
 use Rattle.std.specs.Prelude.{if◌then◌else◌}
 use Rattle.std.proofs.lemmas.Bool.{false≢true}
 use Rattle.html_names.specs.declared.tag.Tag.{Tag}
@@ -7,6 +7,8 @@ use Rattle.html_tokens.specs.declared.token.TokenKind.{TokenKind}
 use Rattle.html_ledger.specs.declared.fate.Cause.{Cause}
 use Rattle.html_ledger.specs.declared.symbol.Symbol.{Symbol}
 use Rattle.html_ledger.specs.Flags.{may_select, must_drop}
+use Rattle.html_open.proofs.Keeps.{cases_bool}
+use Rattle.html_construction.specs.Begun.{IsFounded}
 use Rattle.html_construction.specs.declared.mode.Mode.{Mode}
 use Rattle.html_construction.specs.declared.mode.Mode.TheVariants as mode
 use Rattle.html_construction.specs.Calls.{IsTree}
@@ -232,6 +234,44 @@ left-on o y t a m z r i h = record {
 }
 
 pub ruleset entries = (entry-kept, entry-ignored, entry-astray, entry-dispatched, dispatched-outside, dispatched-native, dispatched-around)
+
+-- WHAT AN ENTRY FOLLOWS
+
+pub data Way (o : Outcome) (y : Symbol) (t : TokenKind) (a z : State) : Type 0 where
+  planned : Follows (plan a.mode y) t o a z → Way o y t a z
+  handed : (g : Tag) → around_foreign a y t ≡ Some g → FollowsOn (plan a.mode y) o y t a z → Way o y t a z
+  dropped : (c : Cause) → must_drop a.ledger.history y ≡ Some c → Follows (ignored c) t o a z → Way o y t a z
+  strayed : is_astray a y ≡ true → Follows (Do (Switch mode.InBody) again) t o a z → Way o y t a z
+  stayed : (g : Tag) → around_foreign a y t ≡ Some g → FollowsForeignRules g o y t a z → Way o y t a z
+
+pub way : (o : Outcome) (y : Symbol) (t : TokenKind) (a z : State) → IsEntry o y t a z → Way o y t a z
+way o y t a z i = elim (cases_bool (is_table_text a.mode)) [ inl k ↦ planned (i.kept k) | inr k ↦ by (must_drop a.ledger.history y) refl k ]
+  where
+    around : (n : Option Tag) → around_foreign a y t ≡ n → IsDispatched o y t a z → Way o y t a z
+    around None e d = planned (d.by_mode e)
+    around (Some g) e d = elim (cases_bool (goes_on a.tree y t)) [ inl k ↦ handed g e (d.handed_on g e k) | inr k ↦ stayed g e (d.stays g e k) ]
+
+    by : (n : Option Cause) → must_drop a.ledger.history y ≡ n → is_table_text a.mode ≡ false → Way o y t a z
+    by (Some c) e k = dropped c e (i.ignored_by_all c k e)
+    by None e k = elim (cases_bool (is_astray a y)) [ inl n ↦ strayed n (i.astray k e n) | inr n ↦ around (around_foreign a y t) refl (i.dispatched k e n) ]
+
+-- in modes of neither selects nor frames no token is astray; nor where a call begins to whose mode something leads
+pub never-astray : (a : State) (y : Symbol) → is_of_selects a.mode ≡ false → is_of_frames a.mode ≡ false → is_astray a y ≡ false
+never-astray a y s f = rw (s, f) (by (is_droppable y))
+  where
+    by : (d : Bool) → cond d false false ≡ false
+    by true = refl
+    by false = refl
+
+pub founded-astray : (a : State) (y : Symbol) → IsFounded a → a.began ≡ a.mode → is_astray a y ≡ false
+founded-astray a y w b = by (is_of_selects a.mode) (is_of_frames a.mode) refl refl (is_droppable y)
+  where
+    by : (s f : Bool) → is_of_selects a.mode ≡ s → is_of_frames a.mode ≡ f → (d : Bool)
+        → cond d (cond s (not (is_of_selects a.began) || not (may_select a.ledger.history)) (cond f (not (is_of_frames a.began) || not a.ledger.history.frameset) false)) false ≡ false
+    by s f p q false = refl
+    by true f p q true = rw (ap is_of_selects b ∙ p, w.select p) refl
+    by false true p q true = rw (ap is_of_frames b ∙ q, w.frameset q) refl
+    by false false p q true = refl
 
 -- BETWEEN ENTRIES
 

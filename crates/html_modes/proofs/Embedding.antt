@@ -11,16 +11,14 @@ use Rattle.html_names.specs.Tags.{is_same}
 use Rattle.html_names.proofs.Spaces.{space-of_prefixed}
 use Rattle.html_tokens.specs.Cut.{null_replaced}
 use Rattle.html_tokens.specs.declared.token.TokenKind.{TokenKind}
-use Rattle.html_ledger.specs.declared.fate.Cause.{Cause}
 use Rattle.html_ledger.specs.declared.fate.Cause.TheVariants.{Misplaced}
 use Rattle.html_ledger.specs.declared.fate.Fate.TheVariants.{Dropped, Foreign as Embedded, Made, Text}
 use Rattle.html_ledger.specs.declared.symbol.Symbol.{Symbol}
 use Rattle.html_ledger.specs.declared.symbol.Symbol.TheVariants.{Start, End, Char, Comment, Doctype, Eof}
 use Rattle.html_ledger.specs.Entries.{Entries, number_of}
-use Rattle.html_ledger.specs.Flags.{may_embed, must_drop}
+use Rattle.html_ledger.specs.Flags.{may_embed}
 use Rattle.html_ledger.specs.MayDrop.{is_foreign_root}
 use Rattle.html_ledger.specs.Spaces.{is_space}
-use Rattle.html_ledger.specs.Symbols.{starts}
 use Rattle.html_tree.specs.declared.groups.Target.TheVariants.{Current}
 use Rattle.html_tree.specs.Foreign.{found_foreign, left_foreign}
 use Rattle.html_tree.specs.Listing.{IsReopened}
@@ -33,7 +31,6 @@ use Rattle.html_construction.specs.Built.{Keeps}
 use Rattle.html_construction.specs.Calls.{HasFate, IsTree, comment_of, counting, foreign_of, opened_at, placed_at}
 use Rattle.html_construction.specs.Foreign.{adjusted_tag, foreign_tag, if_foreign}
 use Rattle.html_construction.specs.Grown.{Grown}
-use Rattle.html_construction.specs.Modes.{is_of_frames, is_of_selects}
 use Rattle.html_construction.specs.States.{State}
 use Rattle.html_construction.specs.Tokens.{closes_itself, foreign_name, tag_name}
 use Rattle.html_construction.specs.Weights.{weight, weight_of}
@@ -43,16 +40,13 @@ use Rattle.html_modes.specs.declared.outcome.Outcome.{Outcome}
 use Rattle.html_modes.specs.declared.outcome.Outcome.TheVariants.{Done, Reprocess, Foreign}
 use Rattle.html_modes.specs.declared.outcome.Foreign.{Foreign as Root}
 use Rattle.html_modes.specs.declared.outcome.Foreign.TheVariants as root
-use Rattle.html_modes.specs.Begun.{IgnoresIn}
 use Rattle.html_modes.specs.Fitting.{is_loose}
-use Rattle.html_modes.specs.Foreign.{Follows, FollowsForeign, IsCommented, IsEmbedded, IsIgnored, IsInserted, IsRootMade, Stayed, Stays, around_foreign, breaks_out, closed_foreign, ends_any, ends_foreign, frameset_ok_after, goes_by_foreign, goes_on, if_goes, leaves_foreign, stack_after}
-use Rattle.html_modes.specs.Guards.{is_table_text}
+use Rattle.html_modes.specs.Foreign.{Follows, IsCommented, IsEmbedded, IsIgnored, IsInserted, IsRootMade, Stayed, Stays, around_foreign, breaks_out, closed_foreign, ends_any, ends_foreign, frameset_ok_after, goes_by_foreign, goes_on, if_goes, leaves_foreign, stack_after}
 use Rattle.html_modes.specs.Ranks.{rank, top_rank}
 use Rattle.html_modes.specs.Plain.{IsNextInBody, TurnsInBody, is_plain_tag}
-use Rattle.html_modes.specs.RawText.{HasOpened, Opens, holds_text_alone}
-use Rattle.html_modes.specs.Steps.{Counted, Falls, Grows, Settles, Spends, Steps, Worked, root_of, root_space}
-use Rattle.html_modes.proofs.RawText.{adds-other, ends-other, opens-not, push-last, text-loose}
-use Rattle.html_modes.proofs.Counting.{Settles-grows}
+use Rattle.html_modes.specs.RawText.{HasOpened}
+use Rattle.html_modes.specs.Steps.{Counted, Falls, Grows, Spends, Steps, Worked, root_of, root_space}
+use Rattle.html_modes.proofs.RawText.{ends-other, push-last, text-loose}
 use Rattle.html_modes.proofs.Moded.{top_rank-loose}
 use Rattle.html_modes.proofs.Settled.{Counted-entry, Counted-worked, Fits-loose, Spends-one}
 use Rattle.html_modes.proofs.Tagged.{weight_of-plain}
@@ -234,13 +228,13 @@ closed-root name z e = rw e (record { tree_is = refl })
 
 pub ruleset closing_rules = (goes-start, goes-ended, goes-any, stack-left, stack-closed, stack-same, closed-root)
 
-pub ruleset embed_rules = (heavier-foreign, embedded-closed, embedded-opened, opened-foreign, any-refused)
+pub ruleset embed_rules = (heavier-foreign, embedded-closed, embedded-opened, any-refused)
 
 pub ruleset root_rules = (root-made, outside-root, may-root)
 
 pub ruleset char_rules = (inserted-null, inserted-char, inserted-flag, kept-null, kept-space, turned-off, history-foreign, any-refused, char-refused)
 
--- the roots are no elements of a plain page, and none that hold text alone
+-- the roots are no elements of a plain page
 root-plain : (name : Root) (t : Tag) → Start t ≡ root_of name → is_plain_tag t ≡ false
 root-plain root.Svg t e = let k : t ≡ tag.Svg = (let z = e in cc) in ap is_plain_tag k
 root-plain root.Math t e = let k : t ≡ tag.Math = (let z = e in cc) in ap is_plain_tag k
@@ -256,14 +250,7 @@ turns-root o name t k a b e = by o
     by Reprocess = never
     by (Foreign other) = never
 
-pub opens-root : (o : Outcome) (name : Root) (t : Tag) (b : State) → Start t ≡ root_of name → Opens o (Start t) b
-opens-root o name t b e = opens-not o (Start t) b (by name t e)
-  where
-    by : (n : Root) (u : Tag) → Start u ≡ root_of n → starts holds_text_alone (Start u) ≡ false
-    by root.Svg u e = let k : u ≡ tag.Svg = (let z = e in cc) in ap holds_text_alone k
-    by root.Math u e = let k : u ≡ tag.Math = (let z = e in cc) in ap holds_text_alone k
-
-pub ruleset body_roots = (turns-root, opens-root, outside-root, may-root, asked-parsed)
+pub ruleset body_roots = (turns-root, outside-root, may-root, asked-parsed)
 
 pub ruleset stay_rules = (commented, history-foreign, around-outside, may-around, asked-around, any-refused)
 
@@ -303,17 +290,6 @@ module _ (o : Outcome) (y : Symbol) (t : TokenKind) (a m b : State) (r : m ≡ r
       let e : length m.ledger.fates ≡ length a.ledger.fates = omega (arith, g.0) in
       (rw (sym e) (omega (arith, g.1.0, v.0)), (omega (arith, e, g.1.1.1.1.0, v.1.0), omega (arith, g.1.1.1.1.1, v.1.1)))
 
-  pub Settles-after : Settles o y m b → Settles o y a b
-  Settles-after s = by o s
-    where
-      by : (p : Outcome) → Settles p y m b → Settles p y a b
-      by Done s = λ n. (sym (ap (λ (x : State). x.ledger.kept) r) ∙ (s n).0, (s n).1 ∙ ap (λ (x : State). length x.ledger.fates + 1) r)
-      by Reprocess s = tt
-      by (Foreign name) s = tt
-
-  pub Ignores-after : IgnoresIn m.mode o y → IgnoresIn a.mode o y
-  Ignores-after i = subst (λ x. IgnoresIn x o y) mode-after i
-
 -- the token stays
 or-first : (a b : Bool) → (a || b) ≡ false → a ≡ false
 or-first true b e = e
@@ -324,19 +300,19 @@ stayed-end t k a m b h e = record { tree_is = e ∙ h.tree_is ∙ ap (λ n. reco
 
 stayed-after : (g : Tag) (y : Symbol) (k : TokenKind) (a m b : State) → (ends_any y ≡ false → m ≡ a) → IsTree (record a.tree { stack = stack_after a.tree y k }) m → Stays g y k m b → (ends_any y ≡ true → b.tree ≡ m.tree) → leaves_foreign y k ≡ false
     → Stayed g y k a b
-stayed-after g (Start t) k a m b same h s w l = subst (λ (x : State). Stays g (Start t) k x b) (same refl) s
-stayed-after g (Char c) k a m b same h s w l = subst (λ (x : State). Stays g (Char c) k x b) (same refl) s
 stayed-after g (End t) k a m b same h s w l = stayed-end t k a m b h (w (rw l refl))
-stayed-after g Comment k a m b same h s w l = subst (λ (x : State). Stays g Comment k x b) (same refl) s
-stayed-after g Doctype k a m b same h s w l = subst (λ (x : State). Stays g Doctype k x b) (same refl) s
 stayed-after g Eof k a m b same h s w l = tt
+stayed-after g y k a m b same h s w l = subst (λ (x : State). Stays g y k x b) (same refl) s
 
 pub follows-done : (g : Tag) (y : Symbol) (k : TokenKind) (a m b : State) (r : Bool) → r ≡ goes_on a.tree y k → r ≡ false → (ends_any y ≡ false → r ≡ false → m ≡ a) → IsTree (record a.tree { stack = stack_after a.tree y k }) m → Stays g y k m b
-    → (ends_any y ≡ true → b.tree ≡ m.tree) → m ≡ record a { tree = m.tree; stack = m.stack } → b.frameset_ok ≡ frameset_ok_after y m.frameset_ok → Follows g Done y k a b
-follows-done g y k a m b r q n same h s w e f = record {
+    → (ends_any y ≡ true → b.tree ≡ m.tree) → m ≡ record a { tree = m.tree; stack = m.stack } → b.frameset_ok ≡ frameset_ok_after y m.frameset_ok
+    → b ≡ record m { tree = b.tree; ledger = b.ledger; stack = b.stack; frameset_ok = b.frameset_ok } → Follows g Done y k a b
+follows-done g y k a m b r q n same h s w e f p = record {
   done = refl;
   stayed = stayed-after g y k a m b (λ e. same e n) h s w (or-first (leaves_foreign y k) _ (sym q ∙ n));
   frameset_ok_is = f ∙ ap (λ (x : State). frameset_ok_after y x.frameset_ok) e;
+  mode_is = ap (λ (x : State). x.mode) p ∙ ap (λ (x : State). x.mode) e;
+  parses_is = ap (λ (x : State). x.parses_foreign) p ∙ ap (λ (x : State). x.parses_foreign) e;
 }
 
 Grows-stayed : (a m b : State) → Grown 0 0 0 0 0 a m → Grown 1 2 0 0 0 m b → Grows Done a b
@@ -351,9 +327,6 @@ Grows-stayed a m b g h = (
 pub Spends-stayed : (a m b : State) → Grown 0 0 0 0 0 a m → Grown 1 2 0 0 0 m b → Spends 2 a b
 Spends-stayed a m b g h = Spends-one Done a b (Grows-stayed a m b g h)
 
-pub Settles-stayed : (y : Symbol) (a m b : State) → a.ledger.kept ≡ [] → Grown 0 0 0 0 0 a m → Grown 1 2 0 0 0 m b → Settles Done y a b
-Settles-stayed y a m b q g h = Settles-grows Done y a b q (Grows-stayed a m b g h)
-
 pub Counted-stayed : (t : TokenKind) (a m b : State) → Grown 0 0 0 0 0 a m → Grown 1 2 0 0 0 m b → Works 2 0 0 a m → Works 6 0 6 m b → Counted 26 Done t a b
 Counted-stayed t a m b g h w v =
     let k : Worked Done t a b = (omega (arith, w.0, v.0), (omega (arith, w.1.0, v.1.0), omega (arith, v.0, w.1.1, v.1.1))) in
@@ -364,34 +337,6 @@ Falls-stayed y a m b l e f w v =
     let t : top_rank b.mode ≤ 10 = subst (λ x. top_rank x ≤ 10) (sym (f ∙ e)) (top_rank-loose a.mode l) in
     omega (arith, t, w, v)
 
--- an entry that does not go by the rules for foreign content
-pub follows-none : (o : Outcome) (y : Symbol) (k : TokenKind) (a b : State) → around_foreign a y k ≡ None → FollowsForeign o y k a b
-follows-none o y k a b e = record { follows = λ g f h d s r. absurd (let z : None ≡ Some g = sym e ∙ f in cc) }
-
--- where none was made and none is the context
-pub follows-native : (o : Outcome) (y : Symbol) (k : TokenKind) (a b : State) → a.ledger.history.foreign ≡ false → FollowsForeign o y k a b
-follows-native o y k a b e = follows-none o y k a b (around-none a y k (by a.ledger.history.foreign (if_foreign (adjusted_tag a)) e))
-  where
-    by : (h : Bool) (n : Option Tag) → h ≡ false → (if h then n else None) ≡ None
-    by false n e = refl
-    by true n e = absurd (false≢true (sym e))
-
-pub follows-table_text : (o : Outcome) (y : Symbol) (k : TokenKind) (a b : State) → is_table_text a.mode ≡ true → FollowsForeign o y k a b
-follows-table_text o y k a b e = follows-none o y k a b (around-strict a y k (by a.mode e))
-  where
-    by : (m : Mode) → is_table_text m ≡ true → is_loose m ≡ false
-    by mode.InTableText e = refl
-    by _ e = absurd (false≢true e)
-
-pub follows-dropped : (o : Outcome) (y : Symbol) (k : TokenKind) (c : Cause) (a b : State) → must_drop a.ledger.history y ≡ Some c → FollowsForeign o y k a b
-follows-dropped o y k c a b e = record { follows = λ g f h d s r. absurd (let z : None ≡ Some c = sym d ∙ e in cc) }
-
-pub follows-astray : (o : Outcome) (y : Symbol) (k : TokenKind) (a b : State) → (is_of_selects a.mode ≡ false → is_of_frames a.mode ≡ false → ⊥) → FollowsForeign o y k a b
-follows-astray o y k a b n = record { follows = λ g f h d s r. absurd (n s r) }
-
-pub follows-some : (o : Outcome) (y : Symbol) (k : TokenKind) (g : Tag) (a b : State) → around_foreign a y k ≡ Some g → (goes_on a.tree y k ≡ false → Follows g o y k a b) → FollowsForeign o y k a b
-follows-some o y k g a b e f = record { follows = λ u v h d s r. subst (λ x. Follows x o y k a b) (let z : Some g ≡ Some u = sym e ∙ v in cc) (f h) }
-
-pub ruleset step_foreign = (around-loose, around-tag, follows-none, follows-native, follows-table_text, follows-dropped, follows-astray, follows-some, text-loose, adds-other, ends-other)
+pub ruleset step_foreign = (around-loose, around-tag, text-loose, ends-other)
 
 pub ruleset foreign_rules = (Fits-loose, any-refused)

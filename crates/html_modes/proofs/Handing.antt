@@ -3,7 +3,7 @@ use Rattle.std.proofs.Common.{ℕ, ◌≡◌, List, [], ◌∷◌, ◌++◌, Res
 use Rattle.std.proofs.lemmas.List.{append_assoc, append-nil}
 use Rattle.html_tokens.specs.declared.token.TokenKind.{TokenKind}
 use Rattle.html_tokens.specs.declared.token.TokenKind.TheVariants as kind
-use Rattle.html_construction.specs.declared.refusal.Refusal.{Refusal}
+use Rattle.html_arena.specs.declared.arena.ArenaError.{ArenaError}
 use Rattle.html_construction.specs.Budgets.{IsRefusedAny, Refuses, RefusesAny}
 use Rattle.html_construction.specs.Built.{Handed, IsBuilt, Keeps, Takes, TakesRun, Releases, chars_of, with_tokens}
 use Rattle.html_construction.specs.States.{State}
@@ -38,7 +38,7 @@ pub run-released : (cs : List ℕ) (a b d : State) → Releases cs a b → Takes
 run-released cs a b d r f = λ h w. let x = r h w in subst (λ y. IsBuilt y d) (sym x.2) (f x.0 x.1)
 
 -- what a later call was refused for, where the tokens handed in are the same
-pub refuses-kept : {A : Type 0} (r : Result A Refusal) (t : TokenKind) (a m z : State) → Keeps a m → IfErr r (λ e. Refuses t e m z) → IfErr r (λ e. Refuses t e a z)
+pub refuses-kept : {A : Type 0} (r : Result A ArenaError) (t : TokenKind) (a m z : State) → Keeps a m → IfErr r (λ e. Refuses t e m z) → IfErr r (λ e. Refuses t e a z)
 refuses-kept (Ok x) t a m z k f = tt
 refuses-kept (Err e) t a m z k f = λ h w. f h (k h w)
 
@@ -47,5 +47,5 @@ with-limits : (h : Handed) (ts : List TokenKind) → (with_tokens h ts).limits �
 unfolding with_tokens
 with-limits h ts = refl
 
-pub run-refused : (cs : List ℕ) (a b z : State) (e : Refusal) → TakesRun cs a b → RefusesAny e b z → RefusesAny e a z
+pub run-refused : (cs : List ℕ) (a b z : State) (e : ArenaError) → TakesRun cs a b → RefusesAny e b z → RefusesAny e a z
 run-refused cs a b z e t k = λ h w. subst (λ l. IsRefusedAny l z e) (with-limits h (chars_of cs)) (k (with_tokens h (chars_of cs)) (t h w))

@@ -3,7 +3,6 @@ pub mod Moded
 pub mod Tagged
 pub mod Settled
 pub mod Handing
-pub mod Counting
 pub mod Entering
 pub mod InBody
 pub mod Current
@@ -15,6 +14,8 @@ pub mod RawText
 pub mod Embedding
 pub mod Words
 pub mod Following
+pub mod TextAlone
+pub mod Outside
 pub mod Ruled
 pub mod RulesInBody
 pub mod RulesInHead

@@ -41,6 +41,7 @@ use Rattle.html_modes.specs.Guards.{is_table_text}
 use Rattle.html_modes.specs.Plain.{AreListed, EndsCurrent, GoesOn, HasSeen, IsNext, IsPlainState, IsTurn, StandsIn, Turns, closes, is_next, is_plain_tag, next_fate, next_list, next_mode, next_nodes, next_stack, next_tags}
 use Rattle.html_modes.specs.declared.outcome.Outcome.{Outcome}
 use Rattle.html_modes.specs.declared.outcome.Outcome.TheVariants.{Done, Reprocess, Foreign}
+use Rattle.html_construction.proofs.Planned.{halves}
 
 -- WHAT IS LISTED
 
@@ -175,10 +176,6 @@ and-false : (b : Bool) → (b && false) ≡ false
 and-false true = refl
 and-false false = refl
 
-halves : (a b : Bool) → (a && b) ≡ true → (a ≡ true) × (b ≡ true)
-halves true b e = (refl, e)
-halves false b e = absurd (false≢true e)
-
 and : (a b : Bool) → a ≡ true → b ≡ true → (a && b) ≡ true
 and a b e f = rw (e, f) refl
 
@@ -249,53 +246,25 @@ start-newline _ s t e = absurd (false≢true e)
 -- no line feed is dropped after it
 newline-next : (m : Mode) (s : List Tag) (y : Symbol) (f : Fate) → is_next m s y ≡ true → makes takes_newline y f ≡ false
 newline-next m s (Start t) f e = rw (start-newline m s t e) (and-false _)
-newline-next m s (End t) f e = and-false _
-newline-next m s (Char c) f e = and-false _
-newline-next m s Comment f e = and-false _
-newline-next m s Doctype f e = and-false _
-newline-next m s Eof f e = and-false _
+newline-next m s _ f e = and-false _
 
 -- no foreign content is made of it
 foreign-next : (a : State) (y : Symbol) → a.ledger.history.foreign ≡ false → (after a.ledger.history y (next_fate a y)).foreign ≡ false
 foreign-next a (Start t) e = rw e refl
-foreign-next a (End t) e = rw e refl
-foreign-next a (Char c) e = rw e refl
-foreign-next a Comment e = rw e refl
-foreign-next a Doctype e = rw e refl
-foreign-next a Eof e = rw e refl
+foreign-next a _ e = rw e refl
 
 seen-next : (m : Mode) (s : List Tag) (y : Symbol) (h : History) (f : Fate) → is_next m s y ≡ true → HasSeen m h → HasSeen (next_mode m y) (after h y f)
 seen-next mode.AfterHead s (Start tag.Body) h f e k = (and-false _, and-false _)
-seen-next mode.AfterHead s (Start _) h f e k = absurd (false≢true e)
-seen-next mode.AfterHead s (End t) h f e k = absurd (false≢true e)
-seen-next mode.AfterHead s (Char c) h f e k = absurd (false≢true e)
-seen-next mode.AfterHead s Comment h f e k = absurd (false≢true e)
-seen-next mode.AfterHead s Doctype h f e k = absurd (false≢true e)
-seen-next mode.AfterHead s Eof h f e k = absurd (false≢true e)
-seen-next mode.InBody s (Start t) h f e k = rw (k.0, k.1) (refl, refl)
+seen-next mode.AfterHead s _ h f e k = absurd (false≢true e)
 seen-next mode.InBody s (End tag.Body) h f e k = tt
-seen-next mode.InBody s (End _) h f e k = rw (k.0, k.1) (refl, refl)
-seen-next mode.InBody s (Char c) h f e k = rw (k.0, k.1) (refl, refl)
-seen-next mode.InBody s Comment h f e k = rw (k.0, k.1) (refl, refl)
-seen-next mode.InBody s Doctype h f e k = rw (k.0, k.1) (refl, refl)
-seen-next mode.InBody s Eof h f e k = rw (k.0, k.1) (refl, refl)
-seen-next mode.Initial s y h f e k = tt
-seen-next mode.BeforeHtml s y h f e k = tt
-seen-next mode.BeforeHead s y h f e k = tt
-seen-next mode.InHead s y h f e k = tt
-seen-next mode.AfterBody s y h f e k = tt
-seen-next mode.AfterAfterBody s y h f e k = tt
-seen-next _ s y h f e k = absurd (false≢true e)
+seen-next mode.InBody s _ h f e k = rw (k.0, k.1) (refl, refl)
+seen-next _ s y h f e k = tt
 
 -- no cause drops the token in every mode
 must-none : (m : Mode) (s : List Tag) (y : Symbol) (h : History) → is_next m s y ≡ true → HasSeen m h → h.ignore_line_feed ≡ false → must_drop h y ≡ None
 must-none mode.InBody s (Char c) h e k n = rw (k.1, n, and-false (is_space c), and-false (c == 10)) refl
 must-none _ s (Char c) h e k n = absurd (false≢true e)
-must-none m s (Start t) h e k n = refl
-must-none m s (End t) h e k n = refl
-must-none m s Comment h e k n = refl
-must-none m s Doctype h e k n = refl
-must-none m s Eof h e k n = refl
+must-none m s _ h e k n = refl
 
 -- ENTRIES THAT ARE NOT OF A PLAIN PAGE
 
@@ -415,25 +384,10 @@ closes-none mode.AfterBody s tag.Html e c = refl
 closes-none mode.AfterBody s _ e c = absurd (false≢true e)
 closes-none _ s t e c = absurd (false≢true e)
 
-closes-char : (m : Mode) (c : ℕ) → closes m (Char c) ≡ false
-closes-char mode.InHead c = refl
-closes-char mode.InBody c = refl
-closes-char _ c = refl
-
-closes-comment : (m : Mode) → closes m Comment ≡ false
-closes-comment mode.InHead = refl
-closes-comment mode.InBody = refl
-closes-comment _ = refl
-
-closes-doctype : (m : Mode) → closes m Doctype ≡ false
-closes-doctype mode.InHead = refl
-closes-doctype mode.InBody = refl
-closes-doctype _ = refl
-
-closes-eof : (m : Mode) → closes m Eof ≡ false
-closes-eof mode.InHead = refl
-closes-eof mode.InBody = refl
-closes-eof _ = refl
+closes-other : (m : Mode) (y : Symbol) → ((t : Tag) → y ≡ End t → ⊥) → closes m y ≡ false
+closes-other mode.InHead (End t) n = absurd (n t refl)
+closes-other mode.InBody (End t) n = absurd (n t refl)
+closes-other _ y n = refl
 
 -- what is listed is open
 listed-next : (a : State) (y : Symbol) (k : TokenKind) → IsPlainState a → is_next a.mode a.stack y ≡ true → AreListed (next_list a y k) (next_stack a y)
@@ -445,10 +399,10 @@ listed-next a (End t) k p e = elim (cases (closes a.mode (End t))) [
       )
   | inr c ↦ rw (c, closes-none a.mode a.stack t e c) p.listed
 ]
-listed-next a (Char c) k p e = rw (closes-char a.mode c) p.listed
-listed-next a Comment k p e = rw (closes-comment a.mode) p.listed
-listed-next a Doctype k p e = rw (closes-doctype a.mode) p.listed
-listed-next a Eof k p e = rw (closes-eof a.mode) p.listed
+listed-next a (Char c) k p e = rw (closes-other a.mode (Char c) (λ t q. let z : Char c ≡ End t = q in cc)) p.listed
+listed-next a Comment k p e = rw (closes-other a.mode Comment (λ t q. let z : Comment ≡ End t = q in cc)) p.listed
+listed-next a Doctype k p e = rw (closes-other a.mode Doctype (λ t q. let z : Doctype ≡ End t = q in cc)) p.listed
+listed-next a Eof k p e = rw (closes-other a.mode Eof (λ t q. let z : Eof ≡ End t = q in cc)) p.listed
 
 -- the page goes on
 pub plain-next : (y : Symbol) (k : TokenKind) (a b : State) → IsNext y k a → IsTurn y k a b → IsSound b.tree → b.stack ≡ open_tags b.tree → IsPlainState b
@@ -528,8 +482,7 @@ sound-later t s w = record {
 
 ends-later : (m : Mode) (y : Symbol) (k : TokenKind) (a : State) (s : ℕ) (g : Mode) (d n : ℕ) → EndsCurrent m y k a → EndsCurrent m y k (later a s g d n)
 ends-later mode.InBody (End t) k a s g d n h = h
-ends-later mode.InBody _ k a s g d n h = tt
-ends-later _ y k a s g d n h = tt
+ends-later _ _ k a s g d n h = tt
 
 plain-later : (a : State) (s : ℕ) (m : Mode) (d n : ℕ) → IsPlainState a → IsPlainState (later a s m d n)
 plain-later a s m d n p = record {
@@ -560,36 +513,19 @@ next-alike y k a b f h = subst (λ z. IsNext y k z) (sym f.same) (next-later y k
 
 stack-later : (a : State) (y : Symbol) (s : ℕ) (m : Mode) (d n : ℕ) → next_stack (later a s m d n) y ≡ next_stack a y
 stack-later a (Start t) s m d n = refl
-stack-later a (End t) s m d n = refl
-stack-later a (Char c) s m d n = refl
-stack-later a Comment s m d n = refl
-stack-later a Doctype s m d n = refl
-stack-later a Eof s m d n = refl
+stack-later a _ s m d n = refl
 
 nodes-later : (a : State) (y : Symbol) (k : TokenKind) (s : ℕ) (m : Mode) (d n : ℕ) → next_nodes (later a s m d n) y k ≡ next_nodes a y k
 nodes-later a (Start tag.Html) k s m d n = refl
-nodes-later a (Start _) k s m d n = refl
-nodes-later a (End t) k s m d n = refl
-nodes-later a (Char c) k s m d n = refl
-nodes-later a Comment k s m d n = refl
-nodes-later a Doctype k s m d n = refl
-nodes-later a Eof k s m d n = refl
+nodes-later a _ k s m d n = refl
 
 list-later : (a : State) (y : Symbol) (k : TokenKind) (s : ℕ) (m : Mode) (d n : ℕ) → next_list (later a s m d n) y k ≡ next_list a y k
 list-later a (Start t) k s m d n = ap (λ z. cond (is_formatting t) (pushed z (length a.tree.tree.labels) a.tree.list) a.tree.list) (nodes-later a (Start t) k s m d n)
-list-later a (End t) k s m d n = refl
-list-later a (Char c) k s m d n = refl
-list-later a Comment k s m d n = refl
-list-later a Doctype k s m d n = refl
-list-later a Eof k s m d n = refl
+list-later a _ k s m d n = refl
 
 fate-later : (a : State) (y : Symbol) (s : ℕ) (m : Mode) (d n : ℕ) → next_fate (later a s m d n) y ≡ next_fate a y
 fate-later a (Start t) s m d n = refl
-fate-later a (End t) s m d n = refl
-fate-later a (Char c) s m d n = refl
-fate-later a Comment s m d n = refl
-fate-later a Doctype s m d n = refl
-fate-later a Eof s m d n = refl
+fate-later a _ s m d n = refl
 
 turn-later : (y : Symbol) (k : TokenKind) (a b : State) (s : ℕ) (m : Mode) (d n : ℕ) → IsTurn y k (later a s m d n) b → IsTurn y k a b
 turn-later y k a b s m d n t = record {

@@ -1,5 +1,5 @@
 -- Elements that hold text alone: how they begin, and how their text goes on.
-use Rattle.std.proofs.Common.{◌≡◌, ℕ, zero, suc, ◌-◌, ◌<◌, ◌&&◌, ◌⊎◌, inl, inr, Bool, true, false, cond, List, [], ◌∷◌, ◌++◌, length, length-append, get_or, set, map, IsTrue, Some, None, refl, sym, ◌∙◌, ap, subst, arith}
+use Rattle.std.proofs.Common.{◌≡◌, ℕ, zero, suc, ◌-◌, ◌<◌, ◌&&◌, ◌⊎◌, inl, inr, Bool, true, false, cond, List, [], ◌∷◌, ◌++◌, length, length-append, get_or, set, map, Some, None, refl, sym, ◌∙◌, ap, subst, arith}
 use Rattle.std.proofs.lemmas.Bool.{false≢true}
 use Rattle.std.proofs.lemmas.List.{append-nil, get_or-set_other, get_or-set_same, get_or_append_left, length-set}
 use Rattle.std.proofs.Math.Seq.{get_or-append_seam}
@@ -31,12 +31,10 @@ use Rattle.html_ledger.specs.declared.fate.Fate.TheVariants.{Dropped, Made, Text
 use Rattle.html_ledger.specs.declared.history.History.{History}
 use Rattle.html_ledger.specs.declared.symbol.Symbol.{Symbol}
 use Rattle.html_ledger.specs.declared.symbol.Symbol.TheVariants.{Start, End, Char, Comment, Doctype, Eof}
-use Rattle.html_ledger.specs.Entries.{Entries, given, given_run}
-use Rattle.html_ledger.specs.Fated.{is_end}
+use Rattle.html_ledger.specs.Entries.{Entries, given}
 use Rattle.html_ledger.specs.Flags.{must_drop}
 use Rattle.html_ledger.specs.Spaces.{is_space}
-use Rattle.html_ledger.specs.Symbols.{chars_of, is_char, starts, symbol_of}
-use Rattle.html_tree.specs.declared.groups.Target.{Target}
+use Rattle.html_ledger.specs.Symbols.{is_char, symbol_of}
 use Rattle.html_tree.specs.Closing.{kept_to, popped}
 use Rattle.html_tree.specs.Inserting.{IsBlank, with_new}
 use Rattle.html_tree.specs.States.{IsSound, State as Open}
@@ -45,115 +43,24 @@ use Rattle.html_tree.proofs.Inserted.{element-tag}
 use Rattle.html_tree.proofs.Kept.{has-take}
 use Rattle.html_construction.specs.declared.mode.Mode.{Mode}
 use Rattle.html_construction.specs.declared.mode.Mode.TheVariants as mode
-use Rattle.html_construction.specs.Calls.{HasFate, IsTree, counting, element_of, opened_at}
+use Rattle.html_construction.specs.Calls.{HasFate, IsTree, element_of}
 use Rattle.html_construction.specs.Built.{Begins, Keeps, Takes, in_call, since_tree, with_tokens}
 use Rattle.html_construction.specs.States.{State}
 use Rattle.html_construction.specs.Tokens.{tag_name}
 use Rattle.html_construction.proofs.Kept.{built-since}
-use Rattle.html_names.specs.Sets.{is_block, is_cell, is_formatting, is_heading, is_headish, is_section}
-use Rattle.html_names.specs.Groups.{is_head_text, is_noscript_part, is_preformatted, is_table_head, is_void_part, is_void_phrase, takes_marker}
-use Rattle.html_modes.specs.RawText.{AddsText, Adds, Ends, EndsBy, HasOpened, IsLeft, Leaves, LeavesIn, HoldsText, IsOpenText, Opens, holds_text_alone, is_aside, is_body_text, run_of}
+use Rattle.html_names.specs.Sets.{is_headish}
+use Rattle.html_names.specs.Groups.{is_noscript_part, is_table_head}
+use Rattle.html_modes.specs.RawText.{AddsText, Ends, EndsBy, HasOpened, IsLeft, Leaves, LeavesIn, HoldsText, IsOpenText, holds_text_alone, is_aside}
 use Rattle.html_modes.specs.Fitting.{is_loose}
 use Rattle.html_construction.specs.Modes.{is_of_frames, is_of_selects}
 use Rattle.html_modes.specs.Guards.{is_table_text, is_text}
 use Rattle.html_modes.specs.Steps.{Steps, is_code_point}
 use Rattle.html_modes.specs.declared.outcome.Outcome.{Outcome}
 use Rattle.html_modes.specs.declared.outcome.Outcome.TheVariants.{Done, Reprocess, Foreign}
-use Rattle.html_modes.proofs.TextRuns.{fates-run}
 use Rattle.html_modes.proofs.InBody.{last-split}
 use Rattle.html_modes.proofs.Plain.{IsAlike, alike-then, later, popped-push}
 
 -- THEIR NAMES
-
-pub other-is_block : (t : Tag) → is_block t ≡ true → holds_text_alone t ≡ false
-other-is_block tag.Textarea e = absurd (false≢true e)
-other-is_block tag.Title e = absurd (false≢true e)
-other-is_block tag.Iframe e = absurd (false≢true e)
-other-is_block tag.Noembed e = absurd (false≢true e)
-other-is_block tag.Noframes e = absurd (false≢true e)
-other-is_block tag.Style e = absurd (false≢true e)
-other-is_block tag.Xmp e = absurd (false≢true e)
-other-is_block tag.Script e = absurd (false≢true e)
-other-is_block _ e = refl
-
-pub other-is_heading : (t : Tag) → is_heading t ≡ true → holds_text_alone t ≡ false
-other-is_heading tag.H1 e = refl
-other-is_heading tag.H2 e = refl
-other-is_heading tag.H3 e = refl
-other-is_heading tag.H4 e = refl
-other-is_heading tag.H5 e = refl
-other-is_heading tag.H6 e = refl
-other-is_heading _ e = absurd (false≢true e)
-
-pub other-is_preformatted : (t : Tag) → is_preformatted t ≡ true → holds_text_alone t ≡ false
-other-is_preformatted tag.Pre e = refl
-other-is_preformatted tag.Listing e = refl
-other-is_preformatted _ e = absurd (false≢true e)
-
-pub other-takes_marker : (t : Tag) → takes_marker t ≡ true → holds_text_alone t ≡ false
-other-takes_marker tag.Applet e = refl
-other-takes_marker tag.Marquee e = refl
-other-takes_marker tag.Object e = refl
-other-takes_marker _ e = absurd (false≢true e)
-
-pub other-is_formatting : (t : Tag) → is_formatting t ≡ true → holds_text_alone t ≡ false
-other-is_formatting tag.Textarea e = absurd (false≢true e)
-other-is_formatting tag.Title e = absurd (false≢true e)
-other-is_formatting tag.Iframe e = absurd (false≢true e)
-other-is_formatting tag.Noembed e = absurd (false≢true e)
-other-is_formatting tag.Noframes e = absurd (false≢true e)
-other-is_formatting tag.Style e = absurd (false≢true e)
-other-is_formatting tag.Xmp e = absurd (false≢true e)
-other-is_formatting tag.Script e = absurd (false≢true e)
-other-is_formatting _ e = refl
-
-pub other-is_void_phrase : (t : Tag) → is_void_phrase t ≡ true → holds_text_alone t ≡ false
-other-is_void_phrase tag.Area e = refl
-other-is_void_phrase tag.Br e = refl
-other-is_void_phrase tag.Embed e = refl
-other-is_void_phrase tag.Img e = refl
-other-is_void_phrase tag.Keygen e = refl
-other-is_void_phrase tag.Wbr e = refl
-other-is_void_phrase _ e = absurd (false≢true e)
-
-pub other-is_void_part : (t : Tag) → is_void_part t ≡ true → holds_text_alone t ≡ false
-other-is_void_part tag.Param e = refl
-other-is_void_part tag.Source e = refl
-other-is_void_part tag.Track e = refl
-other-is_void_part _ e = absurd (false≢true e)
-
-pub other-is_section : (t : Tag) → is_section t ≡ true → holds_text_alone t ≡ false
-other-is_section tag.Tbody e = refl
-other-is_section tag.Tfoot e = refl
-other-is_section tag.Thead e = refl
-other-is_section _ e = absurd (false≢true e)
-
-pub other-is_cell : (t : Tag) → is_cell t ≡ true → holds_text_alone t ≡ false
-other-is_cell tag.Td e = refl
-other-is_cell tag.Th e = refl
-other-is_cell _ e = absurd (false≢true e)
-
-pub other-is_image : (t : Tag) → is_same t tag.Image ≡ true → holds_text_alone t ≡ false
-other-is_image tag.Image e = refl
-other-is_image _ e = absurd (false≢true e)
-
-pub other-is_template : (t : Tag) → is_same t tag.Template ≡ true → holds_text_alone t ≡ false
-other-is_template tag.Template e = refl
-other-is_template _ e = absurd (false≢true e)
-
--- the others that belong into the head
-pub other-is_headish : (t : Tag) → is_headish t ≡ true → is_head_text t ≡ false → holds_text_alone t ≡ false
-other-is_headish tag.Base e n = refl
-other-is_headish tag.Basefont e n = refl
-other-is_headish tag.Bgsound e n = refl
-other-is_headish tag.Link e n = refl
-other-is_headish tag.Meta e n = refl
-other-is_headish tag.Template e n = refl
-other-is_headish tag.Noframes e n = absurd (false≢true (sym n))
-other-is_headish tag.Script e n = absurd (false≢true (sym n))
-other-is_headish tag.Style e n = absurd (false≢true (sym n))
-other-is_headish tag.Title e n = absurd (false≢true (sym n))
-other-is_headish _ e n = absurd (false≢true e)
 
 pub headish-is_noscript_part : (t : Tag) → is_noscript_part t ≡ true → is_headish t ≡ true
 headish-is_noscript_part tag.Basefont e = refl
@@ -170,20 +77,8 @@ headish-is_table_head tag.Style e = refl
 headish-is_table_head tag.Template e = refl
 headish-is_table_head _ e = absurd (false≢true e)
 
--- any other element of the body
-pub other-is_body_text : (t : Tag) → is_headish t ≡ false → is_body_text t ≡ false → holds_text_alone t ≡ false
-other-is_body_text tag.Textarea e n = absurd (false≢true (sym n))
-other-is_body_text tag.Title e n = absurd (false≢true (sym e))
-other-is_body_text tag.Iframe e n = absurd (false≢true (sym n))
-other-is_body_text tag.Noembed e n = absurd (false≢true (sym n))
-other-is_body_text tag.Noframes e n = absurd (false≢true (sym e))
-other-is_body_text tag.Style e n = absurd (false≢true (sym e))
-other-is_body_text tag.Xmp e n = absurd (false≢true (sym n))
-other-is_body_text tag.Script e n = absurd (false≢true (sym e))
-other-is_body_text _ e n = refl
-
 -- none is a template, or one from which text is fostered
-alone-template : (t : Tag) → holds_text_alone t ≡ true → is_template t ≡ false
+pub alone-template : (t : Tag) → holds_text_alone t ≡ true → is_template t ≡ false
 alone-template tag.Template e = absurd (false≢true e)
 alone-template _ e = refl
 
@@ -213,79 +108,46 @@ push-last (z ∷ []) [] x y e = absurd cc
 push-last (z ∷ w ∷ xs) [] x y e = absurd cc
 push-last (z ∷ xs) (w ∷ ys) x y e = push-last xs ys x y (let k : xs ++ x ∷ [] ≡ ys ++ y ∷ [] = cc in k)
 
-pub opened-other : (t : Tag) (b : State) → holds_text_alone t ≡ false → HasOpened t b
-opened-other t b e = record { opened = λ r. absurd (false≢true (sym e ∙ r)) }
-
-pub opens-not : (o : Outcome) (y : Symbol) (b : State) → starts holds_text_alone y ≡ false → Opens o y b
-opens-not Done (Start t) b e = opened-other t b e
-opens-not Done (End t) b e = tt
-opens-not Done (Char x) b e = tt
-opens-not Done Comment b e = tt
-opens-not Done Doctype b e = tt
-opens-not Done Eof b e = tt
-opens-not Reprocess y b e = tt
-opens-not (Foreign name) y b e = tt
-
 pub opened-dropped : (t : Tag) (y : Symbol) (c : Cause) (a b : State) → HasFate y (Dropped c) a b → HasOpened t b
 opened-dropped t y c a b h = record {
   opened = λ r fs x e. absurd (let k : Dropped c ≡ Made x = push-last a.ledger.fates fs (Dropped c) (Made x) (sym (ap (λ (l : Entries). l.fates) h.ledger_is) ∙ e) in cc);
 }
 
-pub opens-dropped : (y z : Symbol) (c : Cause) (a b : State) → HasFate z (Dropped c) a b → Opens Done y b
-opens-dropped (Start t) z c a b h = opened-dropped t z c a b h
-opens-dropped (End t) z c a b h = tt
-opens-dropped (Char x) z c a b h = tt
-opens-dropped Comment z c a b h = tt
-opens-dropped Doctype z c a b h = tt
-opens-dropped Eof z c a b h = tt
-
-pub opens-end : (y : Symbol) (b : State) → IsTrue (is_end y) → Opens Done y b
-opens-end (Start t) b h = absurd (false≢true h)
-opens-end (End t) b h = tt
-opens-end (Char x) b h = absurd (false≢true h)
-opens-end Comment b h = absurd (false≢true h)
-opens-end Doctype b h = absurd (false≢true h)
-opens-end Eof b h = tt
-
-tag-named : (token : TokenKind) (t : Tag) → symbol_of token ≡ Start t → tag_of (tag_name token) ≡ t
+pub tag-named : (token : TokenKind) (t : Tag) → symbol_of token ≡ Start t → tag_of (tag_name token) ≡ t
 tag-named (kind.Start n us c) t e = cc
-tag-named (kind.End n) t e = absurd cc
-tag-named (kind.Char c) t e = absurd cc
-tag-named (kind.Comment c) t e = absurd cc
-tag-named (kind.Doctype n p i q) t e = absurd cc
-tag-named kind.Eof t e = absurd cc
+tag-named _ t e = absurd cc
 
 element-contents : (t : Tree) (name : List ℕ) (attrs : List Attr) (o : Origin) → is_template (tag_of name) ≡ false → contents_in (label_for t (new.Element name attrs o)) ≡ None
 element-contents t name attrs o e = rw e refl
 
--- its element is made and opened, and the mode is text
-pub opened-text : (t : Tag) (token : TokenKind) (target : Target) (n : ℕ) (o : Mode) (a m b : State) → symbol_of token ≡ Start t
-    → IsBlank (label_for a.tree.tree (element_of a token)) (length a.tree.tree.labels) m.tree.tree → IsTree (opened_at (element_of a token) target (counting n a.tree)) m
-    → HasFate (Start t) (Made (length a.tree.tree.labels)) a m → b ≡ record m { mode = mode.Text; original = o } → HasOpened t b
-opened-text t token target n o a m b s k i f r = record {
+-- its element was made and opened, and the mode is text
+pub opened-text : (t : Tag) (token : TokenKind) (a z : State) → symbol_of token ≡ Start t → IsBlank (label_for a.tree.tree (element_of a token)) (length a.tree.tree.labels) z.tree.tree → z.mode ≡ mode.Text
+    → z.tree.stack ≡ a.tree.stack ++ length a.tree.tree.labels ∷ [] → z.ledger ≡ given a.ledger (Start t) (Made (length a.tree.tree.labels)) → HasOpened t z
+opened-text t token a z s k m w l = record {
   opened = λ alone fs x e.
-      let same : Made (length a.tree.tree.labels) ≡ Made x = push-last a.ledger.fates fs (Made (length a.tree.tree.labels)) (Made x) (sym (ap (λ (l : Entries). l.fates) f.ledger_is) ∙ (sym (ap (λ (z : State). z.ledger.fates) r) ∙ e)) in
+      let same : Made (length a.tree.tree.labels) ≡ Made x = push-last a.ledger.fates fs (Made (length a.tree.tree.labels)) (Made x) (sym (ap (λ (n : Entries). n.fates) l) ∙ e) in
       let is : length a.tree.tree.labels ≡ x = cc in
-      subst (λ z. IsOpenText z [] b) is (subst (λ z. IsOpenText (length a.tree.tree.labels) [] z) (sym r) (made alone));
+      subst (λ n. IsOpenText n [] z) is (made alone);
 }
   where
     named : tag_in (label_for a.tree.tree (element_of a token)) ≡ t
     named = element-tag a.tree.tree (tag_name token) _ _ ∙ tag-named token t s
 
-    made : holds_text_alone t ≡ true → IsOpenText (length a.tree.tree.labels) [] (record m { mode = mode.Text; original = o })
+    made : holds_text_alone t ≡ true → IsOpenText (length a.tree.tree.labels) [] z
     made alone = record {
-      mode_is = refl;
-      current = ap (λ (z : Open). last_of z.stack) i.tree_is ∙ last-pushed a.tree.stack (length a.tree.tree.labels);
+      mode_is = m;
+      current = ap last_of w ∙ last-pushed a.tree.stack (length a.tree.tree.labels);
       alone = ap holds_text_alone (ap tag_in k.label_is ∙ named) ∙ alone;
       no_contents = ap contents_in k.label_is ∙ element-contents a.tree.tree (tag_name token) _ _ (ap is_template (tag-named token t s) ∙ alone-template t alone);
       listed = k.listed;
       holds = inl (k.childless, refl);
-      prolog = ap (λ (l : Entries). l.history.prolog) f.ledger_is ∙ ap (λ z. a.ledger.history.prolog && z) (alone-html t alone) ∙ and-false a.ledger.history.prolog;
+      prolog = ap (λ (n : Entries). n.history.prolog) l ∙ ap (λ z. a.ledger.history.prolog && z) (alone-html t alone) ∙ and-false a.ledger.history.prolog;
     }
 
--- foster parenting is on, or off again
-pub open-fostering : (x : ℕ) (s : List ℕ) (a : State) (f : Bool) → IsOpenText x s a → IsOpenText x s (record a { fostering = f })
-open-fostering x s a f h = record {
+-- what tells nothing of it
+pub open-aside : (x : ℕ) (s : List ℕ) (a : State) (n : ℕ) (v : List Tag) (f : Bool) (m : Mode) (d k : ℕ) → IsOpenText x s a
+    → IsOpenText x s (record a { tree = record a.tree { steps = n }; stack = v; fostering = f; began = m; depth = d; nodes = k })
+open-aside x s a n v f m d k h = record {
   mode_is = h.mode_is;
   current = h.current;
   alone = h.alone;
@@ -294,16 +156,6 @@ open-fostering x s a f h = record {
   holds = h.holds;
   prolog = h.prolog;
 }
-
-pub opens-fostering : (o : Outcome) (y : Symbol) (b : State) (f : Bool) → Opens o y b → Opens o y (record b { fostering = f })
-opens-fostering Done (Start t) b f h = record { opened = λ r fs x e. open-fostering x [] b f (h.opened r fs x e) }
-opens-fostering Done (End t) b f h = tt
-opens-fostering Done (Char x) b f h = tt
-opens-fostering Done Comment b f h = tt
-opens-fostering Done Doctype b f h = tt
-opens-fostering Done Eof b f h = tt
-opens-fostering Reprocess y b f h = tt
-opens-fostering (Foreign name) y b f h = tt
 
 -- HOW ITS TEXT GOES ON
 
@@ -379,69 +231,47 @@ module _ (a : Open) (foster : Bool) (x : ℕ) (s run : List ℕ) (current : last
       some : text_before a.tree (Last x) ≡ Some h.0
       some = ap (λ cs. if_text a.tree (last_of cs)) h.1 ∙ ap (λ d. cond (is_text_node d) (Some h.0) None) h.2
 
-prolog-run : (e : Entries) (cs : List ℕ) (f : Fate) → e.history.prolog ≡ false → (given_run e cs f).history.prolog ≡ false
-prolog-run e [] f h = h
-prolog-run e (c ∷ cs) f h = prolog-run (given e (Char c) f) cs f (rw h refl)
-
-run-whole : (cs : List ℕ) (n : ℕ) → run_of (chars_of cs) (map (λ c. Text n) cs) ≡ cs
-run-whole [] n = refl
-run-whole (c ∷ cs) n = ap (λ z. c ∷ z) (run-whole cs n)
-
-run-length : (cs : List ℕ) (n : ℕ) → length (map (λ c. Text n) cs) ≡ length cs
-run-length [] n = refl
-run-length (c ∷ cs) n = ap suc (run-length cs n)
-
--- code points were inserted
-pub adds-inserted : (run : List ℕ) (a b : State) → b ≡ record a { tree = b.tree; ledger = b.ledger } → IsTree (record a.tree { tree = with_text a.tree a.fostering run }) b
-    → b.ledger ≡ given_run a.ledger run (Text (text_node a.tree a.fostering)) → AddsText run a b
-adds-inserted run a b r i f = record {
+-- one was inserted
+pub adds-inserted : (c : ℕ) (a : State) → AddsText (c ∷ []) a (record a { tree = record a.tree { tree = with_text a.tree a.fostering (c ∷ []) }; ledger = given a.ledger (Char c) (Text (text_node a.tree a.fostering)) })
+adds-inserted c a = record {
   added = λ x s o.
-      let n : ℕ = text_node a.tree a.fostering in
-      let t = texted a.tree a.fostering x s run o.current o.alone o.no_contents o.listed o.holds in
-      let nodes : b.tree.tree ≡ with_text a.tree a.fostering run = ap (λ (z : Open). z.tree) i.tree_is in
-      let label : label_of b.tree.tree x ≡ label_of a.tree.tree x = ap (λ z. label_of z x) nodes ∙ t.label_is in (
-        map (λ c. Text n) run,
-        ap (λ (l : Entries). l.fates) f ∙ fates-run a.ledger run (Text n),
-        run-length run n,
+      let t = texted a.tree a.fostering x s (c ∷ []) o.current o.alone o.no_contents o.listed o.holds in (
+        Text (text_node a.tree a.fostering) ∷ [],
+        refl,
+        refl,
         record {
-          mode_is = ap (λ (z : State). z.mode) r ∙ o.mode_is;
-          current = ap (λ (z : Open). last_of z.stack) i.tree_is ∙ o.current;
-          alone = ap (λ d. holds_text_alone (tag_in d)) label ∙ o.alone;
-          no_contents = ap contents_in label ∙ o.no_contents;
-          listed = subst (λ (z : Tree). x < length z.children) (sym nodes) t.listed;
-          holds = subst (λ z. HoldsText z x (s ++ run_of (chars_of run) (map (λ c. Text n) run))) (sym nodes) (subst (λ z. HoldsText (with_text a.tree a.fostering run) x (s ++ z)) (sym (run-whole run n)) t.holds);
-          prolog = ap (λ (l : Entries). l.history.prolog) f ∙ prolog-run a.ledger run (Text n) o.prolog;
+          mode_is = o.mode_is;
+          current = o.current;
+          alone = ap (λ d. holds_text_alone (tag_in d)) t.label_is ∙ o.alone;
+          no_contents = ap contents_in t.label_is ∙ o.no_contents;
+          listed = t.listed;
+          holds = t.holds;
+          prolog = ap (λ p. p && is_space c) o.prolog;
         },
       );
 }
 
-pub adds-char : (c : ℕ) (a b : State) → b ≡ record a { tree = b.tree; ledger = b.ledger } → IsTree (record a.tree { tree = with_text a.tree a.fostering (c ∷ []) }) b → HasFate (Char c) (Text (text_node a.tree a.fostering)) a b → AddsText (c ∷ []) a b
-adds-char c a b r i f = adds-inserted (c ∷ []) a b r i f.ledger_is
-
 -- one was dropped
-adds-dropped : (c : ℕ) (cause : Cause) (a b : State) → b ≡ record a { ledger = b.ledger } → HasFate (Char c) (Dropped cause) a b → (a.ledger.history.prolog ≡ false → is_aside (Dropped cause) ≡ true) → AddsText (c ∷ []) a b
-adds-dropped c cause a b r f k = record {
+pub adds-dropped : (c : ℕ) (cause : Cause) (a : State) → (a.ledger.history.prolog ≡ false → is_aside (Dropped cause) ≡ true) → AddsText (c ∷ []) a (record a { ledger = given a.ledger (Char c) (Dropped cause) })
+adds-dropped c cause a k = record {
   added = λ x s o. (
     Dropped cause ∷ [],
-    ap (λ (l : Entries). l.fates) f.ledger_is,
+    refl,
     refl,
     record {
-      mode_is = ap (λ (z : State). z.mode) r ∙ o.mode_is;
-      current = ap (λ (z : State). last_of z.tree.stack) r ∙ o.current;
-      alone = ap (λ (z : State). holds_text_alone (tag_at z.tree.tree x)) r ∙ o.alone;
-      no_contents = ap (λ (z : State). contents_at z.tree.tree x) r ∙ o.no_contents;
-      listed = subst (λ (z : State). x < length z.tree.tree.children) (sym r) o.listed;
-      holds = subst (λ (z : State). HoldsText z.tree.tree x (s ++ (cond (is_aside (Dropped cause)) [] (c ∷ []) ++ []))) (sym r)
-          (subst (λ b. HoldsText a.tree.tree x (s ++ (cond b [] (c ∷ []) ++ []))) (sym (k o.prolog)) (subst (λ z. HoldsText a.tree.tree x z) (sym (append-nil s)) o.holds));
-      prolog = ap (λ (l : Entries). l.history.prolog) f.ledger_is ∙ ap (λ p. p && is_space c) o.prolog;
+      mode_is = o.mode_is;
+      current = o.current;
+      alone = o.alone;
+      no_contents = o.no_contents;
+      listed = o.listed;
+      holds = subst (λ b. HoldsText a.tree.tree x (s ++ (cond b [] (c ∷ []) ++ []))) (sym (k o.prolog)) (subst (λ z. HoldsText a.tree.tree x z) (sym (append-nil s)) o.holds);
+      prolog = ap (λ p. p && is_space c) o.prolog;
     },
   );
 }
 
-pub adds-null : (c : ℕ) (a b : State) → b ≡ record a { ledger = b.ledger } → HasFate (Char c) (Dropped Null) a b → AddsText (c ∷ []) a b
-adds-null c a b r f = adds-dropped c Null a b r f (λ p. refl)
-
-must-aside : (h : History) (c : ℕ) (cause : Cause) → must_drop h (Char c) ≡ Some cause → h.prolog ≡ false → is_aside (Dropped cause) ≡ true
+-- one that every mode drops
+pub must-aside : (h : History) (c : ℕ) (cause : Cause) → must_drop h (Char c) ≡ Some cause → h.prolog ≡ false → is_aside (Dropped cause) ≡ true
 must-aside h c cause e p = by (is_char 10 (Char c) && h.ignore_line_feed) (sym (ap (λ b. cond b (Some PrologSpace) (cond (is_char 10 (Char c) && h.ignore_line_feed) (Some LeadingNewline) None)) none) ∙ e)
   where
     none : (is_space c && h.prolog) ≡ false
@@ -451,53 +281,9 @@ must-aside h c cause e p = by (is_char 10 (Char c) && h.ignore_line_feed) (sym (
     by true q = ap (λ z. is_aside (Dropped z)) (let k : cause ≡ LeadingNewline = cc in k)
     by false q = absurd (let k : None ≡ Some cause = q in cc)
 
--- the same of the rules that every mode has
-pub adds-must : (y : Symbol) (cause : Cause) (a b : State) → b ≡ record a { ledger = b.ledger } → HasFate y (Dropped cause) a b → must_drop a.ledger.history y ≡ Some cause → Adds Done y a b
-adds-must (Char c) cause a b r f e = adds-dropped c cause a b r f (must-aside a.ledger.history c cause e)
-adds-must (Start t) cause a b r f e = tt
-adds-must (End t) cause a b r f e = tt
-adds-must Comment cause a b r f e = tt
-adds-must Doctype cause a b r f e = tt
-adds-must Eof cause a b r f e = tt
-
--- in any other mode
-pub adds-other : (o : Outcome) (y : Symbol) (a b : State) → is_text a.mode ≡ false → Adds o y a b
-adds-other Done (Char c) a b e = record { added = λ x s o. absurd (false≢true (sym e ∙ ap is_text o.mode_is)) }
-adds-other Done (Start t) a b e = tt
-adds-other Done (End t) a b e = tt
-adds-other Done Comment a b e = tt
-adds-other Done Doctype a b e = tt
-adds-other Done Eof a b e = tt
-adds-other Reprocess (Char c) a b e = λ h. false≢true (sym e ∙ h)
-adds-other Reprocess (Start t) a b e = tt
-adds-other Reprocess (End t) a b e = tt
-adds-other Reprocess Comment a b e = tt
-adds-other Reprocess Doctype a b e = tt
-adds-other Reprocess Eof a b e = tt
-adds-other (Foreign name) y a b e = tt
-
 pub text-loose : (m : Mode) → is_loose m ≡ true → is_text m ≡ false
 text-loose mode.Text e = absurd (false≢true e)
 text-loose _ e = refl
-
-pub run-other : (run : List ℕ) (a b : State) → is_loose a.mode ≡ true → AddsText run a b
-run-other run a b e = record { added = λ x s o. absurd (false≢true (sym (text-loose a.mode e) ∙ ap is_text o.mode_is)) }
-
--- where no code point comes
-pub adds-none : (o : Outcome) (y : Symbol) (a b : State) → is_code_point y ≡ false → Adds o y a b
-adds-none Done (Char c) a b e = absurd (false≢true (sym e))
-adds-none Done (Start t) a b e = tt
-adds-none Done (End t) a b e = tt
-adds-none Done Comment a b e = tt
-adds-none Done Doctype a b e = tt
-adds-none Done Eof a b e = tt
-adds-none Reprocess (Char c) a b e = absurd (false≢true (sym e))
-adds-none Reprocess (Start t) a b e = tt
-adds-none Reprocess (End t) a b e = tt
-adds-none Reprocess Comment a b e = tt
-adds-none Reprocess Doctype a b e = tt
-adds-none Reprocess Eof a b e = tt
-adds-none (Foreign name) y a b e = tt
 
 -- HOW IT ENDS
 
@@ -556,11 +342,7 @@ ends-char o y t a b e = record { ends = λ m p. absurd (false≢true (sym p ∙ 
 
 must-char : (h : History) (y : Symbol) (c : Cause) → must_drop h y ≡ Some c → is_code_point y ≡ true
 must-char h (Char x) c e = refl
-must-char h (Start t) c e = absurd (let k : None ≡ Some c = e in cc)
-must-char h (End t) c e = absurd (let k : None ≡ Some c = e in cc)
-must-char h Comment c e = absurd (let k : None ≡ Some c = e in cc)
-must-char h Doctype c e = absurd (let k : None ≡ Some c = e in cc)
-must-char h Eof c e = absurd (let k : None ≡ Some c = e in cc)
+must-char h _ c e = absurd (let k : None ≡ Some c = e in cc)
 
 pub ends-must : (o : Outcome) (y : Symbol) (t : TokenKind) (c : Cause) (a b : State) → must_drop a.ledger.history y ≡ Some c → Ends o y t a b
 ends-must o y t c a b e = ends-char o y t a b (must-char a.ledger.history y c e)
@@ -575,103 +357,13 @@ text-astray : (m : Mode) → (is_of_selects m ≡ false → is_of_frames m ≡ f
 text-astray mode.Text n = absurd (n refl refl)
 text-astray _ n = refl
 
-pub adds-table_text : (o : Outcome) (y : Symbol) (a b : State) → is_table_text a.mode ≡ true → Adds o y a b
-adds-table_text o y a b e = adds-other o y a b (text-table a.mode e)
-
 pub ends-table_text : (o : Outcome) (y : Symbol) (t : TokenKind) (a b : State) → is_table_text a.mode ≡ true → Ends o y t a b
 ends-table_text o y t a b e = ends-other o y t a b (text-table a.mode e)
-
-pub adds-astray : (o : Outcome) (y : Symbol) (a b : State) → (is_of_selects a.mode ≡ false → is_of_frames a.mode ≡ false → ⊥) → Adds o y a b
-adds-astray o y a b n = adds-other o y a b (text-astray a.mode n)
 
 pub ends-astray : (o : Outcome) (y : Symbol) (t : TokenKind) (a b : State) → (is_of_selects a.mode ≡ false → is_of_frames a.mode ≡ false → ⊥) → Ends o y t a b
 ends-astray o y t a b n = ends-other o y t a b (text-astray a.mode n)
 
 -- ONE TOKEN
-
-text-own : (m : Mode) → m ≡ mode.Text → (is_of_selects m ≡ false) × (is_of_frames m ≡ false)
-text-own m e = (ap is_of_selects e, ap is_of_frames e)
-
--- the mode is left at the end of the call where nothing leads to it, which is not text
-pub opens-settled : (o : Outcome) (y : Symbol) (b d : State) → o ≡ Done → Opens o y b → d ≡ record b { mode = d.mode } → (is_of_selects b.mode ≡ false → is_of_frames b.mode ≡ false → d ≡ b) → Opens Done y d
-opens-settled o (Start t) b d q h r same = record {
-  opened = λ alone fs x e.
-      let k : HasOpened t b = subst (λ z. Opens z (Start t) b) q h in
-      let i : IsOpenText x [] b = k.opened alone fs x (sym (ap (λ (z : State). z.ledger.fates) r) ∙ e) in
-      let own = text-own b.mode i.mode_is in
-      subst (λ z. IsOpenText x [] z) (sym (same own.0 own.1)) i;
-}
-opens-settled o (End t) b d q h r same = tt
-opens-settled o (Char c) b d q h r same = tt
-opens-settled o Comment b d q h r same = tt
-opens-settled o Doctype b d q h r same = tt
-opens-settled o Eof b d q h r same = tt
-
-open-later : (x : ℕ) (s : List ℕ) (a : State) (n : ℕ) (m : Mode) (d k : ℕ) → IsOpenText x s a → IsOpenText x s (later a n m d k)
-open-later x s a n m d k h = record {
-  mode_is = h.mode_is;
-  current = h.current;
-  alone = h.alone;
-  no_contents = h.no_contents;
-  listed = h.listed;
-  holds = h.holds;
-  prolog = h.prolog;
-}
-
-open-alike : (x : ℕ) (s : List ℕ) (a b : State) → IsAlike a b → IsOpenText x s a → IsOpenText x s b
-open-alike x s a b f h = subst (λ z. IsOpenText x s z) (sym f.same) (open-later x s a b.tree.steps b.began b.depth b.nodes h)
-
-same-fates : (a b : State) → IsAlike a b → b.ledger.fates ≡ a.ledger.fates
-same-fates a b f = ap (λ (z : State). z.ledger.fates) f.same
-
--- before it and after it no more than steps are counted
-pub adds-alike : (run : List ℕ) (a n b : State) → IsAlike a n → AddsText run n b → AddsText run a b
-adds-alike run a n b f h = record {
-  added = λ x s o.
-      let p = h.added x s (open-alike x s a n f o) in
-      (p.0, p.1 ∙ ap (λ z. z ++ p.0) (same-fates a n f), p.2, p.3);
-}
-
-pub adds-later : (run : List ℕ) (a b d : State) → AddsText run a b → IsAlike b d → AddsText run a d
-adds-later run a b d h f = record {
-  added = λ x s o.
-      let p = h.added x s o in
-      (p.0, same-fates b d f ∙ p.1, p.2, open-alike x (s ++ run_of (chars_of run) p.0) b d f p.3);
-}
-
--- the token is done with
-adds-settled : (c : ℕ) (a b d : State) → AddsText (c ∷ []) a b → (is_of_selects b.mode ≡ false → is_of_frames b.mode ≡ false → d ≡ b) → AddsText (c ∷ []) a d
-adds-settled c a b d h same = record {
-  added = λ x s o.
-      let p = h.added x s o in
-      let own = text-own b.mode p.3.mode_is in
-      let e : d ≡ b = same own.0 own.1 in
-      (p.0, ap (λ (z : State). z.ledger.fates) e ∙ p.1, p.2, subst (λ z. IsOpenText x (s ++ run_of (Char c ∷ []) p.0) z) (sym e) p.3);
-}
-
-text-mode : (m : Mode) → (is_text m ≡ true) ⊎ (is_text m ≡ false)
-text-mode mode.Text = inl refl
-text-mode _ = inr refl
-
-pub adds-done : (o : Outcome) (y : Symbol) (a n b d : State) → o ≡ Done → (is_text a.mode ≡ true → is_code_point y ≡ true → IsAlike a n) → Adds o y n b → (is_of_selects b.mode ≡ false → is_of_frames b.mode ≡ false → d ≡ b) → Adds Done y a d
-adds-done o (Char c) a n b d q f h same = elim (text-mode a.mode) [
-  | inl m ↦ adds-settled c a b d (adds-alike (c ∷ []) a n b (f m refl) (subst (λ z. Adds z (Char c) n b) q h)) same
-  | inr m ↦ adds-other Done (Char c) a d m
-]
-adds-done o (Start t) a n b d q f h same = tt
-adds-done o (End t) a n b d q f h same = tt
-adds-done o Comment a n b d q f h same = tt
-adds-done o Doctype a n b d q f h same = tt
-adds-done o Eof a n b d q f h same = tt
-
--- the token is still in hand, which no code point is in the mode text
-pub adds-not : (o : Outcome) (y : Symbol) (a n b : State) → o ≡ Reprocess → IsAlike a n → Adds o y n b → is_text a.mode ≡ true → is_code_point y ≡ true → ⊥
-adds-not o (Char c) a n b q f h m p = (let k : Adds Reprocess (Char c) n b = subst (λ z. Adds z (Char c) n b) q h in k (ap (λ (z : State). is_text z.mode) f.same ∙ m))
-adds-not o (Start t) a n b q f h m p = false≢true p
-adds-not o (End t) a n b q f h m p = false≢true p
-adds-not o Comment a n b q f h m p = false≢true p
-adds-not o Doctype a n b q f h m p = false≢true p
-adds-not o Eof a n b q f h m p = false≢true p
 
 -- what came of the token so far
 abbrev pub Leaving : TokenKind → State → State → Type 0
@@ -701,16 +393,10 @@ ends-done o y t a i m n b d q f k l u g v h w z = record {
         leaves-done t i b d (leaves-alike Done t i n b (λ h w. v h (u h w)) j (subst (λ x. Leaves x t n b) q (h.ends (ap (λ (x : State). is_text x.mode) (alike-then a i n f j).same ∙ r) p))) z
     on r p (inr e) = leaves-done t i b d (leaves-taken t i n b (leaves-kept t i m n e v) (subst (λ x. Steps x t n b) q w)) z
 
-pub ruleset open_rules = (opened-other, opened-dropped, opens-not, opens-dropped, opens-end)
+pub ruleset headish_names = (headish-is_noscript_part, headish-is_table_head)
 
-pub ruleset body_names = (opened-other, opened-dropped, other-is_block, other-is_heading, other-is_preformatted, other-takes_marker, other-is_formatting, other-is_void_phrase, other-is_void_part, other-is_image, other-is_body_text)
+pub ruleset other_rules = (ends-other)
 
-pub ruleset head_names = (opened-other, opens-not, opens-dropped, opens-end, other-is_template, other-is_headish, headish-is_noscript_part, headish-is_table_head)
+pub ruleset step_texts = (ends-table_text, ends-astray, ends-must)
 
-pub ruleset table_names = (opened-other, opens-not, opens-dropped, opens-end, opens-fostering, headish-is_table_head, other-is_section, other-is_cell)
-
-pub ruleset other_rules = (adds-other, ends-other)
-
-pub ruleset step_texts = (opens-dropped, opens-not, adds-table_text, ends-table_text, adds-astray, ends-astray, adds-must, ends-must)
-
-pub ruleset text_texts = (opens-not, opens-end, adds-none, ends-char, ends-still, adds-char, adds-null)
+pub ruleset text_texts = (ends-char, ends-still)

@@ -21,7 +21,6 @@ use Rattle.html_construction.specs.Built.{Keeps, with_tokens}
 use Rattle.html_construction.specs.Copies.{implied_count}
 use Rattle.html_construction.specs.Grown.{Grown}
 use Rattle.html_construction.specs.Works.{Works, reach_of, toll_of}
-use Rattle.html_modes.proofs.Counting.{Settles-grows}
 use Rattle.html_modes.proofs.Moded.{ModeFits-loose, opened-loose, Quiet-none, top_rank-loose, top_rank-reset, loose-reset, loose-table, rank-reset_table, rank-reset_eof, rank-char_table, rank-start_table, rank-top, rank-reset, rank-loose, rank-table_text, top_rank-all, Quiet-other, is-table_text, other-loose, other-runs, loose-runs, is-text, other-text}
 use Rattle.html_modes.proofs.Tagged.{apart-is_void, own-body_text, own-other, root-is_headish, named-is_block, unlisted-is_block, named-is_heading, named-is_preformatted, named-takes_marker, named-is_head_text, named-is_section, named-is_cell, small-other, small-is_block, small-is_heading, small-is_preformatted, small-takes_marker, small-is_head_text, small-is_section, small-is_cell, small-is_formatting, weight_of-most, placed-is_table_piece, placed-ends_section, placed-ends_row, rank-section, rank-row, rank-cell, rank-caption, rank-group, group-least, rank-table_part, outside-ends_select, outside-ends_select_in_table, may_misplace-placed, is_visible-space, apart-is_headish, apart-is_head_text, apart-is_block, apart-is_heading, apart-is_preformatted, apart-takes_marker, apart-is_void_phrase, apart-is_void_part, apart-is_formatting, apart-unplaced, part-is_section, part-is_cell}
 use Rattle.html_construction.proofs.Telling.{any-refused, char-refused}
@@ -307,7 +306,7 @@ text-works n s m w = (w.0, (w.1.0, (let z : (n + 6) * reach_of m ≡ n * reach_o
 
 pub ruleset run_rules = (char-foreign, Pays-run, Toils-run, Fits-loose, Fits-opened, Fits-dropped, Fits-quiet, other-loose, other-runs, loose-runs, is-text, other-text, text-stack, any-refused, char-refused)
 
-pub ruleset rules_rules = (Spends-one, Settles-grows, Counted-worked, any-refused)
+pub ruleset rules_rules = (Spends-one, Counted-worked, any-refused)
 
 -- what is true of a token's entries so far
 abbrev pub Entered : Symbol → State → State → Type 0

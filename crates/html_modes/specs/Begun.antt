@@ -1,19 +1,17 @@
--- Claimed, but for this crate's own functions: begins_foreign, Ignores, IgnoresIn, IgnoresFirst.
+-- Claimed, but for this crate's own functions: begins_foreign.
 -- What a call does of the insertion mode in which it begins (13.2.6).
 use Rattle.std.specs.Prelude.{◌≡◌, ◌||◌, ◌++◌, Bool, true, false, List}
 use Rattle.std.specs.List.{list_all}
 use Rattle.html_ledger.specs.declared.fate.Fate.{Fate}
 use Rattle.html_ledger.specs.declared.symbol.Symbol.{Symbol}
 use Rattle.html_ledger.specs.declared.symbol.Symbol.TheVariants.{Start}
-use Rattle.html_construction.specs.Begun.{IsFounded, gives_in}
+use Rattle.html_construction.specs.Begun.{gives_in}
 use Rattle.html_construction.specs.Built.{Handed, IsBuilt}
 use Rattle.html_construction.specs.Modes.{is_of_column_groups, is_of_frames, is_of_selects}
 use Rattle.html_construction.specs.States.{State}
 use Rattle.html_construction.specs.declared.mode.Mode.{Mode}
 use Rattle.html_tree.specs.Proper.{is_foreign_root}
 use Rattle.html_modes.specs.Steps.{is_code_point}
-use Rattle.html_modes.specs.declared.outcome.Outcome.{Outcome}
-use Rattle.html_modes.specs.declared.outcome.Outcome.TheVariants.{Done}
 
 -- Each fate that was given is one that tokens may have in a call that begins in this mode.
 pub record Gives (m : Mode) (before after : List Fate) : Type 0 where
@@ -35,18 +33,6 @@ begins_foreign _ = false
 -- the modes in which it is ignored: those inside a select, and those of a page of frames (13.2.6.4.16, 13.2.6.4.17, 13.2.6.4.20, 13.2.6.4.21 and 13.2.6.4.23)
 abbrev pub ignores_foreign : Mode → Bool
 ignores_foreign m = is_of_selects m || is_of_frames m
-
--- The token is done with where it begins foreign content.
-pub record Ignores (o : Outcome) (y : Symbol) : Type 0 where
-  pub done : begins_foreign y ≡ true → o ≡ Done
-
--- so in those modes
-pub record IgnoresIn (m : Mode) (o : Outcome) (y : Symbol) : Type 0 where
-  pub done : ignores_foreign m ≡ true → Ignores o y
-
--- so in the first entry of a call, where something leads to its mode
-pub record IgnoresFirst (a : State) (o : Outcome) (y : Symbol) : Type 0 where
-  pub done : IsFounded a → a.began ≡ a.mode → IgnoresIn a.mode o y
 
 -- TEXT
 

@@ -156,6 +156,8 @@ pub record Follows (g : Tag) (o : Outcome) (y : Symbol) (k : TokenKind) (a b : S
   pub done : o ≡ Done
   pub stayed : Stayed g y k a b
   pub frameset_ok_is : b.frameset_ok ≡ frameset_ok_after y a.frameset_ok
+  pub mode_is : b.mode ≡ a.mode
+  pub parses_is : b.parses_foreign ≡ a.parses_foreign
 
 -- So is an entry of a token that goes by them and stays in foreign content, where the mode is none of selects or of frames and the token is not dropped in
 -- every mode.

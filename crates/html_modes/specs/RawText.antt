@@ -69,19 +69,18 @@ pub record IsOpenText (x : ℕ) (s : List ℕ) (a : State) : Type 0 where
 pub record HasOpened (t : Tag) (b : State) : Type 0 where
   pub opened : holds_text_alone t ≡ true → (fs : List Fate) (x : ℕ) → b.ledger.fates ≡ fs ++ Made x ∷ [] → IsOpenText x [] b
 
-abbrev pub Opens : Outcome → Symbol → State → Type 0
-Opens Done (Start t) b = HasOpened t b
-Opens _ y b = Unit {0}
+abbrev pub OpensBy : Symbol → State → Type 0
+OpensBy (Start t) b = HasOpened t b
+OpensBy y b = Unit {0}
 
 -- Code points in a row come while one is open so: it stays open so, and holds them too, but for those that are no part of its text.
 pub record AddsText (run : List ℕ) (a b : State) : Type 0 where
   pub added : (x : ℕ) (s : List ℕ) → IsOpenText x s a
       → (fs : List Fate) × (b.ledger.fates ≡ a.ledger.fates ++ fs) × (length fs ≡ length run) × IsOpenText x (s ++ run_of (chars_of run) fs) b
 
-abbrev pub Adds : Outcome → Symbol → State → State → Type 0
-Adds Done (Char c) a b = AddsText (c ∷ []) a b
-Adds Reprocess (Char c) a b = is_text a.mode ≡ true → ⊥
-Adds _ y a b = Unit {0}
+abbrev pub AddsBy : Symbol → State → State → Type 0
+AddsBy (Char c) a b = AddsText (c ∷ []) a b
+AddsBy y a b = Unit {0}
 
 -- The same nodes, where the current one was closed.
 pub record IsLeft (a m : Open) : Type 0 where
@@ -97,14 +96,6 @@ Leaves (Foreign name) t a b = Unit {0}
 
 pub record Ends (o : Outcome) (y : Symbol) (t : TokenKind) (a b : State) : Type 0 where
   pub ends : is_text a.mode ≡ true → is_code_point y ≡ false → Leaves o t a b
-
--- WHAT A TOKEN DOES THAT IS DONE WITH
-
-abbrev pub OpensBy : Symbol → State → Type 0
-OpensBy y b = Opens Done y b
-
-abbrev pub AddsBy : Symbol → State → State → Type 0
-AddsBy y a b = Adds Done y a b
 
 -- so in one call
 abbrev pub LeavesIn : TokenKind → State → State → Type 0

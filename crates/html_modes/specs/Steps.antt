@@ -1,4 +1,4 @@
--- Claimed, but for this crate's own functions: IsRefused, Steps, Falls, Grows, Spends, Settles, Worked, Counts, Counted.
+-- Claimed, but for this crate's own functions: IsRefused, Steps, Falls, Grows, Spends, Worked, Counts, Counted.
 -- What one entry of a token into the rules of a mode does (13.2.6).
 use Rattle.std.specs.Prelude.{ℕ, ◌+◌, ◌*◌, ◌≡◌, ◌<◌, ◌≤◌, Bool, true, false, [], length}
 use Rattle.html_tokens.specs.declared.token.TokenKind.{TokenKind}
@@ -75,12 +75,6 @@ Spends more a b =
 abbrev pub is_code_point : Symbol → Bool
 is_code_point (Char c) = true
 is_code_point _ = false
-
--- A token that is no code point and is done with has its fate, and no code points were kept before it.
-abbrev pub Settles : Outcome → Symbol → State → State → Type 0
-Settles Done t a b = is_code_point t ≡ false → (a.ledger.kept ≡ []) × (length b.ledger.fates ≡ length a.ledger.fates + 1)
-Settles Reprocess t a b = Unit {0}
-Settles (Foreign name) t a b = Unit {0}
 
 -- One token makes what its allowance grants, and what the open elements and the mode then count is room for later entries: each makes one element at
 -- most that no token asked for.

@@ -28,7 +28,6 @@ pub(crate) fn is_astray(page: &Construction, symbol: Symbol) -> bool
     ensures frameset { result ≡ false → is_droppable symbol ≡ true → is_of_frames page.now.mode ≡ true → page.now.ledger.history.frameset ≡ true }
     ensures in_select { result ≡ false → is_droppable symbol ≡ true → is_of_selects page.now.mode ≡ true → is_of_selects page.now.began ≡ true }
     ensures in_frameset { result ≡ false → is_droppable symbol ≡ true → is_of_frames page.now.mode ≡ true → is_of_frames page.now.began ≡ true }
-    ensures founded { IsFounded page.now → page.now.began ≡ page.now.mode → result ≡ false }
     ensures other { is_of_selects page.now.mode ≡ false → is_of_frames page.now.mode ≡ false → result ≡ false }
     ensures loose { result ≡ true → is_loose page.now.mode ≡ true }
     ensures high { (s : AnySymbol) → result ≡ true → 2 ≤ rank page.now.mode s }

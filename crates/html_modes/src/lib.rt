@@ -1,5 +1,6 @@
 //! Tree construction (13.2.6): the insertion modes of HTML, which make a tree of the tokens of a page, and keep a ledger of what became of
 //! each token. The rules are functions over the state of tree construction; each ends with the token done with or to be reprocessed.
+//! Imported by crates of this workspace.
 //!
 //! | Section | Insertion mode | File | Function |
 //! |---|---|---|---|

@@ -20,8 +20,8 @@ ghost use Rattle.html_construction.specs.Weights.{weight};
 use crate::guards::{is_text, takes_run};
 use crate::modes::body::body_plain;
 use crate::runs::take_char;
-use html_charref::PlainText;
-use html_construction::{Construction, Refusal};
+use html_construction::{ArenaError, Construction};
+use html_text::PlainText;
 
 /// Takes a front of a text that isn't empty, a code point a token, and answers its length: a run where the mode takes one, else one code
 /// point; in foreign content one. Of a run the longest front is taken that the limit on held code points takes. `entries` counts the entries of these tokens into the
@@ -30,11 +30,12 @@ use html_construction::{Construction, Refusal};
 /// # Errors
 ///
 /// Those of `take` for the first code point.
+#[tactic(auto, using(crate::proofs::Begun::run_begun, crate::proofs::TextAlone::run_texts))]
 pub fn take_plain_front(
     page: &mut Construction,
     text: &PlainText<'_>,
     entries: &mut u64,
-) -> Result<usize, Refusal>
+) -> Result<usize, ArenaError>
     requires fits { Fits page.old }
     requires some { 0 < length text.now }
     ensures fits { OnOk result (Fits page.new) }
@@ -65,7 +66,7 @@ pub fn take_plain_front(
 
 /// Takes the longest front of a plain text that the limits take.
 #[tactic(auto, using(crate::proofs::Settled::run_rules, crate::proofs::Begun::run_begun))]
-fn take_plain(page: &mut Construction, text: &PlainText<'_>) -> Result<usize, Refusal>
+fn take_plain(page: &mut Construction, text: &PlainText<'_>) -> Result<usize, ArenaError>
     requires fits { Fits page.old }
     requires mode { takes_runs page.old.mode ≡ true }
     requires some { 0 < length text.now }
@@ -74,15 +75,12 @@ fn take_plain(page: &mut Construction, text: &PlainText<'_>) -> Result<usize, Re
     ensures fits { OnOk result (Fits page.new) }
     ensures takes { IfOk result (λ n. AcceptsRun (take n text.now) page.old page.new) }
     ensures parses { OnOk result (page.new.parses_foreign ≡ page.old.parses_foreign) }
-    ensures gives { OnOk result (GivesIn page.old page.new) }
-    ensures out { OnOk result (StaysOut page.old.mode page.new.mode) }
     ensures founded { OnOk result (IsFounded page.new) }
     ensures count { IfOk result (λ n. (0 < n) × (n ≤ length text.now)) }
     ensures pays { OnOk result (Pays page.old page.new) }
     ensures lighter { OnOk result (weight page.new.stack + top_rank page.new.mode ≤ weight page.old.stack + top_rank page.old.mode) }
     ensures toils { OnOk result (Toils 0 page.old page.new) }
     ensures plain { IfOk result (λ n. GoesOnText (take n text.now) page.old page.new) }
-    ensures adds { IfOk result (λ n. AddsText (take n text.now) page.old page.new) }
     ensures constructs { IfOk result (λ n. Constructs (chars_of (take n text.now)) page.old page.new) }
     ensures refuses { IfErr result (λ e. RefusesAny e page.old page.new) }
 {
@@ -96,7 +94,7 @@ fn take_plain(page: &mut Construction, text: &PlainText<'_>) -> Result<usize, Re
 
 /// The same, in the mode text.
 #[tactic(auto, using(crate::proofs::Settled::run_rules))]
-fn take_text_plain(page: &mut Construction, text: &PlainText<'_>) -> Result<usize, Refusal>
+fn take_text_plain(page: &mut Construction, text: &PlainText<'_>) -> Result<usize, ArenaError>
     requires fits { Fits page.old }
     requires mode { is_text page.old.mode ≡ true }
     requires some { 0 < length text.now }
@@ -110,7 +108,6 @@ fn take_text_plain(page: &mut Construction, text: &PlainText<'_>) -> Result<usiz
     ensures pays { OnOk result (Pays page.old page.new) }
     ensures lighter { OnOk result (weight page.new.stack + top_rank page.new.mode ≤ weight page.old.stack + top_rank page.old.mode) }
     ensures toils { OnOk result (Toils 0 page.old page.new) }
-    ensures adds { IfOk result (λ n. AddsText (take n text.now) page.old page.new) }
     ensures constructs { IfOk result (λ n. Constructs (chars_of (take n text.now)) page.old page.new) }
     ensures refuses { IfErr result (λ e. RefusesAny e page.old page.new) }
 {
@@ -122,7 +119,7 @@ fn take_text_plain(page: &mut Construction, text: &PlainText<'_>) -> Result<usiz
 
 /// The same, in modes that go by the rules of the body.
 #[tactic(auto, using(crate::proofs::Settled::run_rules))]
-fn take_body_plain(page: &mut Construction, text: &PlainText<'_>) -> Result<usize, Refusal>
+fn take_body_plain(page: &mut Construction, text: &PlainText<'_>) -> Result<usize, ArenaError>
     requires fits { Fits page.old }
     requires loose { is_loose page.old.mode ≡ true }
     requires some { 0 < length text.now }
@@ -138,7 +135,6 @@ fn take_body_plain(page: &mut Construction, text: &PlainText<'_>) -> Result<usiz
     ensures lighter { OnOk result (weight page.new.stack + top_rank page.new.mode ≤ weight page.old.stack + top_rank page.old.mode) }
     ensures toils { OnOk result (Toils 0 page.old page.new) }
     ensures plain { IfOk result (λ n. GoesOnText (take n text.now) page.old page.new) }
-    ensures adds { IfOk result (λ n. AddsText (take n text.now) page.old page.new) }
     ensures constructs { IfOk result (λ n. Constructs (chars_of (take n text.now)) page.old page.new) }
     ensures refuses { IfErr result (λ e. RefusesAny e page.old page.new) }
 {

@@ -5,7 +5,7 @@ ghost use Rattle.html_ledger.specs.Flags.{is_free, may_select};
 ghost use Rattle.html_construction.specs.Budgets.{Refuses};
 ghost use Rattle.html_construction.specs.Begun.{IsFounded};
 ghost use Rattle.html_construction.specs.Built.{Accepts, Keeps};
-ghost use Rattle.html_modes.specs.Begun.{GivesIn, IgnoresFirst, IgnoresIn, StaysOut, TextStays, ignores_foreign};
+ghost use Rattle.html_modes.specs.Begun.{GivesIn, TextStays, ignores_foreign};
 ghost use Rattle.html_modes.specs.Entering.{Enters};
 ghost use Rattle.html_construction.specs.Foreign.{foreign_tag};
 ghost use Rattle.html_modes.specs.Fitting.{Fits, is_loose};
@@ -14,11 +14,11 @@ ghost use Rattle.html_modes.specs.Dispatching.{Entries, FollowsOn, IsDispatched,
 ghost use Rattle.html_modes.specs.Plain.{GoesOn, Turns};
 ghost use Rattle.html_modes.specs.Rules.{Follows as FollowsPlan, plan};
 ghost use Rattle.html_modes.specs.declared.outcome.Outcome.TheVariants.{Done};
-ghost use Rattle.html_modes.specs.Steps.{Counted, Falls, Pays, Settles, Spends, Steps, Toils, compared, root_of};
+ghost use Rattle.html_modes.specs.Steps.{Counted, Falls, Pays, Spends, Steps, Toils, compared, root_of};
 ghost use Rattle.html_modes.specs.Ranks.{top_rank};
 ghost use Rattle.html_construction.specs.Modes.{is_of_frames, is_of_selects};
 ghost use Rattle.html_modes.specs.Guards.{is_droppable, is_table_text};
-ghost use Rattle.html_modes.specs.RawText.{Adds, AddsBy, Ends, EndsBy, Opens, OpensBy};
+ghost use Rattle.html_modes.specs.RawText.{AddsBy, Ends, EndsBy, OpensBy};
 
 use crate::guards::{is_astray, is_table_text, is_unfounded};
 use crate::modes::after::{after_after_body, after_body};
@@ -36,7 +36,7 @@ use crate::modes::table_text::in_table_text;
 use crate::modes::template::in_template;
 use crate::modes::text::text;
 use crate::outcome::{Foreign, Outcome};
-use html_construction::{Construction, Mode, Refusal};
+use html_construction::{ArenaError, Construction, Mode};
 use html_ledger::Symbol;
 use html_names::Tag;
 use html_tokens::TokenKind;
@@ -55,7 +55,7 @@ pub fn take(
     token: &TokenKind,
     symbol: Symbol,
     entries: &mut u64,
-) -> Result<Option<Foreign>, Refusal>
+) -> Result<Option<Foreign>, ArenaError>
     requires symbol { symbol_of token.now ≡ symbol }
     requires fits { Fits page.old }
     ensures fits { OnOk result (Fits page.new) }
@@ -86,6 +86,7 @@ pub fn take(
             Outcome::Done => {
                 settle(page);
                 page.laws();
+                page.forest();
                 return Ok(None);
             }
             Outcome::Reprocess => {}
@@ -104,7 +105,6 @@ fn settle(page: &mut Construction)
     ensures top { top_rank page.new.mode ≤ top_rank page.old.mode }
     ensures same { is_of_selects page.old.mode ≡ false → is_of_frames page.old.mode ≡ false → page.new ≡ page.old }
     ensures founded { IsFounded page.new }
-    ensures out { StaysOut page.old.mode page.new.mode }
     ensures settled { page.new ≡ settled page.old }
 {
     if is_unfounded(page) {
@@ -113,24 +113,17 @@ fn settle(page: &mut Construction)
 }
 
 /// One entry: the text of a table, what every mode drops, the rules for foreign content, or those of the mode that is set (13.2.6).
-#[tactic(auto, using(crate::proofs::Settled::step_rules, crate::proofs::Plain::step_plain, crate::proofs::RawText::step_texts, crate::proofs::Begun::first_rules, crate::proofs::Begun::text_stays, crate::proofs::Embedding::step_foreign, crate::proofs::Dispatching::entries))]
-fn step(page: &mut Construction, token: &TokenKind, symbol: Symbol) -> Result<Outcome, Refusal>
+#[tactic(auto, using(crate::proofs::Settled::step_rules, crate::proofs::Plain::step_plain, crate::proofs::RawText::step_texts, crate::proofs::Embedding::step_foreign, crate::proofs::Dispatching::entries))]
+fn step(page: &mut Construction, token: &TokenKind, symbol: Symbol) -> Result<Outcome, ArenaError>
     requires symbol { symbol_of token.now ≡ symbol }
     requires fits { Fits page.old }
     ensures fits { OnOk result (Fits page.new) }
     ensures takes { IfOk result (λ o. Steps o token.now page.old page.new) }
-    ensures parses { OnOk result (page.new.parses_foreign ≡ page.old.parses_foreign) }
     ensures falls { IfOk result (λ o. Falls o symbol page.old page.new) }
-    ensures out { OnOk result (TextStays symbol page.old.mode page.new.mode) }
     ensures spends { OnOk result (Spends 2 page.old page.new) }
     ensures counts { IfOk result (λ o. Counted 26 o token.now page.old page.new) }
-    ensures ignores { IfOk result (λ o. IgnoresFirst page.old o symbol) }
-    ensures settles { IfOk result (λ o. Settles o symbol page.old page.new) }
     ensures plain { IfOk result (λ o. Turns o symbol token.now page.old page.new) }
-    ensures opens { IfOk result (λ o. Opens o symbol page.new) }
-    ensures adds { IfOk result (λ o. Adds o symbol page.old page.new) }
     ensures ends { IfOk result (λ o. Ends o symbol token.now page.old page.new) }
-    ensures foreign { IfOk result (λ o. FollowsForeign o symbol token.now page.old page.new) }
     ensures refuses { IfErr result (λ e. Refuses token.now e page.old page.new) }
     ensures entry { IfOk result (λ o. IsEntry o symbol token.now page.old page.new) }
 {
@@ -155,9 +148,13 @@ fn step(page: &mut Construction, token: &TokenKind, symbol: Symbol) -> Result<Ou
 }
 
 /// The tree construction dispatcher (13.2.6), where foreign content was made or is the context.
-#[tactic(auto, using(crate::proofs::Settled::step_rules, crate::proofs::Plain::step_plain, crate::proofs::RawText::step_texts, crate::proofs::Begun::text_stays, crate::proofs::Embedding::step_foreign, crate::proofs::Dispatching::entries))]
+#[tactic(auto, using(crate::proofs::Settled::step_rules, crate::proofs::Plain::step_plain, crate::proofs::RawText::step_texts, crate::proofs::Embedding::step_foreign, crate::proofs::Dispatching::entries))]
 #[inline(never)]
-fn dispatch(page: &mut Construction, token: &TokenKind, symbol: Symbol) -> Result<Outcome, Refusal>
+fn dispatch(
+    page: &mut Construction,
+    token: &TokenKind,
+    symbol: Symbol,
+) -> Result<Outcome, ArenaError>
     requires symbol { symbol_of token.now ≡ symbol }
     requires foreign { page.old.ledger.history.foreign ≡ true }
     requires fits { Fits page.old }
@@ -170,18 +167,11 @@ fn dispatch(page: &mut Construction, token: &TokenKind, symbol: Symbol) -> Resul
     requires in_frameset { is_droppable symbol ≡ true → is_of_frames page.old.mode ≡ true → is_of_frames page.old.began ≡ true }
     ensures fits { OnOk result (Fits page.new) }
     ensures takes { IfOk result (λ o. Steps o token.now page.old page.new) }
-    ensures parses { OnOk result (page.new.parses_foreign ≡ page.old.parses_foreign) }
     ensures falls { IfOk result (λ o. Falls o symbol page.old page.new) }
-    ensures out { OnOk result (TextStays symbol page.old.mode page.new.mode) }
     ensures spends { OnOk result (Spends 2 page.old page.new) }
     ensures counts { IfOk result (λ o. Counted 26 o token.now page.old page.new) }
-    ensures ignores { IfOk result (λ o. IgnoresIn page.old.mode o symbol) }
-    ensures settles { IfOk result (λ o. Settles o symbol page.old page.new) }
     ensures plain { IfOk result (λ o. Turns o symbol token.now page.old page.new) }
-    ensures opens { IfOk result (λ o. Opens o symbol page.new) }
-    ensures adds { IfOk result (λ o. Adds o symbol page.old page.new) }
     ensures ends { IfOk result (λ o. Ends o symbol token.now page.old page.new) }
-    ensures foreign { IfOk result (λ o. FollowsForeign o symbol token.now page.old page.new) }
     ensures refuses { IfErr result (λ e. Refuses token.now e page.old page.new) }
     ensures dispatched { IfOk result (λ o. IsDispatched o symbol token.now page.old page.new) }
 {
@@ -202,7 +192,7 @@ fn foreign_rules(
     token: &TokenKind,
     symbol: Symbol,
     around: Tag,
-) -> Result<Outcome, Refusal>
+) -> Result<Outcome, ArenaError>
     requires symbol { symbol_of token.now ≡ symbol }
     requires fits { Fits page.old }
     requires loose { is_loose page.old.mode ≡ true }
@@ -215,14 +205,9 @@ fn foreign_rules(
     requires in_frameset { is_droppable symbol ≡ true → is_of_frames page.old.mode ≡ true → is_of_frames page.old.began ≡ true }
     ensures fits { OnOk result (Fits page.new) }
     ensures takes { IfOk result (λ o. Steps o token.now page.old page.new) }
-    ensures parses { OnOk result (page.new.parses_foreign ≡ page.old.parses_foreign) }
     ensures falls { IfOk result (λ o. Falls o symbol page.old page.new) }
-    ensures out { OnOk result (TextStays symbol page.old.mode page.new.mode) }
     ensures spends { OnOk result (Spends 2 page.old page.new) }
     ensures counts { IfOk result (λ o. Counted 26 o token.now page.old page.new) }
-    ensures ignores { IfOk result (λ o. IgnoresIn page.old.mode o symbol) }
-    ensures settles { IfOk result (λ o. Settles o symbol page.old page.new) }
-    ensures opens { IfOk result (λ o. Opens o symbol page.new) }
     ensures follows { IfOk result (λ o. goes_on page.old.tree symbol token.now ≡ false → Follows around o symbol token.now page.old page.new) }
     ensures refuses { IfErr result (λ e. Refuses token.now e page.old page.new) }
     ensures on { IfOk result (λ o. goes_on page.old.tree symbol token.now ≡ true → FollowsOn (plan page.old.mode symbol) o symbol token.now page.old page.new) }
@@ -236,9 +221,9 @@ fn foreign_rules(
 }
 
 /// The rules of the mode that is set.
-#[tactic(auto, using(crate::proofs::Settled::rules_rules, crate::proofs::Plain::rules_plain, crate::proofs::RawText::other_rules, crate::proofs::Begun::modes_ignoring, crate::proofs::Dispatching::plans))]
+#[tactic(auto, using(crate::proofs::Settled::rules_rules, crate::proofs::Plain::rules_plain, crate::proofs::RawText::other_rules, crate::proofs::Dispatching::plans))]
 #[inline(always)]
-fn rules(page: &mut Construction, token: &TokenKind, symbol: Symbol) -> Result<Outcome, Refusal>
+fn rules(page: &mut Construction, token: &TokenKind, symbol: Symbol) -> Result<Outcome, ArenaError>
     requires symbol { symbol_of token.now ≡ symbol }
     requires fits { Fits page.old }
     requires quiet { page.old.ledger.kept ≡ [] }
@@ -250,16 +235,10 @@ fn rules(page: &mut Construction, token: &TokenKind, symbol: Symbol) -> Result<O
     requires in_frameset { is_droppable symbol ≡ true → is_of_frames page.old.mode ≡ true → is_of_frames page.old.began ≡ true }
     ensures fits { OnOk result (Fits page.new) }
     ensures takes { IfOk result (λ o. Steps o token.now page.old page.new) }
-    ensures parses { OnOk result (page.new.parses_foreign ≡ page.old.parses_foreign) }
     ensures falls { IfOk result (λ o. Falls o symbol page.old page.new) }
-    ensures out { OnOk result (TextStays symbol page.old.mode page.new.mode) }
     ensures spends { OnOk result (Spends 2 page.old page.new) }
     ensures counts { IfOk result (λ o. Counted 24 o token.now page.old page.new) }
-    ensures ignores { IfOk result (λ o. IgnoresIn page.old.mode o symbol) }
-    ensures settles { IfOk result (λ o. Settles o symbol page.old page.new) }
     ensures plain { IfOk result (λ o. Turns o symbol token.now page.old page.new) }
-    ensures opens { IfOk result (λ o. Opens o symbol page.new) }
-    ensures adds { IfOk result (λ o. Adds o symbol page.old page.new) }
     ensures ends { IfOk result (λ o. Ends o symbol token.now page.old page.new) }
     ensures refuses { IfErr result (λ e. Refuses token.now e page.old page.new) }
     ensures follows { IfOk result (λ o. FollowsPlan (plan page.old.mode symbol) token.now o page.old page.new) }

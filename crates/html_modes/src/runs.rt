@@ -20,7 +20,7 @@ ghost use Rattle.html_construction.specs.Weights.{weight};
 use crate::guards::{is_text, takes_run};
 use crate::modes::body::body_run;
 use crate::process::take;
-use html_construction::{Construction, Refusal};
+use html_construction::{ArenaError, Construction};
 use html_ledger::Symbol;
 use html_tokens::TokenKind;
 
@@ -31,11 +31,12 @@ use html_tokens::TokenKind;
 /// # Errors
 ///
 /// Those of `take` for the first code point.
+#[tactic(auto, using(crate::proofs::Begun::run_begun, crate::proofs::TextAlone::run_texts))]
 pub fn take_front(
     page: &mut Construction,
     text: &[char],
     entries: &mut u64,
-) -> Result<usize, Refusal>
+) -> Result<usize, ArenaError>
     requires fits { Fits page.old }
     requires some { 0 < length text.now }
     ensures fits { OnOk result (Fits page.new) }
@@ -66,19 +67,20 @@ pub fn take_front(
 
 /// Takes one code point. (None is the start tag of foreign content.)
 #[tactic(auto, using(crate::proofs::Settled::run_rules))]
-pub(crate) fn take_char(page: &mut Construction, c: char, entries: &mut u64) -> Result<(), Refusal>
+pub(crate) fn take_char(
+    page: &mut Construction,
+    c: char,
+    entries: &mut u64,
+) -> Result<(), ArenaError>
     requires fits { Fits page.old }
     ensures fits { OnOk result (Fits page.new) }
     ensures takes { OnOk result (Accepts (TokenKind.Char c) page.old page.new) }
     ensures parses { OnOk result (page.new.parses_foreign ≡ page.old.parses_foreign) }
-    ensures gives { OnOk result (GivesIn page.old page.new) }
-    ensures out { OnOk result (StaysOut page.old.mode page.new.mode) }
     ensures founded { OnOk result (IsFounded page.new) }
     ensures pays { OnOk result (Pays page.old page.new) }
     ensures enters { OnOk result (Enters 1 entries.old entries.new page.old page.new) }
     ensures toils { OnOk result (Toils 0 page.old page.new) }
     ensures plain { (c == 0) ≡ false → OnOk result (GoesOnText (c ∷ []) page.old page.new) }
-    ensures adds { OnOk result (AddsText (c ∷ []) page.old page.new) }
     ensures entries { OnOk result (Entries (Symbol.Char c) (TokenKind.Char c) (begun page.old) page.new) }
     ensures refuses { IfErr result (λ e. RefusesAny e page.old page.new) }
 {
@@ -88,8 +90,8 @@ pub(crate) fn take_char(page: &mut Construction, c: char, entries: &mut u64) -> 
 }
 
 /// Takes the longest front of a run that the limits take.
-#[tactic(auto, using(crate::proofs::Settled::run_rules, crate::proofs::Begun::run_begun))]
-fn take_run(page: &mut Construction, run: &[char]) -> Result<usize, Refusal>
+#[tactic(auto, using(crate::proofs::Settled::run_rules, crate::proofs::Begun::run_begun, crate::proofs::TextAlone::run_texts))]
+fn take_run(page: &mut Construction, run: &[char]) -> Result<usize, ArenaError>
     requires fits { Fits page.old }
     requires mode { takes_runs page.old.mode ≡ true }
     requires some { 0 < length run.now }
@@ -98,8 +100,6 @@ fn take_run(page: &mut Construction, run: &[char]) -> Result<usize, Refusal>
     ensures fits { OnOk result (Fits page.new) }
     ensures takes { IfOk result (λ n. AcceptsRun (take n run.now) page.old page.new) }
     ensures parses { OnOk result (page.new.parses_foreign ≡ page.old.parses_foreign) }
-    ensures gives { OnOk result (GivesIn page.old page.new) }
-    ensures out { OnOk result (StaysOut page.old.mode page.new.mode) }
     ensures founded { OnOk result (IsFounded page.new) }
     ensures count { IfOk result (λ n. (0 < n) × (n ≤ length run.now)) }
     ensures pays { OnOk result (Pays page.old page.new) }
@@ -120,7 +120,7 @@ fn take_run(page: &mut Construction, run: &[char]) -> Result<usize, Refusal>
 
 /// The same, in the mode text.
 #[tactic(auto, using(crate::proofs::Settled::run_rules))]
-fn take_text_run(page: &mut Construction, run: &[char]) -> Result<usize, Refusal>
+fn take_text_run(page: &mut Construction, run: &[char]) -> Result<usize, ArenaError>
     requires fits { Fits page.old }
     requires mode { is_text page.old.mode ≡ true }
     requires some { 0 < length run.now }
@@ -134,7 +134,6 @@ fn take_text_run(page: &mut Construction, run: &[char]) -> Result<usize, Refusal
     ensures pays { OnOk result (Pays page.old page.new) }
     ensures lighter { OnOk result (weight page.new.stack + top_rank page.new.mode ≤ weight page.old.stack + top_rank page.old.mode) }
     ensures toils { OnOk result (Toils 0 page.old page.new) }
-    ensures adds { IfOk result (λ n. AddsText (take n run.now) page.old page.new) }
     ensures constructs { IfOk result (λ n. Constructs (chars_of (take n run.now)) page.old page.new) }
     ensures refuses { IfErr result (λ e. RefusesAny e page.old page.new) }
 {
@@ -146,7 +145,7 @@ fn take_text_run(page: &mut Construction, run: &[char]) -> Result<usize, Refusal
 
 /// The same, in modes that go by the rules of the body.
 #[tactic(auto, using(crate::proofs::Settled::run_rules))]
-fn take_body_run(page: &mut Construction, run: &[char]) -> Result<usize, Refusal>
+fn take_body_run(page: &mut Construction, run: &[char]) -> Result<usize, ArenaError>
     requires fits { Fits page.old }
     requires loose { is_loose page.old.mode ≡ true }
     requires some { 0 < length run.now }
@@ -162,7 +161,6 @@ fn take_body_run(page: &mut Construction, run: &[char]) -> Result<usize, Refusal
     ensures lighter { OnOk result (weight page.new.stack + top_rank page.new.mode ≤ weight page.old.stack + top_rank page.old.mode) }
     ensures toils { OnOk result (Toils 0 page.old page.new) }
     ensures plain { IfOk result (λ n. GoesOnText (take n run.now) page.old page.new) }
-    ensures adds { IfOk result (λ n. AddsText (take n run.now) page.old page.new) }
     ensures constructs { IfOk result (λ n. Constructs (chars_of (take n run.now)) page.old page.new) }
     ensures refuses { IfErr result (λ e. RefusesAny e page.old page.new) }
 {

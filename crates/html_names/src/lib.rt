@@ -1,4 +1,5 @@
 //! The element names that HTML's tree construction and serialising tell apart, and the sets of them.
+//! Imported by crates of this workspace.
 #![tactic(auto)]
 
 mod foreign;

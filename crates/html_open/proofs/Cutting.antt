@@ -10,8 +10,8 @@ use Rattle.html_arena.specs.Data.{cloned}
 use Rattle.html_arena.specs.Make.{made_weight}
 use Rattle.html_arena.specs.Tree.{Tree, children_of, label_of, marked, more, parent_of}
 use Rattle.html_arena.specs.Weight.{capped, weight}
-use Rattle.html_open.specs.declared.error.OpenError.{OpenError}
-use Rattle.html_open.specs.declared.error.OpenError.TheVariants.{OutOfMemory, NodeBudget, HeldBudget}
+use Rattle.html_arena.specs.declared.arena.ArenaError.{ArenaError}
+use Rattle.html_arena.specs.declared.arena.ArenaError.TheVariants.{OutOfMemory, NodeBudget, HeldBudget}
 use Rattle.html_open.specs.Cloning.{AreCloned, IsCut, IsCutShort, IsLacking, clone_budget}
 use Rattle.html_open.specs.ReopenedEntry.{IsRefused}
 use Rattle.html_open.proofs.Clones.{cloned-label}
@@ -26,12 +26,12 @@ budget-is t u done c b h held =
     ∙ ap (λ (d : NodeData). budget_of t.limits (length u.labels + 1) (more (capped (sum_by weight u.labels)) (capped (weight (cloned d))))) (cloned-label t u done h c b)
     ∙ ap (λ (ls : List NodeData). budget_of t.limits (length ls + 1) (more (capped (sum_by weight ls)) (capped (weight (cloned (label_of t c)))))) h.labels_are
 
-lacking-is : (t u : Tree) (done rest : List ℕ) (c : ℕ) (e : OpenError) → c < length t.labels → AreCloned t u done → u.held ≡ capped (sum_by weight u.labels) → IsRefused u c e → IsLacking t done (c ∷ rest) e
+lacking-is : (t u : Tree) (done rest : List ℕ) (c : ℕ) (e : ArenaError) → c < length t.labels → AreCloned t u done → u.held ≡ capped (sum_by weight u.labels) → IsRefused u c e → IsLacking t done (c ∷ rest) e
 lacking-is t u done rest c OutOfMemory b h held k = sym (budget-is t u done c b h held) ∙ k
 lacking-is t u done rest c NodeBudget b h held k = sym (budget-is t u done c b h held) ∙ k
 lacking-is t u done rest c HeldBudget b h held k = sym (budget-is t u done c b h held) ∙ k
 
-pub cut-at : (t u v : Tree) (xs done rest : List ℕ) (c : ℕ) (e : OpenError) → xs ≡ done ++ c ∷ rest → c < length t.labels → AreCloned t u done → u.held ≡ capped (sum_by weight u.labels)
+pub cut-at : (t u v : Tree) (xs done rest : List ℕ) (c : ℕ) (e : ArenaError) → xs ≡ done ++ c ∷ rest → c < length t.labels → AreCloned t u done → u.held ≡ capped (sum_by weight u.labels)
     → IsRefused u c e → v ≡ u → IsCut t v xs e
 cut-at t u v xs done rest c e q b h held k s = record {
   done = done;
@@ -51,7 +51,7 @@ rest-at (x ∷ xs) zero c b e = ap (λ (y : ℕ). y ∷ xs) (sym e)
 rest-at (x ∷ xs) (suc i) c b e = ap (λ (ys : List ℕ). x ∷ ys) (rest-at xs i c (omega arith) e)
 
 -- the next of the elements could not be cloned
-pub cut-next : (t u v : Tree) (xs : List ℕ) (i c : ℕ) (e : OpenError) → i < length xs → c ≡ get_or xs i c → c < length t.labels → AreCloned t u (take i xs) → u.held ≡ capped (sum_by weight u.labels)
+pub cut-next : (t u v : Tree) (xs : List ℕ) (i c : ℕ) (e : ArenaError) → i < length xs → c ≡ get_or xs i c → c < length t.labels → AreCloned t u (take i xs) → u.held ≡ capped (sum_by weight u.labels)
     → IsRefused u c e → v ≡ u → IsCutShort t v xs e
 cut-next t u v xs i c e l q b h held k s = record {
   done = take i xs;
@@ -66,13 +66,13 @@ cut-next t u v xs i c e l q b h held k s = record {
   lacking = lacking-is t u (take i xs) (drop (suc i) xs) c e b h held k;
 }
 
-lacking-next : (t : Tree) (done rest more : List ℕ) (x : ℕ) (e : OpenError) → IsLacking t done (x ∷ rest) e → IsLacking t done (x ∷ more) e
+lacking-next : (t : Tree) (done rest more : List ℕ) (x : ℕ) (e : ArenaError) → IsLacking t done (x ∷ rest) e → IsLacking t done (x ∷ more) e
 lacking-next t done rest more x OutOfMemory k = k
 lacking-next t done rest more x NodeBudget k = k
 lacking-next t done rest more x HeldBudget k = k
 
 -- more elements were to be cloned after them
-pub cut-before : (t v : Tree) (xs ys : List ℕ) (e : OpenError) → IsCutShort t v xs e → IsCut t v (xs ++ ys) e
+pub cut-before : (t v : Tree) (xs ys : List ℕ) (e : ArenaError) → IsCutShort t v xs e → IsCut t v (xs ++ ys) e
 cut-before t v xs ys e k = record {
   done = k.done;
   rest = k.next ∷ (k.rest ++ ys);
@@ -86,7 +86,7 @@ cut-before t v xs ys e k = record {
 }
 
 -- all were cloned
-pub cut-all : (t u v : Tree) (xs : List ℕ) (e : OpenError) → e ≡ OutOfMemory → AreCloned t u xs → v ≡ u → IsCut t v xs e
+pub cut-all : (t u v : Tree) (xs : List ℕ) (e : ArenaError) → e ≡ OutOfMemory → AreCloned t u xs → v ≡ u → IsCut t v xs e
 cut-all t u v xs e q h s = record {
   done = xs;
   rest = [];
@@ -100,7 +100,7 @@ cut-all t u v xs e q h s = record {
 }
 
 -- at most as many nodes as elements were to be cloned
-pub cut-length : (t v : Tree) (xs : List ℕ) (e : OpenError) → IsCut t v xs e → length v.labels ≤ length t.labels + length xs
+pub cut-length : (t v : Tree) (xs : List ℕ) (e : ArenaError) → IsCut t v xs e → length v.labels ≤ length t.labels + length xs
 cut-length t v xs e k =
     let a = ap length k.labels_are in
     let b = length-append t.labels (map (λ x. cloned (label_of t x)) k.done) in
@@ -110,7 +110,7 @@ cut-length t v xs e k =
     omega (arith, a, b, c, d, f)
 
 -- steps that were counted before do not matter
-lacking-rebase : (t : Tree) (n : ℕ) (done rest : List ℕ) (e : OpenError) → IsLacking (stepped t n) done rest e → IsLacking t done rest e
+lacking-rebase : (t : Tree) (n : ℕ) (done rest : List ℕ) (e : ArenaError) → IsLacking (stepped t n) done rest e → IsLacking t done rest e
 lacking-rebase t n done [] OutOfMemory k = tt
 lacking-rebase t n done (x ∷ xs) OutOfMemory k = k
 lacking-rebase t n done [] NodeBudget k = absurd k
@@ -118,7 +118,7 @@ lacking-rebase t n done (x ∷ xs) NodeBudget k = k
 lacking-rebase t n done [] HeldBudget k = absurd k
 lacking-rebase t n done (x ∷ xs) HeldBudget k = k
 
-pub cut-rebase : (t : Tree) (n : ℕ) (v : Tree) (xs : List ℕ) (e : OpenError) → IsCut (stepped t n) v xs e → IsCut t v xs e
+pub cut-rebase : (t : Tree) (n : ℕ) (v : Tree) (xs : List ℕ) (e : ArenaError) → IsCut (stepped t n) v xs e → IsCut t v xs e
 cut-rebase t n v xs e k = record {
   done = k.done;
   rest = k.rest;

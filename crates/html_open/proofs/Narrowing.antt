@@ -7,7 +7,7 @@ use Rattle.html_arena.specs.Siblings.{Distinct, has}
 use Rattle.html_open.specs.declared.adoption.AdoptEnd.{AdoptEnd}
 use Rattle.html_open.specs.declared.entry.Entry.{Entry}
 use Rattle.html_open.specs.declared.entry.Entry.TheVariants.{Marker, Node}
-use Rattle.html_open.specs.declared.error.OpenError.{OpenError}
+use Rattle.html_arena.specs.declared.arena.ArenaError.{ArenaError}
 use Rattle.html_open.specs.Adopting.{Adopted, Ends, IsRefusal, Round, Rounds, closes, eight, fewer, forgets, heirs, no_entry, no_round, one_more, originals, out_of_scope, popped, relisted}
 use Rattle.html_open.specs.Entries.{has_node, is_node, nodes_of}
 use Rattle.html_open.specs.Lists.{above, below, without_last}
@@ -130,7 +130,7 @@ module _ (s : Tag) (foster : Bool) where
       let d = j.1 in
       (omega (arith, a, c), omega (arith, b, d))
 
-  pub refused-narrow : (o p : Open) (e : OpenError) → IsOpen o → IsRefusal s foster o p e → (length p.stack ≤ length o.stack) × (length p.list ≤ length o.list)
+  pub refused-narrow : (o p : Open) (e : ArenaError) → IsOpen o → IsRefusal s foster o p e → (length p.stack ≤ length o.stack) × (length p.list ≤ length o.list)
   refused-narrow o p e h k =
       let i = rounds-narrow k.n o k.p h k.rounds in
       let a = i.0 in

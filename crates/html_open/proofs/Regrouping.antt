@@ -10,7 +10,7 @@ use Rattle.html_arena.specs.Data.{IsElement, is_linkable, label_in, tag_in}
 use Rattle.html_arena.specs.Siblings.{has, Distinct}
 use Rattle.html_arena.specs.Tree.{Tree, WellFormed, children_of, label_of, marked, parent_of}
 use Rattle.html_open.specs.declared.entry.Entry.{Entry}
-use Rattle.html_open.specs.declared.error.OpenError.{OpenError}
+use Rattle.html_arena.specs.declared.arena.ArenaError.{ArenaError}
 use Rattle.html_open.specs.declared.places.Place.{Place}
 use Rattle.html_open.specs.AdoptFinding.{IsBlock}
 use Rattle.html_open.specs.Adopting.{IsKept, IsRegrouped, clones_down, heirs, originals, relisted, round_originals}
@@ -114,7 +114,7 @@ module _ (nodes : List ℕ) (entries : List Entry) (t : Tree) (at b : ℕ) (w : 
     cs-listed = cs-is ∙ originals-same (marked t InList) (λ x. has_node x entries) inner opened.in_list
 
     -- what was cloned of these was cloned of the elements of the round
-    pub cut-after : (ys : List ℕ) (x : ℕ) (v : Tree) (e : OpenError) → ys ≡ cs → x ≡ f → IsCut t v (ys ++ x ∷ []) e → IsCut t v (round_originals (open_at nodes entries t) at b) e
+    pub cut-after : (ys : List ℕ) (x : ℕ) (v : Tree) (e : ArenaError) → ys ≡ cs → x ≡ f → IsCut t v (ys ++ x ∷ []) e → IsCut t v (round_originals (open_at nodes entries t) at b) e
     cut-after ys x v e a q k =
         subst (λ (zs : List ℕ). IsCut t v zs e) (ap (λ (zs : List ℕ). zs ++ x ∷ []) a ∙ ap (λ (y : ℕ). cs ++ y ∷ []) q ∙ ap (λ (zs : List ℕ). zs ++ f ∷ []) cs-listed) k
 

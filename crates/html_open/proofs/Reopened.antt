@@ -4,7 +4,6 @@ use Rattle.std.proofs.Common.{◌≡◌, ◌≢◌, ℕ, zero, suc, ◌+◌, ◌
 use Rattle.std.proofs.lemmas.List.{append-nil, length-map, length-set, length-take-le}
 use Rattle.std.specs.List.{list_any, range_with_len}
 use Rattle.html_arena.specs.declared.arena.ArenaError.{ArenaError}
-use Rattle.html_arena.specs.declared.arena.ArenaError.TheVariants as arena
 use Rattle.html_arena.specs.declared.arena.Limits.{Limits}
 use Rattle.html_arena.specs.declared.data.NodeData.TheVariants.{Document}
 use Rattle.html_arena.specs.declared.data.NewNode.TheVariants.{CloneOf}
@@ -16,8 +15,7 @@ use Rattle.html_arena.specs.Siblings.{first_of, has}
 use Rattle.html_arena.specs.Tree.{Tree, WellFormed, children_of, inserted, label_of, more, parent_of}
 use Rattle.html_open.specs.declared.entry.Entry.{Entry}
 use Rattle.html_open.specs.declared.entry.Entry.TheVariants.{Marker, Node}
-use Rattle.html_open.specs.declared.error.OpenError.{OpenError}
-use Rattle.html_open.specs.declared.error.OpenError.TheVariants.{OutOfMemory, NodeBudget, HeldBudget}
+use Rattle.html_arena.specs.declared.arena.ArenaError.TheVariants.{OutOfMemory, NodeBudget, HeldBudget}
 use Rattle.html_open.specs.declared.places.Place.{Place}
 use Rattle.html_open.specs.declared.places.Place.TheVariants.{Last, Before}
 use Rattle.html_open.specs.Adopting.{IsFirstFree, MadeClones}
@@ -353,17 +351,17 @@ next-absent f o i s l t u d x b h =
     u.absent x (subst (λ v. has x v ≡ true) (sym r.1) (rw (eqb-self x) refl))
 
 -- what is told is the budget of the next clone, or want of memory where it has room
-pub cause-is : (f : Bool) (o : Open) (i : ℕ) (s : List ℕ) (l : List Entry) (t : Tree) (u : UnderWay f o i s l t) (d : Entry) (x : ℕ) (e : OpenError) → i < length l → get_or l i d ≡ Node x
+pub cause-is : (f : Bool) (o : Open) (i : ℕ) (s : List ℕ) (l : List Entry) (t : Tree) (u : UnderWay f o i s l t) (d : Entry) (x : ℕ) (e : ArenaError) → i < length l → get_or l i d ≡ Node x
     → IsRefused t x e → IsCause o f e
 cause-is f o i s l t u d x OutOfMemory b h k =
     let r = next-element f o i s l t u d x b h in
     u.causes (Ok tt) (record { done = []; next = x; rest = r.0; elements_are = r.1; answer_is = k })
 cause-is f o i s l t u d x NodeBudget b h k =
     let r = next-element f o i s l t u d x b h in
-    u.causes (Err arena.NodeBudget) (record { done = []; next = x; rest = r.0; elements_are = r.1; answer_is = k })
+    u.causes (Err NodeBudget) (record { done = []; next = x; rest = r.0; elements_are = r.1; answer_is = k })
 cause-is f o i s l t u d x HeldBudget b h k =
     let r = next-element f o i s l t u d x b h in
-    u.causes (Err arena.HeldBudget) (record { done = []; next = x; rest = r.0; elements_are = r.1; answer_is = k })
+    u.causes (Err HeldBudget) (record { done = []; next = x; rest = r.0; elements_are = r.1; answer_is = k })
 
 -- the limits are as they were
 under-way-limits : (f : Bool) (o : Open) (i : ℕ) (s : List ℕ) (l : List Entry) (t : Tree) → UnderWay f o i s l t → t.limits ≡ o.tree.limits
@@ -378,10 +376,10 @@ module _ (f : Bool) (o : Open) (i : ℕ) (s s' : List ℕ) (l l' : List Entry) (
     answer_is = ap (λ (m : Option Limits). budget_of m (length v.labels + 1) (more v.held (made_weight v (CloneOf x)))) (sym (under-way-limits f o i s l t u)) ∙ k;
   }
 
-  pub told-is : (e : OpenError) → IsCloneTold t.limits v x e → IsTold o.tree.limits (open_at s' l' v) e
+  pub told-is : (e : ArenaError) → IsCloneTold t.limits v x e → IsTold o.tree.limits (open_at s' l' v) e
   told-is OutOfMemory k = tt
-  told-is NodeBudget k = passed-by arena.NodeBudget k
-  told-is HeldBudget k = passed-by arena.HeldBudget k
+  told-is NodeBudget k = passed-by NodeBudget k
+  told-is HeldBudget k = passed-by HeldBudget k
 
 -- what one entry more changes
 pub record IsStep (f : Bool) (s s' : List ℕ) (l l' : List Entry) (t t' : Tree) (i x : ℕ) : Type 0 where

@@ -13,7 +13,7 @@ use Rattle.html_arena.specs.Tree.{Tree, label_of, tag_at}
 use Rattle.html_open.specs.declared.adoption.AdoptEnd.{AdoptEnd}
 use Rattle.html_open.specs.declared.entry.Entry.{Entry}
 use Rattle.html_open.specs.declared.entry.Entry.TheVariants.{Marker, Node}
-use Rattle.html_open.specs.declared.error.OpenError.{OpenError}
+use Rattle.html_arena.specs.declared.arena.ArenaError.{ArenaError}
 use Rattle.html_open.specs.AdoptFinding.{special}
 use Rattle.html_open.specs.Adopting.{Ends, IsStopped, Popped, Round, Survives, after_nearest, alone, clone_number, clones_down, closes, forgets, heirs, no_entry, out_of_scope, relisted}
 use Rattle.html_open.specs.Entries.{has_node, is_marker, is_node, nodes_of, without_node}
@@ -323,7 +323,7 @@ module _ (s : Tag) (foster : Bool) (o p : Open) (r : Round s foster o p) (opened
   }
 
 -- a round that was stopped
-pub survives-stopped : (s : Tag) (o q : Open) (e : OpenError) → IsOpen o → IsStopped s o q e → Survives o q
+pub survives-stopped : (s : Tag) (o q : Open) (e : ArenaError) → IsOpen o → IsStopped s o q e → Survives o q
 survives-stopped s o q e h k =
     let same = stopped-same s o q e k in
     record {

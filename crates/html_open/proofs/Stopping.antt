@@ -6,7 +6,6 @@ use Rattle.html_names.specs.declared.tag.Tag.{Tag}
 use Rattle.html_names.specs.declared.tag.Tag.TheVariants as tag
 use Rattle.html_names.specs.Tags.{is_same}
 use Rattle.html_arena.specs.declared.arena.ArenaError.{ArenaError}
-use Rattle.html_arena.specs.declared.arena.ArenaError.TheVariants as arena
 use Rattle.html_arena.specs.declared.arena.Limits.{Limits}
 use Rattle.html_arena.specs.declared.data.NewNode.TheVariants.{CloneOf}
 use Rattle.html_arena.specs.declared.data.NodeData.{NodeData}
@@ -19,8 +18,7 @@ use Rattle.html_arena.specs.Tree.{Tree, WellFormed, label_of, more}
 use Rattle.html_arena.specs.Weight.{capped, weight}
 use Rattle.html_arena.proofs.Laws.{ancestors-frame}
 use Rattle.html_open.specs.declared.entry.Entry.{Entry}
-use Rattle.html_open.specs.declared.error.OpenError.{OpenError}
-use Rattle.html_open.specs.declared.error.OpenError.TheVariants.{OutOfMemory, NodeBudget, HeldBudget}
+use Rattle.html_arena.specs.declared.arena.ArenaError.TheVariants.{OutOfMemory, NodeBudget, HeldBudget}
 use Rattle.html_open.specs.AdoptFinding.{IsBlock}
 use Rattle.html_open.specs.Adopting.{IsFirstFree, IsRefusal, IsStopped, MadeClones, Rounds, no_round, originals, pops_at_once, round_originals}
 use Rattle.html_open.specs.Cloning.{AreCloned, IsCut, IsFull}
@@ -53,17 +51,17 @@ originals-length o at b =
     let c = length-append (originals (λ y. has_node y o.list) (take (b - (at + 1)) (drop (at + 1) o.stack))) (get_or o.stack at 0 ∷ []) in
     omega (arith, a, c)
 
-pub stopped-made : (s : Tag) (o q : Open) (e : OpenError) → IsStopped s o q e → MadeClones o q.tree
+pub stopped-made : (s : Tag) (o q : Open) (e : ArenaError) → IsStopped s o q e → MadeClones o q.tree
 stopped-made s o q e k = record {
   elements = k.cut.done;
   listed = λ x h. originals-listed s o k.at k.b k.block x (subst (λ (ys : List ℕ). has x ys ≡ true) (sym k.cut.all) (has-left x k.cut.done k.cut.rest h));
   labels_are = k.cut.labels_are;
 }
 
-pub stopped-closed : (s : Tag) (o q : Open) (e : OpenError) → IsStopped s o q e → KeepsClosed o q.tree
+pub stopped-closed : (s : Tag) (o q : Open) (e : ArenaError) → IsStopped s o q e → KeepsClosed o q.tree
 stopped-closed s o q e k = λ x el off none. k.cut.same_children x
 
-pub stopped-length : (s : Tag) (o q : Open) (e : OpenError) → IsStopped s o q e → length q.tree.labels ≤ length o.tree.labels + 4
+pub stopped-length : (s : Tag) (o q : Open) (e : ArenaError) → IsStopped s o q e → length q.tree.labels ≤ length o.tree.labels + 4
 stopped-length s o q e k = (let a = cut-length o.tree q.tree (round_originals o k.at k.b) e k.cut in let c = originals-length o k.at k.b in omega (arith, a, c))
 
 -- steps that were counted before do not matter
@@ -80,7 +78,7 @@ block-rebase s stack entries t a at b k = record {
   block = record { within = k.block.within; after = k.block.after; passes = k.block.passes; none_before = k.block.none_before };
 }
 
-stopped-rebase : (s : Tag) (stack : List ℕ) (list : List Entry) (t : Tree) (n : ℕ) (v : Open) (e : OpenError) → IsStopped s (open_at stack list (stepped t n)) v e → IsStopped s (open_at stack list t) v e
+stopped-rebase : (s : Tag) (stack : List ℕ) (list : List Entry) (t : Tree) (n : ℕ) (v : Open) (e : ArenaError) → IsStopped s (open_at stack list (stepped t n)) v e → IsStopped s (open_at stack list t) v e
 stopped-rebase s stack list t n v e k = record {
   at = k.at;
   b = k.b;
@@ -90,7 +88,7 @@ stopped-rebase s stack list t n v e k = record {
   cut = cut-rebase t n v.tree (round_originals (open_at stack list t) k.at k.b) e k.cut;
 }
 
-pub refusal-is : (s : Tag) (foster : Bool) (stack : List ℕ) (list : List Entry) (t : Tree) (n i : ℕ) (o p v : Open) (e : OpenError) → o ≡ open_at stack list (stepped t n)
+pub refusal-is : (s : Tag) (foster : Bool) (stack : List ℕ) (list : List Entry) (t : Tree) (n i : ℕ) (o p v : Open) (e : ArenaError) → o ≡ open_at stack list (stepped t n)
     → pops_at_once s (open_at stack list t) (last_of stack) ≡ false → i < 8 → Rounds s foster i o p → IsStopped s p v e → IsRefusal s foster (open_at stack list t) v e
 refusal-is s foster stack list t n zero _ _ v e q h l (no_round o) k = record {
   not_popped = h;
@@ -110,7 +108,7 @@ refusal-is s foster stack list t n (suc i) o p v e q h l r k = record {
 }
 
 -- what is true between calls is true of the clones that were made, which stand alone
-module _ (t v : Tree) (xs : List ℕ) (e : OpenError) (k : IsCut t v xs e) where
+module _ (t v : Tree) (xs : List ℕ) (e : ArenaError) (k : IsCut t v xs e) where
   label-same : (x : ℕ) → x < length t.labels → label_of v x ≡ label_of t x
   label-same x b = ap (λ (ls : List NodeData). label_in ls x) k.labels_are ∙ get_or_append_left t.labels (map (λ y. cloned (label_of t y)) k.done) Document x b
 
@@ -132,7 +130,7 @@ module _ (t v : Tree) (xs : List ℕ) (e : OpenError) (k : IsCut t v xs e) where
   cut-can-place (x ∷ xs) b c = λ a q. c (ap (λ d. is_same (tag_in d) tag.Table) (sym (label-same x (b x (has-first x xs)))) ∙ a) (sym (k.same_parents x) ∙ q)
 
 -- and so of the round that was stopped
-module _ (s : Tag) (o q : Open) (e : OpenError) (k : IsStopped s o q e) where
+module _ (s : Tag) (o q : Open) (e : ArenaError) (k : IsStopped s o q e) where
   pub stopped-open : WellFormed o.tree → IsOpen o → IsOpen q
   stopped-open w h =
       let r : IsOpen (open_at o.stack o.list q.tree) = cut-open o.tree q.tree (round_originals o k.at k.b) e k.cut o.stack o.list w h in
@@ -159,12 +157,12 @@ full-passed o q cause xs done (x ∷ rest) a l e h c held k =
       answer_is = ap (λ (m : Option Limits). budget_of m (length q.tree.labels + 1) (more q.tree.held (made_weight q.tree (CloneOf x)))) (sym c.limits_are) ∙ budget-is o.tree q.tree done x (h.list_in x i) c held ∙ k;
     }
 
-cut-cloned : (t v : Tree) (xs : List ℕ) (e : OpenError) → (k : IsCut t v xs e) → AreCloned t v k.done
+cut-cloned : (t v : Tree) (xs : List ℕ) (e : ArenaError) → (k : IsCut t v xs e) → AreCloned t v k.done
 cut-cloned t v xs e k = record { labels_are = k.labels_are; same_marks = k.same_marks; same_parents = k.same_parents; same_children = k.same_children; limits_are = k.limits_are }
 
-pub stopped-told : (s : Tag) (o q : Open) (e : OpenError) → IsStopped s o q e → IsOpen o → q.tree.held ≡ capped (sum_by weight q.tree.labels) → IsTold o.tree.limits q e
+pub stopped-told : (s : Tag) (o q : Open) (e : ArenaError) → IsStopped s o q e → IsOpen o → q.tree.held ≡ capped (sum_by weight q.tree.labels) → IsTold o.tree.limits q e
 stopped-told s o q OutOfMemory k h held = tt
 stopped-told s o q NodeBudget k h held =
-    full-passed o q arena.NodeBudget (round_originals o k.at k.b) k.cut.done k.cut.rest k.cut.all (originals-listed s o k.at k.b k.block) k.list_is h (cut-cloned o.tree q.tree (round_originals o k.at k.b) NodeBudget k.cut) held k.cut.lacking
+    full-passed o q NodeBudget (round_originals o k.at k.b) k.cut.done k.cut.rest k.cut.all (originals-listed s o k.at k.b k.block) k.list_is h (cut-cloned o.tree q.tree (round_originals o k.at k.b) NodeBudget k.cut) held k.cut.lacking
 stopped-told s o q HeldBudget k h held =
-    full-passed o q arena.HeldBudget (round_originals o k.at k.b) k.cut.done k.cut.rest k.cut.all (originals-listed s o k.at k.b k.block) k.list_is h (cut-cloned o.tree q.tree (round_originals o k.at k.b) HeldBudget k.cut) held k.cut.lacking
+    full-passed o q HeldBudget (round_originals o k.at k.b) k.cut.done k.cut.rest k.cut.all (originals-listed s o k.at k.b k.block) k.list_is h (cut-cloned o.tree q.tree (round_originals o k.at k.b) HeldBudget k.cut) held k.cut.lacking

@@ -10,7 +10,7 @@ use Rattle.html_open.specs.declared.adoption.AdoptEnd.{AdoptEnd}
 use Rattle.html_open.specs.declared.adoption.AdoptEnd.TheVariants.{Done, OtherEndTag}
 use Rattle.html_open.specs.declared.entry.Entry.{Entry}
 use Rattle.html_open.specs.declared.entry.Entry.TheVariants.{Marker, Node}
-use Rattle.html_open.specs.declared.error.OpenError.{OpenError}
+use Rattle.html_arena.specs.declared.arena.ArenaError.{ArenaError}
 use Rattle.html_open.specs.declared.places.Place.{Place}
 use Rattle.html_open.specs.AdoptFinding.{IsBlock, element_in_scope, special}
 use Rattle.html_open.specs.Cloning.{IsCut}
@@ -213,7 +213,7 @@ abbrev pub round_originals : Open → ℕ → ℕ → List ℕ
 round_originals o at b = originals (λ x. has_node x o.list) (take (b - (at + 1)) (drop (at + 1) o.stack)) ++ slice_index o.stack at ∷ []
 
 -- a round was begun and could not be ended: the stack and the list are as they were
-pub record IsStopped (subject : Tag) (old new : Open) (e : OpenError) : Type 0 where
+pub record IsStopped (subject : Tag) (old new : Open) (e : ArenaError) : Type 0 where
   pub at : ℕ
   pub b : ℕ
   pub block : IsBlock subject old at b
@@ -222,7 +222,7 @@ pub record IsStopped (subject : Tag) (old new : Open) (e : OpenError) : Type 0 w
   pub cut : IsCut old.tree new.tree (round_originals old at b) e
 
 -- why an adoption was refused, and what it left: less than eight rounds were done, and the next could not be ended
-pub record IsRefusal (subject : Tag) (foster : Bool) (old new : Open) (e : OpenError) : Type 0 where
+pub record IsRefusal (subject : Tag) (foster : Bool) (old new : Open) (e : ArenaError) : Type 0 where
   pub not_popped : pops_at_once subject old (last_of old.stack) ≡ false
   pub n : ℕ
   pub few : n < 8

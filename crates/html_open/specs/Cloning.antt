@@ -5,15 +5,13 @@ use Rattle.std.specs.List.{sum_by}
 use Rattle.html_names.specs.Sets.{is_formatting}
 use Rattle.html_arena.specs.declared.marks.Mark.{Mark}
 use Rattle.html_arena.specs.declared.arena.ArenaError.{ArenaError}
-use Rattle.html_arena.specs.declared.arena.ArenaError.TheVariants as arena
 use Rattle.html_arena.specs.declared.data.NodeData.{NodeData}
 use Rattle.html_arena.specs.Budget.{budget_of}
 use Rattle.html_arena.specs.Data.{cloned}
 use Rattle.html_arena.specs.Siblings.{has}
 use Rattle.html_arena.specs.Tree.{Tree, label_of, tag_at, parent_of, children_of, marked, more}
 use Rattle.html_arena.specs.Weight.{capped, weight}
-use Rattle.html_open.specs.declared.error.OpenError.{OpenError}
-use Rattle.html_open.specs.declared.error.OpenError.TheVariants.{OutOfMemory, NodeBudget, HeldBudget}
+use Rattle.html_arena.specs.declared.arena.ArenaError.TheVariants.{OutOfMemory, NodeBudget, HeldBudget}
 
 -- each is a formatting element of the tree
 abbrev pub AreFormatting : Tree → List ℕ → Type 0
@@ -55,13 +53,13 @@ HasRoom t done [] = Unit {0}
 HasRoom t done (x ∷ xs) = clone_budget t done x ≡ Ok tt
 
 -- a budget is told where the next clone would pass it, and want of memory only where it would not, or all were made
-abbrev pub IsLacking : Tree → List ℕ → List ℕ → OpenError → Type 0
+abbrev pub IsLacking : Tree → List ℕ → List ℕ → ArenaError → Type 0
 IsLacking t done rest OutOfMemory = HasRoom t done rest
-IsLacking t done rest NodeBudget = IsFull t done rest arena.NodeBudget
-IsLacking t done rest HeldBudget = IsFull t done rest arena.HeldBudget
+IsLacking t done rest NodeBudget = IsFull t done rest NodeBudget
+IsLacking t done rest HeldBudget = IsFull t done rest HeldBudget
 
 -- some of the elements that were to be cloned have been, and no node was moved or marked: there was no more room
-pub record IsCut (old new : Tree) (xs : List ℕ) (e : OpenError) : Type 0 where
+pub record IsCut (old new : Tree) (xs : List ℕ) (e : ArenaError) : Type 0 where
   pub done : List ℕ
   pub rest : List ℕ
   pub all : xs ≡ done ++ rest
@@ -73,7 +71,7 @@ pub record IsCut (old new : Tree) (xs : List ℕ) (e : OpenError) : Type 0 where
   pub lacking : IsLacking old done rest e
 
 -- some of them have been, and the next could not be
-pub record IsCutShort (old new : Tree) (xs : List ℕ) (e : OpenError) : Type 0 where
+pub record IsCutShort (old new : Tree) (xs : List ℕ) (e : ArenaError) : Type 0 where
   pub done : List ℕ
   pub next : ℕ
   pub rest : List ℕ

@@ -12,7 +12,6 @@ pub mod Marking
 pub mod Opened
 pub mod Outcome
 pub mod Placing
-pub mod Refusals
 pub mod Reopening
 pub mod Rooting
 pub mod Scopes

@@ -1,7 +1,6 @@
 -- For this crate's own functions.
 -- One entry that is opened anew: what the parts of reopening do.
 use Rattle.std.specs.Prelude.{◌≡◌, ◌≢◌, ℕ, ◌+◌, ◌<◌, Bool, true, false, cond, List, [], ◌∷◌, ◌++◌, length, slice_index_or, Option, Some, None, Ok, Err}
-use Rattle.html_arena.specs.declared.arena.ArenaError.TheVariants as arena
 use Rattle.html_arena.specs.declared.arena.Limits.{Limits}
 use Rattle.html_arena.specs.declared.data.NewNode.TheVariants.{CloneOf}
 use Rattle.html_arena.specs.declared.marks.Mark.{Mark}
@@ -13,8 +12,8 @@ use Rattle.html_arena.specs.Siblings.{has}
 use Rattle.html_arena.specs.Tree.{Tree, ancestors, children_of, label_of, marked, more, parent_of, with_marked}
 use Rattle.html_open.specs.declared.entry.Entry.{Entry}
 use Rattle.html_open.specs.declared.entry.Entry.TheVariants.{Marker}
-use Rattle.html_open.specs.declared.error.OpenError.{OpenError}
-use Rattle.html_open.specs.declared.error.OpenError.TheVariants.{OutOfMemory, NodeBudget, HeldBudget}
+use Rattle.html_arena.specs.declared.arena.ArenaError.{ArenaError}
+use Rattle.html_arena.specs.declared.arena.ArenaError.TheVariants.{OutOfMemory, NodeBudget, HeldBudget}
 use Rattle.html_open.specs.declared.places.Place.{Place}
 use Rattle.html_open.specs.Marking.{charged}
 use Rattle.html_open.specs.Placing.{parent_at, place_steps}
@@ -43,16 +42,16 @@ pub record IsInserted (old new : Tree) (at : Place) (x : ℕ) : Type 0 where
   pub linked : parent_of new (length old.labels) ≢ None
 
 -- the clone of x would pass the budget where one is told, and would not where memory was refused
-abbrev pub IsRefused : Tree → ℕ → OpenError → Type 0
+abbrev pub IsRefused : Tree → ℕ → ArenaError → Type 0
 IsRefused t x OutOfMemory = budget t 1 (made_weight t (CloneOf x)) ≡ Ok tt
-IsRefused t x NodeBudget = budget t 1 (made_weight t (CloneOf x)) ≡ Err arena.NodeBudget
-IsRefused t x HeldBudget = budget t 1 (made_weight t (CloneOf x)) ≡ Err arena.HeldBudget
+IsRefused t x NodeBudget = budget t 1 (made_weight t (CloneOf x)) ≡ Err NodeBudget
+IsRefused t x HeldBudget = budget t 1 (made_weight t (CloneOf x)) ≡ Err HeldBudget
 
 -- where a budget is told, what there is in the end and the clone of x would pass it
-abbrev pub IsCloneTold : Option Limits → Tree → ℕ → OpenError → Type 0
+abbrev pub IsCloneTold : Option Limits → Tree → ℕ → ArenaError → Type 0
 IsCloneTold limits t x OutOfMemory = Unit {0}
-IsCloneTold limits t x NodeBudget = budget_of limits (length t.labels + 1) (more t.held (made_weight t (CloneOf x))) ≡ Err arena.NodeBudget
-IsCloneTold limits t x HeldBudget = budget_of limits (length t.labels + 1) (more t.held (made_weight t (CloneOf x))) ≡ Err arena.HeldBudget
+IsCloneTold limits t x NodeBudget = budget_of limits (length t.labels + 1) (more t.held (made_weight t (CloneOf x))) ≡ Err NodeBudget
+IsCloneTold limits t x HeldBudget = budget_of limits (length t.labels + 1) (more t.held (made_weight t (CloneOf x))) ≡ Err HeldBudget
 
 -- the clone of x is the one node more, or there is none
 pub record IsTried (old new : Tree) (x : ℕ) : Type 0 where

@@ -3,7 +3,6 @@
 use Rattle.std.specs.Prelude.{◌≡◌, ℕ, ◌+◌, ◌-◌, ◌*◌, Bool, true, false, List, [], ◌∷◌, ◌++◌, length, map, slice_get, Option, Some, None, Result, Ok, Err}
 use Rattle.std.specs.List.{range_with_len}
 use Rattle.html_arena.specs.declared.arena.ArenaError.{ArenaError}
-use Rattle.html_arena.specs.declared.arena.ArenaError.TheVariants as arena
 use Rattle.html_arena.specs.declared.arena.Limits.{Limits}
 use Rattle.html_arena.specs.declared.data.NodeData.{NodeData}
 use Rattle.html_arena.specs.declared.data.NewNode.TheVariants.{CloneOf}
@@ -14,8 +13,7 @@ use Rattle.html_arena.specs.Siblings.{has}
 use Rattle.html_arena.specs.Tree.{Tree, children_of, label_of, more}
 use Rattle.html_open.specs.declared.entry.Entry.{Entry}
 use Rattle.html_open.specs.declared.entry.Entry.TheVariants.{Marker, Node}
-use Rattle.html_open.specs.declared.error.OpenError.{OpenError}
-use Rattle.html_open.specs.declared.error.OpenError.TheVariants.{OutOfMemory, NodeBudget, HeldBudget}
+use Rattle.html_arena.specs.declared.arena.ArenaError.TheVariants.{OutOfMemory, NodeBudget, HeldBudget}
 use Rattle.html_open.specs.Entries.{has_node, nodes_of}
 use Rattle.html_open.specs.Lists.{above, last_where, up_to}
 use Rattle.html_open.specs.Marking.{IsSameTree}
@@ -111,10 +109,10 @@ pub record IsNextClone (t : Tree) (stack : List ℕ) (foster : Bool) (elements :
   pub answer_is : budget (with_clones t stack foster done) 1 (made_weight (with_clones t stack foster done) (CloneOf next)) ≡ answer
 
 -- the budget is told where the next clone would pass it, and want of memory where it would not
-abbrev pub IsCause : Open → Bool → OpenError → Type 0
+abbrev pub IsCause : Open → Bool → ArenaError → Type 0
 IsCause o foster OutOfMemory = IsNextClone o.tree o.stack foster (closed o) (Ok tt)
-IsCause o foster NodeBudget = IsNextClone o.tree o.stack foster (closed o) (Err arena.NodeBudget)
-IsCause o foster HeldBudget = IsNextClone o.tree o.stack foster (closed o) (Err arena.HeldBudget)
+IsCause o foster NodeBudget = IsNextClone o.tree o.stack foster (closed o) (Err NodeBudget)
+IsCause o foster HeldBudget = IsNextClone o.tree o.stack foster (closed o) (Err HeldBudget)
 
 -- one clone more, of an element in the list, would pass these limits
 pub record IsPassed (limits : Option Limits) (o : Open) (cause : ArenaError) : Type 0 where
@@ -123,7 +121,7 @@ pub record IsPassed (limits : Option Limits) (o : Open) (cause : ArenaError) : T
   pub answer_is : budget_of limits (length o.tree.labels + 1) (more o.tree.held (made_weight o.tree (CloneOf next))) ≡ Err cause
 
 -- where a budget is told, what there is in the end and one clone more would pass it
-abbrev pub IsTold : Option Limits → Open → OpenError → Type 0
+abbrev pub IsTold : Option Limits → Open → ArenaError → Type 0
 IsTold limits o OutOfMemory = Unit {0}
-IsTold limits o NodeBudget = IsPassed limits o arena.NodeBudget
-IsTold limits o HeldBudget = IsPassed limits o arena.HeldBudget
+IsTold limits o NodeBudget = IsPassed limits o NodeBudget
+IsTold limits o HeldBudget = IsPassed limits o HeldBudget

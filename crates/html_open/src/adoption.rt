@@ -22,10 +22,9 @@ mod round;
 
 use crate::adoption::find::{Found, find};
 use crate::adoption::round::round;
-use crate::error::OpenError;
 use crate::list::FormattingList;
 use crate::stack::OpenStack;
-use html_arena::{Arena, NodeId};
+use html_arena::{Arena, ArenaError, NodeId};
 use html_names::Tag;
 
 /// How many rounds there are at most.
@@ -58,7 +57,7 @@ pub fn adopt(
     arena: &mut Arena,
     name: Tag,
     foster: bool,
-) -> Result<AdoptEnd, OpenError>
+) -> Result<AdoptEnd, ArenaError>
     requires open { IsOpen (open_at stack.old list.old arena.old) }
     requires can_place { CanPlace arena.old stack.old }
     requires first_free { IsFirstFree stack.old list.old }
@@ -106,7 +105,7 @@ fn turn(
     arena: &mut Arena,
     name: Tag,
     foster: bool,
-) -> Result<Option<AdoptEnd>, OpenError>
+) -> Result<Option<AdoptEnd>, ArenaError>
     requires open { IsOpen (open_at stack.old list.old arena.old) }
     requires can_place { CanPlace arena.old stack.old }
     requires first_free { IsFirstFree stack.old list.old }

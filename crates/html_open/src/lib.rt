@@ -1,11 +1,11 @@
 //! The open elements of a page: the stack, the list of active formatting elements, and the place for a new node.
+//! Imported by crates of this workspace.
 #![tactic(auto)]
 
 mod adoption;
 mod appropriate_place;
 mod attributes;
 mod entry;
-mod error;
 mod inserting;
 mod keeping;
 mod list;
@@ -17,7 +17,7 @@ mod stack;
 
 pub use adoption::{AdoptEnd, adopt, adoption_has_one_outcome};
 pub use appropriate_place::place;
-pub use error::OpenError;
+pub use html_arena::ArenaError;
 pub use html_names::Scope;
 pub use inserting::insert;
 pub use keeping::{first_kept_by_edits, kept_by_edits};

@@ -10,10 +10,9 @@ ghost use Rattle.html_open.specs.Placing.{IsTarget};
 ghost use Rattle.html_open.specs.Opened.{AreNodes, CanList, IsMarked, IsOpen, open_at};
 
 use crate::entry::Entry;
-use crate::error::OpenError;
 use crate::pushing::{base_steps, compared, displaced};
 use crate::search::{PRESENCE, SoughtEntry, index_or_first, last_entry, removal, steps_to};
-use html_arena::{Arena, Mark, NodeId};
+use html_arena::{Arena, ArenaError, Mark, NodeId};
 use html_names::Tag;
 use std::alloc::Global;
 use std::marker::Model;
@@ -49,7 +48,7 @@ impl FormattingList {
     /// Pushes onto the list of active formatting elements, by the Noah's Ark clause: where three entries after the last marker have the
     /// element's name and its set of attributes, the earliest of them goes. One step, one for each entry from the last back to the marker, the product of the numbers of attributes for each of
     /// these that has its name, and, where one goes, one for it and one for each entry that is shifted.
-    pub fn push(&mut self, arena: &mut Arena, node: NodeId) -> Result<(), OpenError>
+    pub fn push(&mut self, arena: &mut Arena, node: NodeId) -> Result<(), ArenaError>
         requires nodes_in { AreNodes arena.old (nodes_of self.old) }
         requires node_in { node < length arena.old.labels }
         ensures list { OnOk result (self.new ≡ pushed arena.old node self.old) }
@@ -62,14 +61,14 @@ impl FormattingList {
         ensures first_free { OnOk result ((s : _) → first_of s ≢ Some node → IsFirstFree s self.old → IsFirstFree s self.new) }
         ensures same_list { OnErr result (self.new ≡ self.old) }
         ensures same_tree { OnErr result (arena.new ≡ arena.old) }
-        ensures cause { IfErr result (λ e. e ≡ OpenError.OutOfMemory) }
+        ensures cause { IfErr result (λ e. e ≡ ArenaError.OutOfMemory) }
     {
         arena.forest();
         let displaced = displaced(self.entries.as_slice(), arena, node);
         let steps = base_steps(self.entries.as_slice(), arena, displaced);
         let compared = compared(self.entries.as_slice(), arena, node);
         if self.entries.push(Entry::Node(node)).is_err() {
-            return Err(OpenError::OutOfMemory);
+            return Err(ArenaError::OutOfMemory);
         }
         self.take_out(arena, displaced);
         arena.set_mark(node, Mark::InList, true);
@@ -79,7 +78,7 @@ impl FormattingList {
     }
 
     /// Adds a marker. One step.
-    pub fn marker(&mut self, arena: &mut Arena) -> Result<(), OpenError>
+    pub fn marker(&mut self, arena: &mut Arena) -> Result<(), ArenaError>
         ensures list { OnOk result (self.new ≡ self.old ++ Marker ∷ []) }
         ensures tree { OnOk result (arena.new ≡ charged arena.old 1) }
         ensures keeps { OnOk result ((s : _) → IsOpen (open_at s self.old arena.old) → IsOpen (open_at s self.new arena.new)) }
@@ -87,10 +86,10 @@ impl FormattingList {
         ensures first_free { OnOk result ((s : _) → IsFirstFree s self.old → IsFirstFree s self.new) }
         ensures same_list { OnErr result (self.new ≡ self.old) }
         ensures same_tree { OnErr result (arena.new ≡ arena.old) }
-        ensures cause { IfErr result (λ e. e ≡ OpenError.OutOfMemory) }
+        ensures cause { IfErr result (λ e. e ≡ ArenaError.OutOfMemory) }
     {
         if self.entries.push(Entry::Marker).is_err() {
-            return Err(OpenError::OutOfMemory);
+            return Err(ArenaError::OutOfMemory);
         }
         arena.charge(1);
         Ok(())

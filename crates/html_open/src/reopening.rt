@@ -16,12 +16,11 @@ ghost use Rattle.html_open.specs.Searches.{open_or_marker};
 
 use crate::appropriate_place::place;
 use crate::entry::Entry;
-use crate::error::OpenError;
 use crate::list::FormattingList;
 use crate::places::put;
 use crate::search::{SoughtEntry, after, last_entry};
 use crate::stack::OpenStack;
-use html_arena::{Arena, Mark, NewNode, NodeId};
+use html_arena::{Arena, ArenaError, Mark, NewNode, NodeId};
 
 impl FormattingList {
     ghost use Rattle.html_open.specs.declared.entry.Entry.TheVariants.{Marker, Node};
@@ -45,7 +44,7 @@ impl FormattingList {
         stack: &mut OpenStack,
         arena: &mut Arena,
         foster: bool,
-    ) -> Result<(), OpenError>
+    ) -> Result<(), ArenaError>
         requires is_open { IsOpen (open_at stack.old self.old arena.old) }
         requires can_place { CanPlace arena.old stack.old }
         ensures reopened { OnOk result (Reopened foster (open_at stack.old self.old arena.old) (open_at stack.new self.new arena.new)) }
@@ -119,7 +118,7 @@ impl FormattingList {
         foster: bool,
         index: usize,
         node: NodeId,
-    ) -> Result<(), OpenError>
+    ) -> Result<(), ArenaError>
         requires is_open { IsOpen (open_at stack.old self.old arena.old) }
         requires can_place { CanPlace arena.old stack.old }
         requires index_in { index < length self.old }
@@ -157,7 +156,7 @@ fn insert_clone(
     arena: &mut Arena,
     foster: bool,
     node: NodeId,
-) -> Result<NodeId, OpenError>
+) -> Result<NodeId, ArenaError>
     requires nodes_in { AreNodes arena.old stack.now }
     requires can_place { CanPlace arena.old stack.now }
     requires node_in { node < length arena.old.labels }

@@ -13,9 +13,8 @@ ghost use Rattle.html_open.specs.Opened.{AreNodes, CanPush, IsMarked, IsOpen, op
 ghost use Rattle.html_open.specs.Placing.{CanPlace};
 ghost use Rattle.html_open.specs.Scopes.{element_or_end, ends, implied_steps, in_scope, match_or_end, stays};
 
-use crate::error::OpenError;
 use crate::search::{PRESENCE, Sought, after, last_index, removal, steps_to};
-use html_arena::{Arena, Mark, NodeId};
+use html_arena::{Arena, ArenaError, Mark, NodeId};
 use html_names::{Scope, Tag};
 use std::alloc::Global;
 use std::marker::Model;
@@ -65,7 +64,7 @@ impl OpenStack {
     }
 
     /// Adds an element, which becomes the current node. One step.
-    pub fn push(&mut self, arena: &mut Arena, node: NodeId) -> Result<(), OpenError>
+    pub fn push(&mut self, arena: &mut Arena, node: NodeId) -> Result<(), ArenaError>
         requires { node < length arena.old.labels }
         ensures stack { OnOk result (self.new ≡ self.old ++ node ∷ []) }
         ensures tree { OnOk result (arena.new ≡ charged (with_marked arena.old OnStack node true) 1) }
@@ -76,10 +75,10 @@ impl OpenStack {
         ensures first_free { OnOk result ((l : _) → 0 < length self.old → IsFirstFree self.old l → IsFirstFree self.new l) }
         ensures same_stack { OnErr result (self.new ≡ self.old) }
         ensures same_tree { OnErr result (arena.new ≡ arena.old) }
-        ensures cause { IfErr result (λ e. e ≡ OpenError.OutOfMemory) }
+        ensures cause { IfErr result (λ e. e ≡ ArenaError.OutOfMemory) }
     {
         if self.nodes.push(node).is_err() {
-            return Err(OpenError::OutOfMemory);
+            return Err(ArenaError::OutOfMemory);
         }
         arena.forest();
         arena.set_mark(node, Mark::OnStack, true);

@@ -3,12 +3,11 @@
 ghost use Rattle.std.specs.Prelude.{◌≡◌, ◌⊎◌, ◌∷◌, ◌++◌, [], true, MatchOption, OnErr, OnOk};
 ghost use Rattle.std.specs.Str.{chars, encode_utf8_all};
 ghost use Rattle.std.specs.List.{flat_map};
-ghost use Rattle.html_output.specs.Putting.{Puts, held};
+ghost use Rattle.html_device.specs.Putting.{Puts, held};
 ghost use Rattle.html_page.specs.Escaped.{escaped};
 
 use crate::profile::Profile;
-use html_device::{DeviceFault, Sink};
-use html_output::Output;
+use html_device::{DeviceFault, Output, Sink};
 
 /// Where an escaped text stands: in an element, or in the value of an attribute.
 #[derive(Clone, Copy, Debug, PartialEq, Eq)]

@@ -8,7 +8,7 @@ ghost use Rattle.html_arena.specs.Forest.{Forest};
 ghost use Rattle.html_arena.specs.Walking.{IsPlaced};
 ghost use Rattle.html_arena.specs.declared.walk.Show.TheVariants.{All};
 ghost use Rattle.html_device.specs.Device.{AppendsFront};
-ghost use Rattle.html_output.specs.Putting.{Puts, held};
+ghost use Rattle.html_device.specs.Putting.{Puts, held};
 ghost use Rattle.html_page.specs.Label.{Label};
 ghost use Rattle.html_page.specs.Serialised.{HasNames, forest_below, html_at, html_below, most_written};
 ghost use Rattle.html_page.specs.Shows.{Shows};
@@ -16,8 +16,7 @@ ghost use Rattle.html_page.specs.Shows.{Shows};
 use crate::profile::Profile;
 use crate::serialising::{law_of, put_below, put_event, write_below};
 use html_arena::{Arena, Event, NodeId};
-use html_device::{DeviceFault, Sink};
-use html_output::Output;
+use html_device::{DeviceFault, Output, Sink};
 
 /// Writes what stands below a node, as text in UTF-8 (its inner HTML); of a template, what its contents hold. It takes no memory.
 ///

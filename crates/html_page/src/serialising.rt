@@ -11,7 +11,7 @@ ghost use Rattle.html_arena.specs.Steps.{node_in};
 ghost use Rattle.html_arena.specs.Tree.{label_of};
 ghost use Rattle.html_arena.specs.Walking.{IsPlaced, IsRoot};
 ghost use Rattle.html_names.specs.Names.{tag_of};
-ghost use Rattle.html_output.specs.Putting.{Puts, held};
+ghost use Rattle.html_device.specs.Putting.{Puts, held};
 ghost use Rattle.html_page.specs.Html.{attribute, end_tag, is_foreign_name, qualified, start_tag, closing, opening};
 ghost use Rattle.html_page.specs.Label.{Label, label_for};
 ghost use Rattle.html_page.specs.Serialised.{HasNames, event_text, forest_below, html_below, is_raw_below, most_written};
@@ -20,10 +20,9 @@ ghost use Rattle.html_page.specs.Shows.{Shows};
 use crate::escape::{Escape, put_escaped};
 use crate::profile::Profile;
 use html_arena::{Arena, ElementData, Event, NodeData, NodeId, Show, Walk};
-use html_charref::Str;
-use html_device::{DeviceFault, Sink};
+use html_device::{DeviceFault, Output, Sink};
 use html_names::local_name;
-use html_output::Output;
+use html_text::Str;
 use html_tokens::Attr;
 
 /// Puts an attribute of an element of HTML.

@@ -5,7 +5,7 @@ use Rattle.std.proofs.lemmas.Bool.{false≢true}
 use Rattle.std.proofs.lemmas.List.{append-nil}
 use Rattle.std.proofs.lemmas.List.Elements.{All-cons, All-nil}
 use Rattle.std.proofs.lemmas.List.Folds.{list_all-append}
-use Rattle.html_charref.specs.Plain.{is_plain_byte, is_plain_char}
+use Rattle.html_text.specs.Plain.{is_plain_byte, is_plain_char}
 use Rattle.html_input.specs.Fed.{Fed as Decodes}
 use Rattle.html_tokens.specs.Given.{Fed, is_stopped as tokenizer_stopped}
 use Rattle.html_tokens.specs.Input.{MayFollow}

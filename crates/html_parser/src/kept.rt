@@ -5,7 +5,7 @@ ghost use Rattle.html_tokens.specs.Runs.{plain_tokens};
 ghost use Rattle.html_parser.specs.Kinds.{starts_of};
 
 use crate::starts::Starts;
-use html_charref::PlainText;
+use html_text::PlainText;
 use html_token_list::Tokens;
 use html_tokens::Token;
 use std::alloc::{AllocError, Global};

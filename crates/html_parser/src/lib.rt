@@ -1,5 +1,6 @@
 //! Pages from bytes to trees (13.2 to 13.4), as the bytes come: what the decoder puts out goes to the tokenizer at once, each token to
 //! tree construction as soon as it is decided, and nothing is kept but the tree, its ledger, and what is undecided yet.
+//! Imported by users, to whom it hands on what they need of the crates below.
 #![tactic(auto)]
 
 mod error;
@@ -29,7 +30,7 @@ pub use html_arena::{
     Show, Walk,
 };
 pub use html_builder::{BuildError, Builder, Context, Foreign as ForeignRoot, Mode};
-pub use html_charref::{EntityError, EntityTable, RefText, Row, Str, WideStr};
+pub use html_charref::{EntityError, EntityTable, RefText, Row};
 pub use html_device::{DeviceFault, FailAt, OverRead, OverWrite, Sink, Source};
 // Reads and edits of nodes: `dom::attr`, `dom::remove` and the like.
 pub use html_dom as dom;
@@ -37,6 +38,7 @@ pub use html_input::{Decoder, InputError, LIMIT, Lines, Position};
 pub use html_ledger::{Cause, Fate, Fates};
 pub use html_names::{AttrSpace, Space, Tag};
 pub use html_page::{Profile, TokenList, TokenListError, serialise_tree, tokenize};
+pub use html_text::{Str, WideStr};
 pub use html_token_list::{TokenRef, Tokens};
 pub use html_tokens::{
     Attr, Attrs, Fault, FaultName, OptionalStr, Span, TextMode, Token, TokenError, TokenKind,

@@ -2,7 +2,7 @@
 
 ghost use Rattle.std.specs.Prelude.{◌≡◌, ◌++◌, ◌∷◌, ◌≤◌, ◌<◌, ◌+◌, ◌-◌, ◌^◌, ◌⊎◌, ℕ, Bool, List, [], None, Option, Some, true, false, IfErr, IfOk, IfSome, OnOk, cond, encode_utf8_all, length, min, take};
 ghost use Rattle.std.specs.List.{list_all};
-ghost use Rattle.html_charref.specs.Plain.{is_plain_byte};
+ghost use Rattle.html_text.specs.Plain.{is_plain_byte};
 ghost use Rattle.html_arena.specs.declared.arena.Limits.{Limits as LimitsType};
 ghost use Rattle.html_builder.specs.Errors.{IsTextTold, IsTold};
 ghost use Rattle.html_construction.specs.Built.{chars_of};
@@ -30,8 +30,9 @@ use crate::made::{Made, make};
 use crate::page::{Page, Tree};
 use html_arena::{Limits, NodeData, NodeId};
 use html_builder::Builder;
-use html_charref::{EntityTable, PlainText, plain_len, plain_start};
+use html_charref::EntityTable;
 use html_input::Decoder;
+use html_text::{PlainText, plain_len, plain_start};
 use html_token_list::Tokens;
 use html_tokens::{BareTag, TextMode, Token, TokenKind, Tokenizer};
 use std::alloc::Global;

@@ -4,3 +4,5 @@ pub mod Bytes
 pub mod AtNode
 pub mod Walks
 pub mod Xmlns
+pub mod Pieced
+pub mod Lines

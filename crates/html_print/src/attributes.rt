@@ -6,13 +6,12 @@ ghost use Rattle.std.specs.List.{flat_map};
 ghost use Rattle.std.specs.Ordering.{nat_cmp};
 ghost use Rattle.std.specs.Str.{chars, encode_utf8_all};
 ghost use Rattle.std.specs.Vec.{vec_capacity};
-ghost use Rattle.html_output.specs.Putting.{Puts, held};
+ghost use Rattle.html_device.specs.Putting.{Puts, held};
 ghost use Rattle.html_print.specs.Lines.{line, shown_attribute};
 ghost use Rattle.html_print.specs.Order.{IsInOrder, code_units, printed_name, units_of_name};
 
 use crate::line::put_line;
-use html_device::{DeviceFault, Sink};
-use html_output::Output;
+use html_device::{DeviceFault, Output, Sink};
 use html_tokens::Attr;
 use std::cmp::Ordering;
 

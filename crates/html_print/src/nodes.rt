@@ -5,7 +5,7 @@ ghost use Rattle.std.specs.Str.{encode_utf8_all};
 ghost use Rattle.std.specs.Vec.{vec_capacity};
 ghost use Rattle.html_arena.specs.Data.{attrs_in};
 ghost use Rattle.html_arena.specs.Tree.{label_of};
-ghost use Rattle.html_output.specs.Putting.{Puts, held};
+ghost use Rattle.html_device.specs.Putting.{Puts, held};
 ghost use Rattle.html_page.specs.Html.{text_or_empty};
 ghost use Rattle.html_page.specs.Label.{Label, label_for};
 ghost use Rattle.html_page.specs.Shows.{label_at};
@@ -15,8 +15,7 @@ ghost use Rattle.html_print.specs.Arranged.{IsOrdered};
 use crate::attributes::{arrange, put_attributes};
 use crate::line::put_line;
 use html_arena::{Arena, NodeData, NodeId};
-use html_device::{DeviceFault, Sink};
-use html_output::Output;
+use html_device::{DeviceFault, Output, Sink};
 use html_tokens::{Attr, OptionalStr};
 
 /// Puts the lines of a node: its own, those of its attributes in order, and that of its contents.

@@ -10,7 +10,7 @@ ghost use Rattle.html_arena.specs.Forest.{Forest};
 ghost use Rattle.html_arena.specs.Tree.{label_of};
 ghost use Rattle.html_arena.specs.Walking.{IsRoot};
 ghost use Rattle.html_device.specs.Device.{AppendsFront};
-ghost use Rattle.html_output.specs.Putting.{Puts, held};
+ghost use Rattle.html_device.specs.Putting.{Puts, held};
 ghost use Rattle.html_page.specs.Label.{Label};
 ghost use Rattle.html_page.specs.Serialised.{forest_below};
 ghost use Rattle.html_page.specs.Shows.{Shows};
@@ -19,8 +19,7 @@ ghost use Rattle.html_print.specs.Printed.{IsPrinted};
 use crate::error::PrintError;
 use crate::nodes::{levels_in, most_attributes, put_node};
 use html_arena::{Arena, Event, NodeId, Show, Walk};
-use html_device::{DeviceFault, Sink};
-use html_output::Output;
+use html_device::{DeviceFault, Output, Sink};
 use html_tokens::Attr;
 use std::alloc::Global;
 

@@ -6,10 +6,10 @@ use Rattle.std.specs.Io.KnownBytes.{Appends, Consumes, IsAtEnd}
 use Rattle.html_device.specs.Device.{AppendsFront}
 use Rattle.html_job.specs.declared.jobs.Command.{Command}
 use Rattle.html_job.specs.declared.jobs.Command.TheVariants.{Suite}
-use Rattle.html_job.specs.declared.jobs.Profile.{Profile}
-use Rattle.html_lists.specs.Audit.{audit_lines}
-use Rattle.html_lists.specs.Errors.{located_lines}
-use Rattle.html_output.proofs.Puts.{Appends-nil}
+use Rattle.html_page.specs.declared.profile.Profile.{Profile}
+use Rattle.html_print.specs.Audit.{audit_lines}
+use Rattle.html_print.specs.Errors.{located_lines}
+use Rattle.html_device.proofs.Puts.{Appends-nil}
 use Rattle.html_parser.specs.Parsed.{IsPageOf, IsTreeOf}
 use Rattle.html_parser.specs.Start.{Start}
 use Rattle.html_parser.specs.declared.error.ParseError.{ParseError}
@@ -19,7 +19,7 @@ use Rattle.html_parser.specs.declared.page.Tree.{Tree}
 use Rattle.html_print.specs.Printed.{IsPrinted}
 use Rattle.html_run.specs.Answers.{AreErrors, IsAnswer, IsAudited, IsListed, IsLocated}
 use Rattle.html_run.specs.Jobs.{IsShown}
-use Rattle.html_refusal.specs.Outcome.{status_of}
+use Rattle.html_print.specs.Outcome.{status_of}
 
 -- nothing was written, or a front for which this holds
 abbrev pub NothingOr : (writer new_writer : Option (List ℕ)) → Type 0 → ParseError → Type 0

@@ -4,17 +4,16 @@ use Rattle.std.specs.Prelude.{ℕ, Bool, true, false, List, [], Option}
 use Rattle.std.specs.Io.KnownBytes.{Consumes, IsAtEnd}
 use Rattle.html_job.specs.declared.jobs.Command.{Command}
 use Rattle.html_job.specs.declared.jobs.Command.TheVariants.{Tree as TreeCommand, Errors, Audit, Normalise, Counts, Suite}
-use Rattle.html_job.specs.declared.jobs.Profile.{Profile}
-use Rattle.html_lists.specs.Audit.{audit_lines}
-use Rattle.html_lists.specs.Counts.{count_lines}
-use Rattle.html_lists.specs.Errors.{error_lines, located_lines}
+use Rattle.html_page.specs.declared.profile.Profile.{Profile}
+use Rattle.html_print.specs.Audit.{audit_lines}
+use Rattle.html_print.specs.Counts.{count_lines}
+use Rattle.html_print.specs.Errors.{error_lines, located_lines}
 use Rattle.html_parser.specs.Normalised.{IsNormalised}
 use Rattle.html_parser.specs.Parsed.{IsPageOf, IsTreeOf}
 use Rattle.html_parser.specs.Start.{Start}
 use Rattle.html_parser.specs.declared.page.Page.{Page}
 use Rattle.html_parser.specs.declared.page.Tree.{Tree}
 use Rattle.html_run.specs.Jobs.{IsShown}
-use Rattle.html_run.specs.Profiles.{profile_of}
 
 -- A reader was read from `old` to its end, a tree of all of it was had, and this holds of the bytes that are listed of that tree.
 pub record IsListed (start : Start) (listed : Tree → List ℕ) (Written : List ℕ → Type 0) (old new : Option (List ℕ)) : Type 0 where
@@ -54,6 +53,6 @@ abbrev pub IsAnswer : Command → Bool → Profile → Start → (List ℕ → T
 IsAnswer TreeCommand lines profile start Written old new = IsShown start Written old new
 IsAnswer Errors lines profile start Written old new = AreErrors lines start Written old new
 IsAnswer Audit lines profile start Written old new = IsAudited start Written old new
-IsAnswer Normalise lines profile start Written old new = IsNormalised start (profile_of profile) Written old new
+IsAnswer Normalise lines profile start Written old new = IsNormalised start profile Written old new
 IsAnswer Counts lines profile start Written old new = IsListed start count_lines Written old new
 IsAnswer Suite lines profile start Written old new = IsListed start (λ tree. []) Written old new

@@ -55,10 +55,6 @@ options_for job = record { limits = Some (limits_for job); foreign = foreign_for
 abbrev pub start_for : Job → List Row → Start
 start_for job rows = start_of rows (options_for job)
 
--- the name of the file of the page, or `-`
-abbrev pub input_name : Job → List ℕ
-input_name job = unwrap_or (option_map (λ s. s.now) job.input) (codes "-")
-
 -- A reader was read from `old` to its end, a tree of all of it was had, and this holds of the bytes of that tree's lines.
 pub record IsShown (start : Start) (Written : List ℕ → Type 0) (old new : Option (List ℕ)) : Type 0 where
   pub bytes : List ℕ

@@ -1,5 +1,4 @@
 -- Claimed.
 pub mod Answers
 pub mod Jobs
-pub mod Profiles
 pub mod Refused

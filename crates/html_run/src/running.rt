@@ -4,27 +4,27 @@ ghost use Rattle.std.specs.Prelude.{◌≡◌, ◌≢◌, ◌<◌, ◌⊎◌, Li
 ghost use Rattle.std.specs.Io.KnownBytes.{Appends};
 ghost use Rattle.html_charref.specs.declared.table.Row.{Row};
 ghost use Rattle.html_device.specs.Device.{AppendsFront};
-ghost use Rattle.html_refusal.specs.Outcome.{line_of, status_of};
-ghost use Rattle.html_refusal.specs.Told.{IsTableTold, IsTold};
+ghost use Rattle.html_print.specs.Outcome.{line_of, status_of};
+ghost use Rattle.html_print.specs.Told.{IsTableTold, IsTold};
 ghost use Rattle.html_run.specs.Answers.{AreErrors, IsAnswer, IsAudited, IsLocated};
-ghost use Rattle.html_run.specs.Jobs.{IsRead, input_name, start_for};
-ghost use Rattle.html_run.specs.Profiles.{profile_of};
+ghost use Rattle.html_run.specs.Jobs.{IsRead, start_for};
 ghost use Rattle.html_run.specs.Refused.{AreRows, IsJobCause, IsTableCause};
 
 use crate::making::{page_for, tree_and_bytes_for, tree_for};
 use crate::writing::{list_audit, list_counts, list_errors, list_located, print};
 use html_job::{Command, Job};
-use html_parser::{EntityError, EntityTable, ParseError, Profile, Sink, Source};
-use html_refusal::{DONE, FILE_FAULT, REFUSED, tell, tell_table};
+use html_parser::{EntityError, EntityTable, ParseError, Sink, Source};
+use html_print::{DONE, FILE_FAULT, REFUSED, tell, tell_table};
 use std::alloc::Global;
 
-/// Does the job and answers the program's status. `entities` are the bytes of the file of named character references, if
-/// the job has one. It reads `reader` to its end before it writes anything. What went wrong is told in one line on
-/// `faults`; where that fails too, by the status alone. For `Suite`, whose files are other files, it reads the page and
+/// Does the job on one page and answers the program's status. `name` is that of the page's file, or `-`, and `entities` are the bytes of
+/// the file of named character references, if the job has one. It reads `reader` to its end before it writes anything. What went wrong is
+/// told in one line on `faults`; where that fails too, by the status alone. For `Suite`, whose files are other files, it reads the page and
 /// prints nothing.
 pub fn run<R: Source, W: Sink, F: Sink>(
     alloc: Global,
     job: &Job<'_>,
+    name: &str,
     entities: Option<&[u8]>,
     reader: &mut R,
     writer: &mut W,
@@ -46,7 +46,7 @@ pub fn run<R: Source, W: Sink, F: Sink>(
         × IsTableTold (F.taken faults.old) (F.taken faults.new) (F.failed faults.new) (F.stalled faults.new) e)
         ⊎ ((e : ParseError) × (rows : List Row) × AreRows entities.entry rows
         × IsJobCause job.now rows (R.remaining reader.old) (R.remaining reader.new) (R.failed reader.new) (W.failed writer.new) (W.stalled writer.new) e × (result ≡ status_of e)
-        × IsTold (F.taken faults.old) (F.taken faults.new) (F.failed faults.new) (F.stalled faults.new) (line_of e (input_name job.now))) }
+        × IsTold (F.taken faults.old) (F.taken faults.new) (F.failed faults.new) (F.stalled faults.new) (line_of e name.now)) }
     ensures status { result < 4 }
 
     // A reader that fails is told, and a writer that fails or takes no bytes.
@@ -60,16 +60,8 @@ pub fn run<R: Source, W: Sink, F: Sink>(
     };
     match answer(alloc, job, &table, reader, writer) {
         Ok(()) => DONE,
-        Err(error) => tell_cause(alloc, &error, job, faults),
+        Err(error) => tell(alloc, &error, name, faults),
     }
-}
-
-/// Tells why a job was not done, and answers the status.
-fn tell_cause<F: Sink>(alloc: Global, error: &ParseError, job: &Job<'_>, faults: &mut F) -> u8
-    ensures status { result ≡ status_of error.now }
-    ensures line { IsTold (F.taken faults.old) (F.taken faults.new) (F.failed faults.new) (F.stalled faults.new) (line_of error.now (input_name job.now)) }
-{
-    tell(alloc, error, input_of(job), faults)
 }
 
 /// Reads the page, and writes what the command asks for.
@@ -101,7 +93,7 @@ fn answer<R: Source, W: Sink>(
     match job.command {
         Command::Tree => print(alloc, &tree, writer),
         Command::Counts => list_counts(&tree, writer),
-        Command::Normalise => tree.serialise(profile(job.profile), writer),
+        Command::Normalise => tree.serialise(job.profile, writer),
         Command::Errors | Command::Audit | Command::Suite => Ok(()),
     }
 }
@@ -170,26 +162,6 @@ fn answer_audit<R: Source, W: Sink>(
 {
     let page = page_for(alloc, job, table, reader)?;
     list_audit(&page, writer)
-}
-
-/// The profile that a job names.
-fn profile(profile: html_job::Profile) -> Profile
-    ensures { result ≡ profile_of profile }
-{
-    match profile {
-        html_job::Profile::One => Profile::One,
-        html_job::Profile::Two => Profile::Two,
-    }
-}
-
-/// The name of the file of the page, or `-`.
-fn input_of<'a>(job: &'a Job<'_>) -> &'a str
-    ensures { result.now ≡ input_name job.now }
-{
-    match job.input {
-        Some(name) => name,
-        None => "-",
-    }
 }
 
 /// The table of a file of named character references, or without one the table of five names.

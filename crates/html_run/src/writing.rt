@@ -5,14 +5,15 @@ ghost use Rattle.std.specs.Io.KnownBytes.{Appends};
 ghost use Rattle.std.specs.Str.{encode_utf8_all};
 ghost use Rattle.html_arena.specs.Walking.{IsRoot};
 ghost use Rattle.html_device.specs.Device.{AppendsFront};
-ghost use Rattle.html_lists.specs.Audit.{audit_lines};
-ghost use Rattle.html_lists.specs.Counts.{count_lines};
-ghost use Rattle.html_lists.specs.Errors.{error_lines, located_lines};
+ghost use Rattle.html_print.specs.Audit.{audit_lines};
+ghost use Rattle.html_print.specs.Counts.{count_lines};
+ghost use Rattle.html_print.specs.Errors.{error_lines, located_lines};
 ghost use Rattle.html_print.specs.Printed.{IsPrinted};
 
-use html_lists::{write_audit, write_counts, write_errors, write_located_errors};
 use html_parser::{Page, ParseError, Sink, Tree};
-use html_print::{PrintError, print_tree};
+use html_print::{
+    PrintError, print_tree, write_audit, write_counts, write_errors, write_located_errors,
+};
 use std::alloc::Global;
 
 /// Prints a tree.

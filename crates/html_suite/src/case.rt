@@ -1,7 +1,7 @@
 //! One case: read, run and compared.
 
-use crate::counts::Outcome;
-use crate::entry::{Entry, are_same};
+use crate::counts::{Difference, Outcome};
+use crate::entry::{Entry, are_same, shown};
 use crate::expected::{expected, text};
 use crate::given::given;
 use crate::texts::{CaseFault, Texts};
@@ -25,6 +25,15 @@ pub enum ForeignCases {
     Run,
 }
 
+/// What is asked of a run of cases.
+#[derive(Clone, Copy, Debug)]
+pub struct SuiteOptions {
+    /// Whether cases of foreign content are run.
+    pub foreign: ForeignCases,
+    /// Whether what was expected of a case that failed, and what came of it, is written.
+    pub verbose: bool,
+}
+
 /// How the text of a case begins to be read: its text mode, and what stands before it.
 #[derive(Clone, Copy)]
 struct Begin {
@@ -38,13 +47,13 @@ pub(crate) fn run_case(
     test: &Value,
     state: &str,
     table: &EntityTable,
-    foreign: ForeignCases,
+    options: SuiteOptions,
 ) -> Result<Outcome, CaseFault> {
-    let Some(begin) = begin_of(state, foreign) else {
+    let Some(begin) = begin_of(state, options.foreign) else {
         return Ok(Outcome::Skipped);
     };
     match read_case(alloc, test) {
-        Ok(case) => run_read(alloc, &case, begin, table),
+        Ok(case) => run_read(alloc, &case, begin, table, options.verbose),
         Err(CaseFault::NotRun) => Ok(Outcome::Skipped),
         Err(fault) => Err(fault),
     }
@@ -56,13 +65,19 @@ fn run_read(
     case: &Case,
     begin: Begin,
     table: &EntityTable,
+    verbose: bool,
 ) -> Result<Outcome, CaseFault> {
     let last_name = case.last_name.as_deref();
     let input = input_of(alloc, case, begin)?;
     match tokenize(alloc, table, begin.mode, last_name, input.as_bytes()) {
-        Ok(list) => compared(alloc, list.tokens.as_slice(), case.output.as_slice()),
+        Ok(list) => compared(
+            alloc,
+            list.tokens.as_slice(),
+            case.output.as_slice(),
+            verbose,
+        ),
         Err(TokenListError::OutOfMemory) => Err(CaseFault::OutOfMemory),
-        Err(_) => Ok(Outcome::Failed),
+        Err(_) => Ok(Outcome::Failed(None)),
     }
 }
 
@@ -74,13 +89,28 @@ fn input_of(alloc: Global, case: &Case, begin: Begin) -> Result<String, AllocErr
 }
 
 /// Whether these are the tokens that are wanted.
-fn compared(alloc: Global, tokens: &[Token], wanted: &[Entry]) -> Result<Outcome, CaseFault> {
+fn compared(
+    alloc: Global,
+    tokens: &[Token],
+    wanted: &[Entry],
+    verbose: bool,
+) -> Result<Outcome, CaseFault> {
     let given = given(alloc, tokens)?;
     if are_same(given.as_slice(), wanted) {
         Ok(Outcome::Passed)
+    } else if verbose {
+        Ok(Outcome::Failed(Some(difference(alloc, wanted, given.as_slice())?)))
     } else {
-        Ok(Outcome::Failed)
+        Ok(Outcome::Failed(None))
     }
+}
+
+/// What was expected, and what came.
+fn difference(alloc: Global, wanted: &[Entry], given: &[Entry]) -> Result<Difference, AllocError> {
+    Ok(Difference {
+        expected: shown(alloc, wanted)?,
+        got: shown(alloc, given)?,
+    })
 }
 
 fn read_case(alloc: Global, test: &Value) -> Result<Case, CaseFault> {

@@ -4,11 +4,19 @@ ghost use Rattle.std.specs.Prelude.{◌++◌, ◌∷◌, [], List, length, ◌�
 ghost use Rattle.html_suite.specs.declared.counts.Outcome.{Outcome as OutcomeType};
 ghost use Rattle.html_suite.specs.Report.{IsCountOf, shown};
 
+/// What was expected of a case that failed, and what came of it, as text.
+#[derive(Drop)]
+pub(crate) struct Difference {
+    pub expected: String,
+    pub got: String,
+}
+
 /// How a case ended.
-#[derive(Clone, Copy, Debug, PartialEq, Eq)]
+#[derive(Drop)]
 pub(crate) enum Outcome {
     Passed,
-    Failed,
+    /// With the difference, where that is to be shown and there is one.
+    Failed(Option<Difference>),
     /// It asks for what is not run.
     Skipped,
 }
@@ -32,12 +40,12 @@ impl Counts {
         }
     }
 
-    pub(crate) fn add(&mut self, outcome: Outcome)
-        ensures { (cases : List OutcomeType) → IsCountOf self.old cases → IsCountOf self.new (cases ++ outcome ∷ []) }
+    pub(crate) fn add(&mut self, outcome: &Outcome)
+        ensures { (cases : List OutcomeType) → IsCountOf self.old cases → IsCountOf self.new (cases ++ outcome.now ∷ []) }
     {
         match outcome {
             Outcome::Passed => self.passed = self.passed.saturating_add(1),
-            Outcome::Failed => self.failed = self.failed.saturating_add(1),
+            Outcome::Failed(_) => self.failed = self.failed.saturating_add(1),
             Outcome::Skipped => self.skipped = self.skipped.saturating_add(1),
         }
     }

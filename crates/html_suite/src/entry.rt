@@ -1,14 +1,16 @@
 //! What a list of tokens is compared by.
 
+use std::alloc::{AllocError, Global};
+
 /// An attribute's name and value.
-#[derive(Drop)]
+#[derive(Debug, Drop)]
 pub(crate) struct Attribute {
     pub name: String,
     pub value: String,
 }
 
 /// A token as the cases write it, neighbouring characters joined.
-#[derive(Drop)]
+#[derive(Debug, Drop)]
 pub(crate) enum Entry {
     Doctype {
         name: Option<String>,
@@ -31,6 +33,15 @@ pub(crate) enum Entry {
     Characters {
         data: String,
     },
+}
+
+/// The entries as text, a line each.
+pub(crate) fn shown(alloc: Global, entries: &[Entry]) -> Result<String, AllocError> {
+    let mut text = String::new(alloc);
+    'entries: for entry in entries {
+        write!(text, "{entry:?}\n")?;
+    }
+    Ok(text)
 }
 
 /// Whether two lists hold the same. The order of attributes does not count.

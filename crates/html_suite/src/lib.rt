@@ -1,4 +1,5 @@
 //! Files of test cases in html5lib's form, run against the tokenizer and the parser.
+//! Imported by crates of this workspace.
 #![tactic(auto)]
 
 mod case;
@@ -12,5 +13,5 @@ mod suite;
 mod texts;
 mod tree_case;
 
-pub use case::ForeignCases;
+pub use case::{ForeignCases, SuiteOptions};
 pub use suite::suite_file;

@@ -6,22 +6,21 @@ ghost use Rattle.std.specs.Io.KnownBytes.{Appends};
 ghost use Rattle.std.specs.List.{count_by};
 ghost use Rattle.html_device.specs.Device.{AppendsFront};
 ghost use Rattle.html_parser.specs.declared.error.ParseError.TheVariants.{OutOfMemory as NoMemory, Write as NotWritten};
-ghost use Rattle.html_refusal.specs.Outcome.{line_of};
-ghost use Rattle.html_refusal.specs.Told.{IsTold};
+ghost use Rattle.html_print.specs.Outcome.{line_of};
+ghost use Rattle.html_print.specs.Told.{IsTold};
 ghost use Rattle.html_suite.specs.Ended.{HasEnd, IsOfNoKind, malformed_line};
-ghost use Rattle.html_suite.specs.Report.{HasRun, IsCountOf, IsReported, counts_line, has_failed};
+ghost use Rattle.html_suite.specs.Report.{HasRun, IsCountOf, IsReported, counts_line, difference_lines, failed_text, has_failed, texts_of};
 ghost use Rattle.html_suite.specs.declared.counts.Outcome.{Outcome as OutcomeType};
 ghost use Rattle.html_suite.specs.declared.suite.SuiteFault.TheVariants.{Malformed, OutOfMemory, Write as WriterFailed};
 
-use crate::case::{ForeignCases, run_case};
-use crate::counts::{Counts, Outcome};
+use crate::case::{SuiteOptions, run_case};
+use crate::counts::{Counts, Difference, Outcome};
 use crate::dat::cases_of;
 use crate::texts::CaseFault;
 use crate::tree_case::run_tree_case;
-use html_device::DeviceFault;
-use html_output::{Piece, write_pieces};
+use html_device::{DeviceFault, Piece, write_pieces};
 use html_parser::{EntityTable, ParseError};
-use html_refusal::{DONE, FILE_FAULT, REFUSED, Sink, tell};
+use html_print::{DONE, FILE_FAULT, REFUSED, Sink, tell};
 use serde_json::Value;
 use std::alloc::{AllocError, Global};
 
@@ -38,31 +37,32 @@ enum SuiteFault {
 
 /// Runs the cases of a file and answers the status: `DONE` where none failed, `REFUSED` where one failed or memory was
 /// refused, `FILE_FAULT` where the bytes are no file of cases or the writer failed. For each failed case it writes
-/// `NAME: case K failed`, where K counts the cases from 1, and at the end `NAME: passed P, failed F, skipped S`.
+/// `NAME: case K failed`, where K counts the cases from 1, below it, where
+/// `options` ask for it, what was expected and what came, and at the end `NAME: passed P, failed F, skipped S`.
 ///
 /// A file whose name ends in `.test` has cases of tokens, as JSON: an object whose `tests` are objects with `input` and
 /// `output`, and perhaps `initialStates`, `lastStartTag` and `doubleEscaped`. Each initial state is a case of its own. A
 /// case is skipped where its state is none of the text modes, or its texts have halves of surrogate pairs; one that begins
-/// in a CDATA section is run where `foreign` asks for it.
+/// in a CDATA section is run where `options` ask for it.
 ///
 /// A file whose name ends in `.dat` has cases of trees: the input stands under a line `#data`, up to a line `#errors`, and
 /// the tree under a line `#document`, as the command `tree` prints it; between them a line `#document-fragment` is followed
-/// by the name of a context. A case is skipped where there is a line `#script-on`; and, unless `foreign` asks for foreign content,
+/// by the name of a context. A case is skipped where there is a line `#script-on`; and, unless `options` ask for foreign content,
 /// where its context is no HTML element, or its page has foreign content.
 pub fn suite_file<W: Sink, F: Sink>(
     alloc: Global,
     name: &str,
     bytes: &[u8],
     table: &EntityTable,
-    foreign: ForeignCases,
+    options: SuiteOptions,
     writer: &mut W,
     faults: &mut F,
 ) -> u8
     // Where the cases were run, their lines are written and nothing is told; else one line tells why they were not.
     ensures done { result ≡ DONE → (F.taken faults.new ≡ F.taken faults.old)
-        × ((cases : List OutcomeType) × (count_by has_failed cases ≡ 0) × IsReported name.now cases (W.taken writer.old) (W.taken writer.new)) }
+        × ((cases : List OutcomeType) × (count_by has_failed cases ≡ 0) × IsReported options.verbose name.now cases (W.taken writer.old) (W.taken writer.new)) }
     ensures refused { result ≡ REFUSED → ((F.taken faults.new ≡ F.taken faults.old)
-        × ((cases : List OutcomeType) × (count_by has_failed cases ≢ 0) × IsReported name.now cases (W.taken writer.old) (W.taken writer.new)))
+        × ((cases : List OutcomeType) × (count_by has_failed cases ≢ 0) × IsReported options.verbose name.now cases (W.taken writer.old) (W.taken writer.new)))
         ⊎ IsTold (F.taken faults.old) (F.taken faults.new) (F.failed faults.new) (F.stalled faults.new) (line_of NoMemory name.now) }
     ensures failed { result ≡ FILE_FAULT → (IsTold (F.taken faults.old) (F.taken faults.new) (F.failed faults.new) (F.stalled faults.new) (line_of NotWritten name.now)
         × ((W.failed writer.new ≡ true) ⊎ (W.stalled writer.new ≡ true)))
@@ -74,7 +74,7 @@ pub fn suite_file<W: Sink, F: Sink>(
         × IsTold (F.taken faults.old) (F.taken faults.new) (F.failed faults.new) (F.stalled faults.new) (malformed_line name.now) }
     ensures status { (result ≡ DONE) ⊎ ((result ≡ REFUSED) ⊎ (result ≡ FILE_FAULT)) }
 {
-    match run_file(alloc, name, bytes, table, foreign, writer) {
+    match run_file(alloc, name, bytes, table, options, writer) {
         Ok(counts) => status_of(&counts),
         Err(SuiteFault::OutOfMemory) => tell(alloc, &ParseError::OutOfMemory, name, faults),
         Err(SuiteFault::Write) => tell(alloc, &ParseError::Write, name, faults),
@@ -130,15 +130,15 @@ fn run_file<W: Sink>(
     name: &str,
     bytes: &[u8],
     table: &EntityTable,
-    foreign: ForeignCases,
+    options: SuiteOptions,
     writer: &mut W,
 ) -> Result<Counts, SuiteFault>
-    ensures run { IfOk result (λ counts. (cases : List OutcomeType) × IsCountOf counts cases × IsReported name.now cases (W.taken writer.old) (W.taken writer.new)) }
+    ensures run { IfOk result (λ counts. (cases : List OutcomeType) × IsCountOf counts cases × IsReported options.verbose name.now cases (W.taken writer.old) (W.taken writer.new)) }
     ensures fault { result ≡ Err WriterFailed → (W.failed writer.new ≡ true) ⊎ (W.stalled writer.new ≡ true) }
     ensures trees { HasEnd name.now (codes ".dat") → result ≢ Err Malformed }
     ensures other { IsOfNoKind name.now → result ≡ Err Malformed }
 {
-    let counts = run_cases(alloc, name, bytes, table, foreign, writer)?;
+    let counts = run_cases(alloc, name, bytes, table, options, writer)?;
     write_counts(name, &counts, writer)?;
     Ok(counts)
 }
@@ -149,19 +149,19 @@ fn run_cases<W: Sink>(
     name: &str,
     bytes: &[u8],
     table: &EntityTable,
-    foreign: ForeignCases,
+    options: SuiteOptions,
     writer: &mut W,
 ) -> Result<Counts, SuiteFault>
-    ensures run { IfOk result (λ counts. HasRun name.now (W.taken writer.old) (W.taken writer.new) counts) }
+    ensures run { IfOk result (λ counts. HasRun options.verbose name.now (W.taken writer.old) (W.taken writer.new) counts) }
     ensures fault { result ≡ Err WriterFailed → (W.failed writer.new ≡ true) ⊎ (W.stalled writer.new ≡ true) }
     ensures trees { HasEnd name.now (codes ".dat") → result ≢ Err Malformed }
     ensures other { IsOfNoKind name.now → result ≡ Err Malformed }
 {
     let mut counts = Counts::new();
     if has_end(name, ".dat") {
-        run_trees(alloc, name, bytes, table, foreign, &mut counts, writer)?;
+        run_trees(alloc, name, bytes, table, options, &mut counts, writer)?;
     } else if has_end(name, ".test") {
-        run_tests(alloc, name, bytes, table, foreign, &mut counts, writer)?;
+        run_tests(alloc, name, bytes, table, options, &mut counts, writer)?;
     } else {
         return Err(SuiteFault::Malformed);
     }
@@ -174,15 +174,15 @@ fn run_tests<W: Sink>(
     name: &str,
     bytes: &[u8],
     table: &EntityTable,
-    foreign: ForeignCases,
+    options: SuiteOptions,
     counts: &mut Counts,
     writer: &mut W,
 ) -> Result<(), SuiteFault>
-    ensures run { (start : Option (List ℕ)) → HasRun name.now start (W.taken writer.old) counts.old → OnOk result (HasRun name.now start (W.taken writer.new) counts.new) }
+    ensures run { (start : Option (List ℕ)) → HasRun options.verbose name.now start (W.taken writer.old) counts.old → OnOk result (HasRun options.verbose name.now start (W.taken writer.new) counts.new) }
     ensures fault { result ≡ Err WriterFailed → (W.failed writer.new ≡ true) ⊎ (W.stalled writer.new ≡ true) }
 {
     let value = Value::from_slice(alloc, bytes)?;
-    run_value(alloc, name, &value, table, foreign, counts, writer)
+    run_value(alloc, name, &value, table, options, counts, writer)
 }
 
 fn run_value<W: Sink>(
@@ -190,11 +190,11 @@ fn run_value<W: Sink>(
     name: &str,
     value: &Value,
     table: &EntityTable,
-    foreign: ForeignCases,
+    options: SuiteOptions,
     counts: &mut Counts,
     writer: &mut W,
 ) -> Result<(), SuiteFault>
-    ensures run { (start : Option (List ℕ)) → HasRun name.now start (W.taken writer.old) counts.old → OnOk result (HasRun name.now start (W.taken writer.new) counts.new) }
+    ensures run { (start : Option (List ℕ)) → HasRun options.verbose name.now start (W.taken writer.old) counts.old → OnOk result (HasRun options.verbose name.now start (W.taken writer.new) counts.new) }
     ensures fault { result ≡ Err WriterFailed → (W.failed writer.new ≡ true) ⊎ (W.stalled writer.new ≡ true) }
 {
     if !value.is_object() {
@@ -207,7 +207,7 @@ fn run_value<W: Sink>(
         return Err(SuiteFault::Malformed);
     };
     'tests: for test in tests {
-        run_test(alloc, name, test, table, foreign, counts, writer)?;
+        run_test(alloc, name, test, table, options, counts, writer)?;
     }
     Ok(())
 }
@@ -218,18 +218,18 @@ fn run_trees<W: Sink>(
     name: &str,
     bytes: &[u8],
     table: &EntityTable,
-    foreign: ForeignCases,
+    options: SuiteOptions,
     counts: &mut Counts,
     writer: &mut W,
 ) -> Result<(), SuiteFault>
-    ensures run { (start : Option (List ℕ)) → HasRun name.now start (W.taken writer.old) counts.old → OnOk result (HasRun name.now start (W.taken writer.new) counts.new) }
+    ensures run { (start : Option (List ℕ)) → HasRun options.verbose name.now start (W.taken writer.old) counts.old → OnOk result (HasRun options.verbose name.now start (W.taken writer.new) counts.new) }
     ensures fault { result ≡ Err WriterFailed → (W.failed writer.new ≡ true) ⊎ (W.stalled writer.new ≡ true) }
     ensures formed { result ≢ Err Malformed }
 {
     let cases = cases_of(alloc, bytes)?;
     'cases: for case in &cases {
-        let outcome = run_tree_case(alloc, case, table, foreign)?;
-        count(name, counts, outcome, writer)?;
+        let outcome = run_tree_case(alloc, case, table, options)?;
+        count(name, options.verbose, counts, &outcome, writer)?;
     }
     Ok(())
 }
@@ -240,23 +240,23 @@ fn run_test<W: Sink>(
     name: &str,
     test: &Value,
     table: &EntityTable,
-    foreign: ForeignCases,
+    options: SuiteOptions,
     counts: &mut Counts,
     writer: &mut W,
 ) -> Result<(), SuiteFault>
-    ensures run { (start : Option (List ℕ)) → HasRun name.now start (W.taken writer.old) counts.old → OnOk result (HasRun name.now start (W.taken writer.new) counts.new) }
+    ensures run { (start : Option (List ℕ)) → HasRun options.verbose name.now start (W.taken writer.old) counts.old → OnOk result (HasRun options.verbose name.now start (W.taken writer.new) counts.new) }
     ensures fault { result ≡ Err WriterFailed → (W.failed writer.new ≡ true) ⊎ (W.stalled writer.new ≡ true) }
 {
     let Some(states) = test.get("initialStates") else {
-        let outcome = run_case(alloc, test, DATA_STATE, table, foreign)?;
-        return Ok(count(name, counts, outcome, writer)?);
+        let outcome = run_case(alloc, test, DATA_STATE, table, options)?;
+        return Ok(count(name, options.verbose, counts, &outcome, writer)?);
     };
     let Some(states) = states.as_array() else {
         return Err(SuiteFault::Malformed);
     };
     'states: for state in states {
-        let outcome = run_case(alloc, test, state.as_str().unwrap_or(""), table, foreign)?;
-        count(name, counts, outcome, writer)?;
+        let outcome = run_case(alloc, test, state.as_str().unwrap_or(""), table, options)?;
+        count(name, options.verbose, counts, &outcome, writer)?;
     }
     Ok(())
 }
@@ -264,23 +264,39 @@ fn run_test<W: Sink>(
 /// Counts a case, and tells of one that failed.
 fn count<W: Sink>(
     name: &str,
+    verbose: bool,
     counts: &mut Counts,
-    outcome: Outcome,
+    outcome: &Outcome,
     writer: &mut W,
 ) -> Result<(), DeviceFault>
-    ensures run { (start : Option (List ℕ)) → HasRun name.now start (W.taken writer.old) counts.old → OnOk result (HasRun name.now start (W.taken writer.new) counts.new) }
+    ensures run { (start : Option (List ℕ)) → HasRun verbose name.now start (W.taken writer.old) counts.old → OnOk result (HasRun verbose name.now start (W.taken writer.new) counts.new) }
     ensures fault { OnErr result ((W.failed writer.new ≡ true) ⊎ (W.stalled writer.new ≡ true)) }
 {
     counts.add(outcome);
     match outcome {
-        Outcome::Failed => write_failed(name, counts.all(), writer),
+        Outcome::Failed(difference) => tell_failed(name, verbose, counts.all(), difference, writer),
         Outcome::Passed | Outcome::Skipped => Ok(()),
     }
 }
 
+/// Writes what is told of a case that failed.
+fn tell_failed<W: Sink>(
+    name: &str,
+    verbose: bool,
+    number: u64,
+    difference: &Option<Difference>,
+    writer: &mut W,
+) -> Result<(), DeviceFault>
+    ensures ok { OnOk result (Appends (W.taken writer.old) (W.taken writer.new) (failed_text name.now number ++ difference_lines verbose difference.now)) }
+    ensures fault { OnErr result ((W.failed writer.new ≡ true) ⊎ (W.stalled writer.new ≡ true)) }
+{
+    write_failed(name, number, writer)?;
+    write_difference(verbose, difference, writer)
+}
+
 /// Writes the line of a case that failed.
 fn write_failed<W: Sink>(name: &str, number: u64, writer: &mut W) -> Result<(), DeviceFault>
-    ensures ok { OnOk result (Appends (W.taken writer.old) (W.taken writer.new) (name.now ++ (codes ": case " ++ (decimal number ++ codes " failed\n")))) }
+    ensures ok { OnOk result (Appends (W.taken writer.old) (W.taken writer.new) (failed_text name.now number)) }
     ensures fault { OnErr result ((W.failed writer.new ≡ true) ⊎ (W.stalled writer.new ≡ true)) }
 {
     write_pieces(
@@ -290,6 +306,40 @@ fn write_failed<W: Sink>(name: &str, number: u64, writer: &mut W) -> Result<(), 
             Piece::Text(": case "),
             Piece::Number(number as u128),
             Piece::Text(" failed\n"),
+        ],
+    )
+}
+
+/// Writes what was expected of a case and what came of it, where that is asked for.
+fn write_difference<W: Sink>(
+    verbose: bool,
+    difference: &Option<Difference>,
+    writer: &mut W,
+) -> Result<(), DeviceFault>
+    ensures ok { OnOk result (Appends (W.taken writer.old) (W.taken writer.new) (difference_lines verbose difference.now)) }
+    ensures fault { OnErr result ((W.failed writer.new ≡ true) ⊎ (W.stalled writer.new ≡ true)) }
+{
+    if !verbose {
+        return Ok(());
+    }
+    match difference {
+        Some(difference) => write_texts(difference, writer),
+        None => Ok(()),
+    }
+}
+
+/// Writes what was expected of a case, and what came of it.
+fn write_texts<W: Sink>(difference: &Difference, writer: &mut W) -> Result<(), DeviceFault>
+    ensures ok { OnOk result (Appends (W.taken writer.old) (W.taken writer.new) (texts_of difference.now)) }
+    ensures fault { OnErr result ((W.failed writer.new ≡ true) ⊎ (W.stalled writer.new ≡ true)) }
+{
+    write_pieces(
+        writer,
+        &[
+            Piece::Text("expected:\n"),
+            Piece::Text(difference.expected.as_str()),
+            Piece::Text("got:\n"),
+            Piece::Text(difference.got.as_str()),
         ],
     )
 }

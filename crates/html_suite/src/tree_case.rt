@@ -5,14 +5,14 @@ ghost use Rattle.html_arena.specs.Walking.{IsRoot};
 ghost use Rattle.html_parser.specs.Fed.{IsFed};
 ghost use Rattle.html_parser.specs.Start.{Start};
 
-use crate::case::ForeignCases;
-use crate::counts::Outcome;
+use crate::case::{ForeignCases, SuiteOptions};
+use crate::counts::{Difference, Outcome};
 use crate::dat::TreeCase;
 use html_parser::{Context, EntityTable, Foreign, Options, ParseError, Parser, Str, Tree};
 use html_print::{OverWrite, PrintError, print_tree};
 use std::alloc::{AllocError, Global};
 
-/// Runs a case: whether the page has the tree that is wanted. A case is skipped that wants scripts; one of foreign content where `foreign` says so.
+/// Runs a case: whether the page has the tree that is wanted. A case is skipped that wants scripts; one of foreign content where `options` say so.
 ///
 /// # Errors
 ///
@@ -21,16 +21,16 @@ pub(crate) fn run_tree_case(
     alloc: Global,
     case: &TreeCase<'_>,
     table: &EntityTable,
-    foreign: ForeignCases,
+    options: SuiteOptions,
 ) -> Result<Outcome, AllocError> {
-    if case.is_script_on || is_left_out(case, foreign) {
+    if case.is_script_on || is_left_out(case, options.foreign) {
         return Ok(Outcome::Skipped);
     }
-    match tree_of(alloc, case, table, foreign) {
-        Ok(tree) => compared(alloc, &tree, case.tree),
+    match tree_of(alloc, case, table, options.foreign) {
+        Ok(tree) => compared(alloc, &tree, case.tree, options.verbose),
         Err(ParseError::ForeignContent { .. }) => Ok(Outcome::Skipped),
         Err(ParseError::OutOfMemory) => Err(AllocError),
-        Err(_) => Ok(Outcome::Failed),
+        Err(_) => Ok(Outcome::Failed(None)),
     }
 }
 
@@ -106,7 +106,7 @@ fn foreign_of(foreign: ForeignCases) -> Foreign {
 }
 
 /// Whether a tree is printed so; the end of its last line is not part of what is wanted.
-fn compared(alloc: Global, tree: &Tree, wanted: &[u8]) -> Result<Outcome, AllocError>
+fn compared(alloc: Global, tree: &Tree, wanted: &[u8], verbose: bool) -> Result<Outcome, AllocError>
     requires root { IsRoot tree.now.arena tree.now.root }
 {
     let Ok(text) = printed(alloc, tree) else {
@@ -115,9 +115,19 @@ fn compared(alloc: Global, tree: &Tree, wanted: &[u8]) -> Result<Outcome, AllocE
     let given = text.as_slice();
     if given.strip_suffix(b"\n").unwrap_or(given) == wanted {
         Ok(Outcome::Passed)
+    } else if verbose {
+        Ok(Outcome::Failed(Some(difference(alloc, wanted, given)?)))
     } else {
-        Ok(Outcome::Failed)
+        Ok(Outcome::Failed(None))
     }
+}
+
+/// What was expected, and what came: lines of a tree.
+fn difference(alloc: Global, wanted: &[u8], given: &[u8]) -> Result<Difference, AllocError> {
+    let mut expected = String::from_utf8_lossy(alloc, wanted)?;
+    expected.push('\n')?;
+    let got = String::from_utf8_lossy(alloc, given)?;
+    Ok(Difference { expected, got })
 }
 
 /// The lines of a tree. A text takes any bytes, as far as there is memory.

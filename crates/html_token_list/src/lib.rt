@@ -1,4 +1,5 @@
 //! A list of tokens in which text takes little room: a code point of text takes what it takes in UTF-8, and not a token.
+//! Imported by crates of this workspace.
 #![tactic(auto)]
 
 mod chars;

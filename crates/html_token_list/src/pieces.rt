@@ -5,7 +5,7 @@ ghost use Rattle.html_tokens.specs.Tokens.{token as token_at};
 ghost use Rattle.html_tokens.specs.declared.token.TokenKind.TheVariants.{Char};
 ghost use Rattle.html_token_list.specs.Pieces.{AreWhole, IsCounted, all_tokens};
 
-use html_charref::{PlainText, Str};
+use html_text::{PlainText, Str};
 use html_tokens::{Token, TokenKind};
 use std::alloc::{AllocError, Global};
 use std::mem;

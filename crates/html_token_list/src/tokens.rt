@@ -7,7 +7,7 @@ use crate::finding::token_at;
 use crate::iter::Iter;
 use crate::lent::TokenRef;
 use crate::pieces::{Piece, Stretch, close, plain_char, turn_to};
-use html_charref::PlainText;
+use html_text::PlainText;
 use html_tokens::Token;
 use std::alloc::{AllocError, Global};
 use std::marker::Model;

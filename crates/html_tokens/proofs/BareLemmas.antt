@@ -9,7 +9,7 @@ use Rattle.std.proofs.lemmas.List.Elements.{All-cons, All-nil}
 use Rattle.std.proofs.lemmas.Option.{slice_get_within}
 use Rattle.std.proofs.lemmas.Str.{IsUtf8-from_ascii, chars-IsAscii}
 use Rattle.std.proofs.lemmas.Str.Ascii.{IsAscii-from_all}
-use Rattle.html_tokens.specs.Errors.{opening_errors}
+use Rattle.html_tokens.specs.Errors.{opened_errors, opening_errors}
 use Rattle.html_tokens.specs.Fed.{IsSilent}
 use Rattle.html_tokens.specs.Stream.{AreTold}
 use Rattle.html_tokens.specs.declared.faults.Faults.{Faults}
@@ -243,6 +243,7 @@ module _ (t : Machine) (name : List ℕ) (state : is_text t.state ≡ true) (non
       short_gives old (behind_start t name) false 1 n given (text_state t.state state) (omega arith) (omega (arith, size))
       (λ more h. rw mode refl)
       (λ more h. ap (λ o. open_piece t.table.now o t.place (text ++ more)) (ap (λ v. opener ((60 ∷ (v ++ 62 ∷ [])) ++ more)) b.split ∙ start_opener b.first ((b.rest ++ 62 ∷ []) ++ more) b.letter))
+      (λ more h. ap (λ o. opened_errors t.table.now o t.place (text ++ more)) (ap (λ v. opener ((60 ∷ (v ++ 62 ∷ [])) ++ more)) b.split ∙ start_opener b.first ((b.rest ++ 62 ∷ []) ++ more) b.letter))
       (subst (AllPass (is_copied copied.Name)) (sym seam) (all_copied name b.all))
       (at_end name 62)
       (ends_short old (behind_start t name) false 1 n given
@@ -261,6 +262,7 @@ module _ (t : Machine) (name : List ℕ) (state : is_text t.state ≡ true) (non
       short_gives old (behind_end t name) true 2 n given (text_state t.state state) (omega arith) (omega (arith, size))
       (λ more h. rw mode refl)
       (λ more h. ap (λ o. open_piece t.table.now o t.place (text ++ more)) (ap (λ v. opener ((60 ∷ 47 ∷ (v ++ 62 ∷ [])) ++ more)) b.split ∙ end_opener b.first ((b.rest ++ 62 ∷ []) ++ more) b.letter))
+      (λ more h. ap (λ o. opened_errors t.table.now o t.place (text ++ more)) (ap (λ v. opener ((60 ∷ 47 ∷ (v ++ 62 ∷ [])) ++ more)) b.split ∙ end_opener b.first ((b.rest ++ 62 ∷ []) ++ more) b.letter))
       (subst (AllPass (is_copied copied.Name)) (sym seam) (all_copied name b.all))
       (at_end name 62)
       (ends_short old (behind_end t name) true 2 n given

@@ -1,12 +1,13 @@
 -- Fronts that are copied as they stand.
-use Rattle.std.proofs.Common.{◌≡◌, ℕ, suc, ◌+◌, ◌≤◌, List, [], ◌∷◌, ◌++◌, length, take, drop, Bool, true, false, not, ◌&&◌, ◌||◌, ◌==◌, None, refl, ap, sym, ◌∙◌, arith, append_assoc, append-nil, zero-add}
+use Rattle.std.proofs.Common.{◌≡◌, ℕ, suc, ◌+◌, ◌≤◌, List, [], ◌∷◌, ◌++◌, length, take, drop, Bool, true, false, not, ◌&&◌, ◌||◌, ◌==◌, None, refl, ap, sym, ◌∙◌, arith, append_assoc, append-nil, zero-add, add-zero}
 use Rattle.std.proofs.lemmas.List.{take-append-drop, length-take-le}
 use Rattle.std.proofs.lemmas.Bool.{false≢true}
 use Rattle.html_charref.specs.declared.table.Row.{Row}
 use Rattle.html_tokens.specs.Copied.{AllPass, is_copied, is_without, copied_in, copied_by, CopiesTag, CopiesComment, cut_by}
 use Rattle.std.proofs.Common.{Result, Ok, Err}
 use Rattle.std.specs.Result.{IfOk}
-use Rattle.html_tokens.specs.Cut.{Cut, cut, null_replaced, ends_unquoted}
+use Rattle.html_tokens.specs.Inside.{comment_errors, declared_errors}
+use Rattle.html_tokens.specs.Cut.{Cut, comment_mark, cut, null_replaced, ends_unquoted}
 use Rattle.html_tokens.specs.Draft.{draft_cut, mark_of, passed}
 use Rattle.html_tokens.specs.declared.comment.CommentDraft.{CommentDraft}
 use Rattle.html_tokens.specs.declared.comment.CommentKind.{CommentKind}
@@ -248,6 +249,18 @@ comment_copies d (c ∷ xs) a more =
     ∙ cut_by_more (length xs) (draft_cut (record d { «data» = (d.«data» ++ c ∷ []) ++ xs }) more)
     ∙ ap (λ (x : List ℕ). cut_by (suc (length xs)) (draft_cut (record d { «data» = x }) more)) (append_assoc d.«data» (c ∷ []) xs))
 
+marked_none : (place c : ℕ) (rest : List ℕ) → comment_mark (c ∷ rest) ≡ None → declared_errors place (c ∷ rest) ≡ declared_errors (place + 1) rest
+unfolding declared_errors
+marked_none place c rest e = rw e refl
+
+-- no code point that is copied closes a comment
+errors_copied : (kind : CommentKind) (place : ℕ) (xs : List ℕ) → AllPass (is_copied (copied_by kind)) xs → (more : List ℕ) → comment_errors kind place (xs ++ more) ≡ comment_errors kind (place + length xs) more
+errors_copied Bogus place xs a more = refl
+errors_copied Declared place [] a more = rw add-zero refl
+errors_copied Declared place (c ∷ xs) a more =
+    let e : place + suc (length xs) ≡ (place + 1) + length xs = omega arith in
+    marked_none place c (xs ++ more) ((comment_one Declared c a.0).0 (xs ++ more)) ∙ rw e (errors_copied Declared (place + 1) xs a.1 more)
+
 comment_front : (d : CommentDraft) (text : List ℕ) (n : ℕ) → n ≤ length text → AllPass (is_copied (copied_by d.kind)) (take n text) → CopiesComment d text n (record d { «data» = d.«data» ++ take n text })
 comment_front d text n h a = (
   (λ more. ap (λ (x : List ℕ). draft_cut d x) (cut_in_two n text more)
@@ -255,6 +268,9 @@ comment_front d text n h a = (
       ∙ ap (λ (k : ℕ). cut_by k (draft_cut (record d { «data» = d.«data» ++ take n text }) (drop n text ++ more))) (length-take-le n text h)),
   h,
   refl,
+  (λ place more. ap (λ (x : List ℕ). comment_errors d.kind place x) (cut_in_two n text more)
+      ∙ errors_copied d.kind place (take n text) a (drop n text ++ more)
+      ∙ ap (λ (k : ℕ). comment_errors d.kind (place + k) (drop n text ++ more)) (length-take-le n text h)),
 )
 
 pub comment_copied : {E : Type 0} (r : Result ℕ E) (d : CommentDraft) (text new : List ℕ) →

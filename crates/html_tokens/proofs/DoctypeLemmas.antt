@@ -3,7 +3,8 @@ use Rattle.std.proofs.Common.{◌≡◌, ℕ, suc, ◌+◌, ◌<◌, ◌≤◌, 
 use Rattle.std.specs.List.{slice_get}
 use Rattle.std.proofs.lemmas.Bool.Decides.{nat_tests}
 use Rattle.std.proofs.lemmas.Bool.{ne_eqb}
-use Rattle.html_tokens.specs.Errors.{errors_after, told_in}
+use Rattle.html_tokens.specs.Errors.{errors_after}
+use Rattle.html_tokens.specs.Inside.{MovesDoctype, PassesErrors, doctype_errors, doctype_told, draft_errors}
 use Rattle.html_tokens.specs.declared.faults.Fault.{Fault}
 use Rattle.html_tokens.proofs.ErrorLemmas.{errors_past, errors_past_all}
 use Rattle.html_tokens.proofs.StepLemmas.{errors_opened}
@@ -312,8 +313,8 @@ other_read d input c e first some s h found = (
 )
 
 -- the errors from a doctype on, which is this
-abbrev doctype_errors : List Row → ℕ → Doctype → TextMode → Option (List ℕ) → List ℕ → List (Option TextMode) → List Fault
-doctype_errors rows place d mode name rest switches = errors_after rows d.len (stays (switch_of switches) mode) name place rest (drop 1 switches)
+abbrev doctype_after : List Row → ℕ → Doctype → TextMode → Option (List ℕ) → List ℕ → List (Option TextMode) → List Fault
+doctype_after rows place d mode name rest switches = errors_after rows d.len (stays (switch_of switches) mode) name place rest (drop 1 switches)
 
 -- the tokens from a doctype on, which is this and began there
 abbrev doctype_coming : List Row → ℕ → ℕ → Doctype → TextMode → Option (List ℕ) → List ℕ → List (Option TextMode) → List Token
@@ -342,13 +343,11 @@ doctype_opens old new region s (d, n, p) k begun found = (
   passes_less old new 9 _ p (omega arith) k,
   passes_count old new 9 _ p k (λ e. e),
   p.name,
-  (λ more switches f. rw (s, p.state, p.mode, p.name, p.place, p.items, p.table)
+  (λ more switches f. rw (s, p.state, p.mode, p.name, p.place, p.items, p.table, n.1, n.2, n.3, n.4, n.5)
       (let items = old.input.queue.items in
       let whole = doctype_of (drop 9 items ++ more) in
-      errors_opened old.table.now begins.Markup region old.mode old.last_name old.place 9 whole.len items more switches (doctype_piece old.place (items ++ more)) (begun more f) refl (rw (found more f) refl)
-      (rw (drop-append-le 9 items more k) refl) (omega arith) k
-      ∙ ap (λ (x : Doctype). told_in (Text region) old.mode old.last_name old.place (items ++ more) ++ doctype_errors old.table.now (old.place + 9) x old.mode old.last_name (drop 9 items ++ more) switches)
-      (sym (new_doctype_of d old.place (drop 9 items ++ more) n)))),
+      errors_opened old.table.now begins.Markup region old.mode old.last_name old.place 9 whole.len items more switches (doctype_piece old.place (items ++ more)) (doctype_errors parts.BeforeName false 0 (old.place + 9) (drop 9 items ++ more))
+      (begun more f) refl (rw (found more f) refl) (rw (drop-append-le 9 items more k) refl) (omega arith) k (rw (found more f, drop-append-le 9 items more k) refl))),
 )
 
 doctype_on : (rows : List Row) (start place n : ℕ) (d : Doctype) (mode : TextMode) (name : Option (List ℕ)) (items more : List ℕ) (switches : List (Option TextMode)) → n ≤ length items →
@@ -357,9 +356,12 @@ doctype_on rows start place n d mode name items more switches k =
     let e : place + (n + d.len) ≡ place + n + d.len = omega arith in
     rw e (ap (λ (ts : List Token). token (doctype_kind d) start (place + n + d.len) ∷ ts) (tokens_past rows n d.len (stays (switch_of switches) mode) name place items more (drop 1 switches) k))
 
-pub doctype_more : (old new : Machine) (d d' : DoctypeDraft) (n : ℕ) → old.state ≡ Doctype' d → PassesIn d old.input n d' →
+told_then : (whole told later before after : List Fault) → whole ≡ told ++ later → before ≡ after → whole ++ before ≡ told ++ (later ++ after)
+told_then whole told later before after e h = rw (e, h, append_assoc) refl
+
+pub doctype_more : (old new : Machine) (d d' : DoctypeDraft) (n : ℕ) → old.state ≡ Doctype' d → PassesIn d old.input n d' → PassesErrors d old.input n d' →
     Passes (record old { state = Doctype' d' }) n (Doctype' d') new → Steps old More new
-doctype_more old new d d' n s (e, g, k, b) p = (
+doctype_more old new d d' n s (e, g, k, b) errors p = (
   (λ more switches f. rw (s, p.state, p.mode, p.name, p.place, p.items, p.table, b)
       (ap (λ (x : Doctype). doctype_coming old.table.now d.start old.place x old.mode old.last_name (old.input.queue.items ++ more) switches) (e more f)
       ∙ doctype_on old.table.now d.start old.place n (draft_doctype d' (drop n old.input.queue.items ++ more)) old.mode old.last_name old.input.queue.items more switches k)),
@@ -367,13 +369,18 @@ doctype_more old new d d' n s (e, g, k, b) p = (
   record { count = rw (p.place, p.items) (simp length-drop (omega arith)); finished = p.finished; table = p.table; drained = going_on old new _ p.state (λ e. e) },
   p.name,
   (λ more switches f. rw (s, p.state, p.mode, p.name, p.place, p.items, p.table)
-      (ap (λ (x : Doctype). doctype_errors old.table.now old.place x old.mode old.last_name (old.input.queue.items ++ more) switches) (e more f)
-      ∙ errors_past old.table.now n (draft_doctype d' (drop n old.input.queue.items ++ more)).len (stays (switch_of switches) old.mode) old.last_name old.place old.input.queue.items more (drop 1 switches) k)),
+      (told_then (draft_errors d old.place (old.input.queue.items ++ more)) (doctype_told d.part d.spaced old.place (old.input.queue.items ++ more)) (draft_errors d' (old.place + n) (drop n old.input.queue.items ++ more)) _ _
+      (errors old.place more f)
+      (ap (λ (x : Doctype). doctype_after old.table.now old.place x old.mode old.last_name (old.input.queue.items ++ more) switches) (e more f)
+      ∙ errors_past old.table.now n (draft_doctype d' (drop n old.input.queue.items ++ more)).len (stays (switch_of switches) old.mode) old.last_name old.place old.input.queue.items more (drop 1 switches) k))),
 )
 
-pub doctype_given : (old new : Machine) (d d' : DoctypeDraft) (force_quirks : Bool) (n : ℕ) (progress : Progress) → old.state ≡ Doctype' d → ReadsDoctype d old.input (Closed force_quirks n) d' →
+told_both_then : (whole told before after : List Fault) → whole ≡ told → before ≡ after → whole ++ before ≡ told ++ after
+told_both_then whole told before after e h = rw (e, h) refl
+
+pub doctype_given : (old new : Machine) (d d' : DoctypeDraft) (force_quirks : Bool) (n : ℕ) (progress : Progress) → old.state ≡ Doctype' d → ReadsDoctype d old.input (Closed force_quirks n) d' → MovesDoctype d old.input (Closed force_quirks n) d' →
     EndsDoctype (record old { state = Doctype' d' }) force_quirks n progress new → Steps old progress new
-doctype_given old new d d' force_quirks n progress s (e, k, b) ends =
+doctype_given old new d d' force_quirks n progress s (e, k, b) moves ends =
     let given = (ends d' refl).0 in
     let p = (ends d' refl).1 in
     let whole = closes (ids_of d') force_quirks n in
@@ -384,8 +391,9 @@ doctype_given old new d d' force_quirks n progress s (e, k, b) ends =
       record { count = rw (p.place, p.items) (simp length-drop (omega arith)); finished = p.finished; table = p.table; drained = going_on old new _ p.state (λ e. e) },
       p.name,
       (λ more switch switches f. rw (s, p.state, p.mode, p.name, p.place, p.items, p.table)
-          (ap (λ (x : Doctype). doctype_errors old.table.now old.place x old.mode old.last_name (old.input.queue.items ++ more) (switch ∷ switches)) (e more f)
-          ∙ errors_past_all old.table.now n (stays switch old.mode) old.last_name old.place old.input.queue.items more switches k)),
+          (told_both_then (draft_errors d old.place (old.input.queue.items ++ more)) (doctype_told d.part d.spaced old.place (old.input.queue.items ++ more)) _ _ (moves.0 old.place more f)
+          (ap (λ (x : Doctype). doctype_after old.table.now old.place x old.mode old.last_name (old.input.queue.items ++ more) (switch ∷ switches)) (e more f)
+          ∙ errors_past_all old.table.now n (stays switch old.mode) old.last_name old.place old.input.queue.items more switches k))),
     )
 
 pub doctype_waits : (old : Machine) (d d' : DoctypeDraft) → old.state ≡ Doctype' d → ReadsDoctype d old.input Waits d' → Steps old Wait (record old { state = Doctype' d' })

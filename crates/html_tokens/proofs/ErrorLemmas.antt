@@ -1,7 +1,7 @@
 -- The errors of a text, piece by piece.
 use Rattle.std.proofs.Common.{◌≡◌, ◌⊎◌, ℕ, zero, suc, ◌+◌, ◌-◌, ◌<◌, ◌≤◌, List, [], ◌∷◌, ◌++◌, length, drop, Bool, Option, cond, true, false, refl, ap, sym, inl, inr, ◌∙◌, arith, length-append, add-zero, zero-add}
 use Rattle.std.proofs.lemmas.List.{drop-append-le}
-use Rattle.html_tokens.specs.Errors.{errors_after, piece_errors, told_in}
+use Rattle.html_tokens.specs.Errors.{errors_after, inside_errors, piece_errors, told_in}
 use Rattle.html_tokens.specs.Fed.{errors_coming, text_errors}
 use Rattle.html_tokens.specs.Tokens.{begun_piece, chars_at, mode_after, name_after, next, Piece, stays}
 use Rattle.html_tokens.specs.Marks.{begin_at, is_end_mark, is_stop, front, region_in}
@@ -27,13 +27,13 @@ errors_skip rows (suc k) j mode name place (c ∷ rest) switches h =
     rw (e, f) (errors_skip rows k j mode name (place + 1) rest switches (omega arith))
 
 -- the errors of the first piece, and those after it
-abbrev after_piece : List Row → List Fault → Piece → TextMode → Option (List ℕ) → ℕ → List ℕ → List (Option TextMode) → List Fault
-after_piece rows told first mode name place rest switches =
-    told ++ errors_after rows (first.len - 1) (mode_after first.tokens switches mode) (name_after first.tokens name) (place + 1) rest (drop (length first.tokens) switches)
+abbrev after_piece : List Row → List Fault → List Fault → Piece → TextMode → Option (List ℕ) → ℕ → List ℕ → List (Option TextMode) → List Fault
+after_piece rows told inside first mode name place rest switches =
+    told ++ (inside ++ errors_after rows (first.len - 1) (mode_after first.tokens switches mode) (name_after first.tokens name) (place + 1) rest (drop (length first.tokens) switches))
 
 errors_unroll : (rows : List Row) (mode : TextMode) (name : Option (List ℕ)) (place c : ℕ) (rest : List ℕ) (switches : List (Option TextMode)) →
     errors_after rows 0 mode name place (c ∷ rest) switches
-    ≡ after_piece rows (piece_errors (begin_at mode Plain name (c ∷ rest)) place (c ∷ rest)) (next rows mode name place (c ∷ rest)) mode name place rest switches
+    ≡ after_piece rows (piece_errors (begin_at mode Plain name (c ∷ rest)) place (c ∷ rest)) (inside_errors rows (begin_at mode Plain name (c ∷ rest)) place (c ∷ rest)) (next rows mode name place (c ∷ rest)) mode name place rest switches
 unfolding errors_after
 errors_unroll rows mode name place c rest switches = refl
 
@@ -106,7 +106,7 @@ errors_back rows (suc j) mode name place c rest switches h = let e : suc j - 1 �
 pub errors_begun : (rows : List Row) (b : Begin) (mode : TextMode) (region : Region) (name : Option (List ℕ)) (place : ℕ) (text : List ℕ) (switches : List (Option TextMode)) (first : Piece) →
     begin_at mode region name text ≡ b → is_stop b ≡ true → begun_piece rows b place text ≡ first → 0 < first.len → 0 < length text →
     errors_coming rows (Text region) mode name place text switches
-    ≡ piece_errors b place text ++ errors_after rows first.len (mode_after first.tokens switches mode) (name_after first.tokens name) place text (drop (length first.tokens) switches)
+    ≡ piece_errors b place text ++ (inside_errors rows b place text ++ errors_after rows first.len (mode_after first.tokens switches mode) (name_after first.tokens name) place text (drop (length first.tokens) switches))
 errors_begun rows b mode region name place [] switches first e s p h k = absurd (omega arith)
 errors_begun rows b mode region name place (c ∷ rest) switches first e s p h k =
     let plain = begin_plain mode region name (c ∷ rest) b e s in
@@ -114,7 +114,7 @@ errors_begun rows b mode region name place (c ∷ rest) switches first e s p h k
     ∙ rw (front_stop mode region name c rest b e s)
     (errors_unroll rows mode name place c rest switches
     ∙ rw (front_stop mode Plain name c rest b plain s, plain, p)
-    (ap (λ (es : List Fault). piece_errors b place (c ∷ rest) ++ es)
+    (ap (λ (es : List Fault). piece_errors b place (c ∷ rest) ++ (inside_errors rows b place (c ∷ rest) ++ es))
     (errors_back rows first.len _ _ place c rest _ h)))
 
 -- past some code points of what was fed
@@ -139,12 +139,12 @@ mark_or_char true place text = refl
 mark_or_char false place text = refl
 
 -- at the end nothing begins
-pub none_at_end : (region : Region) (mode : TextMode) (name : Option (List ℕ)) (place : ℕ) → told_in (Text region) mode name place [] ≡ []
-none_at_end region Data name place = refl
-none_at_end region Rcdata name place = mark_or_char (is_end_mark name []) place []
-none_at_end region Rawtext name place = mark_or_char (is_end_mark name []) place []
-none_at_end Plain Script name place = mark_or_char (is_end_mark name []) place []
-none_at_end Escaped Script name place = mark_or_char (is_end_mark name []) place []
-none_at_end Double Script name place = refl
-none_at_end region Plaintext name place = refl
-none_at_end region Foreign name place = refl
+pub none_at_end : (rows : List Row) (region : Region) (mode : TextMode) (name : Option (List ℕ)) (place : ℕ) → told_in rows (Text region) mode name place [] ≡ []
+none_at_end rows region Data name place = refl
+none_at_end rows region Rcdata name place = mark_or_char (is_end_mark name []) place []
+none_at_end rows region Rawtext name place = mark_or_char (is_end_mark name []) place []
+none_at_end rows Plain Script name place = mark_or_char (is_end_mark name []) place []
+none_at_end rows Escaped Script name place = mark_or_char (is_end_mark name []) place []
+none_at_end rows Double Script name place = refl
+none_at_end rows region Plaintext name place = refl
+none_at_end rows region Foreign name place = refl

@@ -7,6 +7,8 @@ pub mod ErrorLemmas
 pub mod StepLemmas
 pub mod ToldLemmas
 pub mod FedLemmas
+pub mod CommentLemmas
+pub mod EndLemmas
 pub mod SectionLemmas
 pub mod StreamLemmas
 pub mod TagLemmas
@@ -16,6 +18,7 @@ pub mod CostTags
 pub mod CostDoctypes
 pub mod CostLemmas
 pub mod DoctypeLemmas
+pub mod InsideLemmas
 pub mod BoundLemmas
 pub mod RunLemmas
 pub mod CopyLemmas

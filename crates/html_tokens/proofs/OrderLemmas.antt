@@ -4,7 +4,7 @@ use Rattle.std.proofs.lemmas.Bool.Decides.{nat_tests}
 use Rattle.std.proofs.lemmas.List.{take-append-drop}
 use Rattle.std.proofs.lemmas.List.Elements.{filter-append}
 use Rattle.std.specs.List.{AllByRecursion, AllWithin, filter}
-use Rattle.html_tokens.specs.Errors.{is_opening, openings, with_told}
+use Rattle.html_tokens.specs.Errors.{is_defined, defined, with_told}
 use Rattle.html_tokens.specs.Order.{IsAdded}
 use Rattle.std.proofs.lemmas.List.{get_or_default}
 use Rattle.std.specs.List.Sorted.{IsNonDecreasingBy}
@@ -51,19 +51,19 @@ told_between [] [] f a b = refl
 told_between [] (y ∷ ys) f a b = rw (later y.place f.place b.0) refl
 told_between (x ∷ xs) ys f a b = rw (not_later x.place f.place a.0) (ap (λ (l : List Fault). x ∷ l) (told_between xs ys f a.1 b))
 
-parted : (old : List Fault) (at : ℕ) → openings old ≡ openings (take at old) ++ openings (drop at old)
-parted old at = ap openings (sym (take-append-drop at old)) ∙ filter-append (λ f. is_opening f.name) (take at old) (drop at old)
+parted : (old : List Fault) (at : ℕ) → defined old ≡ defined (take at old) ++ defined (drop at old)
+parted old at = ap defined (sym (take-append-drop at old)) ∙ filter-append (λ f. is_defined f.name) (take at old) (drop at old)
 
-pub opening_added : (old new : List Fault) (f : Fault) → IsAdded old f new → is_opening f.name ≡ true → openings new ≡ with_told (openings old) f
-opening_added old new f added o =
+pub defined_added : (old new : List Fault) (f : Fault) → IsAdded old f new → is_defined f.name ≡ true → defined new ≡ with_told (defined old) f
+defined_added old new f added o =
     let front = take added.at old in
     let back = drop added.at old in
-    ap openings added.is ∙ filter-append (λ x. is_opening x.name) front (f ∷ back) ∙ rw o
-    (sym (told_between (openings front) (openings back) f (all_filtered _ _ front (within_front _ old added.at added.fit added.before)) (all_filtered _ _ back (within_back _ old added.at added.after)))
+    ap defined added.is ∙ filter-append (λ x. is_defined x.name) front (f ∷ back) ∙ rw o
+    (sym (told_between (defined front) (defined back) f (all_filtered _ _ front (within_front _ old added.at added.fit added.before)) (all_filtered _ _ back (within_back _ old added.at added.after)))
     ∙ ap (λ (l : List Fault). with_told l f) (sym (parted old added.at)))
 
-pub other_added : (old new : List Fault) (f : Fault) → IsAdded old f new → is_opening f.name ≡ false → openings new ≡ openings old
+pub other_added : (old new : List Fault) (f : Fault) → IsAdded old f new → is_defined f.name ≡ false → defined new ≡ defined old
 other_added old new f added o =
     let front = take added.at old in
     let back = drop added.at old in
-    ap openings added.is ∙ filter-append (λ x. is_opening x.name) front (f ∷ back) ∙ rw o (sym (parted old added.at))
+    ap defined added.is ∙ filter-append (λ x. is_defined x.name) front (f ∷ back) ∙ rw o (sym (parted old added.at))

@@ -4,7 +4,7 @@ use Rattle.std.specs.List.{list_all}
 use Rattle.std.proofs.lemmas.Bool.{false≢true}
 use Rattle.std.proofs.lemmas.Bool.Decides.{nat_tests}
 use Rattle.std.proofs.lemmas.List.{take_all}
-use Rattle.html_charref.specs.Plain.{is_plain_char}
+use Rattle.html_text.specs.Plain.{is_plain_char}
 use Rattle.html_tokens.specs.Stream.{AreTold}
 use Rattle.html_tokens.proofs.ToldLemmas.{told_fed}
 use Rattle.html_tokens.specs.Bounds.{IsBounded}

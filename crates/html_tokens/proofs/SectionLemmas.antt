@@ -7,8 +7,10 @@ use Rattle.html_tokens.specs.Cut.{cut, section_mark}
 use Rattle.html_tokens.specs.Errors.{errors_after}
 use Rattle.html_tokens.specs.Fed.{coming, errors_coming, Passes, Steps}
 use Rattle.html_tokens.specs.Input.{Decided, MayFollow}
+use Rattle.html_tokens.specs.Inside.{section_errors, section_told, unless_closed}
 use Rattle.html_tokens.specs.Marks.{begin_at}
 use Rattle.html_tokens.specs.Tokens.{chars_at, mode_after, name_after, section_piece, stays, token, tokens_after}
+use Rattle.html_tokens.specs.declared.faults.Fault.{Fault}
 use Rattle.html_tokens.specs.declared.machine.Machine.{Machine}
 use Rattle.html_tokens.specs.declared.machine.Progress.TheVariants.{Given, More}
 use Rattle.html_tokens.specs.declared.machine.State.{State}
@@ -45,8 +47,8 @@ section_opens old new region s p k begun =
     (λ more switches f.
     let items = old.input.queue.items in
     let section = cut section_mark (drop 9 items ++ more) in
-    errors_opened old.table.now begins.Section region old.mode old.last_name old.place 9 section.len items more switches (section_piece old.place (items ++ more)) (begun more f) refl refl
-    (rw (drop-append-le 9 items more k) refl) (omega arith) k
+    errors_opened old.table.now begins.Section region old.mode old.last_name old.place 9 section.len items more switches (section_piece old.place (items ++ more)) (section_errors (old.place + 9) (drop 9 items ++ more)) (begun more f) refl refl
+    (rw (drop-append-le 9 items more k) refl) (omega arith) k (rw (drop-append-le 9 items more k) refl)
     ∙ rw (drop-append-le 9 items more k, name_chars Foreign (old.place + 9) section.before old.last_name) refl)
 
 section_on : (rows : List Row) (mode : TextMode) (name : Option (List ℕ)) (place c : ℕ) (rest : List ℕ) (switch : Option TextMode) (switches : List (Option TextMode)) → section_mark (c ∷ rest) ≡ None →
@@ -56,8 +58,13 @@ section_on rows mode name place c rest switch switches e = rw (cut_longer sectio
 
 section_goes : (rows : List Row) (mode : TextMode) (name : Option (List ℕ)) (place c : ℕ) (rest : List ℕ) (switch : Option TextMode) (switches : List (Option TextMode)) → section_mark (c ∷ rest) ≡ None →
     errors_coming rows Section mode name place (c ∷ rest) (switch ∷ switches) ≡ errors_coming rows Section (stays switch mode) name (place + 1) rest switches
-unfolding errors_after
-section_goes rows mode name place c rest switch switches e = rw (cut_longer section_mark c rest e) refl
+unfolding errors_after unless_closed
+section_goes rows mode name place c rest switch switches e = rw (cut_longer section_mark c rest e, e) refl
+
+-- before a code point nothing is told
+pub told_closed : (text : List ℕ) (place : ℕ) → 0 < length text → section_told place text ≡ []
+told_closed [] place h = absurd (omega arith)
+told_closed (c ∷ rest) place h = refl
 
 -- a code point of a section is given
 pub section_gives : (old new : Machine) (c : ℕ) → old.state ≡ Section → Decided old.input (λ rest. slice_get rest 0) (Some c) → Decided old.input section_mark None → 0 < length old.input.queue.items →
@@ -74,10 +81,16 @@ section_gives old new c s first none h passed = let p = subst (λ (x : State). P
   (λ more switch switches f.
       let items = old.input.queue.items in
       let text : items ++ more ≡ c ∷ (drop 1 items ++ more) = first_of items more c (first more f) h in
-      rw (s, p.state, p.mode, p.name, p.place, p.items, p.table)
+      rw (s, p.state, p.mode, p.name, p.place, p.items, p.table, told_closed (items ++ more) old.place (not_empty items more h))
       (ap (λ (x : List ℕ). errors_coming old.table.now Section old.mode old.last_name old.place x (switch ∷ switches)) text
       ∙ section_goes old.table.now old.mode old.last_name old.place c (drop 1 items ++ more) switch switches (ap section_mark (sym text) ∙ none more f))),
 )
+
+-- where it closes, nothing is told
+closed_section : (text : List ℕ) (place : ℕ) → section_mark text ≡ Some 3 → 0 < length text → section_errors place text ≡ []
+unfolding unless_closed
+closed_section [] place e h = absurd (omega arith)
+closed_section (c ∷ rest) place e h = rw e refl
 
 -- a section closes
 pub section_closes : (old new : Machine) → old.state ≡ Section → Decided old.input section_mark (Some 3) → 3 ≤ length old.input.queue.items → Passes old 3 (Text Plain) new → Steps old More new
@@ -91,13 +104,18 @@ section_closes old new s closes h p = (
   p.name,
   (λ more switches f.
       let items = old.input.queue.items in
-      rw (s, p.state, p.mode, p.name, p.place, p.items, p.table, cut_closed section_mark (items ++ more) 3 (closes more f) (not_empty items more (omega arith)))
+      let some = not_empty items more (omega arith) in
+      rw (s, p.state, p.mode, p.name, p.place, p.items, p.table, cut_closed section_mark (items ++ more) 3 (closes more f) some, closed_section (items ++ more) old.place (closes more f) some, told_closed (items ++ more) old.place some)
       (errors_past_all old.table.now 3 old.mode old.last_name old.place items more switches h)),
 )
 
 section_end : (rows : List Row) (mode : TextMode) (name : Option (List ℕ)) (place : ℕ) (switches : List (Option TextMode)) → coming rows Section mode name place [] switches ≡ token kinds.Eof place place ∷ []
 unfolding cut tokens_after
 section_end rows mode name place switches = refl
+
+section_ended : (rows : List Row) (mode : TextMode) (name : Option (List ℕ)) (place : ℕ) (switches : List (Option TextMode)) → errors_coming rows Section mode name place [] switches ≡ section_told place [] ++ []
+unfolding unless_closed
+section_ended rows mode name place switches = ap (λ (es : List Fault). section_told place [] ++ es) (errors_end rows _ _ name place _)
 
 -- the text ends in a section
 pub section_ends : (old new : Machine) → old.state ≡ Section → new ≡ record old { state = Ended } →
@@ -106,5 +124,5 @@ section_ends old new s n e = (
   (λ more switch switches f. rw (s, e more f, n) (section_end old.table.now old.mode old.last_name old.place (switch ∷ switches))),
   rw n (record { count = refl; finished = refl; table = refl; drained = λ _ _. all_read old.input.finished old.input.queue.items e }),
   rw n refl,
-  (λ more switch switches f. rw (s, e more f, n) (errors_end old.table.now _ _ old.last_name old.place _)),
+  (λ more switch switches f. rw (s, e more f, n) (section_ended old.table.now old.mode old.last_name old.place (switch ∷ switches))),
 )

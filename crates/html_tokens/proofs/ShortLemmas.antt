@@ -8,6 +8,7 @@ use Rattle.html_tokens.specs.declared.faults.Fault.{Fault}
 use Rattle.html_tokens.specs.Copied.{AllPass, is_copied}
 use Rattle.html_tokens.specs.declared.copied.Copied.TheVariants as copied
 use Rattle.html_tokens.specs.Cut.{cut}
+use Rattle.html_tokens.specs.Errors.{inside_errors}
 use Rattle.html_tokens.specs.Fed.{EndsTagAt, Skips, Steps, mode_after_tag, name_after_tag, read_tag}
 use Rattle.html_tokens.specs.Input.{Decided, MayFollow}
 use Rattle.html_tokens.specs.Marks.{begin_at}
@@ -24,6 +25,10 @@ use Rattle.html_tokens.specs.declared.token.Begin.TheVariants as begins
 use Rattle.html_tokens.specs.declared.token.Region.TheVariants.{Plain}
 use Rattle.html_tokens.specs.declared.token.Token.{Token}
 use Rattle.html_tokens.proofs.CopyLemmas.{name_front}
+use Rattle.html_tokens.proofs.Cuts.{first_of}
+use Rattle.html_tokens.proofs.EndLemmas.{bare_told}
+use Rattle.html_tokens.specs.Inside.{begun_tag_errors}
+use Rattle.html_tokens.specs.Tag.{draft_tag}
 use Rattle.html_tokens.proofs.TagLemmas.{tag_given_at, tag_opens, tag_skips}
 
 -- what a short tag's fields are after it
@@ -59,10 +64,11 @@ front_at (x ∷ xs) more (suc n) c h e = front_at xs more n c (omega arith) e
 pub short_gives : (old new : Machine) (is_end : Bool) (opened len : ℕ) (given : Token) → old.state ≡ Text Plain → 0 < opened → opened + len < length old.input.queue.items →
     Decided old.input (begin_at old.mode Plain old.last_name) begins.Markup →
     ((more : List ℕ) → MayFollow old.input.finished more → begun_piece old.table.now begins.Markup old.place (old.input.queue.items ++ more) ≡ tag_piece old.table.now is_end opened old.place (old.input.queue.items ++ more)) →
+    ((more : List ℕ) → MayFollow old.input.finished more → inside_errors old.table.now begins.Markup old.place (old.input.queue.items ++ more) ≡ begun_tag_errors old.table.now is_end opened old.place (old.input.queue.items ++ more)) →
     AllPass (is_copied copied.Name) (take len (drop opened old.input.queue.items)) → slice_get (drop opened old.input.queue.items) len ≡ Some 62 →
     EndsTagAt (at_close old (opened + len) (short_draft old is_end opened len)) (short_draft old is_end opened len) false 1 (Given given) new →
     Steps old (Given given) new
-short_gives old new is_end opened len given s some fit begun piece name close ends =
+short_gives old new is_end opened len given s some fit begun piece inside name close ends =
     let rest = drop opened old.input.queue.items in
     let d : TagDraft = record { alloc = old.alloc; is_end = is_end; start = old.place; name = []; attrs = []; part = parts.Name; attr_name = []; attr_value = [] } in
     let d' = short_draft old is_end opened len in
@@ -70,7 +76,7 @@ short_gives old new is_end opened len given s some fit begun piece name close en
     let b : Machine = at_close old (opened + len) d' in
     let room : len < length rest = simp length-drop (omega arith) in
     let opens : Steps old More a =
-    tag_opens old a begins.Markup Plain is_end opened s (d, (refl, refl, refl, refl, refl, refl), record { items = refl; finished = refl; place = refl; mode = refl; name = refl; state = refl; table = refl }) some (omega arith) begun refl piece in
+    tag_opens old a begins.Markup Plain is_end opened s (d, (refl, refl, refl, refl, refl, refl), record { items = refl; finished = refl; place = refl; mode = refl; name = refl; state = refl; table = refl }) some (omega arith) begun refl piece inside in
     let e : old.place + (opened + len) ≡ old.place + opened + len = omega arith in
     let copies : Skips a b =
     tag_skips a b d d' len refl (name_front d rest len refl (omega arith) name)
@@ -78,9 +84,13 @@ short_gives old new is_end opened len given s some fit begun piece name close en
     let left : 0 < length (drop (opened + len) old.input.queue.items) = simp length-drop (omega arith) in
     let at : (more : List ℕ) → slice_get (drop (opened + len) old.input.queue.items ++ more) 0 ≡ Some 62 =
     λ more. rw (← drop-drop len opened old.input.queue.items) (front_at rest more len 62 room close) in
-    let gives : Steps b (Given given) new = tag_given_at b new d' d' 62 None false 1 (Given given) refl (closes_name d' refl refl) (λ more h. at more) (λ h. absurd (false≢true (ap (λ (n : ℕ). n == 47) h))) (omega arith) ends in (
+    let gives : Steps b (Given given) new = tag_given_at b new d' d' 62 None false 1 (Given given) refl (closes_name d' refl refl) (λ more h. at more) (λ h. absurd (false≢true (ap (λ (n : ℕ). n == 47) h))) (omega arith) refl ends in
+    let reads = closes_name d' refl refl in
+    let told : (more : List ℕ) → told_at b more ≡ [] =
+    λ more. let text = first_of b.input.queue.items more 62 (at more) left in
+    bare_told old.table.now d' is_end b.place 1 (b.input.queue.items ++ more) d'.name (ap (λ (x : List ℕ). draft_tag old.table.now d' x) text ∙ reads.0 old.table.now (drop 1 b.input.queue.items ++ more) (λ h. absurd (false≢true (ap (λ (n : ℕ). n == 47) h)))) in (
       (λ more switch switches f. opens.0 more (switch ∷ switches) f ∙ copies.0 more (switch ∷ switches) f ∙ gives.0 more switch switches f),
       record { count = gives.1.count ∙ copies.1.count ∙ opens.2.count; finished = gives.1.finished; table = gives.1.table; drained = λ h. gives.1.drained (copies.1.drained (opens.2.drained h)) },
       gives.2,
-      (λ more switch switches f. opens.4 more (switch ∷ switches) f ∙ ap (λ (es : List Fault). told_at old more ++ es) (copies.3 more (switch ∷ switches) f ∙ gives.3 more switch switches f)),
+      (λ more switch switches f. opens.4 more (switch ∷ switches) f ∙ ap (λ (es : List Fault). told_at old more ++ es) (copies.3 more (switch ∷ switches) f ∙ gives.3 more switch switches f ∙ rw (told more) refl)),
     )

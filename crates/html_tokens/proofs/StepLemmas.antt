@@ -14,11 +14,13 @@ use Rattle.html_tokens.specs.declared.token.Begin.TheVariants as begins
 use Rattle.std.proofs.Common.{add-zero, length-drop}
 use Rattle.std.proofs.lemmas.List.{drop-append-le}
 use Rattle.html_tokens.specs.Copied.{CopiesComment, cut_by}
-use Rattle.html_tokens.specs.Errors.{errors_after, piece_errors, told_in}
+use Rattle.html_tokens.specs.Errors.{errors_after, inside_errors, piece_errors, told_in}
 use Rattle.html_tokens.specs.declared.faults.Fault.{Fault}
 use Rattle.html_tokens.proofs.ErrorLemmas.{errors_begun, errors_end, errors_past, errors_past_all, errors_past_one, errors_text, none_at_end}
 use Rattle.html_tokens.specs.Fed.{Skips, coming, errors_coming, to_come, IsDrained, IsEnded, Passes, SameCount, Steps, switch_to, slack, GivesChars}
 use Rattle.html_tokens.specs.Input.{Decided, IsShort}
+use Rattle.html_tokens.specs.Inside.{MovesComment, comment_errors, comment_told}
+use Rattle.html_tokens.proofs.CommentLemmas.{comment_ends, comment_goes}
 use Rattle.html_tokens.specs.Input.{MayFollow}
 use Rattle.html_tokens.specs.declared.machine.Machine.{Machine}
 use Rattle.html_tokens.specs.declared.machine.Progress.TheVariants.{Given, More, Wait}
@@ -70,7 +72,7 @@ char_given rows region after mode name place place' c d items items' more switch
 pub char_errors : (rows : List Row) (region after : Region) (mode : TextMode) (name : Option (List ℕ)) (place place' c : ℕ) (items items' more : List ℕ) (switch : Option TextMode) (switches : List (Option TextMode)) →
     items ≡ c ∷ items' → begin_at mode region name (items ++ more) ≡ begins.Char → region_in mode region (items ++ more) ≡ after → place' ≡ place + 1 →
     errors_coming rows (Text region) mode name place (items ++ more) (switch ∷ switches)
-    ≡ told_in (Text region) mode name place (items ++ more) ++ errors_coming rows (Text after) (stays switch mode) name place' (items' ++ more) switches
+    ≡ told_in rows (Text region) mode name place (items ++ more) ++ errors_coming rows (Text after) (stays switch mode) name place' (items' ++ more) switches
 char_errors rows region after mode name place place' c items items' more switch switches e t r p =
     let t' = rw e at t in
     let r' = rw e at r in
@@ -80,33 +82,36 @@ there : (items more : List ℕ) → 0 < length items → 0 < length (items ++ mo
 there items more h = omega (arith, length-append items more)
 
 -- the errors of what begins, before so many code points of it
-pub errors_opened : (rows : List Row) (b : Begin) (region : Region) (mode : TextMode) (name : Option (List ℕ)) (place opened j : ℕ) (items more : List ℕ) (switches : List (Option TextMode)) (first : Piece) →
+pub errors_opened : (rows : List Row) (b : Begin) (region : Region) (mode : TextMode) (name : Option (List ℕ)) (place opened j : ℕ) (items more : List ℕ) (switches : List (Option TextMode)) (first : Piece) (inside : List Fault) →
     begin_at mode region name (items ++ more) ≡ b → is_stop b ≡ true → begun_piece rows b place (items ++ more) ≡ first → first.len ≡ opened + j → 0 < opened → opened ≤ length items →
+    inside_errors rows b place (items ++ more) ≡ inside →
     errors_coming rows (Text region) mode name place (items ++ more) switches
-    ≡ told_in (Text region) mode name place (items ++ more)
-    ++ errors_after rows j (mode_after first.tokens switches mode) (name_after first.tokens name) (place + opened) (drop opened items ++ more) (drop (length first.tokens) switches)
-errors_opened rows b region mode name place opened j items more switches first e s p l h k =
+    ≡ told_in rows (Text region) mode name place (items ++ more)
+    ++ (inside ++ errors_after rows j (mode_after first.tokens switches mode) (name_after first.tokens name) (place + opened) (drop opened items ++ more) (drop (length first.tokens) switches))
+errors_opened rows b region mode name place opened j items more switches first inside e s p l h k i =
     errors_begun rows b mode region name place (items ++ more) switches first e s p (omega arith) (there items more (omega arith))
-    ∙ rw (e, l) (ap (λ (es : List Fault). piece_errors b place (items ++ more) ++ es) (errors_past rows opened j _ _ place items more _ k))
+    ∙ rw (e, l, i) (ap (λ (es : List Fault). piece_errors b place (items ++ more) ++ (inside ++ es)) (errors_past rows opened j _ _ place items more _ k))
 
 -- the errors of what begins and is passed whole
 pub errors_passed : (rows : List Row) (b : Begin) (region : Region) (mode : TextMode) (name : Option (List ℕ)) (place len : ℕ) (items more : List ℕ) (switches : List (Option TextMode)) (first : Piece) →
     begin_at mode region name (items ++ more) ≡ b → is_stop b ≡ true → begun_piece rows b place (items ++ more) ≡ first → first.len ≡ len → 0 < len → len ≤ length items →
+    inside_errors rows b place (items ++ more) ≡ [] →
     errors_coming rows (Text region) mode name place (items ++ more) switches
-    ≡ told_in (Text region) mode name place (items ++ more)
+    ≡ told_in rows (Text region) mode name place (items ++ more)
     ++ errors_after rows 0 (mode_after first.tokens switches mode) (name_after first.tokens name) (place + len) (drop len items ++ more) (drop (length first.tokens) switches)
-errors_passed rows b region mode name place len items more switches first e s p l h k =
-    errors_opened rows b region mode name place len 0 items more switches first e s p (l ∙ omega arith) h k
+errors_passed rows b region mode name place len items more switches first e s p l h k i =
+    errors_opened rows b region mode name place len 0 items more switches first [] e s p (l ∙ omega arith) h k i
 
 pub comment_opens : (rows : List Row) (region : Region) (mode : TextMode) (kind : CommentKind) (opened : ℕ) (name : Option (List ℕ)) (place : ℕ) (items more : List ℕ) (switches : List (Option TextMode)) →
     begin_at mode region name (items ++ more) ≡ begins.Markup →
     begun_piece rows begins.Markup place (items ++ more) ≡ comment_piece (mark_of kind) opened place (items ++ more) →
     0 < opened → opened ≤ length items →
+    inside_errors rows begins.Markup place (items ++ more) ≡ comment_errors kind (place + opened) (drop opened items ++ more) →
     errors_coming rows (Text region) mode name place (items ++ more) switches
-    ≡ told_in (Text region) mode name place (items ++ more) ++ errors_coming rows (Comment (record { kind = kind; start = place; «data» = [] })) mode name (place + opened) (drop opened items ++ more) switches
-comment_opens rows region mode kind opened name place items more switches e p h k =
-    errors_opened rows begins.Markup region mode name place opened (cut (mark_of kind) (drop opened items ++ more)).len items more switches (comment_piece (mark_of kind) opened place (items ++ more)) e refl p
-    (rw (drop-append-le opened items more k) refl) h k
+    ≡ told_in rows (Text region) mode name place (items ++ more) ++ errors_coming rows (Comment (record { kind = kind; start = place; «data» = [] })) mode name (place + opened) (drop opened items ++ more) switches
+comment_opens rows region mode kind opened name place items more switches e p h k i =
+    errors_opened rows begins.Markup region mode name place opened (cut (mark_of kind) (drop opened items ++ more)).len items more switches (comment_piece (mark_of kind) opened place (items ++ more)) (comment_errors kind (place + opened) (drop opened items ++ more)) e refl p
+    (rw (drop-append-le opened items more k) refl) h k i
 
 -- a comment begins, after what opens it
 pub comment_begins : (rows : List Row) (region : Region) (mode : TextMode) (kind : CommentKind) (opened : ℕ) (name : Option (List ℕ)) (place : ℕ) (items more : List ℕ) (switches : List (Option TextMode)) →
@@ -163,7 +168,7 @@ pub open_more : (old new : Machine) (region : Region) (k : ℕ) (after : State) 
     coming old.table.now (Text region) old.mode old.last_name old.place (old.input.queue.items ++ more) switches ≡ coming old.table.now after old.mode old.last_name (old.place + k) (drop k old.input.queue.items ++ more) switches) →
     ((more : List ℕ) (switches : List (Option TextMode)) → MayFollow old.input.finished more →
     errors_coming old.table.now (Text region) old.mode old.last_name old.place (old.input.queue.items ++ more) switches
-    ≡ told_in (Text region) old.mode old.last_name old.place (old.input.queue.items ++ more) ++ errors_coming old.table.now after old.mode old.last_name (old.place + k) (drop k old.input.queue.items ++ more) switches) →
+    ≡ told_in old.table.now (Text region) old.mode old.last_name old.place (old.input.queue.items ++ more) ++ errors_coming old.table.now after old.mode old.last_name (old.place + k) (drop k old.input.queue.items ++ more) switches) →
     Steps old More new
 open_more old new region k after s p g h off step tells = (
   (λ more switches f. rw s (step more switches f ∙ sym (passes_come old new k after p more switches))),
@@ -180,7 +185,7 @@ pub open_given : (old new : Machine) (region : Region) (given : Token) (k : ℕ)
     coming old.table.now (Text region) old.mode old.last_name old.place (old.input.queue.items ++ more) (switch ∷ switches) ≡ given ∷ coming old.table.now after (switch_to given.kind switch old.mode) old.last_name (old.place + k) (drop k old.input.queue.items ++ more) switches) →
     ((more : List ℕ) (switch : Option TextMode) (switches : List (Option TextMode)) → MayFollow old.input.finished more →
     errors_coming old.table.now (Text region) old.mode old.last_name old.place (old.input.queue.items ++ more) (switch ∷ switches)
-    ≡ told_in (Text region) old.mode old.last_name old.place (old.input.queue.items ++ more) ++ errors_coming old.table.now after (switch_to given.kind switch old.mode) old.last_name (old.place + k) (drop k old.input.queue.items ++ more) switches) →
+    ≡ told_in old.table.now (Text region) old.mode old.last_name old.place (old.input.queue.items ++ more) ++ errors_coming old.table.now after (switch_to given.kind switch old.mode) old.last_name (old.place + k) (drop k old.input.queue.items ++ more) switches) →
     Steps old (Given given) new
 open_given old new region given k after s p h off named step tells = (
   (λ more switch switches f. rw s (step more switch switches f ∙ rw (p.state, p.mode, p.name, p.place, p.items, p.table) refl)),
@@ -194,12 +199,13 @@ pub open_gives : (old new : Machine) (region : Region) (b : Begin) (given : Toke
     ((switch : Option TextMode) (mode : TextMode) → mode_after_kind given.kind switch mode ≡ switch_to given.kind switch mode) → ((name : Option (List ℕ)) → name_after_kind given.kind name ≡ name) →
     is_stop b ≡ true → Decided old.input (begin_at old.mode region old.last_name) b →
     ((more : List ℕ) → MayFollow old.input.finished more → begun_piece old.table.now b old.place (old.input.queue.items ++ more) ≡ piece (given ∷ []) k) →
+    ((more : List ℕ) → MayFollow old.input.finished more → inside_errors old.table.now b old.place (old.input.queue.items ++ more) ≡ []) →
     Steps old (Given given) new
-open_gives old new region b given k s p g h same named stop begun whole =
+open_gives old new region b given k s p g h same named stop begun whole inside =
     open_given old new region given k (Text Plain) s p h (λ e. e) (named old.last_name)
     (λ more switch switches f. piece_given old.table.now b region old.mode given k old.last_name old.place old.input.queue.items more switch switches (begun more f) stop (whole more f) g h (named old.last_name)
     ∙ rw (same switch old.mode) refl)
-    (λ more switch switches f. errors_passed old.table.now b region old.mode old.last_name old.place k old.input.queue.items more (switch ∷ switches) (piece (given ∷ []) k) (begun more f) stop (whole more f) refl g h
+    (λ more switch switches f. errors_passed old.table.now b region old.mode old.last_name old.place k old.input.queue.items more (switch ∷ switches) (piece (given ∷ []) k) (begun more f) stop (whole more f) refl g h (inside more f)
     ∙ rw (same switch old.mode, named old.last_name) refl)
 
 -- the state is set after the pass
@@ -230,7 +236,7 @@ state_ends old new region s n e = (
   (λ more switch switches f. rw (s, e more f, n) (text_ends region old.table.now old.mode old.last_name old.place (switch ∷ switches))),
   rw n (record { count = refl; finished = refl; table = refl; drained = λ _ _. all_read old.input.finished old.input.queue.items e }),
   rw n refl,
-  (λ more switch switches f. rw (s, e more f, n, none_at_end region old.mode old.last_name old.place) (errors_none region old.table.now old.mode old.last_name old.place (switch ∷ switches))),
+  (λ more switch switches f. rw (s, e more f, n, none_at_end old.table.now region old.mode old.last_name old.place) (errors_none region old.table.now old.mode old.last_name old.place (switch ∷ switches))),
 )
 
 -- a comment reads on by a code point
@@ -251,33 +257,44 @@ comment_closes rows draft draft' mode name place n items more switch switches e 
     ap (λ (c : Cut). token (kinds.Comment c.before) draft.start (place + c.len) ∷ tokens_after rows c.len (stays switch mode) name place (items ++ more) switches) e
     ∙ rw s (ap (λ (ts : List Token). token (kinds.Comment draft'.«data») draft.start (place + n) ∷ ts) (rw add-zero at (tokens_past rows n 0 (stays switch mode) name place items more switches h)))
 
-comment_tells : (rows : List Row) (draft draft' : CommentDraft) (mode : TextMode) (name : Option (List ℕ)) (place : ℕ) (items items' more : List ℕ) (switches : List (Option TextMode)) →
-    draft_cut draft (items ++ more) ≡ passed (draft_cut draft' (items' ++ more)) → items' ≡ drop 1 items → 0 < length items →
-    errors_coming rows (Comment draft) mode name place (items ++ more) switches ≡ errors_coming rows (Comment draft') mode name (place + 1) (items' ++ more) switches
-comment_tells rows draft draft' mode name place items items' more switches e i h =
-    ap (λ (c : Cut). errors_after rows c.len (stays (switch_of switches) mode) name place (items ++ more) (drop 1 switches)) e
-    ∙ errors_past_one rows (draft_cut draft' (items' ++ more)).len (stays (switch_of switches) mode) name place items items' more (drop 1 switches) i h
+told_before : (whole told later before after : List Fault) → told ≡ [] → whole ≡ later → before ≡ after → whole ++ before ≡ told ++ (later ++ after)
+told_before whole told later before after t e h = rw (t, e, h) refl
 
-pub comment_more : (old : Machine) (input' : Input) (draft draft' : CommentDraft) → old.state ≡ Comment draft → Reads draft old.input More' draft' input' →
+told_same_then : (whole told before after : List Fault) → whole ≡ told → before ≡ after → whole ++ before ≡ told ++ after
+told_same_then whole told before after e h = rw (e, h) refl
+
+comment_tells : (rows : List Row) (draft draft' : CommentDraft) (mode : TextMode) (name : Option (List ℕ)) (place : ℕ) (items items' more : List ℕ) (switches : List (Option TextMode)) →
+    draft_cut draft (items ++ more) ≡ passed (draft_cut draft' (items' ++ more)) → items' ≡ drop 1 items → 0 < length items → draft'.kind ≡ draft.kind → mark_of draft.kind (items ++ more) ≡ None →
+    errors_coming rows (Comment draft) mode name place (items ++ more) switches ≡ told_in rows (Comment draft) mode name place (items ++ more) ++ errors_coming rows (Comment draft') mode name (place + 1) (items' ++ more) switches
+comment_tells rows draft draft' mode name place items items' more switches e i h k none =
+    let goes = comment_goes draft.kind place (items ++ more) none (there items more h) in
+    let on : comment_errors draft.kind place (items ++ more) ≡ comment_errors draft'.kind (place + 1) (items' ++ more) = rw (k, i) (goes.0 ∙ ap (λ (x : List ℕ). comment_errors draft.kind (place + 1) x) (drop-append-le 1 items more h)) in
+    told_before (comment_errors draft.kind place (items ++ more)) (comment_told draft.kind place (items ++ more)) (comment_errors draft'.kind (place + 1) (items' ++ more)) _ _ goes.1 on
+    (ap (λ (c : Cut). errors_after rows c.len (stays (switch_of switches) mode) name place (items ++ more) (drop 1 switches)) e
+    ∙ errors_past_one rows (draft_cut draft' (items' ++ more)).len (stays (switch_of switches) mode) name place items items' more (drop 1 switches) i h)
+
+pub comment_more : (old : Machine) (input' : Input) (draft draft' : CommentDraft) → old.state ≡ Comment draft → Reads draft old.input More' draft' input' → MovesComment draft old.input More' draft' →
     Steps old More (record old { input = input'; place = old.place + 1; state = Comment draft' })
-comment_more old input' draft draft' s (e, i, h, b, f) = (
+comment_more old input' draft draft' s (e, i, h, b, f) moves = (
   (λ more switches g. rw s (comment_reads old.table.now draft draft' old.mode old.last_name old.place old.input.queue.items input'.queue.items more switches (e more g) b i h)),
   rw i (simp length-drop (omega arith)),
   record { count = rw i (simp length-drop (omega arith)); finished = f; table = refl; drained = λ _ h. absurd h },
   refl,
-  (λ more switches g. rw s (comment_tells old.table.now draft draft' old.mode old.last_name old.place old.input.queue.items input'.queue.items more switches (e more g) i h)),
+  (λ more switches g. rw s (comment_tells old.table.now draft draft' old.mode old.last_name old.place old.input.queue.items input'.queue.items more switches (e more g) i h moves.0 (moves.1 more g))),
 )
 
-pub comment_given : (old new : Machine) (input' : Input) (draft draft' : CommentDraft) (n : ℕ) → old.state ≡ Comment draft → Reads draft old.input (Closed n) draft' input' →
+pub comment_given : (old new : Machine) (input' : Input) (draft draft' : CommentDraft) (n : ℕ) → old.state ≡ Comment draft → Reads draft old.input (Closed n) draft' input' → MovesComment draft old.input (Closed n) draft' →
     Passes (record old { input = input'; state = Comment draft' }) n (Text Plain) new →
     Steps old (Given (token (kinds.Comment draft'.«data») draft'.start (old.place + n))) new
-comment_given old new input' draft draft' n s (e, h, i, f, b) p = (
+comment_given old new input' draft draft' n s (e, h, i, f, b) moves p = (
   (λ more switch switches g. rw (s, p.state, p.mode, p.name, p.place, p.items, p.table, i) (comment_closes old.table.now draft draft' old.mode old.last_name old.place n old.input.queue.items more switch switches (e more g) b h)),
   record { count = rw (p.place, p.items, i) (simp length-drop (omega arith)); finished = p.finished ∙ f; table = p.table; drained = going_on old new _ p.state (λ h. h) },
   p.name,
   (λ more switch switches g. rw (s, p.state, p.mode, p.name, p.place, p.items, p.table, i)
+      (let ends = comment_ends draft.kind old.place n (old.input.queue.items ++ more) (moves.1 more g) in
+      told_same_then (comment_errors draft.kind old.place (old.input.queue.items ++ more)) (comment_told draft.kind old.place (old.input.queue.items ++ more)) _ _ (ends.0 ∙ sym ends.1)
       (ap (λ (c : Cut). errors_after old.table.now c.len (stays switch old.mode) old.last_name old.place (old.input.queue.items ++ more) switches) (e more g)
-      ∙ errors_past_all old.table.now n (stays switch old.mode) old.last_name old.place old.input.queue.items more switches h)),
+      ∙ errors_past_all old.table.now n (stays switch old.mode) old.last_name old.place old.input.queue.items more switches h))),
 )
 
 pub comment_waits : (old : Machine) (input' : Input) (draft draft' : CommentDraft) → old.state ≡ Comment draft → Reads draft old.input Wait' draft' input' →
@@ -306,13 +323,13 @@ pub chars_given : (old new : Machine) (region : Region) (len first : ℕ) (secon
     GivesChars old len first second progress new → Steps old progress new
 chars_given old new region len first None progress s begun h k found (e, p) =
     rw e (open_gives old new region begins.Reference (token (kinds.Char first) old.place (old.place + len)) len s p h k (λ switch mode. refl) (λ name. refl) refl begun
-    (λ more f. rw (found more f) refl))
+    (λ more f. rw (found more f) refl) (λ more f. refl))
 chars_given old new region len first (Some second) progress s begun h k found (e, p) =
     rw e (open_given old new region (token (kinds.Char first) old.place (old.place + 1)) len (Second second (old.place + 1)) s p k (λ e. e) refl
     (λ more switch switches f. pair_given old.table.now region old.mode (token (kinds.Char first) old.place (old.place + 1)) (token (kinds.Char second) (old.place + 1) (old.place + len)) len old.last_name old.place old.input.queue.items more switch switches
     (begun more f) (rw (found more f) refl) h k refl)
     (λ more switch switches f. errors_passed old.table.now begins.Reference region old.mode old.last_name old.place len old.input.queue.items more (switch ∷ switches)
-    (piece (token (kinds.Char first) old.place (old.place + 1) ∷ token (kinds.Char second) (old.place + 1) (old.place + len) ∷ []) len) (begun more f) refl (rw (found more f) refl) refl h k))
+    (piece (token (kinds.Char first) old.place (old.place + 1) ∷ token (kinds.Char second) (old.place + 1) (old.place + len) ∷ []) len) (begun more f) refl (rw (found more f) refl) refl h k refl))
 
 pub second_given : (old new : Machine) (c start : ℕ) → old.state ≡ Second c start → new ≡ record old { state = Text Plain } → Steps old (Given (token (kinds.Char c) start old.place)) new
 second_given old new c start s n = ((λ more switch switches f. rw (s, n) refl), rw n (record { count = refl; finished = refl; table = refl; drained = λ _ h. absurd h }), rw n refl, (λ more switch switches f. rw (s, n) refl))
@@ -340,7 +357,7 @@ number_begins old new region base opened s begun h k found p =
     let n = numbered base 0 (drop opened items ++ more) in
     let whole : begun_piece old.table.now begins.Reference old.place (items ++ more) ≡ piece (token (kinds.Char (char_of n.value)) old.place (old.place + (opened + n.len)) ∷ []) (opened + n.len) =
     rw (found more f, drop-append-le opened items more k) refl in
-    errors_opened old.table.now begins.Reference region old.mode old.last_name old.place opened n.len items more switches _ (begun more f) refl whole refl h k)
+    errors_opened old.table.now begins.Reference region old.mode old.last_name old.place opened n.len items more switches _ [] (begun more f) refl whole refl h k refl)
 
 -- the number so far counts only up to the first number past the code points
 number_capped : (b v : ℕ) (ds : List ℕ) → 0 < b → capped (number_from_digits_after b (capped v) ds) ≡ capped (number_from_digits_after b v ds)
@@ -454,13 +471,14 @@ comment_on rows start place n c mode name items more switches h =
 -- a front of the rest is copied
 pub comment_skips : (old new : Machine) (d d' : CommentDraft) (n : ℕ) → old.state ≡ Comment d → CopiesComment d old.input.queue.items n d' →
     Passes (record old { state = Comment d' }) n (Comment d') new → Skips old new
-comment_skips old new d d' n s (e, fit, st) p = (
+comment_skips old new d d' n s (e, fit, st, errors) p = (
   (λ more switches f. rw (s, p.state, p.mode, p.name, p.place, p.items, p.table, st)
       (ap (λ (c : Cut). comment_coming old.table.now d.start old.place c old.mode old.last_name (old.input.queue.items ++ more) switches) (e more)
       ∙ comment_on old.table.now d.start old.place n (draft_cut d' (drop n old.input.queue.items ++ more)) old.mode old.last_name old.input.queue.items more switches fit)),
   record { count = rw (p.place, p.items) (simp length-drop (omega arith)); finished = p.finished; table = p.table; drained = going_on old new _ p.state (λ e. e) },
   p.name,
   (λ more switches f. rw (s, p.state, p.mode, p.name, p.place, p.items, p.table)
+      (told_same_then (comment_errors d.kind old.place (old.input.queue.items ++ more)) (comment_errors d'.kind (old.place + n) (drop n old.input.queue.items ++ more)) _ _ (errors old.place more)
       (ap (λ (c : Cut). errors_after old.table.now c.len (stays (switch_of switches) old.mode) old.last_name old.place (old.input.queue.items ++ more) (drop 1 switches)) (e more)
-      ∙ errors_past old.table.now n (draft_cut d' (drop n old.input.queue.items ++ more)).len (stays (switch_of switches) old.mode) old.last_name old.place old.input.queue.items more (drop 1 switches) fit)),
+      ∙ errors_past old.table.now n (draft_cut d' (drop n old.input.queue.items ++ more)).len (stays (switch_of switches) old.mode) old.last_name old.place old.input.queue.items more (drop 1 switches) fit))),
 )

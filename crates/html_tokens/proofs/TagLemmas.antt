@@ -1,11 +1,17 @@
 -- What the steps in a tag give.
-use Rattle.std.proofs.Common.{◌≡◌, ℕ, suc, ◌+◌, ◌<◌, ◌≤◌, List, [], ◌∷◌, ◌++◌, length, drop, Option, Some, Bool, true, false, refl, ap, sym, ◌∙◌, arith, length-append, length-drop, add-zero, Result, Ok, Err}
+use Rattle.std.proofs.Common.{◌≡◌, ℕ, suc, ◌+◌, ◌<◌, ◌≤◌, List, [], ◌∷◌, ◌++◌, length, drop, Option, Some, Bool, true, false, cond, refl, ap, sym, ◌∙◌, arith, length-append, length-drop, add-zero, Result, Ok, Err}
 use Rattle.std.specs.List.{slice_get}
 use Rattle.std.specs.Option.{option_to_list}
 use Rattle.std.specs.Result.{IfOk}
 use Rattle.std.proofs.lemmas.List.{drop-append-le}
-use Rattle.html_tokens.specs.Errors.{errors_after, told_in}
-use Rattle.html_tokens.specs.Fed.{errors_coming}
+use Rattle.html_tokens.specs.Errors.{errors_after, inside_errors, told_in}
+use Rattle.html_tokens.specs.Fed.{IsSilent, Tells, TellsAt, errors_coming, told_at}
+use Rattle.html_tokens.specs.Errors.{Opens}
+use Rattle.html_tokens.specs.Inside.{begun_tag_errors, fault, tag_end_errors, tag_told}
+use Rattle.html_tokens.specs.declared.fault_name.FaultName.TheVariants as names
+use Rattle.html_tokens.specs.declared.faults.Faults.{Faults}
+use Rattle.html_tokens.proofs.EndLemmas.{closing_told, end_is, end_told, one_told, passed_told}
+use Rattle.html_tokens.proofs.ToldLemmas.{tells_decided}
 use Rattle.html_tokens.specs.declared.faults.Fault.{Fault}
 use Rattle.html_tokens.proofs.ErrorLemmas.{errors_end, errors_past, errors_past_all, errors_past_one}
 use Rattle.html_tokens.proofs.StepLemmas.{errors_opened}
@@ -50,7 +56,7 @@ tag_coming rows is_end start place t mode name rest switches =
 abbrev pub tag_errors : List Row → Bool → ℕ → ℕ → WholeTag → TextMode → Option (List ℕ) → List ℕ → List (Option TextMode) → List Fault
 tag_errors rows is_end start place t mode name rest switches =
     let given = tag_tokens is_end start (place + t.tail.len) t in
-    errors_after rows t.tail.len (mode_after given switches mode) (name_after given name) place rest (drop (length given) switches)
+    tag_end_errors is_end (place + t.tail.len) t.tail ++ errors_after rows t.tail.len (mode_after given switches mode) (name_after given name) place rest (drop (length given) switches)
 
 new_tag_of : (rows : List Row) (d : TagDraft) (is_end : Bool) (start : ℕ) (rest : List ℕ) → new_tag d is_end start → draft_tag rows d rest ≡ tag_of rows rest
 new_tag_of rows d is_end start rest n = rw (n.2, n.3, n.4) refl
@@ -71,8 +77,9 @@ tag_begins rows b region mode is_end opened name place items more switches e s p
 pub tag_opens : (old new : Machine) (b : Begin) (region : Region) (is_end : Bool) (opened : ℕ) → old.state ≡ Text region → BeginsTag old is_end opened new → 0 < opened → opened ≤ length old.input.queue.items →
     Decided old.input (begin_at old.mode region old.last_name) b → is_stop b ≡ true →
     ((more : List ℕ) → MayFollow old.input.finished more → begun_piece old.table.now b old.place (old.input.queue.items ++ more) ≡ tag_piece old.table.now is_end opened old.place (old.input.queue.items ++ more)) →
+    ((more : List ℕ) → MayFollow old.input.finished more → inside_errors old.table.now b old.place (old.input.queue.items ++ more) ≡ begun_tag_errors old.table.now is_end opened old.place (old.input.queue.items ++ more)) →
     Steps old More new
-tag_opens old new b region is_end opened s (d, n, p) h k begun stop piece = (
+tag_opens old new b region is_end opened s (d, n, p) h k begun stop piece inside = (
   (λ more switches f. rw (s, p.state, p.mode, p.name, p.place, p.items, p.table, n.0, n.1)
       (tag_begins old.table.now b region old.mode is_end opened old.last_name old.place old.input.queue.items more switches (begun more f) stop (piece more f) h k
       ∙ ap (λ (t : WholeTag). tag_coming old.table.now is_end old.place (old.place + opened) t old.mode old.last_name (drop opened old.input.queue.items ++ more) switches)
@@ -82,10 +89,10 @@ tag_opens old new b region is_end opened s (d, n, p) h k begun stop piece = (
   p.name,
   (λ more switches f. rw (s, p.state, p.mode, p.name, p.place, p.items, p.table, n.0, n.1)
       (let items = old.input.queue.items in
-      errors_opened old.table.now b region old.mode old.last_name old.place opened (tag_of old.table.now (drop opened items ++ more)).tail.len items more switches (tag_piece old.table.now is_end opened old.place (items ++ more))
-      (begun more f) stop (piece more f) (rw (drop-append-le opened items more k) refl) h k
+      errors_opened old.table.now b region old.mode old.last_name old.place opened (tag_of old.table.now (drop opened items ++ more)).tail.len items more switches (tag_piece old.table.now is_end opened old.place (items ++ more)) (begun_tag_errors old.table.now is_end opened old.place (items ++ more))
+      (begun more f) stop (piece more f) (rw (drop-append-le opened items more k) refl) h k (inside more f)
       ∙ rw (drop-append-le opened items more k)
-      (ap (λ (t : WholeTag). told_in (Text region) old.mode old.last_name old.place (items ++ more) ++ tag_errors old.table.now is_end old.place (old.place + opened) t old.mode old.last_name (drop opened items ++ more) switches)
+      (ap (λ (t : WholeTag). told_in old.table.now (Text region) old.mode old.last_name old.place (items ++ more) ++ tag_errors old.table.now is_end old.place (old.place + opened) t old.mode old.last_name (drop opened items ++ more) switches)
       (sym (new_tag_of old.table.now d is_end old.place (drop opened items ++ more) n))))),
 )
 
@@ -109,11 +116,11 @@ tag_tells_on : (rows : List Row) (is_end : Bool) (start place : ℕ) (t : WholeT
 tag_tells_on rows true start place t mode name items items' more switches i h =
     let n : place + suc t.tail.len ≡ place + 1 + t.tail.len = omega arith in
     let given = tag_tokens true start (place + 1 + t.tail.len) t in
-    rw n (errors_past_one rows t.tail.len (mode_after given switches mode) (name_after given name) place items items' more (drop (length given) switches) i h)
+    rw n (ap (λ (es : List Fault). tag_end_errors true (place + 1 + t.tail.len) t.tail ++ es) (errors_past_one rows t.tail.len (mode_after given switches mode) (name_after given name) place items items' more (drop (length given) switches) i h))
 tag_tells_on rows false start place t mode name items items' more switches i h =
     let n : place + suc t.tail.len ≡ place + 1 + t.tail.len = omega arith in
     let given = tag_tokens false start (place + 1 + t.tail.len) t in
-    rw n (errors_past_one rows t.tail.len (mode_after given switches mode) (name_after given name) place items items' more (drop (length given) switches) i h)
+    rw n (ap (λ (es : List Fault). tag_end_errors false (place + 1 + t.tail.len) t.tail ++ es) (errors_past_one rows t.tail.len (mode_after given switches mode) (name_after given name) place items items' more (drop (length given) switches) i h))
 
 second_of : (rest : List ℕ) (c : ℕ) → slice_get (c ∷ rest) 1 ≡ slice_get rest 0
 second_of rest c = refl
@@ -137,7 +144,8 @@ tag_more old new d d' c after s (e, st, en) first second k p =
           let text = first_of old.input.queue.items more c (first more f) h in
           let after_is : (c ≡ 47 → slice_get (drop 1 old.input.queue.items ++ more) 0 ≡ after) = λ slash. (rw text at (second slash more f)) in
           let whole = e old.table.now (drop 1 old.input.queue.items ++ more) after_is in
-          rw (s, p.state, p.mode, p.name, p.place, p.items, p.table, st, en)
+          let quiet = one_told old.table.now d d' d.is_end old.place (old.input.queue.items ++ more) (drop 1 old.input.queue.items ++ more) (ap (λ (x : List ℕ). draft_tag old.table.now d x) text ∙ whole) in
+          rw (s, p.state, p.mode, p.name, p.place, p.items, p.table, st, en, quiet)
           (ap (λ (t : WholeTag). tag_errors old.table.now d.is_end d.start old.place t old.mode old.last_name (old.input.queue.items ++ more) switches) (ap (λ (x : List ℕ). draft_tag old.table.now d x) text ∙ whole)
           ∙ tag_tells_on old.table.now d.is_end d.start old.place (draft_tag old.table.now d' (drop 1 old.input.queue.items ++ more)) old.mode old.last_name old.input.queue.items _ more switches refl h)),
     )
@@ -150,10 +158,32 @@ name_same : (is_end : Bool) (t : WholeTag) (name : Option (List ℕ)) → name_a
 name_same true t name = refl
 name_same false t name = refl
 
+told_then : (whole told before after : List Fault) → told ≡ whole → before ≡ after → whole ++ before ≡ told ++ after
+told_then whole told before after e h = rw (e, h) refl
+
+-- a step that only reads on tells nothing
+pub tag_silent : (old : Machine) (d d' : TagDraft) (c : ℕ) (after : Option ℕ) → old.state ≡ Tag d → ReadsTag d c after More' d' →
+    Decided old.input (λ rest. slice_get rest 0) (Some c) → (c ≡ 47 → Decided old.input (λ rest. slice_get rest 1) after) → 0 < length old.input.queue.items → IsSilent old
+tag_silent old d d' c after s (e, st, en) first second h = λ more f.
+    let text = first_of old.input.queue.items more c (first more f) h in
+    let after_is : (c ≡ 47 → slice_get (drop 1 old.input.queue.items ++ more) 0 ≡ after) = λ slash. (rw text at (second slash more f)) in
+    let whole = e old.table.now (drop 1 old.input.queue.items ++ more) after_is in
+    rw s (one_told old.table.now d d' d.is_end old.place (old.input.queue.items ++ more) (drop 1 old.input.queue.items ++ more) (ap (λ (x : List ℕ). draft_tag old.table.now d x) text ∙ whole))
+
+-- what is told where it closes
+pub tag_closing : (old : Machine) (d d' : TagDraft) (c : ℕ) (after : Option ℕ) (self_closing : Bool) (n : ℕ) → old.state ≡ Tag d → ReadsTag d c after (Closed self_closing n) d' → n ≡ cond self_closing 2 1 →
+    Decided old.input (λ rest. slice_get rest 0) (Some c) → (c ≡ 47 → Decided old.input (λ rest. slice_get rest 1) after) → 0 < length old.input.queue.items →
+    (more : List ℕ) → MayFollow old.input.finished more → told_at old more ≡ tag_end_errors d.is_end (old.place + n) (record { attrs = d'.attrs; self_closing = self_closing; closed = true; len = n })
+tag_closing old d d' c after self_closing n s (e, st, en, short) len first second h = λ more f.
+    let text = first_of old.input.queue.items more c (first more f) h in
+    let after_is : (c ≡ 47 → slice_get (drop 1 old.input.queue.items ++ more) 0 ≡ after) = λ slash. (rw text at (second slash more f)) in
+    let whole = e old.table.now (drop 1 old.input.queue.items ++ more) after_is in
+    rw s (closing_told old.table.now d d.is_end old.place (old.input.queue.items ++ more) (read_tag d' self_closing n) (ap (λ (x : List ℕ). draft_tag old.table.now d x) text ∙ whole) refl len)
+
 pub tag_given_at : (old new : Machine) (d d' : TagDraft) (c : ℕ) (after : Option ℕ) (self_closing : Bool) (n : ℕ) (progress : Progress) → old.state ≡ Tag d → ReadsTag d c after (Closed self_closing n) d' →
-    Decided old.input (λ rest. slice_get rest 0) (Some c) → (c ≡ 47 → Decided old.input (λ rest. slice_get rest 1) after) → 1 + length (option_to_list after) ≤ length old.input.queue.items →
+    Decided old.input (λ rest. slice_get rest 0) (Some c) → (c ≡ 47 → Decided old.input (λ rest. slice_get rest 1) after) → 1 + length (option_to_list after) ≤ length old.input.queue.items → n ≡ cond self_closing 2 1 →
     EndsTagAt (record old { state = Tag d' }) d' self_closing n progress new → Steps old progress new
-tag_given_at old new d d' c after self_closing n progress s (e, st, en, short) first second k p =
+tag_given_at old new d d' c after self_closing n progress s (e, st, en, short) first second k len p =
     let h : 0 < length old.input.queue.items = omega arith in
     let fit : n ≤ length old.input.queue.items = omega arith in
     let t = read_tag d' self_closing n in
@@ -173,17 +203,19 @@ tag_given_at old new d d' c after self_closing n progress s (e, st, en, short) f
           let text = first_of old.input.queue.items more c (first more f) h in
           let after_is : (c ≡ 47 → slice_get (drop 1 old.input.queue.items ++ more) 0 ≡ after) = λ slash. (rw text at (second slash more f)) in
           let whole = e old.table.now (drop 1 old.input.queue.items ++ more) after_is in
+          let told = closing_told old.table.now d d.is_end old.place (old.input.queue.items ++ more) t (ap (λ (x : List ℕ). draft_tag old.table.now d x) text ∙ whole) refl len in
           rw (s, p.state, p.mode, p.name, p.place, p.items, p.table, en)
           (ap (λ (x : WholeTag). tag_errors old.table.now d.is_end d.start old.place x old.mode old.last_name (old.input.queue.items ++ more) (switch ∷ switches)) (ap (λ (x : List ℕ). draft_tag old.table.now d x) text ∙ whole)
           ∙ rw (mode_same d.is_end t switch old.mode, name_same d.is_end t old.last_name)
-          (errors_past_all old.table.now n (switch_to (tag_kind d.is_end t) switch (mode_after_tag d.is_end old.mode)) (name_after_tag d.is_end d'.name old.last_name) old.place old.input.queue.items more switches fit))),
+          (told_then (tag_end_errors d.is_end (old.place + n) t.tail) (tag_told d.is_end old.place (draft_tag old.table.now d (old.input.queue.items ++ more)).tail) _ _ told
+          (errors_past_all old.table.now n (switch_to (tag_kind d.is_end t) switch (mode_after_tag d.is_end old.mode)) (name_after_tag d.is_end d'.name old.last_name) old.place old.input.queue.items more switches fit)))),
     )
 
 pub tag_given : {E : Type 0} (r : Result Progress E) (old new : Machine) (d d' : TagDraft) (c : ℕ) (after : Option ℕ) (self_closing : Bool) (n : ℕ) → old.state ≡ Tag d → ReadsTag d c after (Closed self_closing n) d' →
-    Decided old.input (λ rest. slice_get rest 0) (Some c) → (c ≡ 47 → Decided old.input (λ rest. slice_get rest 1) after) → 1 + length (option_to_list after) ≤ length old.input.queue.items →
+    Decided old.input (λ rest. slice_get rest 0) (Some c) → (c ≡ 47 → Decided old.input (λ rest. slice_get rest 1) after) → 1 + length (option_to_list after) ≤ length old.input.queue.items → n ≡ cond self_closing 2 1 →
     IfOk r (λ progress. EndsTag (record old { state = Tag d' }) self_closing n progress new) → IfOk r (λ progress. Steps old progress new)
-tag_given (Ok progress) old new d d' c after self_closing n s reads first second k ends = tag_given_at old new d d' c after self_closing n progress s reads first second k (ends d' refl)
-tag_given (Err error) old new d d' c after self_closing n s reads first second k ends = tt
+tag_given (Ok progress) old new d d' c after self_closing n s reads first second k len ends = tag_given_at old new d d' c after self_closing n progress s reads first second k len (ends d' refl)
+tag_given (Err error) old new d d' c after self_closing n s reads first second k len ends = tt
 
 tag_open : (rows : List Row) (part : Part) (name val : List ℕ) → (part_tail rows part name val []).closed ≡ false
 unfolding cut tail value after_name after_some value_cut
@@ -207,13 +239,14 @@ tag_dropped rows Section mode name place switches h = absurd h
 tag_dropped rows Ended mode name place switches h = absurd h
 
 tag_quiet : (rows : List Row) (state : State) (mode : TextMode) (name : Option (List ℕ)) (place : ℕ) (switches : List (Option TextMode)) → IsTag state →
-    errors_coming rows state mode name place [] switches ≡ told_in state mode name place [] ++ []
+    errors_coming rows state mode name place [] switches ≡ told_in rows state mode name place [] ++ []
 tag_quiet rows (Text region) mode name place switches h = absurd h
 tag_quiet rows (Number d) mode name place switches h = absurd h
 tag_quiet rows (Second c start) mode name place switches h = absurd h
 tag_quiet rows (Comment d) mode name place switches h = absurd h
 tag_quiet rows (Doctype d) mode name place switches h = absurd h
-tag_quiet rows (Tag d) mode name place switches h = errors_end rows _ _ _ place _
+tag_quiet rows (Tag d) mode name place switches h =
+    told_then (tag_end_errors d.is_end (place + (draft_tag rows d []).tail.len) (draft_tag rows d []).tail) (tag_told d.is_end place (draft_tag rows d []).tail) _ _ (sym (end_told rows d place)) (errors_end rows _ _ _ place _)
 tag_quiet rows Section mode name place switches h = absurd h
 tag_quiet rows Ended mode name place switches h = absurd h
 
@@ -247,7 +280,7 @@ tag_tells_by rows is_end start place k t mode name items more switches h =
     let n : place + (k + t.tail.len) ≡ place + k + t.tail.len = omega arith in
     let kind : tag_kind is_end (tag_by k t) ≡ tag_kind is_end t = same_kind is_end k t in
     let given = when t.tail.closed (token (tag_kind is_end t) start (place + k + t.tail.len)) in
-    rw (n, kind) (errors_past rows k t.tail.len (mode_after given switches mode) (name_after given name) place items more (drop (length given) switches) h)
+    rw (n, kind) (ap (λ (es : List Fault). tag_end_errors is_end (place + k + t.tail.len) t.tail ++ es) (errors_past rows k t.tail.len (mode_after given switches mode) (name_after given name) place items more (drop (length given) switches) h))
 
 -- what a `&` in a value begins is read
 pub ref_more : (old new : Machine) (d d' : TagDraft) (found : ValueRef) → old.state ≡ Tag d → ReadsRef d found d' →
@@ -278,10 +311,29 @@ ref_more old new d d' found s (e, st, en) first h (b, some, fit) p = (
       let past : drop k (38 ∷ (drop 1 items ++ more)) ≡ drop k items ++ more = ap (λ (x : List ℕ). drop k x) (sym text) ∙ drop-append-le k items more fit in
       let whole : draft_tag old.table.now d (items ++ more) ≡ tag_by k (draft_tag old.table.now d' (drop k items ++ more)) =
       ap (λ (x : List ℕ). draft_tag old.table.now d x) text ∙ e old.table.now (drop 1 items ++ more) begins some some_len ∙ ap (λ (x : List ℕ). tag_by k (draft_tag old.table.now d' x)) past in
-      rw (s, p.state, p.mode, p.name, p.place, p.items, p.table, st, en)
+      let quiet = passed_told old.table.now d d' d.is_end old.place k (items ++ more) (drop k items ++ more) some whole in
+      rw (s, p.state, p.mode, p.name, p.place, p.items, p.table, st, en, quiet)
       (ap (λ (t : WholeTag). tag_errors old.table.now d.is_end d.start old.place t old.mode old.last_name (items ++ more) switches) whole
       ∙ tag_tells_by old.table.now d.is_end d.start old.place k (draft_tag old.table.now d' (drop k items ++ more)) old.mode old.last_name items more switches fit)),
 )
+
+-- what a `&` in a value begins tells none of them
+pub ref_silent : (old : Machine) (d d' : TagDraft) (found : ValueRef) → old.state ≡ Tag d → ReadsRef d found d' →
+    Decided old.input (λ rest. slice_get rest 0) (Some 38) → 0 < length old.input.queue.items → IsValueRef old.table.now old.input found → IsSilent old
+ref_silent old d d' found s (e, st, en) first h (b, some, fit) = λ more f.
+    let items = old.input.queue.items in
+    let text : items ++ more ≡ 38 ∷ (drop 1 items ++ more) = first_of items more 38 (first more f) h in
+    let k = ref_len found in
+    let begins = rw text at (b more f) in
+    let some_len : k ≤ suc (length (drop 1 items ++ more)) = simp (length-append, length-drop) (omega arith) in
+    let whole : draft_tag old.table.now d (items ++ more) ≡ tag_by k (draft_tag old.table.now d' (drop k (38 ∷ (drop 1 items ++ more)))) =
+    ap (λ (x : List ℕ). draft_tag old.table.now d x) text ∙ e old.table.now (drop 1 items ++ more) begins some some_len in
+    rw s (passed_told old.table.now d d' d.is_end old.place k (items ++ more) (drop k (38 ∷ (drop 1 items ++ more))) some whole)
+
+-- the text ends in a tag
+pub tag_end_tells : (t : Machine) (d : TagDraft) (old new : Faults) → t.state ≡ Tag d → ((more : List ℕ) → MayFollow t.input.finished more → t.input.queue.items ++ more ≡ []) →
+    Opens (fault names.EofInTag t.place ∷ []) old new → TellsAt t old new
+tag_end_tells t d old new s none opens = tells_decided t (fault names.EofInTag t.place ∷ []) old new (λ more f. rw (s, none more f) (end_is t.table.now d t.place)) opens
 
 -- a front of the rest is copied
 pub tag_skips : (old new : Machine) (d d' : TagDraft) (n : ℕ) → old.state ≡ Tag d → CopiesTag d old.input.queue.items n d' →
@@ -298,3 +350,11 @@ tag_skips old new d d' n s (e, fit, st, en) p = (
       (ap (λ (t : WholeTag). tag_errors old.table.now d.is_end d.start old.place t old.mode old.last_name (old.input.queue.items ++ more) switches) (e old.table.now more)
       ∙ tag_tells_by old.table.now d.is_end d.start old.place n (draft_tag old.table.now d' (drop n old.input.queue.items ++ more)) old.mode old.last_name old.input.queue.items more switches fit)),
 )
+
+-- a tag that closes has told its errors
+pub tag_ends_told : {E : Type 0} (r : Result Progress E) (old new : Machine) (d d' : TagDraft) (self_closing : Bool) (n : ℕ) (f f' : Faults) →
+    ((more : List ℕ) → MayFollow old.input.finished more → told_at old more ≡ tag_end_errors d.is_end (old.place + n) (record { attrs = d'.attrs; self_closing = self_closing; closed = true; len = n })) →
+    Opens (tag_end_errors d.is_end (old.place + n) (record { attrs = d'.attrs; self_closing = self_closing; closed = true; len = n })) f f' →
+    IfOk r (λ progress. EndsTag (record old { state = Tag d' }) self_closing n progress new) → IfOk r (λ progress. Tells old progress f f')
+tag_ends_told (Ok progress) old new d d' self_closing n f f' told opens ends = rw (ends d' refl).given (tells_decided old _ f f' told opens)
+tag_ends_told (Err error) old new d d' self_closing n f f' told opens ends = tt

@@ -1,6 +1,6 @@
 -- What steps and runs tell.
 use Rattle.std.proofs.Common.{◌≡◌, ℕ, List, [], ◌∷◌, ◌++◌, length, Option, Some, None, true, false, refl, ap, subst, sym, ◌∙◌, append_assoc, append-nil}
-use Rattle.html_tokens.specs.Errors.{all_told, IsQuiet, Opens, openings, piece_errors, told_in, with_told}
+use Rattle.html_tokens.specs.Errors.{all_told, IsQuiet, Opens, defined, piece_errors, told_in, with_told}
 use Rattle.html_tokens.specs.Fed.{IsSilent, Skips, Steps, Tells, TellsAt, told_at, errors_to_come, errors_to_come_after}
 use Rattle.html_tokens.specs.Input.{Decided, MayFollow}
 use Rattle.html_tokens.specs.Marks.{begin_at}
@@ -36,7 +36,8 @@ use Rattle.html_charref.specs.declared.table.Row.{Row}
 use Rattle.std.proofs.Common.{ap₂, ◌+◌, ◌<◌, arith}
 use Rattle.std.specs.List.{slice_get}
 use Rattle.html_tokens.specs.Cut.{is}
-use Rattle.html_tokens.specs.Errors.{bogus_error, fault, is_cdata}
+use Rattle.html_tokens.specs.Errors.{bogus_error, is_cdata}
+use Rattle.html_tokens.specs.Inside.{fault}
 use Rattle.html_tokens.specs.declared.fault_name.FaultName.TheVariants as names
 use Rattle.html_tokens.specs.declared.token.Opener.TheVariants as opens
 
@@ -44,7 +45,7 @@ pub told_none : (told : List Fault) → all_told told [] ≡ told
 unfolding all_told
 told_none told = refl
 
-pub told_one : (old new : List Fault) (f : Fault) → openings new ≡ with_told (openings old) f → openings new ≡ all_told (openings old) (f ∷ [])
+pub told_one : (old new : List Fault) (f : Fault) → defined new ≡ with_told (defined old) f → defined new ≡ all_told (defined old) (f ∷ [])
 unfolding all_told
 told_one old new f e = e
 
@@ -59,14 +60,33 @@ quiet_same f = λ kept. (kept, refl)
 pub quiet_both : (a b c : Faults) → IsQuiet a b → IsQuiet b c → IsQuiet a c
 quiet_both a b c g h = λ kept. let second = h kept in let first = g second.0 in (first.0, second.1 ∙ first.1)
 
+-- none of them more
+pub opens_quiet : (told : List Fault) (a b c : Faults) → Opens told a b → IsQuiet b c → Opens told a c
+opens_quiet told a b c o q = λ kept. let later = q kept in let first = o later.0 in (first.0, later.1 ∙ first.1)
+
+-- none of them before
+pub quiet_then : (told : List Fault) (a b c : Faults) → IsQuiet a b → Opens told b c → Opens told a c
+quiet_then told a b c q o = λ kept. let later = o kept in let first = q later.0 in (first.0, later.1 ∙ ap (λ (l : List Fault). all_told l told) first.1)
+
+-- some, and some more
+pub opens_both : (es fs : List Fault) (a b c : Faults) → Opens es a b → Opens fs b c → Opens (es ++ fs) a c
+opens_both es fs a b c o p = λ kept. let later = p kept in let first = o later.0 in (first.0, later.1 ∙ ap (λ (l : List Fault). all_told l fs) first.1 ∙ sym (told_both (defined a.list) es fs))
+
 -- no error in place of one
 pub quiet_opens : (old new : Faults) → IsQuiet old new → Opens [] old new
-quiet_opens old new q = λ kept. ((q kept).0, (q kept).1 ∙ sym (told_none (openings old.list)))
+quiet_opens old new q = λ kept. ((q kept).0, (q kept).1 ∙ sym (told_none (defined old.list)))
+
+pub opens_none : (f : Faults) → Opens [] f f
+opens_none f = quiet_opens f f (quiet_same f)
 
 pub tells_quiet : (t : Machine) (progress : Progress) (old new : Faults) → IsSilent t → IsQuiet old new → Tells t progress old new
-tells_quiet t (Given given) old new silent q = λ kept. ((q kept).0, λ more f. (q kept).1 ∙ sym (ap (λ (es : List Fault). all_told (openings old.list) es) (silent more f) ∙ told_none (openings old.list)))
-tells_quiet t More old new silent q = λ kept. ((q kept).0, λ more f. (q kept).1 ∙ sym (ap (λ (es : List Fault). all_told (openings old.list) es) (silent more f) ∙ told_none (openings old.list)))
+tells_quiet t (Given given) old new silent q = λ kept. ((q kept).0, λ more f. (q kept).1 ∙ sym (ap (λ (es : List Fault). all_told (defined old.list) es) (silent more f) ∙ told_none (defined old.list)))
+tells_quiet t More old new silent q = λ kept. ((q kept).0, λ more f. (q kept).1 ∙ sym (ap (λ (es : List Fault). all_told (defined old.list) es) (silent more f) ∙ told_none (defined old.list)))
 tells_quiet t Wait old new silent q = q
+
+-- where nothing is told, nothing has to be
+pub tells_none : (t : Machine) (progress : Progress) (f : Faults) → IsSilent t → Tells t progress f f
+tells_none t progress f silent = tells_quiet t progress f f silent (quiet_same f)
 
 -- a step that waits tells nothing
 pub tells_wait : (t : Machine) (old : Faults) → Tells t Wait old old
@@ -74,11 +94,11 @@ tells_wait t old = quiet_same old
 
 -- a step tells what is decided
 pub tells_decided : (t : Machine) (told : List Fault) (old new : Faults) → ((more : List ℕ) → MayFollow t.input.finished more → told_at t more ≡ told) → Opens told old new → TellsAt t old new
-tells_decided t told old new decided opens = λ kept. ((opens kept).0, λ more f. (opens kept).1 ∙ ap (λ (es : List Fault). all_told (openings old.list) es) (sym (decided more f)))
+tells_decided t told old new decided opens = λ kept. ((opens kept).0, λ more f. (opens kept).1 ∙ ap (λ (es : List Fault). all_told (defined old.list) es) (sym (decided more f)))
 
 -- in other states than text nothing is told
-pub silent_in : (t : Machine) (s : State) → t.state ≡ s → ((mode : TextMode) (name : Option (List ℕ)) (place : ℕ) (rest : List ℕ) → told_in s mode name place rest ≡ []) → IsSilent t
-silent_in t s e h = λ more f. rw e (h t.mode t.last_name t.place (t.input.queue.items ++ more))
+pub silent_in : (t : Machine) (s : State) → t.state ≡ s → ((rows : List Row) (mode : TextMode) (name : Option (List ℕ)) (place : ℕ) (rest : List ℕ) → told_in rows s mode name place rest ≡ []) → IsSilent t
+silent_in t s e h = λ more f. rw e (h t.table.now t.mode t.last_name t.place (t.input.queue.items ++ more))
 
 -- what begins tells nothing
 pub silent_begun : (t : Machine) (region : Region) (b : Begin) → t.state ≡ Text region → Decided t.input (begin_at t.mode region t.last_name) b → ((place : ℕ) (text : List ℕ) → piece_errors b place text ≡ []) → IsSilent t
@@ -86,7 +106,7 @@ silent_begun t region b s begun h = λ more f. rw (s, begun more f) (h t.place (
 
 -- the end tells nothing
 pub silent_end : (t : Machine) (region : Region) → t.state ≡ Text region → ((more : List ℕ) → MayFollow t.input.finished more → t.input.queue.items ++ more ≡ []) → IsSilent t
-silent_end t region s e = λ more f. rw (s, e more f) (none_at_end region t.mode t.last_name t.place)
+silent_end t region s e = λ more f. rw (s, e more f) (none_at_end t.table.now region t.mode t.last_name t.place)
 
 -- RUNS
 
@@ -94,7 +114,7 @@ pub told_same : (t : Machine) (old new : Faults) (run : Run) → IsQuiet old new
 told_same t old new run q told = λ kept more switches f. told (q kept).0 more switches f ∙ ap (λ (l : List Fault). all_told l (errors_to_come t more switches)) (sym (q kept).1)
 
 pub told_skips : (old new : Machine) (f f' : Faults) (run : Run) → Skips old new → IsQuiet f f' → IsAt old run → AreTold old f run → AreTold new f' run
-told_skips old new f f' run s q i told = told_same new f f' run q (λ kept more switches h. told kept more switches h ∙ ap (λ (es : List Fault). all_told (openings f.list) es) (s.3 more switches (rw i.finished h)))
+told_skips old new f f' run s q i told = told_same new f f' run q (λ kept more switches h. told kept more switches h ∙ ap (λ (es : List Fault). all_told (defined f.list) es) (s.3 more switches (rw i.finished h)))
 
 told_on : (told told' at_once later whole : List Fault) → whole ≡ at_once ++ later → told' ≡ all_told told at_once → all_told told whole ≡ all_told told' later
 told_on told told' at_once later whole e h = ap (λ (es : List Fault). all_told told es) e ∙ told_both told at_once later ∙ ap (λ (l : List Fault). all_told l later) (sym h)
@@ -103,14 +123,14 @@ pub told_more : (old new : Machine) (f f' : Faults) (run : Run) → Steps old Mo
 told_more old new f f' run s tells i told = λ kept more switches h.
     let g = tells kept in
     let k : MayFollow old.input.finished more = rw i.finished h in
-    told g.0 more switches h ∙ told_on (openings f.list) (openings f'.list) (told_at old more) (errors_to_come new more switches) (errors_to_come old more switches) (s.4 more switches k) (g.1 more k)
+    told g.0 more switches h ∙ told_on (defined f.list) (defined f'.list) (told_at old more) (errors_to_come new more switches) (errors_to_come old more switches) (s.4 more switches k) (g.1 more k)
 
 pub told_given : (old new : Machine) (f f' : Faults) (run : Run) (given : Token) (switch : Option TextMode) → Steps old (Given given) new → TellsAt old f f' → IsAt old run → AreTold old f run → AreTold (answered given switch new) f' (gave run given switch)
 told_given old new f f' run given switch s tells i told = λ kept more switches h.
     let g = tells kept in
     let k : MayFollow old.input.finished more = rw i.finished h in
     rw append_assoc
-    (told g.0 more (switch ∷ switches) h ∙ told_on (openings f.list) (openings f'.list) (told_at old more) (errors_to_come_after given switch new more switches) (errors_to_come old more (switch ∷ switches)) (s.3 more switch switches k) (g.1 more k))
+    (told g.0 more (switch ∷ switches) h ∙ told_on (defined f.list) (defined f'.list) (told_at old more) (errors_to_come_after given switch new more switches) (errors_to_come old more (switch ∷ switches)) (s.3 more switch switches k) (g.1 more k))
 
 -- what a `<` begins tells what is decided
 pub opens_told : (t : Machine) (region : Region) (found : Opener) (told : List Fault) → t.state ≡ Text region → Decided t.input (begin_at t.mode region t.last_name) begins.Markup → Decided t.input opener found →
@@ -173,15 +193,15 @@ none_after_end rows Section mode name place rest switches h = absurd h
 none_after_end rows Ended mode name place rest switches h = refl
 
 -- once all tokens were given, the errors told are those of the text
-pub whole_told : (t : Machine) (f : Faults) (run : Run) → IsAt t run → f.lost ≡ false → AreTold t f run → run.finished ≡ true → tokens_of run.text run.switches run.start ≡ run.given → openings f.list ≡ errors_of run.text run.switches run.start
+pub whole_told : (t : Machine) (f : Faults) (run : Run) → IsAt t run → f.lost ≡ false → AreTold t f run → run.finished ≡ true → tokens_of run.text run.switches run.start ≡ run.given → defined f.list ≡ errors_of run.text run.switches run.start
 whole_told t f run i kept told finished all =
     let whole = i.tokens [] [] (λ _. refl) in
     let none : to_come t [] [] ≡ [] = same_front run.given (to_come t [] []) (sym all ∙ ap₂ (λ text said. tokens_of text said run.start) (sym (append-nil run.text)) (sym (append-nil run.switches)) ∙ whole) in
     let end = none_to_come t.table.now t.state t.mode t.last_name t.place (t.input.queue.items ++ []) [] none in
     sym (ap₂ (λ text said. errors_of text said run.start) (sym (append-nil run.text)) (sym (append-nil run.switches))
     ∙ told kept [] [] (λ _. refl)
-    ∙ ap (λ (es : List Fault). all_told (openings f.list) es) (none_after_end t.table.now t.state t.mode t.last_name t.place (t.input.queue.items ++ []) [] end)
-    ∙ told_none (openings f.list))
+    ∙ ap (λ (es : List Fault). all_told (defined f.list) es) (none_after_end t.table.now t.state t.mode t.last_name t.place (t.input.queue.items ++ []) [] end)
+    ∙ told_none (defined f.list))
 
 -- WHAT BEGINS A BOGUS COMMENT
 

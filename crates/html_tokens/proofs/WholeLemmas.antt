@@ -10,12 +10,16 @@ use Rattle.html_tokens.specs.Bounds.{Bounded, IsBounded, IsWithin}
 use Rattle.html_tokens.specs.Copied.{AllPass, CopiesTag, copied_in, is_copied}
 use Rattle.html_tokens.specs.Cut.{cut, ends_unquoted, is_space}
 use Rattle.html_tokens.specs.Fed.{told_at, IsSilent, EndsTagAt, Passes, Skips, Steps, new_tag}
-use Rattle.html_tokens.specs.Input.{Decided, MayFollow}
+use Rattle.html_tokens.specs.Input.{Decided}
 use Rattle.html_tokens.specs.Marks.{begin_at}
 use Rattle.html_tokens.specs.Short.{at_close}
 use Rattle.html_tokens.specs.Tag.{ReadsTag, Tail, add_first, after_name, after_some, firsts_after, attr, draft_tag, ends_name, has_name, longer_tag, tag_by, tail, value}
 use Rattle.html_tokens.specs.Tag.{Tag as WholeTag}
-use Rattle.html_tokens.specs.Tokens.{begun_piece, name_after_kind, tag_piece}
+use Rattle.html_tokens.specs.Fed.{read_tag}
+use Rattle.html_tokens.proofs.Cuts.{first_of}
+use Rattle.html_tokens.proofs.EndLemmas.{start_told}
+use Rattle.html_tokens.specs.Tokens.{name_after_kind, opener}
+use Rattle.html_tokens.specs.declared.token.Opener.TheVariants as opens
 use Rattle.html_tokens.specs.Value.{value_cut}
 use Rattle.html_tokens.specs.Whole.{ClosesValue, ClosesTag, IsNamed, IsValue, IsWholeAttr, KeepsBounds, quote_len, whole_len}
 use Rattle.html_tokens.specs.declared.attributes.Attr.{Attr}
@@ -323,12 +327,12 @@ copies_front d d' rest pushed name len c p fit a e at h t =
 
 -- A tag begins, and some of it is copied.
 pub begins_whole : (old passed : Machine) (d d' : TagDraft) (n : ℕ) → old.state ≡ Text Plain → 1 ≤ length old.input.queue.items → Decided old.input (begin_at old.mode Plain old.last_name) begins.Markup →
-    ((more : List ℕ) → MayFollow old.input.finished more → begun_piece old.table.now begins.Markup old.place (old.input.queue.items ++ more) ≡ tag_piece old.table.now false 1 old.place (old.input.queue.items ++ more)) →
+    Decided old.input opener opens.StartTag →
     IsSilent old → new_tag d false old.place → CopiesTag d (drop 1 old.input.queue.items) n d' → Passes old (1 + n) old.state passed → Skips old (record passed { state = Tag d' })
-begins_whole old passed d d' n s some begun piece silent fresh copies p =
+begins_whole old passed d d' n s some begun is silent fresh copies p =
     let a : Machine = at_close old 1 d in
     let opens : Steps old More a =
-    tag_opens old a begins.Markup Plain false 1 s (d, fresh, record { items = refl; finished = refl; place = refl; mode = refl; name = refl; state = refl; table = refl }) (omega arith) some begun refl piece in
+    tag_opens old a begins.Markup Plain false 1 s (d, fresh, record { items = refl; finished = refl; place = refl; mode = refl; name = refl; state = refl; table = refl }) (omega arith) some begun refl (λ more f. rw (is more f) refl) (λ more f. rw (is more f) refl) in
     let e : old.place + (1 + n) ≡ old.place + 1 + n = omega arith in
     let goes : Skips a (record passed { state = Tag d' }) =
     tag_skips a (record passed { state = Tag d' }) d d' n refl copies
@@ -369,21 +373,26 @@ ends_as passed new d self_closing len given e = record { given = e.given; items 
 
 -- It closes where it was copied to.
 pub closes_whole : (old passed new : Machine) (d : TagDraft) (self_closing : Bool) (len : ℕ) (given : Token) → Skips old (record passed { state = Tag d }) → IsNamed d.part passed.input.queue.items → ClosesTag passed.input.queue.items self_closing len →
-    EndsTagAt passed d self_closing len (Given given) new → IsSilent old → Steps old (Given given) new
-closes_whole old passed new d self_closing len given skips named (inl (first, sc, one)) ends silent =
+    EndsTagAt passed d self_closing len (Given given) new → IsSilent old → d.is_end ≡ false → Steps old (Given given) new
+closes_whole old passed new d self_closing len given skips named (inl (first, sc, one)) ends silent is =
     let m = record passed { state = Tag d } in
     let items = passed.input.queue.items in
     let room = slice_get_within items 0 62 first in
     let p = is_named d.part items 62 named first refl in
     let ends' : EndsTagAt m d false 1 (Given given) new = rw (sc, one) at (ends_as passed new d self_closing len given ends) in
-    gives_after old m new given skips (tag_given_at m new d d 62 None false 1 (Given given) refl (closes_at d p) (λ more f. front_more items more 0 62 first) (λ h. absurd (false≢true (ap (λ (n : ℕ). n == 47) h))) (omega arith) ends') silent (λ more. refl)
-closes_whole old passed new d self_closing len given skips named (inr (first, second, sc, two)) ends silent =
+    gives_after old m new given skips (tag_given_at m new d d 62 None false 1 (Given given) refl (closes_at d p) (λ more f. front_more items more 0 62 first) (λ h. absurd (false≢true (ap (λ (n : ℕ). n == 47) h))) (omega arith) refl ends') silent
+    (λ more. start_told m.table.now d m.place (items ++ more) (read_tag d false 1) is
+    (ap (λ (x : List ℕ). draft_tag m.table.now d x) (first_of items more 62 (front_more items more 0 62 first) room) ∙ (closes_at d p).0 m.table.now (drop 1 items ++ more) (λ h. absurd (false≢true (ap (λ (n : ℕ). n == 47) h)))) refl)
+closes_whole old passed new d self_closing len given skips named (inr (first, second, sc, two)) ends silent is =
     let m = record passed { state = Tag d } in
     let items = passed.input.queue.items in
     let room = slice_get_within items 1 62 second in
     let p = is_named d.part items 47 named first refl in
     let ends' : EndsTagAt m d true 2 (Given given) new = rw (sc, two) at (ends_as passed new d self_closing len given ends) in
-    gives_after old m new given skips (tag_given_at m new d d 47 (Some 62) true 2 (Given given) refl (closes_itself d p) (λ more f. front_more items more 0 47 first) (λ h more f. front_more items more 1 62 second) (omega arith) ends') silent (λ more. refl)
+    gives_after old m new given skips (tag_given_at m new d d 47 (Some 62) true 2 (Given given) refl (closes_itself d p) (λ more f. front_more items more 0 47 first) (λ h more f. front_more items more 1 62 second) (omega arith) refl ends') silent
+    (λ more. let text = first_of items more 47 (front_more items more 0 47 first) (omega arith) in
+    start_told m.table.now d m.place (items ++ more) (read_tag d true 2) is
+    (ap (λ (x : List ℕ). draft_tag m.table.now d x) text ∙ (closes_itself d p).0 m.table.now (drop 1 items ++ more) (λ h. rw text at (front_more items more 1 62 second))) refl)
 
 -- the bounds after what was read of it
 pub whole_bounded : (old passed : Machine) (d d' : TagDraft) (n compared : ℕ) (f f' : Faults) → old.state ≡ Text Plain → d.attrs ≡ [] → KeepsBounds d n compared d' → passed.place ≡ old.place + (1 + n) →

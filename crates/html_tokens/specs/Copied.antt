@@ -4,6 +4,7 @@ use Rattle.std.specs.Prelude.{◌≡◌, ℕ, ◌+◌, ◌≤◌, List, [], ◌�
 use Rattle.std.specs.List.{slice_get}
 use Rattle.html_tokens.specs.Cut.{Cut, ends_unquoted}
 use Rattle.html_tokens.specs.Draft.{draft_cut}
+use Rattle.html_tokens.specs.Inside.{comment_errors}
 use Rattle.html_tokens.specs.Tag.{between, ends_attr, draft_tag, tag_by}
 use Rattle.html_charref.specs.declared.table.Row.{Row}
 use Rattle.html_tokens.specs.declared.comment.CommentDraft.{CommentDraft}
@@ -62,3 +63,4 @@ abbrev pub CopiesComment : CommentDraft → List ℕ → ℕ → CommentDraft �
 CopiesComment old text n new =
     ((more : List ℕ) → draft_cut old (text ++ more) ≡ cut_by n (draft_cut new (drop n text ++ more)))
     × (n ≤ length text) × (new.start ≡ old.start)
+    × ((place : ℕ) (more : List ℕ) → comment_errors old.kind place (text ++ more) ≡ comment_errors new.kind (place + n) (drop n text ++ more))

@@ -191,7 +191,7 @@ draft_doctype d text = part_doctype d.part (ids_of d) d.text text
 
 -- a doctype of which nothing has been read
 abbrev pub new_doctype : DoctypeDraft → ℕ → Type 0
-new_doctype d start = (d.start ≡ start) × (d.part ≡ parts.BeforeName) × (d.name ≡ None) × (d.public ≡ None) × (d.system ≡ None)
+new_doctype d start = (d.start ≡ start) × (d.part ≡ parts.BeforeName) × (d.name ≡ None) × (d.public ≡ None) × (d.system ≡ None) × (d.spaced ≡ false)
 
 -- The reading of one code point: it is passed, or the doctype closes there, and has force-quirks or not.
 abbrev pub ReadsPart : DoctypeDraft → ℕ → Option Bool → DoctypeDraft → Type 0

@@ -1,11 +1,15 @@
 -- Claimed, but for this crate's own functions: told_in, Opens, IsQuiet.
--- The parse errors of a text that are told of what a `<` begins (HTML 13.2.2, and 13.2.5.6, 13.2.5.7, 13.2.5.42, 13.2.5.43).
+-- The parse errors of a text (HTML 13.2.2): those told of what a `<` begins (HTML 13.2.5.6, 13.2.5.7, 13.2.5.42, 13.2.5.43), and those inside of pieces.
 use Rattle.std.specs.Prelude.{◌≡◌, ℕ, zero, suc, ◌+◌, ◌-◌, List, [], ◌∷◌, ◌++◌, length, drop, Bool, true, false, cond, Option, nat_le, slice_get, is_none}
 use Rattle.std.specs.List.{filter}
 use Rattle.html_tokens.specs.Cut.{is}
+use Rattle.html_tokens.specs.Inside.{begun_tag_errors, comment_errors, comment_told, doctype_errors, doctype_told, fault, section_errors, section_told, tag_told}
+use Rattle.html_tokens.specs.Tag.{draft_tag}
 use Rattle.html_tokens.specs.Marks.{begin_at, stands}
 use Rattle.html_tokens.specs.Tokens.{mode_after, name_after, next, opener}
 use Rattle.html_charref.specs.declared.table.Row.{Row}
+use Rattle.html_tokens.specs.declared.comment.CommentKind.TheVariants as comments
+use Rattle.html_tokens.specs.declared.doctype.DoctypePart.TheVariants as parts
 use Rattle.html_tokens.specs.declared.fault_name.FaultName.{FaultName}
 use Rattle.html_tokens.specs.declared.fault_name.FaultName.TheVariants as names
 use Rattle.html_tokens.specs.declared.faults.Fault.{Fault}
@@ -19,23 +23,40 @@ use Rattle.html_tokens.specs.declared.token.Opener.TheVariants as opens
 use Rattle.html_tokens.specs.declared.token.Region.TheVariants.{Plain}
 use Rattle.html_tokens.specs.declared.token.TextMode.{TextMode}
 
--- the errors that are defined here
-abbrev pub is_opening : FaultName → Bool
-is_opening names.EofBeforeTagName = true
-is_opening names.InvalidFirstCharacterOfTagName = true
-is_opening names.UnexpectedQuestionMarkInsteadOfTagName = true
-is_opening names.MissingEndTagName = true
-is_opening names.AbruptClosingOfEmptyComment = true
-is_opening names.IncorrectlyOpenedComment = true
-is_opening names.CdataInHtmlContent = true
-is_opening other = false
+-- the names of the errors that are defined here and in Inside
+abbrev pub is_defined : FaultName → Bool
+is_defined names.EofBeforeTagName = true
+is_defined names.InvalidFirstCharacterOfTagName = true
+is_defined names.UnexpectedQuestionMarkInsteadOfTagName = true
+is_defined names.MissingEndTagName = true
+is_defined names.AbruptClosingOfEmptyComment = true
+is_defined names.IncorrectlyOpenedComment = true
+is_defined names.CdataInHtmlContent = true
+is_defined names.EofInComment = true
+is_defined names.IncorrectlyClosedComment = true
+is_defined names.EofInCdata = true
+is_defined names.EofInDoctype = true
+is_defined names.EofInTag = true
+is_defined names.EndTagWithAttributes = true
+is_defined names.EndTagWithTrailingSolidus = true
+is_defined names.MissingDoctypeName = true
+is_defined names.MissingWhitespaceBeforeDoctypeName = true
+is_defined names.InvalidCharacterSequenceAfterDoctypeName = true
+is_defined names.AbruptDoctypePublicIdentifier = true
+is_defined names.AbruptDoctypeSystemIdentifier = true
+is_defined names.MissingDoctypePublicIdentifier = true
+is_defined names.MissingDoctypeSystemIdentifier = true
+is_defined names.MissingQuoteBeforeDoctypePublicIdentifier = true
+is_defined names.MissingQuoteBeforeDoctypeSystemIdentifier = true
+is_defined names.MissingWhitespaceAfterDoctypePublicKeyword = true
+is_defined names.MissingWhitespaceAfterDoctypeSystemKeyword = true
+is_defined names.MissingWhitespaceBetweenDoctypePublicAndSystemIdentifiers = true
+is_defined names.UnexpectedCharacterAfterDoctypeSystemIdentifier = true
+is_defined other = false
 
 -- those of a list
-abbrev pub openings : List Fault → List Fault
-openings faults = filter (λ f. is_opening f.name) faults
-
-abbrev pub fault : FaultName → ℕ → Fault
-fault name place = record { name = name; place = place }
+abbrev pub defined : List Fault → List Fault
+defined faults = filter (λ f. is_defined f.name) faults
 
 -- one error more, behind those that have no later place
 unfoldable pub with_told : List Fault → Fault → List Fault
@@ -79,7 +100,7 @@ opening_errors opens.Comment place text = []
 opening_errors (opens.ShortComment len) place text = fault names.AbruptClosingOfEmptyComment (place + len - 1) ∷ []
 opening_errors opens.Doctype place text = []
 
--- the errors of the piece that begins: only data has markup
+-- what is told where a piece begins: only data has markup
 abbrev pub piece_errors : Begin → ℕ → List ℕ → List Fault
 piece_errors begins.Char place text = []
 piece_errors begins.Markup place text = opening_errors (opener text) place text
@@ -87,30 +108,51 @@ piece_errors begins.EndMark place text = []
 piece_errors begins.Reference place text = []
 piece_errors begins.Section place text = []
 
+-- the errors after what a `<` begins
+abbrev pub opened_errors : List Row → Opener → ℕ → List ℕ → List Fault
+opened_errors rows opens.Literal place text = []
+opened_errors rows opens.StartTag place text = begun_tag_errors rows false 1 place text
+opened_errors rows opens.EndTag place text = begun_tag_errors rows true 2 place text
+opened_errors rows opens.Empty place text = []
+opened_errors rows (opens.Bogus opened) place text = []
+opened_errors rows opens.Comment place text = comment_errors comments.Declared (place + 4) (drop 4 text)
+opened_errors rows (opens.ShortComment len) place text = []
+opened_errors rows opens.Doctype place text = doctype_errors parts.BeforeName false 0 (place + 9) (drop 9 text)
+
+-- the errors of a piece after what begins it
+abbrev pub inside_errors : List Row → Begin → ℕ → List ℕ → List Fault
+inside_errors rows begins.Char place text = []
+inside_errors rows begins.Markup place text = opened_errors rows (opener text) place text
+inside_errors rows begins.EndMark place text = begun_tag_errors rows true 2 place text
+inside_errors rows begins.Reference place text = []
+inside_errors rows begins.Section place text = section_errors (place + 9) (drop 9 text)
+
 -- The errors of the rest of a text at a place, after so many code points that belong to the piece before: those of its pieces.
 unfoldable pub errors_after : List Row → ℕ → TextMode → Option (List ℕ) → ℕ → List ℕ → List (Option TextMode) → List Fault
 errors_after rows passed mode name place [] switches = []
 errors_after rows zero mode name place (c ∷ rest) switches =
     let first = next rows mode name place (c ∷ rest) in
-    piece_errors (begin_at mode Plain name (c ∷ rest)) place (c ∷ rest)
-    ++ errors_after rows (first.len - 1) (mode_after first.tokens switches mode) (name_after first.tokens name) (place + 1) rest (drop (length first.tokens) switches)
+    let begun = begin_at mode Plain name (c ∷ rest) in
+    piece_errors begun place (c ∷ rest)
+    ++ (inside_errors rows begun place (c ∷ rest)
+    ++ errors_after rows (first.len - 1) (mode_after first.tokens switches mode) (name_after first.tokens name) (place + 1) rest (drop (length first.tokens) switches))
 errors_after rows (suc k) mode name place (c ∷ rest) switches = errors_after rows k mode name (place + 1) rest switches
 
 -- what a step tells in a state
-abbrev pub told_in : State → TextMode → Option (List ℕ) → ℕ → List ℕ → List Fault
-told_in (Text region) mode name place rest = piece_errors (begin_at mode region name rest) place rest
-told_in (Number draft) mode name place rest = []
-told_in (Second c start) mode name place rest = []
-told_in (Comment draft) mode name place rest = []
-told_in (Doctype draft) mode name place rest = []
-told_in (Tag draft) mode name place rest = []
-told_in Section mode name place rest = []
-told_in Ended mode name place rest = []
+abbrev pub told_in : List Row → State → TextMode → Option (List ℕ) → ℕ → List ℕ → List Fault
+told_in rows (Text region) mode name place rest = piece_errors (begin_at mode region name rest) place rest
+told_in rows (Number draft) mode name place rest = []
+told_in rows (Second c start) mode name place rest = []
+told_in rows (Comment draft) mode name place rest = comment_told draft.kind place rest
+told_in rows (Doctype draft) mode name place rest = doctype_told draft.part draft.spaced place rest
+told_in rows (Tag draft) mode name place rest = tag_told draft.is_end place (draft_tag rows draft rest).tail
+told_in rows Section mode name place rest = section_told place rest
+told_in rows Ended mode name place rest = []
 
 -- These errors were told, where none was lost.
 abbrev pub Opens : List Fault → Faults → Faults → Type 0
-Opens told old new = new.lost ≡ false → (old.lost ≡ false) × (openings new.list ≡ all_told (openings old.list) told)
+Opens told old new = new.lost ≡ false → (old.lost ≡ false) × (defined new.list ≡ all_told (defined old.list) told)
 
 -- None of them was told.
 abbrev pub IsQuiet : Faults → Faults → Type 0
-IsQuiet old new = new.lost ≡ false → (old.lost ≡ false) × (openings new.list ≡ openings old.list)
+IsQuiet old new = new.lost ≡ false → (old.lost ≡ false) × (defined new.list ≡ defined old.list)

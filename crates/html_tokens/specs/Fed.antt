@@ -6,10 +6,11 @@ use Rattle.html_tokens.specs.Draft.{draft_cut}
 use Rattle.html_tokens.specs.Doctype.{draft_doctype, new_doctype, ids_of, closes}
 use Rattle.html_tokens.specs.declared.doctype.DoctypeDraft.{DoctypeDraft}
 use Rattle.html_tokens.specs.Input.{MayFollow, IsShort}
+use Rattle.html_tokens.specs.Inside.{comment_errors, draft_errors, section_errors, tag_end_errors}
 use Rattle.html_tokens.specs.Tag.{draft_tag}
 use Rattle.html_tokens.specs.Tag.{Tag as WholeTag}
 use Rattle.html_tokens.specs.Tokens.{token, tokens_after, text_after, chars_at, tag_tokens, tag_kind, doctype_kind, stays, switch_of, switched, mode_after, name_after, name_after_kind}
-use Rattle.html_tokens.specs.Errors.{all_told, errors_after, IsQuiet, openings, told_in}
+use Rattle.html_tokens.specs.Errors.{all_told, errors_after, IsQuiet, defined, told_in}
 use Rattle.html_tokens.specs.Marks.{front, name_len}
 use Rattle.html_tokens.specs.Reference.{numbered}
 use Rattle.html_charref.specs.Number.{char_of}
@@ -74,16 +75,16 @@ errors_coming rows (Text Double) mode name place rest switches = text_errors row
 errors_coming rows (Number draft) mode name place rest switches =
     errors_after rows (numbered draft.base draft.value rest).len (stays (switch_of switches) mode) name place rest (drop 1 switches)
 errors_coming rows (Second c start) mode name place rest switches = errors_after rows 0 (stays (switch_of switches) mode) name place rest (drop 1 switches)
-errors_coming rows (Comment draft) mode name place rest switches = errors_after rows (draft_cut draft rest).len (stays (switch_of switches) mode) name place rest (drop 1 switches)
-errors_coming rows (Doctype draft) mode name place rest switches = errors_after rows (draft_doctype draft rest).len (stays (switch_of switches) mode) name place rest (drop 1 switches)
+errors_coming rows (Comment draft) mode name place rest switches = comment_errors draft.kind place rest ++ errors_after rows (draft_cut draft rest).len (stays (switch_of switches) mode) name place rest (drop 1 switches)
+errors_coming rows (Doctype draft) mode name place rest switches = draft_errors draft place rest ++ errors_after rows (draft_doctype draft rest).len (stays (switch_of switches) mode) name place rest (drop 1 switches)
 errors_coming rows (Tag draft) mode name place rest switches =
     let t = draft_tag rows draft rest in
     let given = tag_tokens draft.is_end draft.start (place + t.tail.len) t in
-    errors_after rows t.tail.len (mode_after given switches mode) (name_after given name) place rest (drop (length given) switches)
+    tag_end_errors draft.is_end (place + t.tail.len) t.tail ++ errors_after rows t.tail.len (mode_after given switches mode) (name_after given name) place rest (drop (length given) switches)
 errors_coming rows Section mode name place rest switches =
     let section = cut section_mark rest in
     let given = chars_at Foreign place section.before in
-    errors_after rows section.len (mode_after given switches mode) name place rest (drop (length given) switches)
+    section_errors place rest ++ errors_after rows section.len (mode_after given switches mode) name place rest (drop (length given) switches)
 errors_coming rows Ended mode name place rest switches = []
 
 abbrev pub errors_to_come : Machine → List ℕ → List (Option TextMode) → List Fault
@@ -131,7 +132,7 @@ abbrev pub errors_to_come_after : Token → Option TextMode → Machine → List
 errors_to_come_after given switch t more switches = errors_coming t.table.now t.state (switch_to given.kind switch t.mode) t.last_name t.place (t.input.queue.items ++ more) switches
 
 abbrev pub told_at : Machine → List ℕ → List Fault
-told_at t more = told_in t.state t.mode t.last_name t.place (t.input.queue.items ++ more)
+told_at t more = told_in t.table.now t.state t.mode t.last_name t.place (t.input.queue.items ++ more)
 
 -- whatever follows, a step tells nothing
 abbrev pub IsSilent : Machine → Type 0
@@ -139,7 +140,7 @@ IsSilent t = (more : List ℕ) → MayFollow t.input.finished more → told_at t
 
 -- What a step tells, where no error was lost.
 abbrev pub TellsAt : Machine → Faults → Faults → Type 0
-TellsAt t old new = new.lost ≡ false → (old.lost ≡ false) × ((more : List ℕ) → MayFollow t.input.finished more → openings new.list ≡ all_told (openings old.list) (told_at t more))
+TellsAt t old new = new.lost ≡ false → (old.lost ≡ false) × ((more : List ℕ) → MayFollow t.input.finished more → defined new.list ≡ all_told (defined old.list) (told_at t more))
 
 abbrev pub Tells : Machine → Progress → Faults → Faults → Type 0
 Tells t (Given given) old new = TellsAt t old new

@@ -8,6 +8,7 @@ pub mod Errors
 pub mod Fed
 pub mod Given
 pub mod Input
+pub mod Inside
 pub mod Marks
 pub mod Paused
 pub mod Reference

@@ -164,7 +164,7 @@ ReadsTag old c after (Closed self_closing n) new =
 -- only `>` and `/` close a tag
 abbrev pub ClosesAt : ℕ → TagReading → Type 0
 ClosesAt c More = Unit {0}
-ClosesAt c (Closed self_closing n) = IsTrue (c == 62 || c == 47)
+ClosesAt c (Closed self_closing n) = IsTrue (c == 62 || c == 47) × (n ≡ cond self_closing 2 1)
 
 -- a number goes on at this code point
 abbrev pub GoesOn : Part → ℕ → Type 0

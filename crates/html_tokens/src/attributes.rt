@@ -3,7 +3,7 @@ ghost use Rattle.html_tokens.specs.Tag.{has_name};
 ghost use Rattle.html_tokens.specs.Places.{comparisons};
 ghost use Rattle.std.specs.Prelude.{◌≡◌, ◌∷◌, [], IfOk, length};
 
-use html_charref::Str;
+use html_text::Str;
 use std::alloc::{AllocError, Global};
 use std::marker::Model;
 use std::rc::{Rc, RcSlice};

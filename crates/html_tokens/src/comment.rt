@@ -4,11 +4,12 @@ ghost use Rattle.html_tokens.specs.Copied.{copied_by, CopiesComment};
 ghost use Rattle.html_tokens.specs.Cut.{comment_mark, greater_mark};
 ghost use Rattle.html_tokens.specs.Draft.{Reads, mark_of};
 ghost use Rattle.html_tokens.specs.Input.{Decided, IsShort, Marks};
+ghost use Rattle.html_tokens.specs.Inside.{MovesComment};
 
 use crate::copied::Copied;
 use crate::input::{Input, Peek};
 use crate::nulls::null_replaced;
-use html_charref::Str;
+use html_text::Str;
 use std::alloc::AllocError;
 
 /// How a comment closes.
@@ -103,6 +104,7 @@ impl CommentDraft {
     /// Reads the next code point of the comment, unless it closes there.
     pub(crate) fn read(&mut self, input: &mut Input) -> Result<Reading, AllocError>
         ensures reads { IfOk result (λ reading. Reads self.old input.old reading self.new input.new) }
+        ensures moves { IfOk result (λ reading. MovesComment self.old input.old reading self.new) }
         ensures room { OnErr result (length input.new.queue.items ≤ length input.old.queue.items) }
         ensures finished { OnErr result (input.new.finished ≡ input.old.finished) }
     {

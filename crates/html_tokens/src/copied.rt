@@ -4,7 +4,7 @@ ghost use Rattle.html_tokens.specs.Copied.{AllPass, EndsAt, is_copied};
 
 use crate::fronts::front_without;
 use crate::tag::{ends_attr, ends_unquoted};
-use html_charref::Str;
+use html_text::Str;
 use std::alloc::AllocError;
 
 /// A text that is being read, by the code points that it takes as they stand: they end nothing, begin nothing, become

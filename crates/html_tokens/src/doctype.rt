@@ -2,13 +2,14 @@
 ghost use Rattle.std.specs.Prelude.{◌≡◌, ℕ, ◌≤◌, ◌+◌, ◌<◌, length, MatchOption, IfOk, Some, slice_get, cond, true, []};
 ghost use Rattle.html_tokens.specs.Doctype.{spells_word, keyword_at, new_doctype, ReadsPart, EndsPart, ReadsDoctype, keyword_len, is_quote};
 ghost use Rattle.html_tokens.specs.Input.{Decided, IsShort};
+ghost use Rattle.html_tokens.specs.Inside.{MovesDoctype, MovesPart};
 
 use crate::input::{Input, Peek};
 use crate::marks::begins_word;
 use crate::nulls::null_replaced;
 use crate::optional::OptionalStr;
 use crate::tag::{is_space, name_char};
-use html_charref::Str;
+use html_text::Str;
 use std::alloc::{AllocError, Global};
 use std::mem;
 
@@ -100,7 +101,8 @@ impl DoctypeDraft {
 
     /// Reads on at the front of the rest, unless the doctype closes there.
     pub(crate) fn read(&mut self, input: &Input) -> Result<DoctypeReading, AllocError>
-        ensures { IfOk result (λ reading. ReadsDoctype self.old input.now reading self.new) }
+        ensures reads { IfOk result (λ reading. ReadsDoctype self.old input.now reading self.new) }
+        ensures moves { IfOk result (λ reading. MovesDoctype self.old input.now reading self.new) }
     {
         let c = match input.peek(0) {
             Peek::Wait => return Ok(DoctypeReading::Wait),
@@ -162,9 +164,11 @@ impl DoctypeDraft {
         requires part { self.old.part ≡ DoctypePart.AfterName }
         requires first { Decided input.now (λ rest. slice_get rest 0) (Some c) }
         requires some { 0 < length input.now.queue.items }
-        ensures { ReadsDoctype self.old input.now result self.new }
+        ensures reads { ReadsDoctype self.old input.now result self.new }
+        ensures moves { MovesDoctype self.old input.now result self.new }
     {
         if is_space(c) {
+            self.spaced = true;
             return DoctypeReading::More;
         }
         if c == '>' {
@@ -183,6 +187,7 @@ impl DoctypeDraft {
                 DoctypeReading::Keyword(6)
             }
             Some(Keyword::Other) => {
+                self.spaced = false;
                 self.part = DoctypePart::BadRest(true);
                 DoctypeReading::More
             }
@@ -192,7 +197,8 @@ impl DoctypeDraft {
     /// Reads a code point; where the doctype closes there, whether it has force-quirks.
     fn read_part(&mut self, c: char) -> Result<Option<bool>, AllocError>
         requires { self.old.part ≡ DoctypePart.AfterName → ⊥ }
-        ensures { IfOk result (λ closed. ReadsPart self.old c closed self.new) }
+        ensures reads { IfOk result (λ closed. ReadsPart self.old c closed self.new) }
+        ensures moves { IfOk result (λ closed. MovesPart self.old c closed self.new) }
     {
         match self.part {
             DoctypePart::BeforeName => self.read_before_name(c),
@@ -214,7 +220,8 @@ impl DoctypeDraft {
 
     fn read_before_name(&mut self, c: char) -> Result<Option<bool>, AllocError>
         requires { self.old.part ≡ DoctypePart.BeforeName }
-        ensures { IfOk result (λ closed. ReadsPart self.old c closed self.new) }
+        ensures reads { IfOk result (λ closed. ReadsPart self.old c closed self.new) }
+        ensures moves { IfOk result (λ closed. MovesPart self.old c closed self.new) }
     {
         if is_space(c) {
             return Ok(None);
@@ -230,7 +237,8 @@ impl DoctypeDraft {
 
     fn read_name(&mut self, c: char) -> Result<Option<bool>, AllocError>
         requires { self.old.part ≡ DoctypePart.Name }
-        ensures { IfOk result (λ closed. ReadsPart self.old c closed self.new) }
+        ensures reads { IfOk result (λ closed. ReadsPart self.old c closed self.new) }
+        ensures moves { IfOk result (λ closed. MovesPart self.old c closed self.new) }
     {
         if c == '>' {
             self.name = self.take_text()?;
@@ -247,7 +255,8 @@ impl DoctypeDraft {
 
     fn read_before_public(&mut self, c: char) -> Option<bool>
         requires { self.old.part ≡ DoctypePart.BeforePublic }
-        ensures { ReadsPart self.old c result self.new }
+        ensures reads { ReadsPart self.old c result self.new }
+        ensures moves { MovesPart self.old c result self.new }
     {
         if is_space(c) {
             return None;
@@ -273,7 +282,8 @@ impl DoctypeDraft {
 
     fn read_public(&mut self, quote: char, c: char) -> Result<Option<bool>, AllocError>
         requires { self.old.part ≡ DoctypePart.Public quote }
-        ensures { IfOk result (λ closed. ReadsPart self.old c closed self.new) }
+        ensures reads { IfOk result (λ closed. ReadsPart self.old c closed self.new) }
+        ensures moves { IfOk result (λ closed. MovesPart self.old c closed self.new) }
     {
         if c == quote {
             self.public = self.take_text()?;
@@ -290,7 +300,8 @@ impl DoctypeDraft {
 
     fn read_after_public(&mut self, c: char) -> Option<bool>
         requires { self.old.part ≡ DoctypePart.AfterPublic }
-        ensures { ReadsPart self.old c result self.new }
+        ensures reads { ReadsPart self.old c result self.new }
+        ensures moves { MovesPart self.old c result self.new }
     {
         if is_space(c) {
             return None;
@@ -304,7 +315,8 @@ impl DoctypeDraft {
 
     fn read_before_system(&mut self, c: char) -> Option<bool>
         requires { self.old.part ≡ DoctypePart.BeforeSystem }
-        ensures { ReadsPart self.old c result self.new }
+        ensures reads { ReadsPart self.old c result self.new }
+        ensures moves { MovesPart self.old c result self.new }
     {
         if is_space(c) {
             return None;
@@ -318,7 +330,8 @@ impl DoctypeDraft {
 
     fn read_system(&mut self, quote: char, c: char) -> Result<Option<bool>, AllocError>
         requires { self.old.part ≡ DoctypePart.System quote }
-        ensures { IfOk result (λ closed. ReadsPart self.old c closed self.new) }
+        ensures reads { IfOk result (λ closed. ReadsPart self.old c closed self.new) }
+        ensures moves { IfOk result (λ closed. MovesPart self.old c closed self.new) }
     {
         if c == quote {
             self.system = self.take_text()?;
@@ -335,7 +348,8 @@ impl DoctypeDraft {
 
     fn read_after_system(&mut self, c: char) -> Option<bool>
         requires { self.old.part ≡ DoctypePart.AfterSystem }
-        ensures { ReadsPart self.old c result self.new }
+        ensures reads { ReadsPart self.old c result self.new }
+        ensures moves { MovesPart self.old c result self.new }
     {
         if is_space(c) {
             return None;

@@ -1,19 +1,21 @@
 // The parse errors that a doctype tells (HTML 13.2.5.53 to 13.2.5.68).
-ghost use Rattle.std.specs.Prelude.{◌≡◌, ℕ, ◌≤◌, ◌+◌, false, length, IfSome};
+ghost use Rattle.std.specs.Prelude.{◌≡◌, ℕ, ◌≤◌, ◌+◌, true, cond, length, IfSome, None};
+ghost use Rattle.html_tokens.specs.Cut.{is_space};
 ghost use Rattle.html_tokens.specs.Bounds.{Told};
-ghost use Rattle.html_tokens.specs.Errors.{is_opening, IsQuiet};
+ghost use Rattle.html_tokens.specs.Errors.{is_defined, Opens};
+ghost use Rattle.html_tokens.specs.Inside.{doctype_char_error, doctype_close_error, doctype_end_error, doctype_error, fault_if, id_error};
 
 use crate::doctype::DoctypePart;
 use crate::fault_name::FaultName;
 use crate::faults::Faults;
-use crate::input::Peek;
 use crate::tag::is_space;
 
 /// What a code point tells where an id may begin: that no white space stands before its quote, or that it is no quote.
 fn id_fault(c: char, spaced: bool, unspaced: FaultName, unquoted: FaultName) -> Option<FaultName>
-    requires unspaced { is_opening unspaced ≡ false }
-    requires unquoted { is_opening unquoted ≡ false }
-    ensures { IfSome result (λ name. is_opening name ≡ false) }
+    requires unspaced { is_defined unspaced ≡ true }
+    requires unquoted { is_defined unquoted ≡ true }
+    ensures name { result ≡ id_error c spaced unspaced unquoted }
+    ensures defined { IfSome result (λ name. is_defined name ≡ true) }
 {
     match c {
         '"' | '\'' if spaced => None,
@@ -24,7 +26,8 @@ fn id_fault(c: char, spaced: bool, unspaced: FaultName, unquoted: FaultName) -> 
 
 /// What a code point other than white space and `>` tells in a part of a doctype, where no keyword begins.
 fn part_fault(part: DoctypePart, c: char, spaced: bool) -> Option<FaultName>
-    ensures { IfSome result (λ name. is_opening name ≡ false) }
+    ensures name { result ≡ doctype_char_error part c spaced }
+    ensures defined { IfSome result (λ name. is_defined name ≡ true) }
 {
     match part {
         DoctypePart::BeforeName if spaced => None,
@@ -58,9 +61,21 @@ fn part_fault(part: DoctypePart, c: char, spaced: bool) -> Option<FaultName>
     }
 }
 
+/// What a code point other than `>` tells in a part of a doctype, where no keyword begins.
+fn char_fault(part: DoctypePart, c: char, spaced: bool) -> Option<FaultName>
+    ensures name { result ≡ cond (is_space c) None (doctype_char_error part c spaced) }
+    ensures defined { IfSome result (λ name. is_defined name ≡ true) }
+{
+    if is_space(c) {
+        return None;
+    }
+    part_fault(part, c, spaced)
+}
+
 /// What a `>` tells that closes a doctype in one of its parts.
 fn close_fault(part: DoctypePart) -> Option<FaultName>
-    ensures { IfSome result (λ name. is_opening name ≡ false) }
+    ensures name { result ≡ doctype_close_error part }
+    ensures defined { IfSome result (λ name. is_defined name ≡ true) }
 {
     match part {
         DoctypePart::BeforeName => Some(FaultName::MissingDoctypeName),
@@ -79,18 +94,21 @@ fn close_fault(part: DoctypePart) -> Option<FaultName>
 impl Faults {
     /// What the front of the rest tells in a part of a doctype, where no keyword begins; `spaced` tells that white space
     /// stands before it.
-    pub(crate) fn doctype(&mut self, part: DoctypePart, spaced: bool, found: Peek, place: u64)
+    pub(crate) fn doctype(
+        &mut self,
+        part: DoctypePart,
+        spaced: bool,
+        found: Option<char>,
+        place: u64,
+    )
         ensures told { Told 2 0 self.old self.new }
-        ensures quiet { IsQuiet self.old self.new }
+        ensures opens { Opens (fault_if (doctype_error part spaced found) place) self.old self.new }
     {
         match found {
-            Peek::Wait => {}
-            Peek::Is(None) => self.doctype_end(part, place),
-            Peek::Is(Some('>')) => self.tell_named(close_fault(part), place),
-            Peek::Is(Some(c)) => {
-                if !is_space(c) {
-                    self.tell_named(part_fault(part, c, spaced), place);
-                }
+            None => self.doctype_end(part, place),
+            Some('>') => self.tell_named(close_fault(part), place),
+            Some(c) => {
+                self.tell_named(char_fault(part, c, spaced), place);
                 self.null(c, place);
             }
         }
@@ -99,7 +117,7 @@ impl Faults {
     /// What the end tells in a part of a doctype.
     fn doctype_end(&mut self, part: DoctypePart, place: u64)
         ensures told { Told 1 0 self.old self.new }
-        ensures quiet { IsQuiet self.old self.new }
+        ensures opens { Opens (fault_if (doctype_end_error part) place) self.old self.new }
     {
         match part {
             DoctypePart::BadRest(_) => {}
@@ -108,9 +126,9 @@ impl Faults {
     }
 
     fn tell_named(&mut self, name: Option<FaultName>, place: u64)
-        requires other { IfSome name (λ name. is_opening name ≡ false) }
+        requires defined { IfSome name (λ name. is_defined name ≡ true) }
         ensures told { Told 1 0 self.old self.new }
-        ensures quiet { IsQuiet self.old self.new }
+        ensures opens { Opens (fault_if name place) self.old self.new }
     {
         if let Some(name) = name {
             self.tell(name, place);

@@ -2,7 +2,8 @@
 ghost use Rattle.std.specs.Prelude.{◌≡◌, ◌+◌, ◌<◌, ◌≤◌, ◌^◌, ◌&&◌, ℕ, [], ◌∷◌, true, false, length, option_to_list, slice_get, IfSome, MatchOption, OnOk, Some};
 ghost use Rattle.html_tokens.specs.Order.{IsAdded};
 ghost use Rattle.html_tokens.specs.Bounds.{Told};
-ghost use Rattle.html_tokens.specs.Errors.{bogus_error, fault, is_cdata, is_opening, IsQuiet, literal_error, Opens, opening_errors};
+ghost use Rattle.html_tokens.specs.Errors.{bogus_error, is_cdata, is_defined, IsQuiet, literal_error, Opens, opening_errors};
+ghost use Rattle.html_tokens.specs.Inside.{fault};
 ghost use Rattle.html_tokens.specs.Input.{Decided, IsShort};
 ghost use Rattle.html_tokens.specs.Tokens.{opened_len, opener};
 
@@ -49,7 +50,7 @@ pub struct Faults {
 
 /// The name of what is wrong with a number.
 fn number_name(fault: RefFault) -> FaultName
-    ensures { is_opening result ≡ false }
+    ensures { is_defined result ≡ false }
 {
     match fault {
         RefFault::Null => FaultName::NullCharacterReference,
@@ -82,7 +83,7 @@ pub(crate) fn opening_fault(input: &Input, found: Opener, place: u64) -> Option<
     requires fit { opened_len found ≤ length input.now.queue.items }
     requires room { place + length input.now.queue.items < 2 ^ 64 }
     ensures told { MatchOption result (IsShort input.now 8) (λ fault. Decided input.now (opening_errors found place) (option_to_list fault)) }
-    ensures opening { IfSome result (λ fault. IfSome fault (λ f. is_opening f.name ≡ true)) }
+    ensures opening { IfSome result (λ fault. IfSome fault (λ f. is_defined f.name ≡ true)) }
 {
     Some(match found {
         Opener::Literal => Some(literal_fault(input, place)?),
@@ -104,7 +105,7 @@ fn literal_fault(input: &Input, place: u64) -> Option<Fault>
     requires some { 0 < length input.now.queue.items }
     requires room { place + length input.now.queue.items < 2 ^ 64 }
     ensures told { MatchOption result (IsShort input.now 8) (λ f. Decided input.now (λ rest. literal_error (slice_get rest 1) place) f) }
-    ensures opening { IfSome result (λ f. is_opening f.name ≡ true) }
+    ensures opening { IfSome result (λ f. is_defined f.name ≡ true) }
 {
     let next = place.saturating_add(1);
     match input.peek(1) {
@@ -129,7 +130,7 @@ fn bogus_fault(input: &Input, place: u64) -> Option<Fault>
     requires two { 1 < length input.now.queue.items }
     requires room { place + length input.now.queue.items < 2 ^ 64 }
     ensures told { MatchOption result (IsShort input.now 8) (λ f. Decided input.now (bogus_error place) f) }
-    ensures opening { IfSome result (λ f. is_opening f.name ≡ true) }
+    ensures opening { IfSome result (λ f. is_defined f.name ≡ true) }
 {
     let next = place.saturating_add(1);
     if is_at(input, 1, '?')? {
@@ -194,8 +195,8 @@ impl Faults {
     /// Adds an error, or notes that memory was refused.
     pub(crate) fn tell(&mut self, name: FaultName, place: u64)
         ensures told { Told 1 0 self.old self.new }
-        ensures quiet { is_opening name ≡ false → IsQuiet self.old self.new }
-        ensures opens { is_opening name ≡ true → Opens (fault name place ∷ []) self.old self.new }
+        ensures quiet { is_defined name ≡ false → IsQuiet self.old self.new }
+        ensures opens { is_defined name ≡ true → Opens (fault name place ∷ []) self.old self.new }
         ensures added { self.new.lost ≡ false → IsAdded self.old.list (record { name = name; place = place }) self.new.list }
         ensures compared { self.new.compared ≡ self.old.compared }
     {
@@ -206,7 +207,7 @@ impl Faults {
     }
 
     pub(crate) fn tell_some(&mut self, fault: Option<Fault>)
-        requires opening { IfSome fault (λ f. is_opening f.name ≡ true) }
+        requires opening { IfSome fault (λ f. is_defined f.name ≡ true) }
         ensures told { Told 1 0 self.old self.new }
         ensures opens { Opens (option_to_list fault) self.old self.new }
     {
@@ -237,7 +238,7 @@ impl Faults {
     /// What the end tells in a section.
     pub(crate) fn section_end(&mut self, place: u64)
         ensures told { Told 1 0 self.old self.new }
-        ensures quiet { IsQuiet self.old self.new }
+        ensures opens { Opens (fault FaultName.EofInCdata place ∷ []) self.old self.new }
     {
         self.tell(FaultName::EofInCdata, place);
     }

@@ -5,7 +5,7 @@ ghost use Rattle.std.specs.Prelude.{◌≡◌, ◌≤◌, ◌+◌, ◌∷◌, []
 
 use crate::attributes::{Attr, Attrs, search};
 use crate::gathered::Gathered;
-use html_charref::Str;
+use html_text::Str;
 use std::alloc::{AllocError, Global};
 use std::collections::BTreeMap;
 use std::marker::Model;

@@ -1,4 +1,5 @@
 //! The tokenizer of HTML: from code points in any pieces to tokens.
+//! Imported by crates of this workspace.
 #![tactic(auto)]
 
 mod attributes;

@@ -1,7 +1,7 @@
 // Texts that may be missing.
 ghost use Rattle.std.specs.Prelude.{◌≡◌, IfOk, None, Some, option_map};
 
-use html_charref::Str;
+use html_text::Str;
 use std::alloc::{AllocError, Global};
 use std::marker::Model;
 

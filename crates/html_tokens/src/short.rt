@@ -1,14 +1,14 @@
 // Tags without attributes whose whole text was fed, which are read at once.
-ghost use Rattle.std.specs.Prelude.{chars, ◌≡◌, ℕ, ◌≤◌, ◌+◌, ◌<◌, ◌^◌, List, ◌++◌, drop, take, length, slice_get, Some, true, false, IfOk, OnErr, OnOk, IfSome, IfNone};
+ghost use Rattle.std.specs.Prelude.{chars, ◌≡◌, ℕ, ◌≤◌, ◌+◌, ◌<◌, ◌^◌, ◌++◌, drop, take, length, slice_get, Some, true, false, IfOk, OnErr, OnOk, IfSome, IfNone};
 ghost use Rattle.html_tokens.specs.Bounds.{IsBounded, IsWithin};
 ghost use Rattle.html_tokens.specs.Cut.{is};
 ghost use Rattle.html_tokens.specs.Copied.{AllPass, EndsAt, is_copied};
 ghost use Rattle.html_tokens.specs.Errors.{IsQuiet};
 ghost use Rattle.html_tokens.specs.Fed.{EndsTagAt, IsSilent, Skips, Steps};
-ghost use Rattle.html_tokens.specs.Input.{Decided, MayFollow};
+ghost use Rattle.html_tokens.specs.Input.{Decided};
 ghost use Rattle.html_tokens.specs.Marks.{begin_at};
 ghost use Rattle.html_tokens.specs.Short.{at_close, short_draft};
-ghost use Rattle.html_tokens.specs.Tokens.{begun_piece, tag_piece};
+ghost use Rattle.html_tokens.specs.Tokens.{opener};
 ghost use Rattle.html_tokens.specs.declared.faults.Faults.{Faults};
 
 use crate::attributes::Attrs;
@@ -18,7 +18,7 @@ use crate::input::Peek;
 use crate::machine::{Machine, Progress, State, token};
 use crate::opener::opener;
 use crate::token::{Begin, Name, Opener, Region, TextMode, Token, TokenKind};
-use html_charref::Str;
+use html_text::Str;
 use std::alloc::{AllocError, Global};
 
 /// The name of the last start tag is this.
@@ -172,8 +172,7 @@ impl<'a> Machine<'a> {
     fn whole_end(&mut self) -> Result<Option<Token>, AllocError>
         requires state { self.old.state ≡ State.Text Region.Plain }
         requires begun { Decided self.old.input (begin_at self.old.mode Region.Plain self.old.last_name) Begin.Markup }
-        requires start { (more : List ℕ) → MayFollow self.old.input.finished more
-            → begun_piece self.old.table.now Begin.Markup self.old.place (self.old.input.queue.items ++ more) ≡ tag_piece self.old.table.now true 2 self.old.place (self.old.input.queue.items ++ more) }
+        requires start { Decided self.old.input opener Opener.EndTag }
         requires some { 2 ≤ length self.old.input.queue.items }
         requires room { self.old.place + length self.old.input.queue.items < 2 ^ 64 }
         ensures given { IfOk result (λ answer. IfSome answer (λ given. Steps self.old (Progress.Given given) self.new)) }
@@ -196,8 +195,7 @@ impl<'a> Machine<'a> {
     fn whole_start(&mut self, faults: &mut Faults) -> Result<Option<Token>, AllocError>
         requires state { self.old.state ≡ State.Text Region.Plain }
         requires begun { Decided self.old.input (begin_at self.old.mode Region.Plain self.old.last_name) Begin.Markup }
-        requires start { (more : List ℕ) → MayFollow self.old.input.finished more
-            → begun_piece self.old.table.now Begin.Markup self.old.place (self.old.input.queue.items ++ more) ≡ tag_piece self.old.table.now false 1 self.old.place (self.old.input.queue.items ++ more) }
+        requires start { Decided self.old.input opener Opener.StartTag }
         requires silent { IsSilent self.old }
         requires some { 1 ≤ length self.old.input.queue.items }
         requires room { self.old.place + length self.old.input.queue.items < 2 ^ 64 }

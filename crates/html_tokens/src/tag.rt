@@ -13,7 +13,8 @@ use crate::copied::Copied;
 use crate::indexed::IndexedAttrs;
 use crate::nulls::null_replaced;
 use crate::reference::{ValueRef, digit};
-use html_charref::{Base, Str, add_digit, numeric};
+use html_charref::{Base, add_digit, numeric};
+use html_text::Str;
 use std::alloc::{AllocError, Global};
 use std::mem;
 

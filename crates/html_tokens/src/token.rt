@@ -5,7 +5,8 @@ ghost use Rattle.html_tokens.specs.Tokens.{is_data, text_char};
 use crate::attributes::Attrs;
 use crate::nulls::null_replaced;
 use crate::optional::OptionalStr;
-use html_charref::{Base, Str};
+use html_charref::Base;
+use html_text::Str;
 use std::alloc::{AllocError, Global};
 use std::marker::Model;
 

@@ -11,7 +11,8 @@ use crate::bare_tag::BareTag;
 use crate::faults::{Fault, Faults};
 use crate::machine::{Machine, token};
 use crate::token::{Name, TextMode, Token, TokenKind};
-use html_charref::{EntityTable, PlainText};
+use html_charref::EntityTable;
+use html_text::PlainText;
 use std::alloc::Global;
 use thiserror::Error;
 
@@ -41,7 +42,7 @@ pub enum TokenError {
 }
 
 impl<'a> Tokenizer<'a> {
-    ghost use Rattle.html_tokens.specs.Errors.{openings};
+    ghost use Rattle.html_tokens.specs.Errors.{defined};
     ghost use Rattle.html_tokens.specs.Stream.{errors_of, Run, Start, gave, fed, ended, IsPrompt, tokens_of};
     ghost use Rattle.html_tokens.specs.Given.{Fed, Awaits, fed_len, is_stopped, is_finished, told, plain_next, steps_taken, visits_made, comparisons_made, MaySwitch, run_from};
     ghost use Rattle.html_tokens.specs.Runs.{gave_all};
@@ -315,8 +316,8 @@ impl<'a> Tokenizer<'a> {
         ensures ordered { IsNonDecreasingBy (λ x. x.place) result.now }
         ensures bound { length result.now ≤ 11 * (fed_len self.now + 2) }
         ensures count { (run : Run) → Fed self.now run → fed_len self.now ≡ length run.text }
-        // Once all tokens were given, those told of what a `<` begins are those of the text.
-        ensures openings { (run : Run) → Fed self.now run → run.finished ≡ true → tokens_of run.text run.switches run.start ≡ run.given → openings result.now ≡ errors_of run.text run.switches run.start }
+        // Once all tokens were given, those whose names are defined are those of the text.
+        ensures defined { (run : Run) → Fed self.now run → run.finished ≡ true → tokens_of run.text run.switches run.start ≡ run.given → defined result.now ≡ errors_of run.text run.switches run.start }
     {
         self.faults.list.as_slice()
     }

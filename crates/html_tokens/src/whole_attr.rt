@@ -11,7 +11,7 @@ use crate::copied::{Copied, push_all};
 use crate::faults::Faults;
 use crate::machine::{Machine, State};
 use crate::tag::{Part, TagDraft, ValueEnd, ends_unquoted};
-use html_charref::Str;
+use html_text::Str;
 use std::alloc::AllocError;
 
 /// An attribute that was fed whole: the length of its name, how its value closes, and the length of that.

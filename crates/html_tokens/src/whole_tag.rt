@@ -1,12 +1,12 @@
 // Start tags whose attributes were fed whole, which are read at once.
-ghost use Rattle.std.specs.Prelude.{◌≡◌, ℕ, ◌≤◌, ◌+◌, ◌<◌, ◌^◌, List, ◌++◌, drop, length, take, false, IfOk, IfSome, IfNone, OnErr, OnOk};
+ghost use Rattle.std.specs.Prelude.{◌≡◌, ℕ, ◌≤◌, ◌+◌, ◌<◌, ◌^◌, drop, length, take, false, IfOk, IfSome, IfNone, OnErr, OnOk};
 ghost use Rattle.html_tokens.specs.Bounds.{IsBounded, IsWithin};
 ghost use Rattle.html_tokens.specs.Copied.{AllPass, CopiesTag, is_copied};
 ghost use Rattle.html_tokens.specs.Errors.{IsQuiet};
 ghost use Rattle.html_tokens.specs.Fed.{EndsTagAt, IsSilent, Skips, Steps};
-ghost use Rattle.html_tokens.specs.Input.{Decided, MayFollow};
+ghost use Rattle.html_tokens.specs.Input.{Decided};
 ghost use Rattle.html_tokens.specs.Marks.{begin_at};
-ghost use Rattle.html_tokens.specs.Tokens.{begun_piece, tag_piece};
+ghost use Rattle.html_tokens.specs.Tokens.{opener};
 ghost use Rattle.html_tokens.specs.Whole.{ClosesTag, IsNamed, KeepsBounds};
 
 use crate::copied::{Copied, push_all};
@@ -14,7 +14,7 @@ use crate::faults::Faults;
 use crate::machine::{Machine, Progress, State, token};
 use crate::short::keep_text;
 use crate::tag::{Part, TagDraft, ends_name};
-use crate::token::{Begin, Region, TextMode, Token, TokenKind};
+use crate::token::{Begin, Opener, Region, TextMode, Token, TokenKind};
 use crate::whole_attr::{NOTHING, Taken, space_len};
 use std::alloc::AllocError;
 
@@ -124,8 +124,7 @@ impl<'a> Machine<'a> {
     ) -> Result<Option<Token>, AllocError>
         requires state { self.old.state ≡ State.Text Region.Plain }
         requires begun { Decided self.old.input (begin_at self.old.mode Region.Plain self.old.last_name) Begin.Markup }
-        requires start { (more : List ℕ) → MayFollow self.old.input.finished more
-            → begun_piece self.old.table.now Begin.Markup self.old.place (self.old.input.queue.items ++ more) ≡ tag_piece self.old.table.now false 1 self.old.place (self.old.input.queue.items ++ more) }
+        requires start { Decided self.old.input opener Opener.StartTag }
         requires silent { IsSilent self.old }
         requires fit { 1 + name ≤ length self.old.input.queue.items }
         requires name { AllPass (is_copied Copied.Name) (take name (drop 1 self.old.input.queue.items)) }

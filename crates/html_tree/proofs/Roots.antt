@@ -14,20 +14,17 @@ use Rattle.html_arena.specs.Make.{has_contents, label_for, made}
 use Rattle.html_arena.specs.Siblings.{first_of}
 use Rattle.html_arena.specs.Tree.{Tree, empty_tree, label_of, named}
 use Rattle.html_open.specs.declared.entry.Entry.{Entry}
-use Rattle.html_open.specs.declared.error.OpenError.{OpenError}
-use Rattle.html_open.specs.declared.error.OpenError.TheVariants as told
 use Rattle.html_open.specs.Marking.{bare}
 use Rattle.html_open.specs.Opened.{CanPush, IsOpen, IsOrdered, open_at, origin_at}
-use Rattle.html_open.specs.Refusals.{of_arena}
 use Rattle.html_tree.specs.Inserting.{IsBudget, rest_of}
 use Rattle.html_tree.specs.States.{IsSound, IsUnderWay, state_of}
 use Rattle.html_tree.proofs.Inserted.{beyond, element-element, element-origin, element-tag, made-labels}
 
-pub refused-budget : (r : Result (Unit {0}) ArenaError) (e : ArenaError) → RefusedBy r e → IsBudget r (of_arena e)
-refused-budget (Ok u) e h = subst (λ v. IsBudget (Ok u) (of_arena v)) (sym h) tt
-refused-budget (Err arena.OutOfMemory) e h = subst (λ v. IsBudget (Err arena.OutOfMemory) (of_arena v)) (sym h) tt
-refused-budget (Err arena.NodeBudget) e h = subst (λ v. IsBudget (Err arena.NodeBudget) (of_arena v)) (sym h) refl
-refused-budget (Err arena.HeldBudget) e h = subst (λ v. IsBudget (Err arena.HeldBudget) (of_arena v)) (sym h) refl
+pub refused-budget : (r : Result (Unit {0}) ArenaError) (e : ArenaError) → RefusedBy r e → IsBudget r e
+refused-budget (Ok u) e h = subst (λ v. IsBudget (Ok u) v) (sym h) tt
+refused-budget (Err arena.OutOfMemory) e h = subst (λ v. IsBudget (Err arena.OutOfMemory) v) (sym h) tt
+refused-budget (Err arena.NodeBudget) e h = subst (λ v. IsBudget (Err arena.NodeBudget) v) (sym h) refl
+refused-budget (Err arena.HeldBudget) e h = subst (λ v. IsBudget (Err arena.HeldBudget) v) (sym h) refl
 
 module _ (limits : Option Limits) (u : Tree) (n : List ℕ) (g : tag_of n ≡ tag.Html) (e : u ≡ made (empty_tree limits) (new.Element n [] Implied)) where
   labels : u.labels ≡ label_for (empty_tree limits) (new.Element n [] Implied) ∷ rest_of 0 (has_contents (new.Element n [] Implied))
@@ -96,7 +93,7 @@ sound s l t n h f d p = record {
     bare-ordered (x ∷ xs) o = (o.0, bare-ordered xs o.1)
 
 -- without limits no budget is told
-pub no-budget : (e : OpenError) → IsBudget (Ok tt) e → e ≡ told.OutOfMemory
-no-budget told.OutOfMemory h = refl
-no-budget told.NodeBudget h = absurd (let k = h in cc)
-no-budget told.HeldBudget h = absurd (let k = h in cc)
+pub no-budget : (e : ArenaError) → IsBudget (Ok tt) e → e ≡ arena.OutOfMemory
+no-budget arena.OutOfMemory h = refl
+no-budget arena.NodeBudget h = absurd (let k = h in cc)
+no-budget arena.HeldBudget h = absurd (let k = h in cc)

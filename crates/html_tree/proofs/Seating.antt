@@ -15,7 +15,7 @@ use Rattle.html_arena.specs.Data.{cloned, label_in, tag_in}
 use Rattle.html_arena.specs.Siblings.{Distinct, first_of, has, is_in}
 use Rattle.html_arena.specs.Tree.{Tree, label_of, tag_at}
 use Rattle.html_open.specs.declared.adoption.AdoptEnd.{AdoptEnd}
-use Rattle.html_open.specs.declared.error.OpenError.{OpenError}
+use Rattle.html_arena.specs.declared.arena.ArenaError.{ArenaError}
 use Rattle.html_open.specs.AdoptFinding.{element_in_scope, special}
 use Rattle.html_open.specs.Adopting.{Adopted, Ends, IsRefusal, MadeClones, Round, Rounds, clones_down, closes, eight, fewer, forgets, no_entry, no_round, one_more, out_of_scope, popped}
 use Rattle.html_open.specs.Lists.{above, below, without_last}
@@ -379,13 +379,13 @@ adopted-ok s foster end o q i (popped a b k) h = seated-before a b (k.current �
 adopted-ok s foster end o q i (eight a b e rs) h = rounds-seated s foster 8 a b i rs h
 adopted-ok s foster end o q i (fewer d n a b c e few rs en) h = ends-seated s d b c en (rounds-seated s foster n a b i rs h)
 
-adopted-err : (s : Tag) (foster : Bool) (e : OpenError) (o q : Open) → IsOpen o → IsRefusal s foster o q e → AreSeated (tags_down o.tree o.stack) → AreSeated (tags_down q.tree q.stack)
+adopted-err : (s : Tag) (foster : Bool) (e : ArenaError) (o q : Open) → IsOpen o → IsRefusal s foster o q e → AreSeated (tags_down o.tree o.stack) → AreSeated (tags_down q.tree q.stack)
 adopted-err s foster e o q i k h =
     let open_p = rounds-open s foster k.n o k.p i k.rounds in
     let seated = rounds-seated s foster k.n o k.p i k.rounds h in
     subst (λ v. AreSeated (tags_down q.tree v)) (sym k.stopped.stack_is)
     (subst AreSeated (sym (same-tags k.p.tree q.tree k.p.stack (λ x b. ap (λ ls. tag_in (label_in ls x)) k.stopped.cut.labels_are ∙ ap tag_in (get-before k.p.tree.labels (map (λ y. cloned (label_of k.p.tree y)) k.stopped.cut.done) x node.Document (open_p.stack_in x b))))) seated)
 
-pub adopted-seated : (s : Tag) (foster : Bool) (r : Result AdoptEnd OpenError) (o q : Open) → IsOpen o → IfOk r (λ end. Adopted s foster end o q) → IfErr r (λ e. IsRefusal s foster o q e) → AreSeated (tags_down o.tree o.stack) → AreSeated (tags_down q.tree q.stack)
+pub adopted-seated : (s : Tag) (foster : Bool) (r : Result AdoptEnd ArenaError) (o q : Open) → IsOpen o → IfOk r (λ end. Adopted s foster end o q) → IfErr r (λ e. IsRefusal s foster o q e) → AreSeated (tags_down o.tree o.stack) → AreSeated (tags_down q.tree q.stack)
 adopted-seated s foster (Ok end) o q i a b h = adopted-ok s foster end o q i a h
 adopted-seated s foster (Err e) o q i a b h = adopted-err s foster e o q i b h

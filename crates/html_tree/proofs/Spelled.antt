@@ -7,7 +7,6 @@ use Rattle.html_names.specs.Names.{is_known, name_of, tag_of}
 use Rattle.html_names.proofs.Known.{tag_of-chars, tag_of-known}
 use Rattle.html_arena.specs.declared.arena.ArenaError.{ArenaError}
 use Rattle.html_arena.specs.declared.arena.ArenaError.TheVariants as arena
-use Rattle.html_open.specs.declared.error.OpenError.{OpenError}
 use Rattle.html_open.proofs.Keeps.{cases_bool}
 use Rattle.html_tree.specs.Inserting.{IsBudget, IsLack}
 
@@ -26,7 +25,7 @@ chars-name g bs n u e b i = elim (cases_bool (is_known g)) [
 ]
 
 -- what is told of the budget is told of it where memory may have been wanted before
-pub lack-budget : (r : Result (Unit {0}) ArenaError) (e : OpenError) → IsLack r e → IsBudget r e
+pub lack-budget : (r : Result (Unit {0}) ArenaError) (e : ArenaError) → IsLack r e → IsBudget r e
 lack-budget (Ok u) e h = subst (λ v. IsBudget (Ok u) v) (sym h) tt
 lack-budget (Err arena.OutOfMemory) e h = subst (λ v. IsBudget (Err arena.OutOfMemory) v) (sym h) tt
 lack-budget (Err arena.NodeBudget) e h = subst (λ v. IsBudget (Err arena.NodeBudget) v) (sym h) refl

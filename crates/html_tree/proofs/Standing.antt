@@ -19,7 +19,7 @@ use Rattle.html_arena.specs.declared.arena.Limits.{Limits}
 use Rattle.html_arena.specs.Tree.{Tree, WellFormed, children_of, contents_at, empty_tree, label_of, parent_of, tag_at}
 use Rattle.html_open.specs.declared.adoption.AdoptEnd.{AdoptEnd}
 use Rattle.html_open.specs.declared.entry.Entry.{Entry}
-use Rattle.html_open.specs.declared.error.OpenError.{OpenError}
+use Rattle.html_arena.specs.declared.arena.ArenaError.{ArenaError}
 use Rattle.html_open.specs.declared.places.Place.{Place}
 use Rattle.html_open.specs.declared.places.Place.TheVariants.{Before, Last}
 use Rattle.html_open.specs.Adopting.{Adopted, Ends, IsRefusal, MadeClones, Round, Rounds, closes, eight, fewer, forgets, no_entry, no_round, one_more, out_of_scope, popped}
@@ -603,7 +603,7 @@ adopted-ok s foster end o q k (popped a b j) = tree-same a b j.tree_is k.well_fo
 adopted-ok s foster end o q k (eight a b e rs) = pair b (rounds-stand s foster 8 a b rs k)
 adopted-ok s foster end o q k (fewer d n a b c e few rs en) = (let j = rounds-stand s foster n a b rs k in ends-stand s d b c en j.well_formed (pair b j))
 
-adopted-err : (s : Tag) (foster : Bool) (e : OpenError) (o q : Open) → Stands o → IsRefusal s foster o q e → ArePartsSeated q.tree × AreTemplatesEmpty q.tree
+adopted-err : (s : Tag) (foster : Bool) (e : ArenaError) (o q : Open) → Stands o → IsRefusal s foster o q e → ArePartsSeated q.tree × AreTemplatesEmpty q.tree
 adopted-err s foster e o q k j =
     let b = rounds-stand s foster j.n o j.p j.rounds k in
     let labels : (x : ℕ) → x < length j.p.tree.labels → essence (label_of q.tree x) ≡ essence (label_of j.p.tree x) =
@@ -614,7 +614,7 @@ adopted-err s foster e o q k j =
     )
 
 -- the end tag of a formatting name keeps what stands
-pub adopted-seats : (s : Tag) (foster : Bool) (r : Result AdoptEnd OpenError) (o q : Open) → Stands o → IfOk r (λ end. Adopted s foster end o q) → IfErr r (λ e. IsRefusal s foster o q e) → AreSeated (tags_down q.tree q.stack)
+pub adopted-seats : (s : Tag) (foster : Bool) (r : Result AdoptEnd ArenaError) (o q : Open) → Stands o → IfOk r (λ end. Adopted s foster end o q) → IfErr r (λ e. IsRefusal s foster o q e) → AreSeated (tags_down q.tree q.stack)
     → HasSeats q.tree q.stack
 adopted-seats s foster (Ok end) o q k a b z = (let j = adopted-ok s foster end o q k a in record { open_elements = z; parts = j.0; templates = j.1 })
 adopted-seats s foster (Err e) o q k a b z = (let j = adopted-err s foster e o q k b in record { open_elements = z; parts = j.0; templates = j.1 })

@@ -12,7 +12,7 @@ use Rattle.html_arena.specs.Make.{has_contents, made}
 use Rattle.html_arena.specs.Siblings.{before, has, last_of}
 use Rattle.html_arena.specs.Tree.{Tree, WellFormed, children_of, inserted, label_of, more, parent_of, sibling}
 use Rattle.html_open.specs.declared.entry.Entry.{Entry}
-use Rattle.html_open.specs.declared.error.OpenError.{OpenError}
+use Rattle.html_arena.specs.declared.arena.ArenaError.{ArenaError}
 use Rattle.html_open.specs.declared.places.Place.{Place}
 use Rattle.html_open.specs.declared.places.Place.TheVariants.{Before, Last}
 use Rattle.html_open.specs.Marking.{bare}
@@ -115,7 +115,7 @@ new-budget t p =
     ∙ ap (λ v. budget_of t.limits v (more (with_new t p new.Text).held 1)) b
     ∙ ap (λ v. budget_of t.limits (length t.labels + 1) v) c
 
-pub text-lack : (t : Tree) (p : Place) (o : Option ℕ) (e : OpenError) → IsLack (budget (tree_or_new t p o) 0 1) e → IsTextLack t o e
+pub text-lack : (t : Tree) (p : Place) (o : Option ℕ) (e : ArenaError) → IsLack (budget (tree_or_new t p o) 0 1) e → IsTextLack t o e
 text-lack t p None e h = lack-budget (budget t 1 1) e (subst (λ v. IsLack v e) (new-budget t p) h)
 text-lack t p (Some x) e h = h
 
@@ -139,6 +139,6 @@ text-limits a foster = by (text_before a.tree (place_here a foster))
     by (Some x) = refl
 
 -- one code point more than what there is with the text would pass them
-pub text-passed : (a m b : State) (foster : Bool) (e : OpenError) → m.tree ≡ with_text_node a foster → IsPassed m b 0 1 e → IsTextPassed a b e
+pub text-passed : (a m b : State) (foster : Bool) (e : ArenaError) → m.tree ≡ with_text_node a foster → IsPassed m b 0 1 e → IsTextPassed a b e
 text-passed a m b foster e q k =
     inr (subst (λ v. IsBudget (budget_of v (length b.tree.labels + 0) (more b.tree.held 1)) e) (ap (λ (t : Tree). t.limits) q ∙ text-limits a foster) k)

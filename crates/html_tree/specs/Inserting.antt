@@ -5,7 +5,6 @@ use Rattle.html_names.specs.declared.tag.Tag.{Tag}
 use Rattle.html_names.specs.declared.tag.Tag.TheVariants as tag
 use Rattle.html_names.specs.Tags.{is_same}
 use Rattle.html_arena.specs.declared.arena.ArenaError.{ArenaError}
-use Rattle.html_arena.specs.declared.arena.ArenaError.TheVariants as arena
 use Rattle.html_arena.specs.declared.data.Origin.{Origin}
 use Rattle.html_arena.specs.declared.data.Origin.TheVariants.{Implied, Token}
 use Rattle.html_arena.specs.declared.data.NewNode.{NewNode}
@@ -17,13 +16,11 @@ use Rattle.html_arena.specs.Budget.{budget, budget_of}
 use Rattle.html_arena.specs.Make.{has_contents, label_for, made, made_weight, nodes_made}
 use Rattle.html_arena.specs.Tree.{Tree, WellFormed, children_of, label_of, more}
 use Rattle.html_arena.specs.Weight.{weight}
-use Rattle.html_open.specs.declared.error.OpenError.{OpenError}
-use Rattle.html_open.specs.declared.error.OpenError.TheVariants.{OutOfMemory, NodeBudget, HeldBudget}
+use Rattle.html_arena.specs.declared.arena.ArenaError.TheVariants.{OutOfMemory, NodeBudget, HeldBudget}
 use Rattle.html_open.specs.declared.places.Place.{Place}
 use Rattle.html_open.specs.Inserting.{HasNew}
 use Rattle.html_open.specs.Marking.{bare}
 use Rattle.html_open.specs.Placing.{IsPlace, put}
-use Rattle.html_open.specs.Refusals.{of_arena}
 use Rattle.html_tree.specs.States.{State}
 
 -- the next node is there
@@ -56,34 +53,34 @@ pub record IsNew (t u : Tree) (at : Place) (new : NewNode) (k : ℕ) : Type 0 wh
   pub well_formed : WellFormed t
 
 -- a budget is told where it would be passed, and want of memory where it would not
-abbrev pub IsLack : Result (Unit {0}) ArenaError → OpenError → Type 0
-IsLack (Err b) e = e ≡ of_arena b
+abbrev pub IsLack : Result (Unit {0}) ArenaError → ArenaError → Type 0
+IsLack (Err b) e = e ≡ b
 IsLack (Ok u) e = e ≡ OutOfMemory
 
 -- why a new node was refused
-abbrev pub IsRefused : State → NewNode → OpenError → Type 0
+abbrev pub IsRefused : State → NewNode → ArenaError → Type 0
 IsRefused a new e = IsLack (budget a.tree (nodes_made new) (made_weight a.tree new)) e
 
 -- a budget is told where it would be passed
-abbrev pub IsBudget : Result (Unit {0}) ArenaError → OpenError → Type 0
+abbrev pub IsBudget : Result (Unit {0}) ArenaError → ArenaError → Type 0
 IsBudget r OutOfMemory = Unit {0}
-IsBudget r NodeBudget = r ≡ Err arena.NodeBudget
-IsBudget r HeldBudget = r ≡ Err arena.HeldBudget
+IsBudget r NodeBudget = r ≡ Err NodeBudget
+IsBudget r HeldBudget = r ≡ Err HeldBudget
 
 -- what the budget answers to the root of a fragment
 abbrev pub root_budget : Tree → Result (Unit {0}) ArenaError
 root_budget t = budget t (nodes_made (Element (name_of tag.Html) [] Implied)) (made_weight t (Element (name_of tag.Html) [] Implied))
 
 -- the same of a new node for which memory may have been wanted before
-abbrev pub IsTold : State → NewNode → OpenError → Type 0
+abbrev pub IsTold : State → NewNode → ArenaError → Type 0
 IsTold a new e = IsBudget (budget a.tree (nodes_made new) (made_weight a.tree new)) e
 
 -- where a budget is told, what there is in the end and so many more nodes and held code points would pass the limits
-abbrev pub IsPassed : State → State → ℕ → ℕ → OpenError → Type 0
+abbrev pub IsPassed : State → State → ℕ → ℕ → ArenaError → Type 0
 IsPassed a b nodes held e = IsBudget (budget_of a.tree.limits (length b.tree.labels + nodes) (more b.tree.held held)) e
 
 -- the same of a new node
-abbrev pub IsNodePassed : State → State → NewNode → OpenError → Type 0
+abbrev pub IsNodePassed : State → State → NewNode → ArenaError → Type 0
 IsNodePassed a b new e = IsPassed a b (nodes_made new) (made_weight b.tree new) e
 
 -- the token, if there is one, is one from the first number on and before the second

@@ -1,6 +1,7 @@
 -- Claimed.
 pub mod Closing
 pub mod Foreign
+pub mod Forests
 pub mod Groups
 pub mod Inserting
 pub mod Listing

@@ -9,7 +9,7 @@ use Rattle.html_arena.specs.Siblings.{has}
 use Rattle.html_arena.specs.Tree.{Tree, label_of, tag_at}
 use Rattle.html_arena.specs.Weight.{weight}
 use Rattle.html_open.specs.declared.adoption.AdoptEnd.{AdoptEnd}
-use Rattle.html_open.specs.declared.error.OpenError.{OpenError}
+use Rattle.html_arena.specs.declared.arena.ArenaError.{ArenaError}
 use Rattle.html_open.specs.Adopting.{Adopted, IsRefusal}
 use Rattle.html_open.specs.Entries.{has_node, nodes_of}
 use Rattle.html_open.specs.Marking.{bare}
@@ -48,13 +48,13 @@ pub record HasCloned (a b : State) : Type 0 where
   pub limits_are : b.tree.limits ≡ a.tree.limits
 
 -- why a reopening was refused: a budget where the next clone would pass it, and want of memory where it would not
-pub record IsReopenRefused (foster : Bool) (a : State) (e : OpenError) : Type 0 where
+pub record IsReopenRefused (foster : Bool) (a : State) (e : ArenaError) : Type 0 where
   pub old : Tree
   pub old_is : bare old ≡ a.tree
   pub cause : IsCause (open_at a.stack a.list old) foster e
 
 -- why an adoption was refused, and after how many rounds
-pub record IsAdoptRefused (name : Tag) (foster : Bool) (a b : State) (e : OpenError) : Type 0 where
+pub record IsAdoptRefused (name : Tag) (foster : Bool) (a b : State) (e : ArenaError) : Type 0 where
   pub old : Tree
   pub new : Tree
   pub old_is : bare old ≡ a.tree

@@ -6,7 +6,7 @@ use Rattle.html_arena.specs.Budget.{budget}
 use Rattle.html_arena.specs.Data.{is_text}
 use Rattle.html_arena.specs.Siblings.{before, has, last_of}
 use Rattle.html_arena.specs.Tree.{Tree, children_of, label_of, parent_of, sibling, tag_at, texted_run}
-use Rattle.html_open.specs.declared.error.OpenError.{OpenError}
+use Rattle.html_arena.specs.declared.arena.ArenaError.{ArenaError}
 use Rattle.html_open.specs.declared.places.Place.{Place}
 use Rattle.html_open.specs.declared.places.Place.TheVariants.{Before, Last}
 use Rattle.html_open.specs.Marking.{bare}
@@ -62,23 +62,23 @@ pub record TextGoesOn (a : State) (foster : Bool) : Type 0 where
   pub tags_same : (front : List ℕ) (x : ℕ) → tag_at (with_text a foster front) x ≡ tag_at a.tree x
 
 -- a budget is told where the text or its first code point would pass it; of a text that is there, want of memory only where it would not
-abbrev pub IsTextLack : Tree → Option ℕ → OpenError → Type 0
+abbrev pub IsTextLack : Tree → Option ℕ → ArenaError → Type 0
 IsTextLack t None e = IsBudget (budget t 1 1) e
 IsTextLack t (Some x) e = IsLack (budget t 0 1) e
 
-abbrev pub IsTextRefused : State → Bool → OpenError → Type 0
+abbrev pub IsTextRefused : State → Bool → ArenaError → Type 0
 IsTextRefused a foster e = IsTextLack a.tree (text_before a.tree (place_here a foster)) e
 
 -- where a budget is told, what there is in the end and one text more, or one code point more, would pass the limits
-abbrev pub IsTextPassed : State → State → OpenError → Type 0
+abbrev pub IsTextPassed : State → State → ArenaError → Type 0
 IsTextPassed a b e = IsNodePassed a b Text e ⊎ IsPassed a b 0 1 e
 
 -- a new text was refused
-abbrev pub IsNewTextLack : Tree → Option ℕ → OpenError → Type 0
+abbrev pub IsNewTextLack : Tree → Option ℕ → ArenaError → Type 0
 IsNewTextLack t None e = IsLack (budget t 1 0) e
 IsNewTextLack t (Some x) e = ⊥
 
-abbrev pub IsNewTextRefused : State → Bool → OpenError → Type 0
+abbrev pub IsNewTextRefused : State → Bool → ArenaError → Type 0
 IsNewTextRefused a foster e = IsNewTextLack a.tree (text_before a.tree (place_here a foster)) e
 
 -- x is in no element that was closed and holds no element

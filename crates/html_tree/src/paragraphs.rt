@@ -13,7 +13,7 @@ use crate::groups::{Group, Stop};
 use crate::search::last_node;
 use html_arena::{Arena, NodeId};
 use html_names::{Scope, Tag};
-use html_open::{OpenError, OpenStack};
+use html_open::{ArenaError, OpenStack};
 
 /// Whether what is sought is a p in button scope.
 pub(crate) fn seeks_p(group: Group, stop: Stop) -> bool
@@ -68,7 +68,7 @@ pub(crate) fn open_node(
     ends: &mut Vec<NodeId>,
     arena: &mut Arena,
     node: NodeId,
-) -> Result<(), OpenError>
+) -> Result<(), ArenaError>
     requires node_in { node < length arena.old.labels }
     ensures stack { OnOk result (stack.new ≡ stack.old ++ node ∷ []) }
     ensures tree { OnOk result (arena.new ≡ charged (with_marked arena.old OnStack node true) 1) }
@@ -77,7 +77,7 @@ pub(crate) fn open_node(
     ensures same_stack { OnErr result (stack.new ≡ stack.old) }
     ensures same_tree { OnErr result (arena.new ≡ arena.old) }
     ensures same_ends { OnErr result (ends.new.items ≡ ends.old.items) }
-    ensures cause { IfErr result (λ e. e ≡ OpenError.OutOfMemory) }
+    ensures cause { IfErr result (λ e. e ≡ ArenaError.OutOfMemory) }
 {
     ends.reserve(1)?;
     let is_first = stack.is_empty();

@@ -16,9 +16,9 @@ ghost use Rattle.html_tree.specs.OpenTags.{open_tags};
 ghost use Rattle.html_tree.specs.Since.{Grown, Keeps};
 
 use html_arena::{Arena, Limits, NewNode, NodeId, Origin};
-use html_charref::Str;
 use html_names::Tag;
-use html_open::{FormattingList, OpenError, OpenStack, kept_by_edits};
+use html_open::{ArenaError, FormattingList, OpenStack, kept_by_edits};
+use html_text::Str;
 use html_tokens::Attrs;
 use std::alloc::Global;
 use std::marker::Model;
@@ -71,11 +71,11 @@ impl OpenTree {
     /// # Errors
     ///
     /// `OutOfMemory`.
-    pub fn document(alloc: Global) -> Result<OpenTree, OpenError>
+    pub fn document(alloc: Global) -> Result<OpenTree, ArenaError>
         ensures state { IfOk result (λ p. p ≡ document_state None p.steps) }
         ensures steps { IfOk result (λ p. p.steps ≤ 1) }
         ensures counted { IfOk result (λ p. p.steps ≡ 1) }
-        ensures cause { IfErr result (λ e. e ≡ OpenError.OutOfMemory) }
+        ensures cause { IfErr result (λ e. e ≡ ArenaError.OutOfMemory) }
     {
         OpenTree::over(alloc, Arena::new(alloc))
     }
@@ -85,7 +85,7 @@ impl OpenTree {
     /// # Errors
     ///
     /// `NodeBudget` where not even the document is within them; else `OutOfMemory`.
-    pub fn document_within(alloc: Global, limits: Limits) -> Result<OpenTree, OpenError>
+    pub fn document_within(alloc: Global, limits: Limits) -> Result<OpenTree, ArenaError>
         ensures state { IfOk result (λ p. p ≡ document_state (Some limits) p.steps) }
         ensures steps { IfOk result (λ p. p.steps ≤ 1) }
         ensures counted { IfOk result (λ p. p.steps ≡ 1) }
@@ -102,7 +102,7 @@ impl OpenTree {
     }
 
     /// A document in an arena without nodes.
-    fn over(alloc: Global, arena: Arena) -> Result<OpenTree, OpenError>
+    fn over(alloc: Global, arena: Arena) -> Result<OpenTree, ArenaError>
         requires { (l : Option Limits) × (arena ≡ empty_tree l) }
         ensures state { (l : Option Limits) → arena ≡ empty_tree l → IfOk result (λ p. p ≡ document_state l p.steps) }
         ensures steps { (l : Option Limits) → arena ≡ empty_tree l → IfOk result (λ p. p.steps ≤ 1) }
@@ -129,11 +129,11 @@ impl OpenTree {
     /// # Errors
     ///
     /// `OutOfMemory`.
-    pub fn fragment(alloc: Global) -> Result<OpenTree, OpenError>
+    pub fn fragment(alloc: Global) -> Result<OpenTree, ArenaError>
         ensures state { IfOk result (λ p. p ≡ fragment_state None p.steps) }
         ensures steps { IfOk result (λ p. p.steps ≤ 2) }
         ensures counted { IfOk result (λ p. p.steps ≡ 2) }
-        ensures cause { IfErr result (λ e. e ≡ OpenError.OutOfMemory) }
+        ensures cause { IfErr result (λ e. e ≡ ArenaError.OutOfMemory) }
     {
         OpenTree::over_root(alloc, Arena::new(alloc))
     }
@@ -143,7 +143,7 @@ impl OpenTree {
     /// # Errors
     ///
     /// `NodeBudget` and `HeldBudget` where not even the root is within them; `OutOfMemory`, which may be told first.
-    pub fn fragment_within(alloc: Global, limits: Limits) -> Result<OpenTree, OpenError>
+    pub fn fragment_within(alloc: Global, limits: Limits) -> Result<OpenTree, ArenaError>
         ensures state { IfOk result (λ p. p ≡ fragment_state (Some limits) p.steps) }
         ensures steps { IfOk result (λ p. p.steps ≤ 2) }
         ensures counted { IfOk result (λ p. p.steps ≡ 2) }
@@ -153,7 +153,7 @@ impl OpenTree {
     }
 
     /// The root of a fragment in an arena without nodes.
-    fn over_root(alloc: Global, arena: Arena) -> Result<OpenTree, OpenError>
+    fn over_root(alloc: Global, arena: Arena) -> Result<OpenTree, ArenaError>
         requires { (l : Option Limits) × (arena ≡ empty_tree l) }
         ensures state { (l : Option Limits) → arena ≡ empty_tree l → IfOk result (λ p. p ≡ fragment_state l p.steps) }
         ensures steps { (l : Option Limits) → arena ≡ empty_tree l → IfOk result (λ p. p.steps ≤ 2) }
@@ -250,7 +250,7 @@ fn fits(steps: u128)
 {}
 
 /// Makes an html element that no token asked for, the first node, and opens it.
-fn push_root(stack: &mut OpenStack, arena: &mut Arena, alloc: Global) -> Result<(), OpenError>
+fn push_root(stack: &mut OpenStack, arena: &mut Arena, alloc: Global) -> Result<(), ArenaError>
     requires none { stack.old ≡ [] }
     requires empty { (l : Option Limits) × (arena.old ≡ empty_tree l) }
     ensures under_way { OnOk result (IsUnderWay stack.new [] arena.new 0 None None None) }

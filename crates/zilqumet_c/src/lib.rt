@@ -1,4 +1,5 @@
 //! The parser for programs in C: handles that C keeps, and the calls on them.
+//! Imported by users, as a static library with a header for C.
 #![tactic(auto)]
 
 mod audits;

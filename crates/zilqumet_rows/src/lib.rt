@@ -1,4 +1,5 @@
 //! What C reads of a page in one call: the names and texts of all nodes, and the tokens with their fates.
+//! Imported by zilqumet_c alone.
 #![tactic(auto)]
 
 mod gathered;

@@ -7,7 +7,7 @@ ghost use Rattle.html_arena.specs.Tree.{label_of};
 ghost use Rattle.html_arena.specs.Walking.{IsRoot};
 
 use html_arena::{Arena, ArenaError, NewNode, NodeId, Origin};
-use html_charref::Str;
+use html_text::Str;
 use html_tokens::Attrs;
 use std::alloc::Global;
 

@@ -10,7 +10,7 @@ ghost use Rattle.html_arena.specs.Weight.{capped, held_beside, weight};
 use super::{Arena, ArenaError};
 use crate::data::{NodeData, all_held, held_of, held_with_attrs, label_at, set_attrs};
 use crate::links::NodeId;
-use html_charref::WideStr;
+use html_text::WideStr;
 use html_tokens::{Attr, Attrs};
 use std::alloc::Global;
 

@@ -11,7 +11,7 @@ use super::{Arena, ArenaError};
 use crate::attributes::{lacking_held, merge};
 use crate::data::{label_at, push_char, push_plain, push_run, set_attrs};
 use crate::links::NodeId;
-use html_charref::PlainText;
+use html_text::PlainText;
 use html_tokens::Attrs;
 
 impl Arena {

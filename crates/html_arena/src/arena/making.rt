@@ -15,8 +15,8 @@ use crate::data::{
 };
 use crate::links::NodeId;
 use crate::room::{let_go, push_node, reserve};
-use html_charref::{Str, WideStr};
 use html_names::Tag;
+use html_text::{Str, WideStr};
 use html_tokens::{Attrs, OptionalStr};
 
 impl Arena {

@@ -19,15 +19,14 @@ ghost use Rattle.html_construction.specs.Plans.{Does};
 ghost use Rattle.html_construction.specs.Words.{Drop as DropFor, End, Keep, with_kept};
 
 use super::Construction;
-use crate::refusal::Refusal;
-use html_arena::NodeId;
+use html_arena::{ArenaError, NodeId};
 use html_ledger::{Cause, Fate, Symbol};
 use html_tokens::TokenKind;
 
 impl Construction {
     /// Gives the token in hand the fate of which the next node is made, and answers its number. The node is made next: a token that is
     /// the origin of a node has its fate also where that is refused.
-    pub(super) fn give_made(&mut self, symbol: Symbol) -> Result<u64, Refusal>
+    pub(super) fn give_made(&mut self, symbol: Symbol) -> Result<u64, ArenaError>
         requires may { IsTrue (may_make self.old.ledger.history symbol) }
         requires quiet { self.old.ledger.kept ≡ [] }
         ensures takes { OnOk result (LedgerTakes symbol self.old.ledger self.new.ledger) }
@@ -37,7 +36,7 @@ impl Construction {
         ensures counted { OnOk result (number_of self.new.ledger ≡ number_of self.old.ledger + 1) }
         ensures behind { self.new.tree.tokens ≤ number_of self.old.ledger }
         ensures fate { OnOk result (HasFate symbol (Made (length self.old.tree.tree.labels)) self.old self.new) }
-        ensures memory { IfErr result (λ e. e ≡ Refusal.OutOfMemory) }
+        ensures memory { IfErr result (λ e. e ≡ ArenaError.OutOfMemory) }
     {
         let token = self.ledger.number();
         let node = NodeId::at(self.tree.node_count() as usize);
@@ -52,7 +51,7 @@ impl Construction {
         token: &TokenKind,
         symbol: Symbol,
         cause: Cause,
-    ) -> Result<(), Refusal>
+    ) -> Result<(), ArenaError>
         requires symbol { symbol_of token.now ≡ symbol }
         requires may { IsTrue (may_drop self.old.ledger.history symbol cause) }
         requires allowed { IsTrue (drops_in cause self.old.began) }
@@ -63,7 +62,7 @@ impl Construction {
         ensures grown { OnOk result (Grown 1 0 0 0 0 self.old self.new) }
         ensures works { OnOk result (Works 0 0 0 self.old self.new) }
         ensures fate { OnOk result (HasFate symbol (Dropped cause) self.old self.new) }
-        ensures memory { IfErr result (λ e. e ≡ Refusal.OutOfMemory) }
+        ensures memory { IfErr result (λ e. e ≡ ArenaError.OutOfMemory) }
         ensures refuses { IfErr result (λ e. RefusesAny e self.old self.new) }
         ensures follows { OnOk result (Does (DropFor cause) token.now self.old self.new) }
     {
@@ -73,7 +72,7 @@ impl Construction {
 
     /// An end tag, or the end of the page, is done with. It was ignored where it took nothing off the stack and made no node.
     #[tactic(auto, using(crate::proofs::Doing::doing_rules))]
-    pub fn end(&mut self, token: &TokenKind, symbol: Symbol) -> Result<(), Refusal>
+    pub fn end(&mut self, token: &TokenKind, symbol: Symbol) -> Result<(), ArenaError>
         requires symbol { symbol_of token.now ≡ symbol }
         requires end { IsTrue (is_end symbol) }
         requires quiet { self.old.ledger.kept ≡ [] }
@@ -83,7 +82,7 @@ impl Construction {
         ensures grown { OnOk result (Grown 1 0 0 0 0 self.old self.new) }
         ensures works { OnOk result (Works 0 0 0 self.old self.new) }
         ensures ended { OnOk result (self.new.ledger ≡ ended self.old.ledger symbol (is_idle self.old)) }
-        ensures memory { IfErr result (λ e. e ≡ Refusal.OutOfMemory) }
+        ensures memory { IfErr result (λ e. e ≡ ArenaError.OutOfMemory) }
         ensures refuses { IfErr result (λ e. RefusesAny e self.old self.new) }
         ensures follows { OnOk result (Does End token.now self.old self.new) }
     {
@@ -114,7 +113,7 @@ impl Construction {
 
     /// Keeps a code point of a table's text, without a fate.
     #[tactic(auto, using(crate::proofs::Doing::kept_rules))]
-    pub fn keep(&mut self, token: &TokenKind, c: char) -> Result<(), Refusal>
+    pub fn keep(&mut self, token: &TokenKind, c: char) -> Result<(), ArenaError>
         requires symbol { symbol_of token.now ≡ Char c }
         ensures rest { OnOk result (self.new ≡ record self.old { ledger = self.new.ledger }) }
         ensures takes { OnOk result (Takes token.now self.old self.new) }
@@ -122,7 +121,7 @@ impl Construction {
         ensures works { OnOk result (Works 0 0 0 self.old self.new) }
         ensures kept { OnOk result (self.new.ledger.kept ≡ self.old.ledger.kept ++ c ∷ []) }
         ensures follows { OnOk result (Does Keep token.now self.old self.new) }
-        ensures memory { IfErr result (λ e. e ≡ Refusal.OutOfMemory) }
+        ensures memory { IfErr result (λ e. e ≡ ArenaError.OutOfMemory) }
         ensures refuses { IfErr result (λ e. RefusesAny e self.old self.new) }
     {
         self.ledger.keep(c)?;

@@ -26,9 +26,8 @@ ghost use Rattle.html_construction.specs.Words.{InsertForeign, InsertForeignVoid
 ghost use Rattle.html_construction.specs.Works.{Works};
 
 use super::Construction;
-use crate::refusal::Refusal;
 use crate::token::{copy_foreign_attrs, copy_foreign_name};
-use html_arena::NodeId;
+use html_arena::{ArenaError, NodeId};
 use html_ledger::{Fate, Symbol};
 use html_names::{Space, Tag};
 use html_tokens::TokenKind;
@@ -97,7 +96,7 @@ impl Construction {
         token: &TokenKind,
         tag: Tag,
         space: Space,
-    ) -> Result<(), Refusal>
+    ) -> Result<(), ArenaError>
         requires symbol { symbol_of token.now ≡ Start tag }
         requires outside { is_html_space space ≡ false }
         requires may { IsTrue (may_embed self.old.ledger.history (Start tag)) }
@@ -126,7 +125,7 @@ impl Construction {
         token: &TokenKind,
         tag: Tag,
         space: Space,
-    ) -> Result<(), Refusal>
+    ) -> Result<(), ArenaError>
         requires symbol { symbol_of token.now ≡ Start tag }
         requires outside { is_html_space space ≡ false }
         requires may { IsTrue (may_embed self.old.ledger.history (Start tag)) }
@@ -155,7 +154,7 @@ impl Construction {
         tag: Tag,
         space: Space,
         target: Target,
-    ) -> Result<NodeId, Refusal>
+    ) -> Result<NodeId, ArenaError>
         requires symbol { symbol_of token.now ≡ Start tag }
         requires outside { is_html_space space ≡ false }
         requires may { IsTrue (may_embed self.old.ledger.history (Start tag)) }
@@ -186,7 +185,7 @@ impl Construction {
         tag: Tag,
         space: Space,
         target: Target,
-    ) -> Result<NodeId, Refusal>
+    ) -> Result<NodeId, ArenaError>
         requires symbol { symbol_of token.now ≡ Start tag }
         requires outside { is_html_space space ≡ false }
         requires may { IsTrue (may_embed self.old.ledger.history (Start tag)) }
@@ -211,7 +210,7 @@ impl Construction {
     }
 
     /// Adds U+FFFD to the text at the place for the current node, which is the fate of the token U+0000.
-    pub fn insert_null(&mut self, token: &TokenKind) -> Result<(), Refusal>
+    pub fn insert_null(&mut self, token: &TokenKind) -> Result<(), ArenaError>
         requires symbol { symbol_of token.now ≡ Char 0 }
         requires may { self.old.ledger.history.foreign ≡ true }
         requires opened { 0 < length self.old.stack }
@@ -287,7 +286,7 @@ impl Construction {
     }
 
     /// Gives the token in hand the fate Foreign, of which the next node is made, and answers its number.
-    fn give_foreign(&mut self, symbol: Symbol) -> Result<u64, Refusal>
+    fn give_foreign(&mut self, symbol: Symbol) -> Result<u64, ArenaError>
         requires may { IsTrue (may_embed self.old.ledger.history symbol) }
         requires quiet { self.old.ledger.kept ≡ [] }
         ensures takes { OnOk result (LedgerTakes symbol self.old.ledger self.new.ledger) }
@@ -297,7 +296,7 @@ impl Construction {
         ensures counted { OnOk result (number_of self.new.ledger ≡ number_of self.old.ledger + 1) }
         ensures behind { self.new.tree.tokens ≤ number_of self.old.ledger }
         ensures fate { OnOk result (HasFate symbol (Foreign (length self.old.tree.tree.labels)) self.old self.new) }
-        ensures memory { IfErr result (λ e. e ≡ Refusal.OutOfMemory) }
+        ensures memory { IfErr result (λ e. e ≡ ArenaError.OutOfMemory) }
     {
         let token = self.ledger.number();
         let node = NodeId::at(self.tree.node_count() as usize);

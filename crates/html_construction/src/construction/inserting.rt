@@ -29,9 +29,8 @@ ghost use Rattle.html_construction.specs.Plans.{Does, DoesAny, Passes, PassesFor
 ghost use Rattle.html_construction.specs.Words.{Imply, ImplyRoot, ImplyVoid, Insert, InsertAt, InsertComment, InsertCommentAt, InsertDoctype, InsertListed, InsertRoot, InsertVoid, InsertVoidAt, MergeIntoBody, MergeIntoRoot};
 
 use super::Construction;
-use crate::refusal::Refusal;
 use crate::token::{copy_attrs, copy_data, copy_doctype, copy_element_name, copy_name};
-use html_arena::NodeId;
+use html_arena::{ArenaError, NodeId};
 use html_ledger::{Cause, Fate, Symbol};
 use html_names::Tag;
 use html_tokens::TokenKind;
@@ -40,7 +39,7 @@ use html_tree::Target;
 impl Construction {
     /// Makes the element of a start tag, puts it at the place for the current node and opens it. Its fate is Made, of that node.
     #[tactic(auto, using(crate::proofs::Doing::doing_rules))]
-    pub fn insert(&mut self, token: &TokenKind, tag: Tag) -> Result<(), Refusal>
+    pub fn insert(&mut self, token: &TokenKind, tag: Tag) -> Result<(), ArenaError>
         requires symbol { symbol_of token.now ≡ Start tag }
         requires named { opens_own tag ≡ true }
         requires part { is_part tag ≡ false }
@@ -62,7 +61,12 @@ impl Construction {
 
     /// Makes the element of a start tag, puts it at a target and opens it.
     #[tactic(auto, using(crate::proofs::Doing::doing_rules))]
-    pub fn insert_at(&mut self, token: &TokenKind, tag: Tag, target: Target) -> Result<(), Refusal>
+    pub fn insert_at(
+        &mut self,
+        token: &TokenKind,
+        tag: Tag,
+        target: Target,
+    ) -> Result<(), ArenaError>
         requires symbol { symbol_of token.now ≡ Start tag }
         requires named { opens_own tag ≡ true }
         requires part { is_part tag ≡ false }
@@ -90,7 +94,7 @@ impl Construction {
         token: &TokenKind,
         tag: Tag,
         target: Target,
-    ) -> Result<NodeId, Refusal>
+    ) -> Result<NodeId, ArenaError>
         requires symbol { symbol_of token.now ≡ Start tag }
         requires named { opens_own tag ≡ true }
         requires seat { CanSeat self.old.tree tag target }
@@ -119,7 +123,7 @@ impl Construction {
     /// Makes the element of a start tag that is a part of a table, puts it in the current node and opens it, where that may hold it. Where it
     /// may not, as it always may in a real run, the token is dropped as misplaced.
     #[tactic(auto, using(crate::proofs::Doing::doing_rules))]
-    pub fn insert_part(&mut self, token: &TokenKind, tag: Tag) -> Result<(), Refusal>
+    pub fn insert_part(&mut self, token: &TokenKind, tag: Tag) -> Result<(), ArenaError>
         requires symbol { symbol_of token.now ≡ Start tag }
         requires part { is_part tag ≡ true }
         requires opened { 0 < length self.old.stack }
@@ -148,7 +152,7 @@ impl Construction {
 
     /// Makes the element of a start tag and puts it at the place for the current node; it is not opened.
     #[tactic(auto, using(crate::proofs::Doing::doing_rules))]
-    pub fn insert_void(&mut self, token: &TokenKind, tag: Tag) -> Result<(), Refusal>
+    pub fn insert_void(&mut self, token: &TokenKind, tag: Tag) -> Result<(), ArenaError>
         requires symbol { symbol_of token.now ≡ Start tag }
         requires part { is_part tag ≡ false }
         requires named { is_foreign_root tag ≡ false }
@@ -175,7 +179,7 @@ impl Construction {
         token: &TokenKind,
         tag: Tag,
         target: Target,
-    ) -> Result<(), Refusal>
+    ) -> Result<(), ArenaError>
         requires symbol { symbol_of token.now ≡ Start tag }
         requires part { is_part tag ≡ false }
         requires named { is_foreign_root tag ≡ false }
@@ -202,7 +206,7 @@ impl Construction {
         token: &TokenKind,
         tag: Tag,
         target: Target,
-    ) -> Result<NodeId, Refusal>
+    ) -> Result<NodeId, ArenaError>
         requires symbol { symbol_of token.now ≡ Start tag }
         requires part { is_part tag ≡ false }
         requires named { is_foreign_root tag ≡ false }
@@ -229,7 +233,7 @@ impl Construction {
 
     /// Makes the element of a start tag of a formatting name, puts it at the place for the current node, opens it, and adds it to the list.
     #[tactic(auto, using(crate::proofs::Doing::doing_rules))]
-    pub fn insert_listed(&mut self, token: &TokenKind, tag: Tag) -> Result<(), Refusal>
+    pub fn insert_listed(&mut self, token: &TokenKind, tag: Tag) -> Result<(), ArenaError>
         requires symbol { symbol_of token.now ≡ Start tag }
         requires opened { 0 < length self.old.stack }
         requires formatting { is_formatting tag ≡ true }
@@ -256,7 +260,7 @@ impl Construction {
 
     /// Makes the html element of a start tag, puts it last in the document and opens it.
     #[tactic(auto, using(crate::proofs::Doing::doing_rules))]
-    pub fn insert_root(&mut self, token: &TokenKind) -> Result<(), Refusal>
+    pub fn insert_root(&mut self, token: &TokenKind) -> Result<(), ArenaError>
         requires symbol { symbol_of token.now ≡ Start tag.Html }
         requires quiet { self.old.ledger.kept ≡ [] }
         ensures rest { OnOk result (self.new ≡ record self.old { tree = self.new.tree; ledger = self.new.ledger; stack = tag.Html ∷ self.old.stack }) }
@@ -278,7 +282,7 @@ impl Construction {
 
     /// Makes a comment at the place for the current node.
     #[tactic(auto, using(crate::proofs::Doing::doing_rules))]
-    pub fn insert_comment(&mut self, token: &TokenKind) -> Result<(), Refusal>
+    pub fn insert_comment(&mut self, token: &TokenKind) -> Result<(), ArenaError>
         requires symbol { symbol_of token.now ≡ Comment }
         requires opened { 0 < length self.old.stack }
         requires quiet { self.old.ledger.kept ≡ [] }
@@ -298,7 +302,7 @@ impl Construction {
 
     /// Makes a comment at a target.
     #[tactic(auto, using(crate::proofs::Doing::doing_rules))]
-    pub fn insert_comment_at(&mut self, token: &TokenKind, target: Target) -> Result<(), Refusal>
+    pub fn insert_comment_at(&mut self, token: &TokenKind, target: Target) -> Result<(), ArenaError>
         requires symbol { symbol_of token.now ≡ Comment }
         requires target { CanTarget self.old.stack target }
         requires quiet { self.old.ledger.kept ≡ [] }
@@ -321,7 +325,7 @@ impl Construction {
 
     /// Makes a doctype last in the document. The history awaits one.
     #[tactic(auto, using(crate::proofs::Doing::doing_rules))]
-    pub fn insert_doctype(&mut self, token: &TokenKind) -> Result<(), Refusal>
+    pub fn insert_doctype(&mut self, token: &TokenKind) -> Result<(), ArenaError>
         requires symbol { symbol_of token.now ≡ Doctype }
         requires awaited { self.old.ledger.history.awaits_doctype ≡ true }
         requires quiet { self.old.ledger.kept ≡ [] }
@@ -345,7 +349,7 @@ impl Construction {
 
     /// Adds the attributes of a start tag html, whose names it lacks, to the first open element, which is an html. Its fate is Merged.
     #[tactic(auto, using(crate::proofs::Doing::doing_rules))]
-    pub fn merge_into_root(&mut self, token: &TokenKind) -> Result<(), Refusal>
+    pub fn merge_into_root(&mut self, token: &TokenKind) -> Result<(), ArenaError>
         requires symbol { symbol_of token.now ≡ Start tag.Html }
         requires opened { 0 < length self.old.stack }
         requires quiet { self.old.ledger.kept ≡ [] }
@@ -365,7 +369,7 @@ impl Construction {
 
     /// Adds the attributes of a start tag body, whose names it lacks, to the second open element, a body. Its fate is Merged.
     #[tactic(auto, using(crate::proofs::Doing::doing_rules))]
-    pub fn merge_into_body(&mut self, token: &TokenKind) -> Result<(), Refusal>
+    pub fn merge_into_body(&mut self, token: &TokenKind) -> Result<(), ArenaError>
         requires symbol { symbol_of token.now ≡ Start tag.Body }
         requires second { 1 < length self.old.stack }
         requires body { named self.old.tree.tree tag.Body (slice_index self.old.tree.stack 1) ≡ true }
@@ -385,7 +389,7 @@ impl Construction {
 
     /// Adds the attributes of a start tag html or body, whose names it lacks, to the open element of its name at an index. Its
     /// fate is Merged.
-    fn merge_into(&mut self, token: &TokenKind, tag: Tag, index: usize) -> Result<(), Refusal>
+    fn merge_into(&mut self, token: &TokenKind, tag: Tag, index: usize) -> Result<(), ArenaError>
         requires symbol { symbol_of token.now ≡ Start tag }
         requires outermost { is_outermost tag ≡ true }
         requires index { index < length self.old.stack }
@@ -411,7 +415,7 @@ impl Construction {
 impl Construction {
     /// Makes an element that no token asked for, puts it at the place for the current node and opens it. No token gets a fate.
     #[tactic(auto, using(crate::proofs::Doing::doing_rules))]
-    pub fn insert_implied(&mut self, tag: Tag) -> Result<(), Refusal>
+    pub fn insert_implied(&mut self, tag: Tag) -> Result<(), ArenaError>
         requires alone { is_made_alone tag ≡ true }
         requires part { is_part tag ≡ false }
         requires named { opens tag ≡ true }
@@ -429,7 +433,7 @@ impl Construction {
     }
 
     /// Makes an element that no token asked for, puts it at the place for the current node and opens it, and answers it.
-    pub(super) fn open_implied(&mut self, tag: Tag) -> Result<NodeId, Refusal>
+    pub(super) fn open_implied(&mut self, tag: Tag) -> Result<NodeId, ArenaError>
         requires alone { is_made_alone tag ≡ true }
         requires part { is_part tag ≡ false }
         requires named { opens tag ≡ true }
@@ -451,7 +455,7 @@ impl Construction {
     /// Makes a part of a table that no token asked for, puts it in the current node and opens it, where that may hold it, as it always may
     /// in a real run. No token gets a fate.
     #[tactic(auto, using(crate::proofs::Doing::doing_rules))]
-    pub fn insert_implied_part(&mut self, tag: Tag) -> Result<(), Refusal>
+    pub fn insert_implied_part(&mut self, tag: Tag) -> Result<(), ArenaError>
         requires alone { is_made_alone tag ≡ true }
         requires part { is_part tag ≡ true }
         requires opened { 0 < length self.old.stack }
@@ -474,7 +478,7 @@ impl Construction {
     }
 
     /// Makes a part of a table that no token asked for, puts it in the current node, which may hold it, and opens it.
-    fn open_implied_part(&mut self, tag: Tag) -> Result<(), Refusal>
+    fn open_implied_part(&mut self, tag: Tag) -> Result<(), ArenaError>
         requires alone { is_made_alone tag ≡ true }
         requires seat { has_seat self.old.tree tag ≡ true }
         requires named { opens tag ≡ true }
@@ -493,7 +497,7 @@ impl Construction {
 
     /// Makes an element that no token asked for and puts it at the place for the current node; it is not opened. No token gets a fate.
     #[tactic(auto, using(crate::proofs::Doing::doing_rules))]
-    pub fn insert_implied_void(&mut self, tag: Tag) -> Result<(), Refusal>
+    pub fn insert_implied_void(&mut self, tag: Tag) -> Result<(), ArenaError>
         requires alone { is_made_alone tag ≡ true }
         requires part { is_part tag ≡ false }
         requires named { is_foreign_root tag ≡ false }
@@ -514,7 +518,7 @@ impl Construction {
 
     /// Makes an html element that no token asked for, puts it last in the document and opens it. No token gets a fate.
     #[tactic(auto, using(crate::proofs::Doing::doing_rules))]
-    pub fn insert_implied_root(&mut self) -> Result<(), Refusal>
+    pub fn insert_implied_root(&mut self) -> Result<(), ArenaError>
         ensures rest { OnOk result (self.new ≡ record self.old { tree = self.new.tree; stack = tag.Html ∷ self.old.stack }) }
         ensures keeps { OnOk result (Keeps self.old self.new) }
         ensures grown { OnOk result (Grown 0 2 0 0 1 self.old self.new) }

@@ -20,21 +20,20 @@ ghost use Rattle.html_construction.specs.Plans.{Adopt, CloseLink, DoesAny, Passe
 ghost use Rattle.html_construction.specs.Words.{AddMarker, ClearToMarker};
 
 use super::Construction;
-use crate::refusal::Refusal;
-use html_arena::NodeId;
+use html_arena::{ArenaError, NodeId};
 use html_names::Tag;
 use html_tree::AdoptEnd;
 
 impl Construction {
     /// Adds a marker to the list.
     #[tactic(auto, using(crate::proofs::Doing::doing_rules))]
-    pub fn add_marker(&mut self) -> Result<(), Refusal>
+    pub fn add_marker(&mut self) -> Result<(), ArenaError>
         ensures rest { OnOk result (self.new ≡ record self.old { tree = self.new.tree }) }
         ensures keeps { OnOk result (Keeps self.old self.new) }
         ensures grown { OnOk result (Grown 0 0 1 0 0 self.old self.new) }
         ensures works { OnOk result (Works 0 0 1 self.old self.new) }
         ensures exact { OnOk result (IsTree (record self.old.tree { list = self.old.tree.list ++ Marker ∷ [] }) self.new) }
-        ensures memory { IfErr result (λ e. e ≡ Refusal.OutOfMemory) }
+        ensures memory { IfErr result (λ e. e ≡ ArenaError.OutOfMemory) }
         ensures refuses { IfErr result (λ e. RefusesAny e self.old self.new) }
         ensures follows { OnOk result (DoesAny AddMarker self.old self.new) }
     {
@@ -58,7 +57,7 @@ impl Construction {
 
     /// Reconstructs the active formatting elements: opens anew the listed elements that are not open.
     #[tactic(auto, using(crate::proofs::Doing::doing_rules))]
-    pub fn reconstruct(&mut self) -> Result<(), Refusal>
+    pub fn reconstruct(&mut self) -> Result<(), ArenaError>
         requires opened { 0 < length self.old.stack }
         requires listed { length self.old.tree.list ≤ length self.old.ledger.fates }
         ensures rest { OnOk result (self.new ≡ record self.old { tree = self.new.tree; stack = self.new.stack }) }
@@ -94,7 +93,7 @@ impl Construction {
 
     /// The end tag of a formatting element: the adoption agency, and where it says so the rules for any other end tag.
     #[tactic(auto, using(crate::proofs::Doing::doing_rules))]
-    pub fn end_formatting(&mut self, tag: Tag) -> Result<(), Refusal>
+    pub fn end_formatting(&mut self, tag: Tag) -> Result<(), ArenaError>
         requires opened { 0 < length self.old.stack }
         requires formatting { is_formatting tag ≡ true }
         requires listed { length self.old.tree.list ≤ length self.old.ledger.fates }
@@ -119,7 +118,7 @@ impl Construction {
     }
 
     /// Runs the adoption agency algorithm for a formatting name.
-    fn adopt(&mut self, tag: Tag) -> Result<AdoptEnd, Refusal>
+    fn adopt(&mut self, tag: Tag) -> Result<AdoptEnd, ArenaError>
         requires opened { 0 < length self.old.stack }
         requires formatting { is_formatting tag ≡ true }
         requires listed { length self.old.tree.list ≤ length self.old.ledger.fates }
@@ -142,7 +141,7 @@ impl Construction {
 
     /// Closes a link that is listed after the last marker, and takes it out of the list and off the stack where it is still there.
     #[tactic(auto, using(crate::proofs::Doing::doing_rules, crate::proofs::Doing::link_rules))]
-    pub fn close_link(&mut self) -> Result<(), Refusal>
+    pub fn close_link(&mut self) -> Result<(), ArenaError>
         requires opened { 0 < length self.old.stack }
         requires listed { length self.old.tree.list ≤ length self.old.ledger.fates }
         ensures rest { OnOk result (self.new ≡ record self.old { tree = self.new.tree; stack = self.new.stack }) }

@@ -21,10 +21,9 @@ ghost use Rattle.html_construction.specs.Words.{BeginOwnPart, CanReplaceBody, Cl
 
 use super::Construction;
 use crate::mode::Mode;
-use crate::refusal::Refusal;
 use crate::registers::Call;
 use crate::token::{copy_attrs, copy_name};
-use html_arena::NodeId;
+use html_arena::{ArenaError, NodeId};
 use html_ledger::Symbol;
 use html_names::Tag;
 use html_tokens::TokenKind;
@@ -33,7 +32,7 @@ use html_tree::Target;
 impl Construction {
     /// Makes the head of its start tag, opens it and points to it.
     #[tactic(auto, using(crate::proofs::Doing::doing_rules))]
-    pub fn insert_head(&mut self, token: &TokenKind) -> Result<(), Refusal>
+    pub fn insert_head(&mut self, token: &TokenKind) -> Result<(), ArenaError>
         requires symbol { symbol_of token.now ≡ Start tag.Head }
         requires opened { 0 < length self.old.stack }
         requires quiet { self.old.ledger.kept ≡ [] }
@@ -55,7 +54,7 @@ impl Construction {
 
     /// Makes a head that no token asked for, opens it and points to it. No token gets a fate.
     #[tactic(auto, using(crate::proofs::Doing::doing_rules))]
-    pub fn insert_implied_head(&mut self) -> Result<(), Refusal>
+    pub fn insert_implied_head(&mut self) -> Result<(), ArenaError>
         requires opened { 0 < length self.old.stack }
         ensures rest { OnOk result (self.new ≡ record self.old { tree = self.new.tree; stack = tag.Head ∷ self.old.stack }) }
         ensures keeps { OnOk result (Keeps self.old self.new) }
@@ -98,7 +97,7 @@ impl Construction {
 
     /// Makes the form of its start tag, opens it and points to it.
     #[tactic(auto, using(crate::proofs::Doing::doing_rules))]
-    pub fn insert_form(&mut self, token: &TokenKind) -> Result<(), Refusal>
+    pub fn insert_form(&mut self, token: &TokenKind) -> Result<(), ArenaError>
         requires symbol { symbol_of token.now ≡ Start tag.Form }
         requires opened { 0 < length self.old.stack }
         requires quiet { self.old.ledger.kept ≡ [] }
@@ -120,7 +119,7 @@ impl Construction {
 
     /// Makes the form of its start tag and points to it; it is not opened.
     #[tactic(auto, using(crate::proofs::Doing::doing_rules))]
-    pub fn insert_closed_form(&mut self, token: &TokenKind) -> Result<(), Refusal>
+    pub fn insert_closed_form(&mut self, token: &TokenKind) -> Result<(), ArenaError>
         requires symbol { symbol_of token.now ≡ Start tag.Form }
         requires opened { 0 < length self.old.stack }
         requires quiet { self.old.ledger.kept ≡ [] }
@@ -238,7 +237,7 @@ impl Construction {
     /// Makes the frameset element of a start tag in place of the body, which is the second open element: takes that out of the tree, closes all
     /// elements but the first, puts the frameset into this, and opens it. Its fate is Made, of that node.
     #[tactic(auto, using(crate::proofs::Doing::doing_rules))]
-    pub fn replace_body(&mut self, token: &TokenKind) -> Result<(), Refusal>
+    pub fn replace_body(&mut self, token: &TokenKind) -> Result<(), ArenaError>
         requires symbol { symbol_of token.now ≡ Start tag.Frameset }
         requires second { 1 < length self.old.tree.stack }
         requires body { named self.old.tree.tree tag.Body (slice_index self.old.tree.stack 1) ≡ true }

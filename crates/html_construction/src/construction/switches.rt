@@ -10,7 +10,7 @@ ghost use Rattle.html_construction.specs.Words.{Enter, FramesetOff, HasTemplateM
 
 use super::Construction;
 use crate::mode::Mode;
-use crate::refusal::Refusal;
+use html_arena::ArenaError;
 use html_ledger::History;
 use html_tree::Target;
 use std::alloc::{AllocError, Global};
@@ -130,12 +130,12 @@ impl Construction {
 
     /// Adds to the stack of template insertion modes.
     #[tactic(auto, using(crate::proofs::Doing::doing_rules))]
-    pub fn push_template_mode(&mut self, mode: Mode) -> Result<(), Refusal>
+    pub fn push_template_mode(&mut self, mode: Mode) -> Result<(), ArenaError>
         requires reset { is_reset mode ≡ true }
         ensures rest { OnOk result (self.new ≡ record self.old { templates = self.old.templates ++ mode ∷ [] }) }
         ensures keeps { OnOk result (Keeps self.old self.new) }
         ensures refused { OnErr result (self.new ≡ self.old) }
-        ensures cause { IfErr result (λ e. e ≡ Refusal.OutOfMemory) }
+        ensures cause { IfErr result (λ e. e ≡ ArenaError.OutOfMemory) }
         ensures refuses { IfErr result (λ e. RefusesAny e self.old self.new) }
         ensures follows { OnOk result (DoesAny (PushTemplate mode) self.old self.new) }
     {
@@ -159,12 +159,12 @@ impl Construction {
 
     /// Replaces the current template insertion mode.
     #[tactic(auto, using(crate::proofs::Doing::doing_rules))]
-    pub fn replace_template_mode(&mut self, mode: Mode) -> Result<(), Refusal>
+    pub fn replace_template_mode(&mut self, mode: Mode) -> Result<(), ArenaError>
         requires reset { is_reset mode ≡ true }
         ensures rest { OnOk result (self.new ≡ record self.old { templates = self.new.templates }) }
         ensures replaced { OnOk result (self.new.templates ≡ take (length self.old.templates - 1) self.old.templates ++ mode ∷ []) }
         ensures keeps { OnOk result (Keeps self.old self.new) }
-        ensures memory { IfErr result (λ e. e ≡ Refusal.OutOfMemory) }
+        ensures memory { IfErr result (λ e. e ≡ ArenaError.OutOfMemory) }
         ensures refuses { IfErr result (λ e. RefusesAny e self.old self.new) }
         ensures follows { OnOk result (Passes (λ p. Do PopTemplate (Do (PushTemplate mode) p)) self.old self.new) }
     {

@@ -17,15 +17,15 @@ ghost use Rattle.html_construction.specs.Plans.{Does};
 ghost use Rattle.html_construction.specs.Words.{InsertCharacter};
 
 use super::Construction;
-use crate::refusal::Refusal;
-use html_charref::PlainText;
+use html_arena::ArenaError;
 use html_ledger::{Fate, Symbol};
+use html_text::PlainText;
 use html_tokens::TokenKind;
 
 impl Construction {
     /// Adds a code point to the text at the place for the current node, which is its fate. It is not U+0000.
     #[tactic(auto, using(crate::proofs::Doing::doing_rules))]
-    pub fn insert_char(&mut self, token: &TokenKind, c: char) -> Result<(), Refusal>
+    pub fn insert_char(&mut self, token: &TokenKind, c: char) -> Result<(), ArenaError>
         requires symbol { symbol_of token.now ≡ Char c }
         requires opened { 0 < length self.old.stack }
         requires quiet { self.old.ledger.kept ≡ [] }
@@ -53,7 +53,7 @@ impl Construction {
 
     /// Adds the longest front of a run of code points, that the limit on held code points takes, to the text at the place for the current
     /// node, which is their fate, and answers how many they are: at least one. None of the run is U+0000, and no doctype may come any more.
-    pub fn insert_run(&mut self, run: &[char]) -> Result<usize, Refusal>
+    pub fn insert_run(&mut self, run: &[char]) -> Result<usize, ArenaError>
         requires opened { 0 < length self.old.stack }
         requires quiet { self.old.ledger.kept ≡ [] }
         requires some { 0 < length run.now }
@@ -78,7 +78,7 @@ impl Construction {
 
     /// Adds the longest front of a plain text, that the limit on held code points takes, to the text at the place for the current
     /// node, which is their fate, and answers how many they are: at least one. No doctype may come any more.
-    pub fn insert_plain(&mut self, text: &PlainText<'_>) -> Result<usize, Refusal>
+    pub fn insert_plain(&mut self, text: &PlainText<'_>) -> Result<usize, ArenaError>
         requires opened { 0 < length self.old.stack }
         requires quiet { self.old.ledger.kept ≡ [] }
         requires some { 0 < length text.now }

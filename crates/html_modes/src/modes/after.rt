@@ -6,12 +6,10 @@ ghost use Rattle.html_ledger.specs.Entries.{ended};
 ghost use Rattle.html_construction.specs.Budgets.{Refuses};
 ghost use Rattle.html_construction.specs.Built.{Takes};
 ghost use Rattle.html_construction.specs.Calls.{is_idle};
-ghost use Rattle.html_modes.specs.Begun.{TextStays};
 ghost use Rattle.html_modes.specs.Fitting.{Fits, Calls};
 ghost use Rattle.html_modes.specs.Plain.{Turns};
 ghost use Rattle.html_modes.specs.Steps.{Falls, Grows, Steps, Worked};
 ghost use Rattle.html_modes.specs.declared.outcome.Outcome.TheVariants.{Done};
-ghost use Rattle.html_modes.specs.RawText.{Opens};
 ghost use Rattle.html_construction.specs.Plans.{Ask, Do};
 ghost use Rattle.html_construction.specs.Words.{IsFragment, Switch};
 ghost use Rattle.html_modes.specs.RuleForms.{done_with};
@@ -23,19 +21,19 @@ use crate::modes::body::body_char;
 use crate::modes::body_start::html_start;
 use crate::modes::initial::doctype;
 use crate::outcome::Outcome;
-use html_construction::{Construction, Mode, Refusal};
+use html_construction::{ArenaError, Construction, Mode};
 use html_ledger::{Symbol, is_space};
 use html_names::Tag;
 use html_tokens::TokenKind;
 use html_tree::Target;
 
 /// The rules for the "after body" insertion mode (13.2.6.4.19).
-#[tactic(auto, using(crate::proofs::Settled::mode_rules, crate::proofs::RawText::open_rules, crate::proofs::Begun::text_stays, crate::proofs::RulesAfterBody::arms))]
+#[tactic(auto, using(crate::proofs::Settled::mode_rules, crate::proofs::RulesAfterBody::arms))]
 pub(crate) fn after_body(
     page: &mut Construction,
     token: &TokenKind,
     symbol: Symbol,
-) -> Result<Outcome, Refusal>
+) -> Result<Outcome, ArenaError>
     requires symbol { symbol_of token.now ≡ symbol }
     requires mode { page.old.mode ≡ Mode.AfterBody }
     requires fits { Fits page.old }
@@ -43,13 +41,10 @@ pub(crate) fn after_body(
     requires free { IsTrue (is_free page.old.ledger.history symbol) }
     ensures fits { OnOk result (Fits page.new) }
     ensures takes { IfOk result (λ o. Steps o token.now page.old page.new) }
-    ensures parses { OnOk result (page.new.parses_foreign ≡ page.old.parses_foreign) }
     ensures falls { IfOk result (λ o. Falls o symbol page.old page.new) }
-    ensures out { OnOk result (TextStays symbol page.old.mode page.new.mode) }
     ensures grows { IfOk result (λ o. Grows o page.old page.new) }
     ensures works { IfOk result (λ o. Worked o token.now page.old page.new) }
     ensures plain { IfOk result (λ o. Turns o symbol token.now page.old page.new) }
-    ensures opens { IfOk result (λ o. Opens o symbol page.new) }
     ensures refuses { IfErr result (λ e. Refuses token.now e page.old page.new) }
     ensures follows { IfOk result (λ o. Follows (after_body symbol) token.now o page.old page.new) }
 {
@@ -92,7 +87,7 @@ pub(crate) fn after_body(
 
 /// The end tag of the root, after the body.
 #[tactic(auto, using(crate::proofs::Settled::mode_rules, crate::proofs::RulesAfterBody::arms))]
-fn end_page(page: &mut Construction, token: &TokenKind) -> Result<(), Refusal>
+fn end_page(page: &mut Construction, token: &TokenKind) -> Result<(), ArenaError>
     requires symbol { symbol_of token.now ≡ Symbol.End Tag.Html }
     requires calls { Calls page.old }
     ensures fits { OnOk result (Fits page.new) }
@@ -114,12 +109,12 @@ fn end_page(page: &mut Construction, token: &TokenKind) -> Result<(), Refusal>
 }
 
 /// The rules for the "after after body" insertion mode (13.2.6.4.22).
-#[tactic(auto, using(crate::proofs::Settled::mode_rules, crate::proofs::RawText::open_rules, crate::proofs::Begun::text_stays, crate::proofs::RulesAfterAfterBody::arms))]
+#[tactic(auto, using(crate::proofs::Settled::mode_rules, crate::proofs::RulesAfterAfterBody::arms))]
 pub(crate) fn after_after_body(
     page: &mut Construction,
     token: &TokenKind,
     symbol: Symbol,
-) -> Result<Outcome, Refusal>
+) -> Result<Outcome, ArenaError>
     requires symbol { symbol_of token.now ≡ symbol }
     requires mode { page.old.mode ≡ Mode.AfterAfterBody }
     requires fits { Fits page.old }
@@ -127,13 +122,10 @@ pub(crate) fn after_after_body(
     requires free { IsTrue (is_free page.old.ledger.history symbol) }
     ensures fits { OnOk result (Fits page.new) }
     ensures takes { IfOk result (λ o. Steps o token.now page.old page.new) }
-    ensures parses { OnOk result (page.new.parses_foreign ≡ page.old.parses_foreign) }
     ensures falls { IfOk result (λ o. Falls o symbol page.old page.new) }
-    ensures out { OnOk result (TextStays symbol page.old.mode page.new.mode) }
     ensures grows { IfOk result (λ o. Grows o page.old page.new) }
     ensures works { IfOk result (λ o. Worked o token.now page.old page.new) }
     ensures plain { IfOk result (λ o. Turns o symbol token.now page.old page.new) }
-    ensures opens { IfOk result (λ o. Opens o symbol page.new) }
     ensures refuses { IfErr result (λ e. Refuses token.now e page.old page.new) }
     ensures follows { IfOk result (λ o. Follows (after_after_body symbol) token.now o page.old page.new) }
 {

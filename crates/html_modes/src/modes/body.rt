@@ -35,7 +35,6 @@ ghost use Rattle.html_construction.specs.Built.{Takes, TakesRun};
 ghost use Rattle.html_construction.specs.Grown.{Grown};
 ghost use Rattle.html_construction.specs.Works.{Works};
 ghost use Rattle.html_construction.specs.Weights.{weight};
-ghost use Rattle.html_modes.specs.Begun.{TextStays};
 ghost use Rattle.html_modes.specs.Fitting.{Fits, Calls};
 ghost use Rattle.html_modes.specs.Guards.{is_root_end};
 ghost use Rattle.html_modes.specs.Rules.{Follows};
@@ -48,7 +47,6 @@ ghost use Rattle.html_tree.specs.Proper.{is_foreign_root};
 ghost use Rattle.html_modes.specs.Foreign.{IsRootMade};
 ghost use Rattle.html_modes.specs.declared.outcome.Outcome.TheVariants as outcome;
 ghost use Rattle.html_modes.specs.declared.outcome.Outcome.TheVariants.{Done};
-ghost use Rattle.html_modes.specs.RawText.{Opens};
 
 use crate::modes::body_end::{body_end, html_end};
 use crate::modes::body_start::body_start;
@@ -56,19 +54,19 @@ use crate::modes::foreign::root_start;
 use crate::modes::initial::doctype;
 use crate::modes::template::template_eof;
 use crate::outcome::{Foreign, Outcome};
-use html_charref::PlainText;
-use html_construction::{Construction, Mode, Refusal};
+use html_construction::{ArenaError, Construction, Mode};
 use html_ledger::{Cause, Symbol, is_space};
 use html_names::{Space, Tag};
+use html_text::PlainText;
 use html_tokens::TokenKind;
 
 /// The rules for the "in body" insertion mode (13.2.6.4.7).
-#[tactic(auto, using(crate::proofs::Settled::mode_rules, crate::proofs::RawText::open_rules, crate::proofs::Begun::text_stays, crate::proofs::RulesInBody::arms))]
+#[tactic(auto, using(crate::proofs::Settled::mode_rules, crate::proofs::RulesInBody::arms))]
 pub(crate) fn in_body(
     page: &mut Construction,
     token: &TokenKind,
     symbol: Symbol,
-) -> Result<Outcome, Refusal>
+) -> Result<Outcome, ArenaError>
     requires symbol { symbol_of token.now ≡ symbol }
     requires mode { page.old.mode ≡ Mode.InBody }
     requires fits { Fits page.old }
@@ -76,13 +74,10 @@ pub(crate) fn in_body(
     requires free { IsTrue (is_free page.old.ledger.history symbol) }
     ensures fits { OnOk result (Fits page.new) }
     ensures takes { IfOk result (λ o. Steps o token.now page.old page.new) }
-    ensures parses { OnOk result (page.new.parses_foreign ≡ page.old.parses_foreign) }
     ensures falls { IfOk result (λ o. Falls o symbol page.old page.new) }
-    ensures out { OnOk result (TextStays symbol page.old.mode page.new.mode) }
     ensures grows { IfOk result (λ o. Grows o page.old page.new) }
     ensures works { IfOk result (λ o. Worked o token.now page.old page.new) }
     ensures plain { IfOk result (λ o. Turns o symbol token.now page.old page.new) }
-    ensures opens { IfOk result (λ o. Opens o symbol page.new) }
     ensures refuses { IfErr result (λ e. Refuses token.now e page.old page.new) }
     ensures follows { IfOk result (λ o. Follows (in_body symbol) token.now o page.old page.new) }
 {
@@ -105,24 +100,21 @@ pub(crate) fn in_body(
 }
 
 /// The rules of the mode in body that other modes share: all but those for the end tag of the root, which no other mode takes from it.
-#[tactic(auto, using(crate::proofs::Settled::body_rules, crate::proofs::RawText::open_rules, crate::proofs::Begun::text_stays, crate::proofs::RulesInBody::arms))]
+#[tactic(auto, using(crate::proofs::Settled::body_rules, crate::proofs::RulesInBody::arms))]
 pub(crate) fn body_rules(
     page: &mut Construction,
     token: &TokenKind,
     symbol: Symbol,
-) -> Result<Outcome, Refusal>
+) -> Result<Outcome, ArenaError>
     requires symbol { symbol_of token.now ≡ symbol }
     requires calls { Calls page.old }
     requires free { IsTrue (is_free page.old.ledger.history symbol) }
     ensures fits { OnOk result (Fits page.new) }
     ensures takes { IfOk result (λ o. Steps o token.now page.old page.new) }
-    ensures parses { OnOk result (page.new.parses_foreign ≡ page.old.parses_foreign) }
     ensures falls { IfOk result (λ o. Falls o symbol page.old page.new) }
-    ensures out { OnOk result (TextStays symbol page.old.mode page.new.mode) }
     ensures grows { IfOk result (λ o. Grows o page.old page.new) }
     ensures works { IfOk result (λ o. Worked o token.now page.old page.new) }
     ensures plain { IfOk result (λ o. TurnsInBody o symbol token.now page.old page.new) }
-    ensures opens { IfOk result (λ o. Opens o symbol page.new) }
     ensures refuses { IfErr result (λ e. Refuses token.now e page.old page.new) }
     ensures follows { IfOk result (λ o. is_root_end symbol ≡ false → Follows (in_body symbol) token.now o page.old page.new) }
 {
@@ -150,18 +142,16 @@ pub(crate) fn body_rules(
 }
 
 /// A start tag.
-#[tactic(auto, using(crate::proofs::Settled::body_rules, crate::proofs::RawText::open_rules, crate::proofs::RulesInBodyStart::arms))]
-fn any_start(page: &mut Construction, token: &TokenKind, tag: Tag) -> Result<Outcome, Refusal>
+#[tactic(auto, using(crate::proofs::Settled::body_rules, crate::proofs::RulesInBodyStart::arms))]
+fn any_start(page: &mut Construction, token: &TokenKind, tag: Tag) -> Result<Outcome, ArenaError>
     requires symbol { symbol_of token.now ≡ Symbol.Start tag }
     requires calls { Calls page.old }
     ensures fits { OnOk result (Fits page.new) }
     ensures takes { IfOk result (λ o. Steps o token.now page.old page.new) }
-    ensures parses { OnOk result (page.new.parses_foreign ≡ page.old.parses_foreign) }
     ensures falls { IfOk result (λ o. Falls o (Symbol.Start tag) page.old page.new) }
     ensures grows { IfOk result (λ o. Grows o page.old page.new) }
     ensures works { IfOk result (λ o. Worked o token.now page.old page.new) }
     ensures plain { IfOk result (λ o. TurnsInBody o (Symbol.Start tag) token.now page.old page.new) }
-    ensures opens { IfOk result (λ o. Opens o (Symbol.Start tag) page.new) }
     ensures refuses { IfErr result (λ e. Refuses token.now e page.old page.new) }
     ensures follows { IfOk result (λ o. Follows (in_body_start tag) token.now o page.old page.new) }
 {
@@ -176,24 +166,22 @@ fn any_start(page: &mut Construction, token: &TokenKind, tag: Tag) -> Result<Out
 }
 
 /// The start tag of a root of foreign content, which is refused or parsed.
-#[tactic(auto, using(crate::proofs::Settled::body_rules, crate::proofs::RawText::open_rules, crate::proofs::Embedding::body_roots, crate::proofs::RulesInBodyStart::root_arms))]
+#[tactic(auto, using(crate::proofs::Settled::body_rules, crate::proofs::Embedding::body_roots, crate::proofs::RulesInBodyStart::root_arms))]
 fn any_root_start(
     page: &mut Construction,
     token: &TokenKind,
     tag: Tag,
     name: Foreign,
-) -> Result<Outcome, Refusal>
+) -> Result<Outcome, ArenaError>
     requires symbol { symbol_of token.now ≡ Symbol.Start tag }
     requires root { Symbol.Start tag ≡ root_of name }
     requires calls { Calls page.old }
     ensures fits { OnOk result (Fits page.new) }
     ensures takes { IfOk result (λ o. Steps o token.now page.old page.new) }
-    ensures parses { OnOk result (page.new.parses_foreign ≡ page.old.parses_foreign) }
     ensures falls { IfOk result (λ o. Falls o (Symbol.Start tag) page.old page.new) }
     ensures grows { IfOk result (λ o. Grows o page.old page.new) }
     ensures works { IfOk result (λ o. Worked o token.now page.old page.new) }
     ensures plain { IfOk result (λ o. TurnsInBody o (Symbol.Start tag) token.now page.old page.new) }
-    ensures opens { IfOk result (λ o. Opens o (Symbol.Start tag) page.new) }
     ensures refused { IfOk result (λ o. page.old.parses_foreign ≡ false → o ≡ outcome.Foreign name) }
     ensures parsed { IfOk result (λ o. page.old.parses_foreign ≡ true → IsRootMade (root_space name) (Symbol.Start tag) token.now page.old page.new) }
     ensures refuses { IfErr result (λ e. Refuses token.now e page.old page.new) }
@@ -232,12 +220,11 @@ fn foreign_root(tag: Tag) -> Option<Foreign>
 
 /// The end of the page.
 #[tactic(auto, using(crate::proofs::Settled::body_rules, crate::proofs::RulesInBody::arms))]
-fn body_eof(page: &mut Construction, token: &TokenKind) -> Result<Outcome, Refusal>
+fn body_eof(page: &mut Construction, token: &TokenKind) -> Result<Outcome, ArenaError>
     requires symbol { symbol_of token.now ≡ Symbol.Eof }
     requires calls { Calls page.old }
     ensures fits { OnOk result (Fits page.new) }
     ensures takes { IfOk result (λ o. Steps o token.now page.old page.new) }
-    ensures parses { OnOk result (page.new.parses_foreign ≡ page.old.parses_foreign) }
     ensures falls { IfOk result (λ o. Falls o (Symbol.Eof) page.old page.new) }
     ensures grows { IfOk result (λ o. Grows o page.old page.new) }
     ensures works { IfOk result (λ o. Worked o token.now page.old page.new) }
@@ -255,7 +242,11 @@ fn body_eof(page: &mut Construction, token: &TokenKind) -> Result<Outcome, Refus
 
 /// A code point.
 #[tactic(auto, using(crate::proofs::RulesInBody::arms))]
-pub(crate) fn body_char(page: &mut Construction, token: &TokenKind, c: char) -> Result<(), Refusal>
+pub(crate) fn body_char(
+    page: &mut Construction,
+    token: &TokenKind,
+    c: char,
+) -> Result<(), ArenaError>
     requires symbol { symbol_of token.now ≡ Symbol.Char c }
     requires opened { 0 < length page.old.stack }
     requires quiet { page.old.ledger.kept ≡ [] }
@@ -284,7 +275,7 @@ pub(crate) fn body_char(page: &mut Construction, token: &TokenKind, c: char) -> 
 }
 
 /// A run of code points without U+0000: the front of it that the limit on held code points takes.
-pub(crate) fn body_run(page: &mut Construction, run: &[char]) -> Result<usize, Refusal>
+pub(crate) fn body_run(page: &mut Construction, run: &[char]) -> Result<usize, ArenaError>
     requires opened { 0 < length page.old.stack }
     requires quiet { page.old.ledger.kept ≡ [] }
     requires listed { length page.old.tree.list ≤ length page.old.ledger.fates }
@@ -313,7 +304,7 @@ pub(crate) fn body_run(page: &mut Construction, run: &[char]) -> Result<usize, R
 }
 
 /// A plain text: the front of it that the limit on held code points takes.
-pub(crate) fn body_plain(page: &mut Construction, text: &PlainText<'_>) -> Result<usize, Refusal>
+pub(crate) fn body_plain(page: &mut Construction, text: &PlainText<'_>) -> Result<usize, ArenaError>
     requires opened { 0 < length page.old.stack }
     requires quiet { page.old.ledger.kept ≡ [] }
     requires listed { length page.old.tree.list ≤ length page.old.ledger.fates }

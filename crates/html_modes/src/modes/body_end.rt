@@ -28,7 +28,7 @@ ghost use Rattle.html_modes.specs.declared.outcome.Outcome.TheVariants.{Done};
 
 use crate::modes::template::template_end;
 use crate::outcome::Outcome;
-use html_construction::{Construction, Mode, Refusal};
+use html_construction::{ArenaError, Construction, Mode};
 use html_ledger::Symbol;
 use html_names::{Scope, Tag};
 use html_tokens::TokenKind;
@@ -36,12 +36,15 @@ use html_tree::Group;
 
 /// An end tag, but that of the root.
 #[tactic(auto, using(crate::proofs::Settled::body_rules, crate::proofs::RulesInBodyEnd::arms))]
-pub(crate) fn body_end(page: &mut Construction, token: &TokenKind, tag: Tag) -> Result<(), Refusal>
+pub(crate) fn body_end(
+    page: &mut Construction,
+    token: &TokenKind,
+    tag: Tag,
+) -> Result<(), ArenaError>
     requires symbol { symbol_of token.now ≡ Symbol.End tag }
     requires calls { Calls page.old }
     ensures fits { OnOk result (Fits page.new) }
     ensures takes { OnOk result (Takes token.now page.old page.new) }
-    ensures parses { OnOk result (page.new.parses_foreign ≡ page.old.parses_foreign) }
     ensures falls { OnOk result (Falls Done (Symbol.End tag) page.old page.new) }
     ensures grows { OnOk result (Grows Done page.old page.new) }
     ensures works { OnOk result (Worked Done token.now page.old page.new) }
@@ -63,12 +66,11 @@ pub(crate) fn body_end(page: &mut Construction, token: &TokenKind, tag: Tag) -> 
 
 /// The end tag of an element in the body.
 #[tactic(auto, using(crate::proofs::Settled::body_rules, crate::proofs::Ruled::rule_words))]
-fn current_end(page: &mut Construction, token: &TokenKind, tag: Tag) -> Result<(), Refusal>
+fn current_end(page: &mut Construction, token: &TokenKind, tag: Tag) -> Result<(), ArenaError>
     requires symbol { symbol_of token.now ≡ Symbol.End tag }
     requires calls { Calls page.old }
     ensures fits { OnOk result (Fits page.new) }
     ensures takes { OnOk result (Takes token.now page.old page.new) }
-    ensures parses { OnOk result (page.new.parses_foreign ≡ page.old.parses_foreign) }
     ensures falls { OnOk result (Falls Done (Symbol.End tag) page.old page.new) }
     ensures grows { OnOk result (Grows Done page.old page.new) }
     ensures works { OnOk result (Worked Done token.now page.old page.new) }
@@ -82,13 +84,12 @@ fn current_end(page: &mut Construction, token: &TokenKind, tag: Tag) -> Result<(
 
 /// The end tag of the root.
 #[tactic(auto, using(crate::proofs::Settled::body_rules, crate::proofs::RulesInBodyEnd::arms))]
-pub(crate) fn html_end(page: &mut Construction, token: &TokenKind) -> Result<Outcome, Refusal>
+pub(crate) fn html_end(page: &mut Construction, token: &TokenKind) -> Result<Outcome, ArenaError>
     requires mode { page.old.mode ≡ Mode.InBody }
     requires symbol { symbol_of token.now ≡ Symbol.End Tag.Html }
     requires calls { Calls page.old }
     ensures fits { OnOk result (Fits page.new) }
     ensures takes { IfOk result (λ o. Steps o token.now page.old page.new) }
-    ensures parses { OnOk result (page.new.parses_foreign ≡ page.old.parses_foreign) }
     ensures falls { IfOk result (λ o. Falls o (Symbol.End Tag.Html) page.old page.new) }
     ensures grows { IfOk result (λ o. Grows o page.old page.new) }
     ensures works { IfOk result (λ o. Worked o token.now page.old page.new) }
@@ -127,7 +128,7 @@ fn close_body(page: &mut Construction) -> bool
 
 /// What the end tag of an element in the body closes or makes.
 #[tactic(auto, using(crate::proofs::Settled::told_rules, crate::proofs::RulesInBodyEnd::arms))]
-fn element_end(page: &mut Construction, token: &TokenKind, tag: Tag) -> Result<(), Refusal>
+fn element_end(page: &mut Construction, token: &TokenKind, tag: Tag) -> Result<(), ArenaError>
     requires opened { 0 < length page.old.stack }
     requires listed { length page.old.tree.list ≤ length page.old.ledger.fates }
     ensures rest { OnOk result (page.new ≡ record page.old { tree = page.new.tree; stack = page.new.stack; outer_form = page.new.outer_form; frameset_ok = page.new.frameset_ok }) }
@@ -155,7 +156,7 @@ fn element_end(page: &mut Construction, token: &TokenKind, tag: Tag) -> Result<(
 }
 
 /// The end tag of a formatting element.
-fn formatting_end(page: &mut Construction, tag: Tag) -> Result<(), Refusal>
+fn formatting_end(page: &mut Construction, tag: Tag) -> Result<(), ArenaError>
     requires opened { 0 < length page.old.stack }
     requires formatting { is_formatting tag ≡ true }
     requires listed { length page.old.tree.list ≤ length page.old.ledger.fates }
@@ -244,7 +245,7 @@ fn form_end(page: &mut Construction)
 
 /// The end tag of a paragraph, which is made where none is open.
 #[tactic(auto, using(crate::proofs::RulesInBodyEnd::arms))]
-fn paragraph_end(page: &mut Construction) -> Result<(), Refusal>
+fn paragraph_end(page: &mut Construction) -> Result<(), ArenaError>
     requires opened { 0 < length page.old.stack }
     requires listed { length page.old.tree.list ≤ length page.old.ledger.fates }
     ensures rest { OnOk result (page.new ≡ record page.old { tree = page.new.tree; stack = page.new.stack }) }
@@ -265,7 +266,7 @@ fn paragraph_end(page: &mut Construction) -> Result<(), Refusal>
 
 /// The end tag of a br, which makes one.
 #[tactic(auto, using(crate::proofs::RulesInBodyEnd::arms))]
-fn break_end(page: &mut Construction) -> Result<(), Refusal>
+fn break_end(page: &mut Construction) -> Result<(), ArenaError>
     requires opened { 0 < length page.old.stack }
     requires listed { length page.old.tree.list ≤ length page.old.ledger.fates }
     ensures rest { OnOk result (page.new ≡ record page.old { tree = page.new.tree; stack = page.new.stack; frameset_ok = page.new.frameset_ok }) }

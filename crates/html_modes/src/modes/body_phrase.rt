@@ -10,7 +10,7 @@ ghost use Rattle.html_modes.specs.Fitting.{Fits, Calls};
 ghost use Rattle.html_modes.specs.Plain.{TurnsInBody};
 ghost use Rattle.html_modes.specs.Steps.{Falls, Grows, Worked};
 ghost use Rattle.html_modes.specs.declared.outcome.Outcome.TheVariants.{Done};
-ghost use Rattle.html_modes.specs.RawText.{HasOpened, holds_text_alone, is_body_text};
+ghost use Rattle.html_modes.specs.RawText.{holds_text_alone, is_body_text};
 ghost use Rattle.html_names.specs.Sets.{is_formatting, is_headish};
 ghost use Rattle.html_names.specs.Tags.{is_same as same_tag};
 ghost use Rattle.html_construction.specs.Tokens.{opens_own};
@@ -29,19 +29,19 @@ use crate::hidden::is_hidden;
 use crate::modes::body_start::{rule_start, table_start};
 use crate::modes::body_text::{body_text_start, is_body_text};
 use crate::modes::formatting::{formatting_start, link_start, nobr_start};
-use html_construction::{Construction, Mode, Refusal};
+use html_construction::{ArenaError, Construction, Mode};
 use html_ledger::{Cause, Symbol};
 use html_names::{Scope, Tag};
 use html_tokens::TokenKind;
 use html_tree::Group;
 
 /// A start tag: what stands among text.
-#[tactic(auto, using(crate::proofs::Settled::body_rules, crate::proofs::RawText::body_names, crate::proofs::RulesInBodyStart::phrase_arms))]
+#[tactic(auto, using(crate::proofs::Settled::body_rules, crate::proofs::RulesInBodyStart::phrase_arms))]
 pub(crate) fn phrase_start(
     page: &mut Construction,
     token: &TokenKind,
     tag: Tag,
-) -> Result<(), Refusal>
+) -> Result<(), ArenaError>
     requires small { weight_of tag ≤ 4 }
     requires other { is_headish tag ≡ false }
     requires root { is_foreign_root tag ≡ false }
@@ -49,12 +49,10 @@ pub(crate) fn phrase_start(
     requires calls { Calls page.old }
     ensures fits { OnOk result (Fits page.new) }
     ensures takes { OnOk result (Takes token.now page.old page.new) }
-    ensures parses { OnOk result (page.new.parses_foreign ≡ page.old.parses_foreign) }
     ensures falls { OnOk result (Falls Done (Symbol.Start tag) page.old page.new) }
     ensures grows { OnOk result (Grows Done page.old page.new) }
     ensures works { OnOk result (Worked Done token.now page.old page.new) }
     ensures plain { OnOk result (TurnsInBody Done (Symbol.Start tag) token.now page.old page.new) }
-    ensures opens { OnOk result (HasOpened tag page.new) }
     ensures refuses { IfErr result (λ e. Refuses token.now e page.old page.new) }
     ensures follows { OnOk result (Follows (in_body_start_phrase tag) token.now Done page.old page.new) }
 {
@@ -89,8 +87,8 @@ pub(crate) fn phrase_start(
 }
 
 /// A start tag: selects, what is ignored, and all others.
-#[tactic(auto, using(crate::proofs::Settled::body_rules, crate::proofs::RawText::body_names, crate::proofs::RulesInBodyStart::rest_arms))]
-fn other_start(page: &mut Construction, token: &TokenKind, tag: Tag) -> Result<(), Refusal>
+#[tactic(auto, using(crate::proofs::Settled::body_rules, crate::proofs::RulesInBodyStart::rest_arms))]
+fn other_start(page: &mut Construction, token: &TokenKind, tag: Tag) -> Result<(), ArenaError>
     requires small { weight_of tag ≤ 4 }
     requires named { same_tag tag Tag.Image ≡ false }
     requires root { is_foreign_root tag ≡ false }
@@ -99,7 +97,6 @@ fn other_start(page: &mut Construction, token: &TokenKind, tag: Tag) -> Result<(
     requires calls { Calls page.old }
     ensures fits { OnOk result (Fits page.new) }
     ensures takes { OnOk result (Takes token.now page.old page.new) }
-    ensures parses { OnOk result (page.new.parses_foreign ≡ page.old.parses_foreign) }
     ensures falls { OnOk result (Falls Done (Symbol.Start tag) page.old page.new) }
     ensures grows { OnOk result (Grows Done page.old page.new) }
     ensures works { OnOk result (Worked Done token.now page.old page.new) }
@@ -135,7 +132,7 @@ pub(crate) fn plain_start(
     page: &mut Construction,
     token: &TokenKind,
     tag: Tag,
-) -> Result<(), Refusal>
+) -> Result<(), ArenaError>
     requires small { weight_of tag ≤ 4 }
     requires named { opens_own tag ≡ true }
     requires part { is_part tag ≡ false }
@@ -143,7 +140,6 @@ pub(crate) fn plain_start(
     requires calls { Calls page.old }
     ensures fits { OnOk result (Fits page.new) }
     ensures takes { OnOk result (Takes token.now page.old page.new) }
-    ensures parses { OnOk result (page.new.parses_foreign ≡ page.old.parses_foreign) }
     ensures falls { OnOk result (Falls Done (Symbol.Start tag) page.old page.new) }
     ensures grows { OnOk result (Grows Done page.old page.new) }
     ensures works { OnOk result (Works 2 1 0 page.old page.new) }
@@ -157,14 +153,13 @@ pub(crate) fn plain_start(
 
 /// A void element among text.
 #[tactic(auto, using(crate::proofs::Settled::body_rules, crate::proofs::Ruled::rule_words))]
-fn void_start(page: &mut Construction, token: &TokenKind, tag: Tag) -> Result<(), Refusal>
+fn void_start(page: &mut Construction, token: &TokenKind, tag: Tag) -> Result<(), ArenaError>
     requires symbol { symbol_of token.now ≡ Symbol.Start tag }
     requires part { is_part tag ≡ false }
     requires root { is_foreign_root tag ≡ false }
     requires calls { Calls page.old }
     ensures fits { OnOk result (Fits page.new) }
     ensures takes { OnOk result (Takes token.now page.old page.new) }
-    ensures parses { OnOk result (page.new.parses_foreign ≡ page.old.parses_foreign) }
     ensures falls { OnOk result (Falls Done (Symbol.Start tag) page.old page.new) }
     ensures grows { OnOk result (Grows Done page.old page.new) }
     ensures works { OnOk result (Worked Done token.now page.old page.new) }
@@ -178,12 +173,11 @@ fn void_start(page: &mut Construction, token: &TokenKind, tag: Tag) -> Result<()
 }
 
 #[tactic(auto, using(crate::proofs::Settled::body_rules, crate::proofs::RulesInBodyStart::hiding))]
-fn input_start(page: &mut Construction, token: &TokenKind) -> Result<(), Refusal>
+fn input_start(page: &mut Construction, token: &TokenKind) -> Result<(), ArenaError>
     requires symbol { symbol_of token.now ≡ Symbol.Start Tag.Input }
     requires calls { Calls page.old }
     ensures fits { OnOk result (Fits page.new) }
     ensures takes { OnOk result (Takes token.now page.old page.new) }
-    ensures parses { OnOk result (page.new.parses_foreign ≡ page.old.parses_foreign) }
     ensures falls { OnOk result (Falls Done (Symbol.Start Tag.Input) page.old page.new) }
     ensures grows { OnOk result (Grows Done page.old page.new) }
     ensures works { OnOk result (Worked Done token.now page.old page.new) }
@@ -199,12 +193,11 @@ fn input_start(page: &mut Construction, token: &TokenKind) -> Result<(), Refusal
 }
 
 #[tactic(auto, using(crate::proofs::Settled::body_rules, crate::proofs::Ruled::rule_words))]
-pub(crate) fn button_start(page: &mut Construction, token: &TokenKind) -> Result<(), Refusal>
+pub(crate) fn button_start(page: &mut Construction, token: &TokenKind) -> Result<(), ArenaError>
     requires symbol { symbol_of token.now ≡ Symbol.Start Tag.Button }
     requires calls { Calls page.old }
     ensures fits { OnOk result (Fits page.new) }
     ensures takes { OnOk result (Takes token.now page.old page.new) }
-    ensures parses { OnOk result (page.new.parses_foreign ≡ page.old.parses_foreign) }
     ensures falls { OnOk result (Falls Done (Symbol.Start Tag.Button) page.old page.new) }
     ensures grows { OnOk result (Grows Done page.old page.new) }
     ensures works { OnOk result (Worked Done token.now page.old page.new) }
@@ -220,7 +213,7 @@ pub(crate) fn button_start(page: &mut Construction, token: &TokenKind) -> Result
 
 /// An element that puts a marker into the list.
 #[tactic(auto, using(crate::proofs::Settled::body_rules, crate::proofs::Ruled::rule_words))]
-fn marker_start(page: &mut Construction, token: &TokenKind, tag: Tag) -> Result<(), Refusal>
+fn marker_start(page: &mut Construction, token: &TokenKind, tag: Tag) -> Result<(), ArenaError>
     requires small { weight_of tag ≤ 4 }
     requires named { opens_own tag ≡ true }
     requires part { is_part tag ≡ false }
@@ -228,7 +221,6 @@ fn marker_start(page: &mut Construction, token: &TokenKind, tag: Tag) -> Result<
     requires calls { Calls page.old }
     ensures fits { OnOk result (Fits page.new) }
     ensures takes { OnOk result (Takes token.now page.old page.new) }
-    ensures parses { OnOk result (page.new.parses_foreign ≡ page.old.parses_foreign) }
     ensures falls { OnOk result (Falls Done (Symbol.Start tag) page.old page.new) }
     ensures grows { OnOk result (Grows Done page.old page.new) }
     ensures works { OnOk result (Worked Done token.now page.old page.new) }
@@ -249,7 +241,7 @@ fn ruby_start(
     token: &TokenKind,
     tag: Tag,
     except: Option<Tag>,
-) -> Result<(), Refusal>
+) -> Result<(), ArenaError>
     requires small { weight_of tag ≤ 4 }
     requires named { opens_own tag ≡ true }
     requires part { is_part tag ≡ false }
@@ -257,7 +249,6 @@ fn ruby_start(
     requires calls { Calls page.old }
     ensures fits { OnOk result (Fits page.new) }
     ensures takes { OnOk result (Takes token.now page.old page.new) }
-    ensures parses { OnOk result (page.new.parses_foreign ≡ page.old.parses_foreign) }
     ensures falls { OnOk result (Falls Done (Symbol.Start tag) page.old page.new) }
     ensures grows { OnOk result (Grows Done page.old page.new) }
     ensures works { OnOk result (Worked Done token.now page.old page.new) }
@@ -285,12 +276,11 @@ fn close_ruby_part(page: &mut Construction, except: Option<Tag>)
 }
 
 #[tactic(auto, using(crate::proofs::Settled::body_rules, crate::proofs::RulesInBodyStart::selecting))]
-fn select_start(page: &mut Construction, token: &TokenKind) -> Result<(), Refusal>
+fn select_start(page: &mut Construction, token: &TokenKind) -> Result<(), ArenaError>
     requires symbol { symbol_of token.now ≡ Symbol.Start Tag.Select }
     requires calls { Calls page.old }
     ensures fits { OnOk result (Fits page.new) }
     ensures takes { OnOk result (Takes token.now page.old page.new) }
-    ensures parses { OnOk result (page.new.parses_foreign ≡ page.old.parses_foreign) }
     ensures falls { OnOk result (Falls Done (Symbol.Start Tag.Select) page.old page.new) }
     ensures grows { OnOk result (Grows Done page.old page.new) }
     ensures works { OnOk result (Worked Done token.now page.old page.new) }
@@ -320,7 +310,7 @@ fn is_in_table(mode: Mode) -> bool
 
 /// An option, or a group of them, outside a select.
 #[tactic(auto, using(crate::proofs::Settled::body_rules, crate::proofs::Ruled::rule_words))]
-fn option_start(page: &mut Construction, token: &TokenKind, tag: Tag) -> Result<(), Refusal>
+fn option_start(page: &mut Construction, token: &TokenKind, tag: Tag) -> Result<(), ArenaError>
     requires small { weight_of tag ≤ 4 }
     requires named { opens_own tag ≡ true }
     requires part { is_part tag ≡ false }
@@ -328,7 +318,6 @@ fn option_start(page: &mut Construction, token: &TokenKind, tag: Tag) -> Result<
     requires calls { Calls page.old }
     ensures fits { OnOk result (Fits page.new) }
     ensures takes { OnOk result (Takes token.now page.old page.new) }
-    ensures parses { OnOk result (page.new.parses_foreign ≡ page.old.parses_foreign) }
     ensures falls { OnOk result (Falls Done (Symbol.Start tag) page.old page.new) }
     ensures grows { OnOk result (Grows Done page.old page.new) }
     ensures works { OnOk result (Worked Done token.now page.old page.new) }

@@ -10,7 +10,6 @@ ghost use Rattle.html_modes.specs.Fitting.{Fits, Calls};
 ghost use Rattle.html_modes.specs.Plain.{TurnsInBody};
 ghost use Rattle.html_modes.specs.Steps.{Falls, Grows, Worked, compared};
 ghost use Rattle.html_modes.specs.declared.outcome.Outcome.TheVariants.{Done};
-ghost use Rattle.html_modes.specs.RawText.{HasOpened};
 ghost use Rattle.html_construction.specs.Calls.{item_group};
 ghost use Rattle.html_construction.specs.Plans.{Ask, Do, Passes};
 ghost use Rattle.html_construction.specs.Words.{FramesetOff, Insert, InsertVoid, IsQuirks};
@@ -26,30 +25,28 @@ ghost use Rattle.html_tree.specs.Seats.{is_part};
 use crate::guards::has_form;
 use crate::modes::body_phrase::{button_start, phrase_start, plain_start};
 use crate::modes::head::head_start;
-use html_construction::{Construction, Mode, Refusal};
+use html_construction::{ArenaError, Construction, Mode};
 use html_ledger::{Cause, Symbol};
 use html_names::Tag;
 use html_tokens::TokenKind;
 use html_tree::Group;
 
 /// A start tag: the parts of a page, and blocks.
-#[tactic(auto, using(crate::proofs::Settled::body_rules, crate::proofs::RawText::body_names, crate::proofs::RulesInBodyStart::arms))]
+#[tactic(auto, using(crate::proofs::Settled::body_rules, crate::proofs::RulesInBodyStart::arms))]
 pub(crate) fn body_start(
     page: &mut Construction,
     token: &TokenKind,
     tag: Tag,
-) -> Result<(), Refusal>
+) -> Result<(), ArenaError>
     requires root { is_foreign_root tag ≡ false }
     requires symbol { symbol_of token.now ≡ Symbol.Start tag }
     requires calls { Calls page.old }
     ensures fits { OnOk result (Fits page.new) }
     ensures takes { OnOk result (Takes token.now page.old page.new) }
-    ensures parses { OnOk result (page.new.parses_foreign ≡ page.old.parses_foreign) }
     ensures falls { OnOk result (Falls Done (Symbol.Start tag) page.old page.new) }
     ensures grows { OnOk result (Grows Done page.old page.new) }
     ensures works { OnOk result (Worked Done token.now page.old page.new) }
     ensures plain { OnOk result (TurnsInBody Done (Symbol.Start tag) token.now page.old page.new) }
-    ensures opens { OnOk result (HasOpened tag page.new) }
     ensures refuses { IfErr result (λ e. Refuses token.now e page.old page.new) }
     ensures follows { OnOk result (Follows (in_body_start tag) token.now Done page.old page.new) }
 {
@@ -88,7 +85,7 @@ pub(crate) fn body_start(
 
 /// A root after the first: its attributes are merged, unless a template is open.
 #[tactic(auto, using(crate::proofs::Ruled::rule_words))]
-pub(crate) fn html_start(page: &mut Construction, token: &TokenKind) -> Result<(), Refusal>
+pub(crate) fn html_start(page: &mut Construction, token: &TokenKind) -> Result<(), ArenaError>
     requires opened { 0 < length page.old.stack }
     requires symbol { symbol_of token.now ≡ Symbol.Start Tag.Html }
     requires quiet { page.old.ledger.kept ≡ [] }
@@ -109,12 +106,11 @@ pub(crate) fn html_start(page: &mut Construction, token: &TokenKind) -> Result<(
 /// A body after the first: its attributes are merged, unless a template is open or none is the second open element. (In a document
 /// without templates one is.)
 #[tactic(auto, using(crate::proofs::Settled::body_rules, crate::proofs::Ruled::rule_words, crate::proofs::RulesInBodyStart::misplacing))]
-fn second_body_start(page: &mut Construction, token: &TokenKind) -> Result<(), Refusal>
+fn second_body_start(page: &mut Construction, token: &TokenKind) -> Result<(), ArenaError>
     requires symbol { symbol_of token.now ≡ Symbol.Start Tag.Body }
     requires calls { Calls page.old }
     ensures fits { OnOk result (Fits page.new) }
     ensures takes { OnOk result (Takes token.now page.old page.new) }
-    ensures parses { OnOk result (page.new.parses_foreign ≡ page.old.parses_foreign) }
     ensures falls { OnOk result (Falls Done (Symbol.Start Tag.Body) page.old page.new) }
     ensures grows { OnOk result (Grows Done page.old page.new) }
     ensures works { OnOk result (Worked Done token.now page.old page.new) }
@@ -133,12 +129,11 @@ fn second_body_start(page: &mut Construction, token: &TokenKind) -> Result<(), R
 
 /// A frameset, which may take the place of the body.
 #[tactic(auto, using(crate::proofs::Settled::body_rules, crate::proofs::Ruled::rule_words))]
-fn late_frameset_start(page: &mut Construction, token: &TokenKind) -> Result<(), Refusal>
+fn late_frameset_start(page: &mut Construction, token: &TokenKind) -> Result<(), ArenaError>
     requires symbol { symbol_of token.now ≡ Symbol.Start Tag.Frameset }
     requires calls { Calls page.old }
     ensures fits { OnOk result (Fits page.new) }
     ensures takes { OnOk result (Takes token.now page.old page.new) }
-    ensures parses { OnOk result (page.new.parses_foreign ≡ page.old.parses_foreign) }
     ensures falls { OnOk result (Falls Done (Symbol.Start Tag.Frameset) page.old page.new) }
     ensures grows { OnOk result (Grows Done page.old page.new) }
     ensures works { OnOk result (Worked Done token.now page.old page.new) }
@@ -156,7 +151,7 @@ fn late_frameset_start(page: &mut Construction, token: &TokenKind) -> Result<(),
 
 /// A block or a paragraph.
 #[tactic(auto, using(crate::proofs::Settled::body_rules, crate::proofs::Ruled::rule_words))]
-fn block_start(page: &mut Construction, token: &TokenKind, tag: Tag) -> Result<(), Refusal>
+fn block_start(page: &mut Construction, token: &TokenKind, tag: Tag) -> Result<(), ArenaError>
     requires small { weight_of tag ≤ 4 }
     requires named { opens_own tag ≡ true }
     requires part { is_part tag ≡ false }
@@ -164,7 +159,6 @@ fn block_start(page: &mut Construction, token: &TokenKind, tag: Tag) -> Result<(
     requires calls { Calls page.old }
     ensures fits { OnOk result (Fits page.new) }
     ensures takes { OnOk result (Takes token.now page.old page.new) }
-    ensures parses { OnOk result (page.new.parses_foreign ≡ page.old.parses_foreign) }
     ensures falls { OnOk result (Falls Done (Symbol.Start tag) page.old page.new) }
     ensures grows { OnOk result (Grows Done page.old page.new) }
     ensures works { OnOk result (Worked Done token.now page.old page.new) }
@@ -177,7 +171,7 @@ fn block_start(page: &mut Construction, token: &TokenKind, tag: Tag) -> Result<(
 }
 
 #[tactic(auto, using(crate::proofs::Settled::body_rules, crate::proofs::Ruled::rule_words))]
-fn heading_start(page: &mut Construction, token: &TokenKind, tag: Tag) -> Result<(), Refusal>
+fn heading_start(page: &mut Construction, token: &TokenKind, tag: Tag) -> Result<(), ArenaError>
     requires small { weight_of tag ≤ 4 }
     requires named { opens_own tag ≡ true }
     requires part { is_part tag ≡ false }
@@ -185,7 +179,6 @@ fn heading_start(page: &mut Construction, token: &TokenKind, tag: Tag) -> Result
     requires calls { Calls page.old }
     ensures fits { OnOk result (Fits page.new) }
     ensures takes { OnOk result (Takes token.now page.old page.new) }
-    ensures parses { OnOk result (page.new.parses_foreign ≡ page.old.parses_foreign) }
     ensures falls { OnOk result (Falls Done (Symbol.Start tag) page.old page.new) }
     ensures grows { OnOk result (Grows Done page.old page.new) }
     ensures works { OnOk result (Worked Done token.now page.old page.new) }
@@ -198,7 +191,11 @@ fn heading_start(page: &mut Construction, token: &TokenKind, tag: Tag) -> Result
 }
 
 #[tactic(auto, using(crate::proofs::Settled::body_rules, crate::proofs::Ruled::rule_words))]
-fn preformatted_start(page: &mut Construction, token: &TokenKind, tag: Tag) -> Result<(), Refusal>
+fn preformatted_start(
+    page: &mut Construction,
+    token: &TokenKind,
+    tag: Tag,
+) -> Result<(), ArenaError>
     requires small { weight_of tag ≤ 4 }
     requires named { opens_own tag ≡ true }
     requires part { is_part tag ≡ false }
@@ -206,7 +203,6 @@ fn preformatted_start(page: &mut Construction, token: &TokenKind, tag: Tag) -> R
     requires calls { Calls page.old }
     ensures fits { OnOk result (Fits page.new) }
     ensures takes { OnOk result (Takes token.now page.old page.new) }
-    ensures parses { OnOk result (page.new.parses_foreign ≡ page.old.parses_foreign) }
     ensures falls { OnOk result (Falls Done (Symbol.Start tag) page.old page.new) }
     ensures grows { OnOk result (Grows Done page.old page.new) }
     ensures works { OnOk result (Worked Done token.now page.old page.new) }
@@ -220,12 +216,11 @@ fn preformatted_start(page: &mut Construction, token: &TokenKind, tag: Tag) -> R
 }
 
 #[tactic(auto, using(crate::proofs::Settled::body_rules, crate::proofs::Ruled::rule_words))]
-fn form_start(page: &mut Construction, token: &TokenKind) -> Result<(), Refusal>
+fn form_start(page: &mut Construction, token: &TokenKind) -> Result<(), ArenaError>
     requires symbol { symbol_of token.now ≡ Symbol.Start Tag.Form }
     requires calls { Calls page.old }
     ensures fits { OnOk result (Fits page.new) }
     ensures takes { OnOk result (Takes token.now page.old page.new) }
-    ensures parses { OnOk result (page.new.parses_foreign ≡ page.old.parses_foreign) }
     ensures falls { OnOk result (Falls Done (Symbol.Start Tag.Form) page.old page.new) }
     ensures grows { OnOk result (Grows Done page.old page.new) }
     ensures works { OnOk result (Worked Done token.now page.old page.new) }
@@ -245,7 +240,7 @@ fn form_start(page: &mut Construction, token: &TokenKind) -> Result<(), Refusal>
 
 /// An item of a list.
 #[tactic(auto, using(crate::proofs::Settled::body_rules, crate::proofs::Ruled::rule_words))]
-fn item_start(page: &mut Construction, token: &TokenKind, tag: Tag) -> Result<(), Refusal>
+fn item_start(page: &mut Construction, token: &TokenKind, tag: Tag) -> Result<(), ArenaError>
     requires small { weight_of tag ≤ 4 }
     requires named { opens_own tag ≡ true }
     requires part { is_part tag ≡ false }
@@ -253,7 +248,6 @@ fn item_start(page: &mut Construction, token: &TokenKind, tag: Tag) -> Result<()
     requires calls { Calls page.old }
     ensures fits { OnOk result (Fits page.new) }
     ensures takes { OnOk result (Takes token.now page.old page.new) }
-    ensures parses { OnOk result (page.new.parses_foreign ≡ page.old.parses_foreign) }
     ensures falls { OnOk result (Falls Done (Symbol.Start tag) page.old page.new) }
     ensures grows { OnOk result (Grows Done page.old page.new) }
     ensures works { OnOk result (Worked Done token.now page.old page.new) }
@@ -267,12 +261,11 @@ fn item_start(page: &mut Construction, token: &TokenKind, tag: Tag) -> Result<()
 }
 
 #[tactic(auto, using(crate::proofs::Settled::body_rules, crate::proofs::Ruled::rule_words))]
-pub(crate) fn table_start(page: &mut Construction, token: &TokenKind) -> Result<(), Refusal>
+pub(crate) fn table_start(page: &mut Construction, token: &TokenKind) -> Result<(), ArenaError>
     requires symbol { symbol_of token.now ≡ Symbol.Start Tag.Table }
     requires calls { Calls page.old }
     ensures fits { OnOk result (Fits page.new) }
     ensures takes { OnOk result (Takes token.now page.old page.new) }
-    ensures parses { OnOk result (page.new.parses_foreign ≡ page.old.parses_foreign) }
     ensures falls { OnOk result (Falls Done (Symbol.Start Tag.Table) page.old page.new) }
     ensures grows { OnOk result (Grows Done page.old page.new) }
     ensures works { OnOk result (Worked Done token.now page.old page.new) }
@@ -304,12 +297,11 @@ fn close_p_before_table(page: &mut Construction)
 
 /// A thematic break.
 #[tactic(auto, using(crate::proofs::Settled::body_rules, crate::proofs::Ruled::rule_words))]
-pub(crate) fn rule_start(page: &mut Construction, token: &TokenKind) -> Result<(), Refusal>
+pub(crate) fn rule_start(page: &mut Construction, token: &TokenKind) -> Result<(), ArenaError>
     requires symbol { symbol_of token.now ≡ Symbol.Start Tag.Hr }
     requires calls { Calls page.old }
     ensures fits { OnOk result (Fits page.new) }
     ensures takes { OnOk result (Takes token.now page.old page.new) }
-    ensures parses { OnOk result (page.new.parses_foreign ≡ page.old.parses_foreign) }
     ensures falls { OnOk result (Falls Done (Symbol.Start Tag.Hr) page.old page.new) }
     ensures grows { OnOk result (Grows Done page.old page.new) }
     ensures works { OnOk result (Worked Done token.now page.old page.new) }

@@ -7,7 +7,7 @@ ghost use Rattle.html_construction.specs.Weights.{weight_of};
 ghost use Rattle.html_modes.specs.Fitting.{Fits, Calls};
 ghost use Rattle.html_modes.specs.Steps.{Falls, Grows, Worked};
 ghost use Rattle.html_modes.specs.declared.outcome.Outcome.TheVariants.{Done};
-ghost use Rattle.html_modes.specs.RawText.{HasOpened, is_body_text};
+ghost use Rattle.html_modes.specs.RawText.{is_body_text};
 ghost use Rattle.html_construction.specs.Tokens.{opens_own};
 ghost use Rattle.html_construction.specs.Plans.{Do, Reconstruct};
 ghost use Rattle.html_construction.specs.Words.{FramesetOff, Insert};
@@ -17,18 +17,18 @@ ghost use Rattle.html_modes.specs.RulesInBodyStart.{in_body_start_phrase};
 ghost use Rattle.html_modes.specs.RulesInHead.{holding_text};
 
 use crate::modes::text::text_start;
-use html_construction::{Construction, Refusal};
+use html_construction::{ArenaError, Construction};
 use html_ledger::Symbol;
 use html_names::Tag;
 use html_tokens::TokenKind;
 
 /// An element of the body that holds text alone.
-#[tactic(auto, using(crate::proofs::Settled::text_rules, crate::proofs::RawText::body_names, crate::proofs::RulesInBodyStart::text_arms))]
+#[tactic(auto, using(crate::proofs::Settled::text_rules, crate::proofs::RulesInBodyStart::text_arms))]
 pub(crate) fn body_text_start(
     page: &mut Construction,
     token: &TokenKind,
     tag: Tag,
-) -> Result<(), Refusal>
+) -> Result<(), ArenaError>
     requires small { weight_of tag ≤ 4 }
     requires named { opens_own tag ≡ true }
     requires text { is_body_text tag ≡ true }
@@ -36,11 +36,9 @@ pub(crate) fn body_text_start(
     requires calls { Calls page.old }
     ensures fits { OnOk result (Fits page.new) }
     ensures takes { OnOk result (Takes token.now page.old page.new) }
-    ensures parses { OnOk result (page.new.parses_foreign ≡ page.old.parses_foreign) }
     ensures falls { OnOk result (Falls Done (Symbol.Start tag) page.old page.new) }
     ensures grows { OnOk result (Grows Done page.old page.new) }
     ensures works { OnOk result (Worked Done token.now page.old page.new) }
-    ensures opens { OnOk result (HasOpened tag page.new) }
     ensures refuses { IfErr result (λ e. Refuses token.now e page.old page.new) }
     ensures follows { OnOk result (Follows (in_body_start_phrase tag) token.now Done page.old page.new) }
 {
@@ -64,16 +62,14 @@ pub(crate) fn is_body_text(tag: Tag) -> bool
 }
 
 #[tactic(auto, using(crate::proofs::Settled::text_rules, crate::proofs::Ruled::rule_words))]
-fn textarea_start(page: &mut Construction, token: &TokenKind) -> Result<(), Refusal>
+fn textarea_start(page: &mut Construction, token: &TokenKind) -> Result<(), ArenaError>
     requires symbol { symbol_of token.now ≡ Symbol.Start Tag.Textarea }
     requires calls { Calls page.old }
     ensures fits { OnOk result (Fits page.new) }
     ensures takes { OnOk result (Takes token.now page.old page.new) }
-    ensures parses { OnOk result (page.new.parses_foreign ≡ page.old.parses_foreign) }
     ensures falls { OnOk result (Falls Done (Symbol.Start Tag.Textarea) page.old page.new) }
     ensures grows { OnOk result (Grows Done page.old page.new) }
     ensures works { OnOk result (Worked Done token.now page.old page.new) }
-    ensures opens { OnOk result (HasOpened Tag.Textarea page.new) }
     ensures refuses { IfErr result (λ e. Refuses token.now e page.old page.new) }
     ensures follows { OnOk result (Follows (Do FramesetOff (holding_text Insert)) token.now Done page.old page.new) }
 {
@@ -82,16 +78,14 @@ fn textarea_start(page: &mut Construction, token: &TokenKind) -> Result<(), Refu
 }
 
 #[tactic(auto, using(crate::proofs::Settled::text_rules, crate::proofs::Ruled::rule_words))]
-fn xmp_start(page: &mut Construction, token: &TokenKind) -> Result<(), Refusal>
+fn xmp_start(page: &mut Construction, token: &TokenKind) -> Result<(), ArenaError>
     requires symbol { symbol_of token.now ≡ Symbol.Start Tag.Xmp }
     requires calls { Calls page.old }
     ensures fits { OnOk result (Fits page.new) }
     ensures takes { OnOk result (Takes token.now page.old page.new) }
-    ensures parses { OnOk result (page.new.parses_foreign ≡ page.old.parses_foreign) }
     ensures falls { OnOk result (Falls Done (Symbol.Start Tag.Xmp) page.old page.new) }
     ensures grows { OnOk result (Grows Done page.old page.new) }
     ensures works { OnOk result (Worked Done token.now page.old page.new) }
-    ensures opens { OnOk result (HasOpened Tag.Xmp page.new) }
     ensures refuses { IfErr result (λ e. Refuses token.now e page.old page.new) }
     ensures follows { OnOk result (Follows (closing_p (Reconstruct (Do FramesetOff (holding_text Insert)))) token.now Done page.old page.new) }
 {
@@ -102,16 +96,14 @@ fn xmp_start(page: &mut Construction, token: &TokenKind) -> Result<(), Refusal>
 }
 
 #[tactic(auto, using(crate::proofs::Settled::text_rules, crate::proofs::Ruled::rule_words))]
-fn iframe_start(page: &mut Construction, token: &TokenKind) -> Result<(), Refusal>
+fn iframe_start(page: &mut Construction, token: &TokenKind) -> Result<(), ArenaError>
     requires symbol { symbol_of token.now ≡ Symbol.Start Tag.Iframe }
     requires calls { Calls page.old }
     ensures fits { OnOk result (Fits page.new) }
     ensures takes { OnOk result (Takes token.now page.old page.new) }
-    ensures parses { OnOk result (page.new.parses_foreign ≡ page.old.parses_foreign) }
     ensures falls { OnOk result (Falls Done (Symbol.Start Tag.Iframe) page.old page.new) }
     ensures grows { OnOk result (Grows Done page.old page.new) }
     ensures works { OnOk result (Worked Done token.now page.old page.new) }
-    ensures opens { OnOk result (HasOpened Tag.Iframe page.new) }
     ensures refuses { IfErr result (λ e. Refuses token.now e page.old page.new) }
     ensures follows { OnOk result (Follows (Do FramesetOff (holding_text Insert)) token.now Done page.old page.new) }
 {

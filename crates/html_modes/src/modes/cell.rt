@@ -7,12 +7,10 @@ ghost use Rattle.html_construction.specs.Built.{Keeps, Takes};
 ghost use Rattle.html_construction.specs.Grown.{Grown};
 ghost use Rattle.html_construction.specs.Works.{Works};
 ghost use Rattle.html_construction.specs.Weights.{weight, weight_of};
-ghost use Rattle.html_modes.specs.Begun.{TextStays};
 ghost use Rattle.html_modes.specs.Fitting.{Fits, Calls};
 ghost use Rattle.html_modes.specs.Steps.{Falls, Grows, Steps, Worked};
 ghost use Rattle.html_modes.specs.declared.outcome.Outcome.TheVariants.{Done};
 ghost use Rattle.html_tree.specs.Seats.{is_part};
-ghost use Rattle.html_modes.specs.RawText.{Opens};
 ghost use Rattle.html_names.specs.declared.sets.Scope.TheVariants as scope;
 ghost use Rattle.html_tree.specs.declared.groups.Group.TheVariants as group;
 ghost use Rattle.html_tree.specs.declared.groups.Stop.TheVariants as stop;
@@ -25,7 +23,7 @@ ghost use Rattle.html_modes.specs.RulesInCell.{closing_cell, in_cell, in_cell_en
 
 use crate::modes::body::body_rules;
 use crate::outcome::Outcome;
-use html_construction::{Construction, Mode, Refusal};
+use html_construction::{ArenaError, Construction, Mode};
 use html_ledger::{Cause, Symbol};
 use html_names::{Scope, Tag};
 use html_tokens::TokenKind;
@@ -37,13 +35,12 @@ pub(crate) fn cell_start(
     page: &mut Construction,
     token: &TokenKind,
     tag: Tag,
-) -> Result<(), Refusal>
+) -> Result<(), ArenaError>
     requires part { is_part tag ≡ true }
     requires symbol { symbol_of token.now ≡ Symbol.Start tag }
     requires calls { Calls page.old }
     ensures fits { OnOk result (Fits page.new) }
     ensures takes { OnOk result (Takes token.now page.old page.new) }
-    ensures parses { OnOk result (page.new.parses_foreign ≡ page.old.parses_foreign) }
     ensures falls { OnOk result (Falls Done (Symbol.Start tag) page.old page.new) }
     ensures grows { OnOk result (Grows Done page.old page.new) }
     ensures works { OnOk result (Worked Done token.now page.old page.new) }
@@ -58,12 +55,12 @@ pub(crate) fn cell_start(
 }
 
 /// The rules for the "in cell" insertion mode (13.2.6.4.15).
-#[tactic(auto, using(crate::proofs::Settled::part_rules, crate::proofs::RawText::open_rules, crate::proofs::Begun::text_stays, crate::proofs::RulesInCell::arms))]
+#[tactic(auto, using(crate::proofs::Settled::part_rules, crate::proofs::RulesInCell::arms))]
 pub(crate) fn in_cell(
     page: &mut Construction,
     token: &TokenKind,
     symbol: Symbol,
-) -> Result<Outcome, Refusal>
+) -> Result<Outcome, ArenaError>
     requires symbol { symbol_of token.now ≡ symbol }
     requires mode { page.old.mode ≡ Mode.InCell }
     requires fits { Fits page.old }
@@ -71,12 +68,9 @@ pub(crate) fn in_cell(
     requires free { IsTrue (is_free page.old.ledger.history symbol) }
     ensures fits { OnOk result (Fits page.new) }
     ensures takes { IfOk result (λ o. Steps o token.now page.old page.new) }
-    ensures parses { OnOk result (page.new.parses_foreign ≡ page.old.parses_foreign) }
     ensures falls { IfOk result (λ o. Falls o symbol page.old page.new) }
-    ensures out { OnOk result (TextStays symbol page.old.mode page.new.mode) }
     ensures grows { IfOk result (λ o. Grows o page.old page.new) }
     ensures works { IfOk result (λ o. Worked o token.now page.old page.new) }
-    ensures opens { IfOk result (λ o. Opens o symbol page.new) }
     ensures refuses { IfErr result (λ e. Refuses token.now e page.old page.new) }
     ensures follows { IfOk result (λ o. Follows (in_cell symbol) token.now o page.old page.new) }
 {
@@ -97,18 +91,20 @@ pub(crate) fn in_cell(
     }
 }
 
-#[tactic(auto, using(crate::proofs::Settled::part_rules, crate::proofs::RawText::open_rules, crate::proofs::RulesInCell::arms))]
-fn start_in_cell(page: &mut Construction, token: &TokenKind, tag: Tag) -> Result<Outcome, Refusal>
+#[tactic(auto, using(crate::proofs::Settled::part_rules, crate::proofs::RulesInCell::arms))]
+fn start_in_cell(
+    page: &mut Construction,
+    token: &TokenKind,
+    tag: Tag,
+) -> Result<Outcome, ArenaError>
     requires mode { page.old.mode ≡ Mode.InCell }
     requires symbol { symbol_of token.now ≡ Symbol.Start tag }
     requires calls { Calls page.old }
     ensures fits { OnOk result (Fits page.new) }
     ensures takes { IfOk result (λ o. Steps o token.now page.old page.new) }
-    ensures parses { OnOk result (page.new.parses_foreign ≡ page.old.parses_foreign) }
     ensures falls { IfOk result (λ o. Falls o (Symbol.Start tag) page.old page.new) }
     ensures grows { IfOk result (λ o. Grows o page.old page.new) }
     ensures works { IfOk result (λ o. Worked o token.now page.old page.new) }
-    ensures opens { IfOk result (λ o. Opens o (Symbol.Start tag) page.new) }
     ensures refuses { IfErr result (λ e. Refuses token.now e page.old page.new) }
     ensures follows { IfOk result (λ o. Follows (in_cell_start tag) token.now o page.old page.new) }
 {
@@ -126,13 +122,12 @@ fn start_in_cell(page: &mut Construction, token: &TokenKind, tag: Tag) -> Result
 }
 
 #[tactic(auto, using(crate::proofs::Settled::part_rules, crate::proofs::RulesInCell::arms))]
-fn end_in_cell(page: &mut Construction, token: &TokenKind, tag: Tag) -> Result<Outcome, Refusal>
+fn end_in_cell(page: &mut Construction, token: &TokenKind, tag: Tag) -> Result<Outcome, ArenaError>
     requires mode { page.old.mode ≡ Mode.InCell }
     requires symbol { symbol_of token.now ≡ Symbol.End tag }
     requires calls { Calls page.old }
     ensures fits { OnOk result (Fits page.new) }
     ensures takes { IfOk result (λ o. Steps o token.now page.old page.new) }
-    ensures parses { OnOk result (page.new.parses_foreign ≡ page.old.parses_foreign) }
     ensures falls { IfOk result (λ o. Falls o (Symbol.End tag) page.old page.new) }
     ensures grows { IfOk result (λ o. Grows o page.old page.new) }
     ensures works { IfOk result (λ o. Worked o token.now page.old page.new) }
@@ -162,13 +157,12 @@ fn end_in_cell(page: &mut Construction, token: &TokenKind, tag: Tag) -> Result<O
 
 /// An end tag of what a cell stands in, which closes the cell first.
 #[tactic(auto, using(crate::proofs::Settled::part_rules, crate::proofs::RulesInCell::arms))]
-fn outer_end(page: &mut Construction, token: &TokenKind, tag: Tag) -> Result<Outcome, Refusal>
+fn outer_end(page: &mut Construction, token: &TokenKind, tag: Tag) -> Result<Outcome, ArenaError>
     requires symbol { symbol_of token.now ≡ Symbol.End tag }
     requires mode { page.old.mode ≡ Mode.InCell }
     requires calls { Calls page.old }
     ensures fits { OnOk result (Fits page.new) }
     ensures takes { IfOk result (λ o. Steps o token.now page.old page.new) }
-    ensures parses { OnOk result (page.new.parses_foreign ≡ page.old.parses_foreign) }
     ensures falls { IfOk result (λ o. Falls o (Symbol.End tag) page.old page.new) }
     ensures grows { IfOk result (λ o. Grows o page.old page.new) }
     ensures works { IfOk result (λ o. Worked o token.now page.old page.new) }

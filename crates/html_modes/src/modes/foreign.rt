@@ -19,13 +19,12 @@ ghost use Rattle.html_construction.specs.Weights.{weight};
 ghost use Rattle.html_construction.specs.Works.{Works};
 ghost use Rattle.html_modes.specs.Fitting.{Calls, Fits};
 ghost use Rattle.html_modes.specs.Foreign.{IsEmbedded, IsInserted, IsRootMade, Stays, around_foreign, breaks_out, closed_foreign, ends_any, ends_foreign, frameset_ok_after, goes_by_foreign, goes_on, has_font_attr, is_html_point_here, stack_after, takes_char, takes_start};
-ghost use Rattle.html_modes.specs.RawText.{HasOpened, Opens};
 ghost use Rattle.html_modes.specs.Steps.{Falls, Grows, Worked};
 ghost use Rattle.html_modes.specs.declared.outcome.Outcome.TheVariants.{Done};
 
 use crate::guards::has_elements;
 use crate::modes::initial::doctype;
-use html_construction::{Construction, Refusal};
+use html_construction::{ArenaError, Construction};
 use html_ledger::{Symbol, is_space};
 use html_names::{Space, Tag, is_font_attr, is_math_text_part, is_unknown_breakout};
 use html_tokens::{Attr, TokenKind};
@@ -179,7 +178,7 @@ pub(crate) fn stay(
     token: &TokenKind,
     symbol: Symbol,
     around: Tag,
-) -> Result<(), Refusal>
+) -> Result<(), ArenaError>
     requires symbol { symbol_of token.now ≡ symbol }
     requires around { ends_any symbol ≡ false → foreign_tag page.old ≡ Some around }
     requires opened { 0 < length page.old.stack }
@@ -195,7 +194,6 @@ pub(crate) fn stay(
     ensures ended { ends_any symbol ≡ true → OnOk result (page.new.tree ≡ page.old.tree) }
     ensures stays { OnOk result (Stays around symbol token.now page.old page.new) }
     ensures frameset { OnOk result (page.new.frameset_ok ≡ frameset_ok_after symbol page.old.frameset_ok) }
-    ensures opens { OnOk result (Opens Done symbol page.new) }
     ensures refuses { IfErr result (λ e. Refuses token.now e page.old page.new) }
 {
     match symbol {
@@ -216,7 +214,11 @@ pub(crate) fn stay(
 
 /// A code point: U+0000 becomes U+FFFD.
 #[tactic(auto, using(crate::proofs::Embedding::char_rules))]
-fn insert_foreign_char(page: &mut Construction, token: &TokenKind, c: char) -> Result<(), Refusal>
+fn insert_foreign_char(
+    page: &mut Construction,
+    token: &TokenKind,
+    c: char,
+) -> Result<(), ArenaError>
     requires symbol { symbol_of token.now ≡ Symbol.Char c }
     requires foreign { page.old.ledger.history.foreign ≡ true }
     requires opened { 0 < length page.old.stack }
@@ -249,7 +251,7 @@ pub(crate) fn root_start(
     token: &TokenKind,
     tag: Tag,
     space: Space,
-) -> Result<(), Refusal>
+) -> Result<(), ArenaError>
     requires symbol { symbol_of token.now ≡ Symbol.Start tag }
     requires outside { is_html_space space ≡ false }
     requires may { IsTrue (may_embed page.old.ledger.history (Symbol.Start tag)) }
@@ -257,7 +259,6 @@ pub(crate) fn root_start(
     requires calls { Calls page.old }
     ensures fits { OnOk result (Fits page.new) }
     ensures takes { OnOk result (Takes token.now page.old page.new) }
-    ensures parses { OnOk result (page.new.parses_foreign ≡ page.old.parses_foreign) }
     ensures falls { OnOk result (Falls Done (Symbol.Start tag) page.old page.new) }
     ensures grows { OnOk result (Grows Done page.old page.new) }
     ensures works { OnOk result (Worked Done token.now page.old page.new) }
@@ -272,7 +273,12 @@ pub(crate) fn root_start(
 
 /// An element of foreign content of a start tag, which is opened unless the tag closes itself.
 #[tactic(auto, using(crate::proofs::Embedding::embed_rules, crate::proofs::Ruled::rule_words, crate::proofs::RulesInBodyStart::closing_itself))]
-fn embed(page: &mut Construction, token: &TokenKind, tag: Tag, space: Space) -> Result<(), Refusal>
+fn embed(
+    page: &mut Construction,
+    token: &TokenKind,
+    tag: Tag,
+    space: Space,
+) -> Result<(), ArenaError>
     requires symbol { symbol_of token.now ≡ Symbol.Start tag }
     requires outside { is_html_space space ≡ false }
     requires may { IsTrue (may_embed page.old.ledger.history (Symbol.Start tag)) }
@@ -287,7 +293,6 @@ fn embed(page: &mut Construction, token: &TokenKind, tag: Tag, space: Space) -> 
     ensures heavier { OnOk result (weight page.new.stack ≤ weight page.old.stack + 4) }
     ensures opened { OnOk result (0 < length page.new.stack) }
     ensures embedded { OnOk result (IsEmbedded space (Symbol.Start tag) token.now page.old page.new) }
-    ensures opens { OnOk result (HasOpened tag page.new) }
     ensures refuses { IfErr result (λ e. Refuses token.now e page.old page.new) }
     ensures follows { OnOk result (FollowsPlan (Ask ClosesItself (Do (InsertForeignVoid space) over) (Do (InsertForeign space) over)) token.now Done page.old page.new) }
 {

@@ -19,7 +19,7 @@ ghost use Rattle.html_tree.specs.declared.groups.Stop.TheVariants as stop;
 ghost use Rattle.html_modes.specs.Rules.{Follows};
 ghost use Rattle.html_modes.specs.RulesInBodyStart.{formatting, in_body_start_phrase};
 
-use html_construction::{Construction, Refusal};
+use html_construction::{ArenaError, Construction};
 use html_ledger::Symbol;
 use html_names::{Scope, Tag};
 use html_tokens::TokenKind;
@@ -29,13 +29,12 @@ pub(crate) fn formatting_start(
     page: &mut Construction,
     token: &TokenKind,
     tag: Tag,
-) -> Result<(), Refusal>
+) -> Result<(), ArenaError>
     requires formatting { is_formatting tag ≡ true }
     requires symbol { symbol_of token.now ≡ Symbol.Start tag }
     requires calls { Calls page.old }
     ensures fits { OnOk result (Fits page.new) }
     ensures takes { OnOk result (Takes token.now page.old page.new) }
-    ensures parses { OnOk result (page.new.parses_foreign ≡ page.old.parses_foreign) }
     ensures falls { OnOk result (Falls Done (Symbol.Start tag) page.old page.new) }
     ensures grows { OnOk result (Grows Done page.old page.new) }
     ensures works { OnOk result (Worked Done token.now page.old page.new) }
@@ -49,12 +48,11 @@ pub(crate) fn formatting_start(
 
 /// A link, which closes one that is listed.
 #[tactic(auto, using(crate::proofs::Settled::body_rules, crate::proofs::Ruled::rule_words))]
-pub(crate) fn link_start(page: &mut Construction, token: &TokenKind) -> Result<(), Refusal>
+pub(crate) fn link_start(page: &mut Construction, token: &TokenKind) -> Result<(), ArenaError>
     requires symbol { symbol_of token.now ≡ Symbol.Start Tag.A }
     requires calls { Calls page.old }
     ensures fits { OnOk result (Fits page.new) }
     ensures takes { OnOk result (Takes token.now page.old page.new) }
-    ensures parses { OnOk result (page.new.parses_foreign ≡ page.old.parses_foreign) }
     ensures falls { OnOk result (Falls Done (Symbol.Start Tag.A) page.old page.new) }
     ensures grows { OnOk result (Grows Done page.old page.new) }
     ensures works { OnOk result (Worked Done token.now page.old page.new) }
@@ -68,12 +66,11 @@ pub(crate) fn link_start(page: &mut Construction, token: &TokenKind) -> Result<(
 
 /// A nobr, which closes one that is in scope.
 #[tactic(auto, using(crate::proofs::Settled::body_rules, crate::proofs::Ruled::rule_words))]
-pub(crate) fn nobr_start(page: &mut Construction, token: &TokenKind) -> Result<(), Refusal>
+pub(crate) fn nobr_start(page: &mut Construction, token: &TokenKind) -> Result<(), ArenaError>
     requires symbol { symbol_of token.now ≡ Symbol.Start Tag.Nobr }
     requires calls { Calls page.old }
     ensures fits { OnOk result (Fits page.new) }
     ensures takes { OnOk result (Takes token.now page.old page.new) }
-    ensures parses { OnOk result (page.new.parses_foreign ≡ page.old.parses_foreign) }
     ensures falls { OnOk result (Falls Done (Symbol.Start Tag.Nobr) page.old page.new) }
     ensures grows { OnOk result (Grows Done page.old page.new) }
     ensures works { OnOk result (Worked Done token.now page.old page.new) }
@@ -86,7 +83,7 @@ pub(crate) fn nobr_start(page: &mut Construction, token: &TokenKind) -> Result<(
 }
 
 /// Closes a nobr that is in scope, and reconstructs the active formatting elements then.
-fn close_nobr(page: &mut Construction) -> Result<(), Refusal>
+fn close_nobr(page: &mut Construction) -> Result<(), ArenaError>
     requires opened { 0 < length page.old.stack }
     requires listed { length page.old.tree.list ≤ length page.old.ledger.fates }
     ensures rest { OnOk result (page.new ≡ record page.old { tree = page.new.tree; stack = page.new.stack }) }

@@ -8,12 +8,10 @@ ghost use Rattle.html_construction.specs.Grown.{Grown};
 ghost use Rattle.html_construction.specs.Modes.{is_of_frames};
 ghost use Rattle.html_construction.specs.Works.{Works};
 ghost use Rattle.html_construction.specs.Weights.{weight};
-ghost use Rattle.html_modes.specs.Begun.{Ignores, TextStays};
 ghost use Rattle.html_modes.specs.Fitting.{Fits, is_loose};
 ghost use Rattle.html_modes.specs.Steps.{Falls, Grows, Steps, Worked};
 ghost use Rattle.html_modes.specs.Ranks.{top_rank};
 ghost use Rattle.html_modes.specs.Guards.{is_droppable};
-ghost use Rattle.html_modes.specs.RawText.{Opens};
 ghost use Rattle.html_construction.specs.Plans.{Asks, Passes};
 ghost use Rattle.html_construction.specs.Words.{IsRootAlone};
 ghost use Rattle.html_modes.specs.Rules.{Follows};
@@ -26,19 +24,19 @@ use crate::modes::body_start::html_start;
 use crate::modes::initial::doctype;
 use crate::modes::text::text_start;
 use crate::outcome::Outcome;
-use html_construction::{Construction, Mode, Refusal};
+use html_construction::{ArenaError, Construction, Mode};
 use html_ledger::{Cause, Symbol, is_space};
 use html_names::Tag;
 use html_tokens::TokenKind;
 use html_tree::{Group, Target};
 
 /// The rules for the "in frameset" insertion mode (13.2.6.4.20).
-#[tactic(auto, using(crate::proofs::Settled::mode_rules, crate::proofs::RawText::open_rules, crate::proofs::Begun::ignoring_rules, crate::proofs::Begun::text_stays, crate::proofs::RulesInFrameset::arms))]
+#[tactic(auto, using(crate::proofs::Settled::mode_rules, crate::proofs::RulesInFrameset::arms))]
 pub(crate) fn in_frameset(
     page: &mut Construction,
     token: &TokenKind,
     symbol: Symbol,
-) -> Result<Outcome, Refusal>
+) -> Result<Outcome, ArenaError>
     requires seen { is_droppable symbol ≡ true → page.old.ledger.history.frameset ≡ true }
     requires began { is_droppable symbol ≡ true → is_of_frames page.old.began ≡ true }
     requires symbol { symbol_of token.now ≡ symbol }
@@ -48,13 +46,9 @@ pub(crate) fn in_frameset(
     requires free { IsTrue (is_free page.old.ledger.history symbol) }
     ensures fits { OnOk result (Fits page.new) }
     ensures takes { IfOk result (λ o. Steps o token.now page.old page.new) }
-    ensures parses { OnOk result (page.new.parses_foreign ≡ page.old.parses_foreign) }
     ensures falls { IfOk result (λ o. Falls o symbol page.old page.new) }
-    ensures out { OnOk result (TextStays symbol page.old.mode page.new.mode) }
     ensures grows { IfOk result (λ o. Grows o page.old page.new) }
     ensures works { IfOk result (λ o. Worked o token.now page.old page.new) }
-    ensures ignores { IfOk result (λ o. Ignores o symbol) }
-    ensures opens { IfOk result (λ o. Opens o symbol page.new) }
     ensures refuses { IfErr result (λ e. Refuses token.now e page.old page.new) }
     ensures follows { IfOk result (λ o. Follows (in_frameset symbol) token.now o page.old page.new) }
 {
@@ -136,12 +130,12 @@ fn is_root_alone(page: &Construction) -> bool
 }
 
 /// The rules for the "after frameset" insertion mode (13.2.6.4.21).
-#[tactic(auto, using(crate::proofs::Settled::mode_rules, crate::proofs::RawText::open_rules, crate::proofs::Begun::ignoring_rules, crate::proofs::Begun::text_stays, crate::proofs::RulesAfterFrameset::arms))]
+#[tactic(auto, using(crate::proofs::Settled::mode_rules, crate::proofs::RulesAfterFrameset::arms))]
 pub(crate) fn after_frameset(
     page: &mut Construction,
     token: &TokenKind,
     symbol: Symbol,
-) -> Result<Outcome, Refusal>
+) -> Result<Outcome, ArenaError>
     requires seen { is_droppable symbol ≡ true → page.old.ledger.history.frameset ≡ true }
     requires began { is_droppable symbol ≡ true → is_of_frames page.old.began ≡ true }
     requires symbol { symbol_of token.now ≡ symbol }
@@ -151,13 +145,9 @@ pub(crate) fn after_frameset(
     requires free { IsTrue (is_free page.old.ledger.history symbol) }
     ensures fits { OnOk result (Fits page.new) }
     ensures takes { IfOk result (λ o. Steps o token.now page.old page.new) }
-    ensures parses { OnOk result (page.new.parses_foreign ≡ page.old.parses_foreign) }
     ensures falls { IfOk result (λ o. Falls o symbol page.old page.new) }
-    ensures out { OnOk result (TextStays symbol page.old.mode page.new.mode) }
     ensures grows { IfOk result (λ o. Grows o page.old page.new) }
     ensures works { IfOk result (λ o. Worked o token.now page.old page.new) }
-    ensures ignores { IfOk result (λ o. Ignores o symbol) }
-    ensures opens { IfOk result (λ o. Opens o symbol page.new) }
     ensures refuses { IfErr result (λ e. Refuses token.now e page.old page.new) }
     ensures follows { IfOk result (λ o. Follows (after_frameset symbol) token.now o page.old page.new) }
 {
@@ -198,12 +188,12 @@ pub(crate) fn after_frameset(
 }
 
 /// The rules for the "after after frameset" insertion mode (13.2.6.4.23).
-#[tactic(auto, using(crate::proofs::Settled::mode_rules, crate::proofs::RawText::open_rules, crate::proofs::Begun::ignoring_rules, crate::proofs::Begun::text_stays, crate::proofs::RulesAfterAfterFrameset::arms))]
+#[tactic(auto, using(crate::proofs::Settled::mode_rules, crate::proofs::RulesAfterAfterFrameset::arms))]
 pub(crate) fn after_after_frameset(
     page: &mut Construction,
     token: &TokenKind,
     symbol: Symbol,
-) -> Result<Outcome, Refusal>
+) -> Result<Outcome, ArenaError>
     requires seen { is_droppable symbol ≡ true → page.old.ledger.history.frameset ≡ true }
     requires began { is_droppable symbol ≡ true → is_of_frames page.old.began ≡ true }
     requires symbol { symbol_of token.now ≡ symbol }
@@ -213,13 +203,9 @@ pub(crate) fn after_after_frameset(
     requires free { IsTrue (is_free page.old.ledger.history symbol) }
     ensures fits { OnOk result (Fits page.new) }
     ensures takes { IfOk result (λ o. Steps o token.now page.old page.new) }
-    ensures parses { OnOk result (page.new.parses_foreign ≡ page.old.parses_foreign) }
     ensures falls { IfOk result (λ o. Falls o symbol page.old page.new) }
-    ensures out { OnOk result (TextStays symbol page.old.mode page.new.mode) }
     ensures grows { IfOk result (λ o. Grows o page.old page.new) }
     ensures works { IfOk result (λ o. Worked o token.now page.old page.new) }
-    ensures ignores { IfOk result (λ o. Ignores o symbol) }
-    ensures opens { IfOk result (λ o. Opens o symbol page.new) }
     ensures refuses { IfErr result (λ e. Refuses token.now e page.old page.new) }
     ensures follows { IfOk result (λ o. Follows (after_after_frameset symbol) token.now o page.old page.new) }
 {

@@ -12,13 +12,11 @@ ghost use Rattle.html_construction.specs.Calls.{IsTree, is_first};
 ghost use Rattle.html_construction.specs.Grown.{Grown};
 ghost use Rattle.html_construction.specs.Works.{Works};
 ghost use Rattle.html_construction.specs.Weights.{weight};
-ghost use Rattle.html_modes.specs.Begun.{StaysOut, TextStays};
 ghost use Rattle.html_modes.specs.Fitting.{Fits, Calls, is_loose};
 ghost use Rattle.html_modes.specs.Plain.{Turns};
 ghost use Rattle.html_modes.specs.Steps.{Falls, Grows, Steps, Worked};
 ghost use Rattle.html_modes.specs.Ranks.{rank, top_rank};
 ghost use Rattle.html_modes.specs.declared.outcome.Outcome.TheVariants.{Done};
-ghost use Rattle.html_modes.specs.RawText.{HasOpened, Opens};
 ghost use Rattle.html_tree.specs.declared.groups.Target.TheVariants.{Current};
 ghost use Rattle.html_construction.specs.Plans.{Passes};
 ghost use Rattle.html_construction.specs.Words.{Insert, InsertAt, InsertVoid, InsertVoidAt};
@@ -32,19 +30,19 @@ use crate::modes::initial::doctype;
 use crate::modes::template::{template_end, template_start_at};
 use crate::modes::text::text_start_at;
 use crate::outcome::Outcome;
-use html_construction::{Construction, Mode, Refusal};
+use html_construction::{ArenaError, Construction, Mode};
 use html_ledger::{Cause, Symbol, is_space};
 use html_names::Tag;
 use html_tokens::TokenKind;
 use html_tree::{Group, Target};
 
 /// The rules for the "in head" insertion mode (13.2.6.4.4).
-#[tactic(auto, using(crate::proofs::Settled::mode_rules, crate::proofs::RawText::head_names, crate::proofs::Begun::text_stays, crate::proofs::Begun::text_leaves, crate::proofs::RulesInHead::arms))]
+#[tactic(auto, using(crate::proofs::Settled::mode_rules, crate::proofs::RawText::headish_names, crate::proofs::RulesInHead::arms))]
 pub(crate) fn in_head(
     page: &mut Construction,
     token: &TokenKind,
     symbol: Symbol,
-) -> Result<Outcome, Refusal>
+) -> Result<Outcome, ArenaError>
     requires symbol { symbol_of token.now ≡ symbol }
     requires mode { page.old.mode ≡ Mode.InHead }
     requires fits { Fits page.old }
@@ -52,13 +50,10 @@ pub(crate) fn in_head(
     requires free { IsTrue (is_free page.old.ledger.history symbol) }
     ensures fits { OnOk result (Fits page.new) }
     ensures takes { IfOk result (λ o. Steps o token.now page.old page.new) }
-    ensures parses { OnOk result (page.new.parses_foreign ≡ page.old.parses_foreign) }
     ensures falls { IfOk result (λ o. Falls o symbol page.old page.new) }
-    ensures out { OnOk result (TextStays symbol page.old.mode page.new.mode) }
     ensures grows { IfOk result (λ o. Grows o page.old page.new) }
     ensures works { IfOk result (λ o. Worked o token.now page.old page.new) }
     ensures plain { IfOk result (λ o. Turns o symbol token.now page.old page.new) }
-    ensures opens { IfOk result (λ o. Opens o symbol page.new) }
     ensures refuses { IfErr result (λ e. Refuses token.now e page.old page.new) }
     ensures follows { IfOk result (λ o. Follows (in_head symbol) token.now o page.old page.new) }
 {
@@ -92,19 +87,21 @@ pub(crate) fn in_head(
     Ok(Outcome::Done)
 }
 
-#[tactic(auto, using(crate::proofs::Settled::mode_rules, crate::proofs::RawText::head_names, crate::proofs::RulesInHead::arms))]
-fn start_in_head(page: &mut Construction, token: &TokenKind, tag: Tag) -> Result<Outcome, Refusal>
+#[tactic(auto, using(crate::proofs::Settled::mode_rules, crate::proofs::RawText::headish_names, crate::proofs::RulesInHead::arms))]
+fn start_in_head(
+    page: &mut Construction,
+    token: &TokenKind,
+    tag: Tag,
+) -> Result<Outcome, ArenaError>
     requires mode { page.old.mode ≡ Mode.InHead }
     requires symbol { symbol_of token.now ≡ Symbol.Start tag }
     requires calls { Calls page.old }
     ensures fits { OnOk result (Fits page.new) }
     ensures takes { IfOk result (λ o. Steps o token.now page.old page.new) }
-    ensures parses { OnOk result (page.new.parses_foreign ≡ page.old.parses_foreign) }
     ensures falls { IfOk result (λ o. Falls o (Symbol.Start tag) page.old page.new) }
     ensures grows { IfOk result (λ o. Grows o page.old page.new) }
     ensures works { IfOk result (λ o. Worked o token.now page.old page.new) }
     ensures plain { IfOk result (λ o. Turns o (Symbol.Start tag) token.now page.old page.new) }
-    ensures opens { IfOk result (λ o. Opens o (Symbol.Start tag) page.new) }
     ensures refuses { IfErr result (λ e. Refuses token.now e page.old page.new) }
     ensures follows { IfOk result (λ o. Follows (in_head_start tag) token.now o page.old page.new) }
 {
@@ -130,14 +127,13 @@ fn start_in_head(page: &mut Construction, token: &TokenKind, tag: Tag) -> Result
     Ok(Outcome::Done)
 }
 
-#[tactic(auto, using(crate::proofs::Settled::mode_rules, crate::proofs::RawText::open_rules, crate::proofs::RulesInHead::arms))]
-fn end_in_head(page: &mut Construction, token: &TokenKind, tag: Tag) -> Result<Outcome, Refusal>
+#[tactic(auto, using(crate::proofs::Settled::mode_rules, crate::proofs::RulesInHead::arms))]
+fn end_in_head(page: &mut Construction, token: &TokenKind, tag: Tag) -> Result<Outcome, ArenaError>
     requires mode { page.old.mode ≡ Mode.InHead }
     requires symbol { symbol_of token.now ≡ Symbol.End tag }
     requires calls { Calls page.old }
     ensures fits { OnOk result (Fits page.new) }
     ensures takes { IfOk result (λ o. Steps o token.now page.old page.new) }
-    ensures parses { OnOk result (page.new.parses_foreign ≡ page.old.parses_foreign) }
     ensures falls { IfOk result (λ o. Falls o (Symbol.End tag) page.old page.new) }
     ensures grows { IfOk result (λ o. Grows o page.old page.new) }
     ensures works { IfOk result (λ o. Worked o token.now page.old page.new) }
@@ -165,7 +161,7 @@ fn end_in_head(page: &mut Construction, token: &TokenKind, tag: Tag) -> Result<O
 }
 
 /// Closes the head and goes on after it. (In a real run the head is the current node; else the rules of the body go on.)
-#[tactic(auto, using(crate::proofs::Begun::out_rules, crate::proofs::RulesInHead::arms))]
+#[tactic(auto, using(crate::proofs::RulesInHead::arms))]
 fn leave_head(page: &mut Construction)
     requires mode { page.old.mode ≡ Mode.InHead }
     requires opened { 0 < length page.old.stack }
@@ -178,7 +174,6 @@ fn leave_head(page: &mut Construction)
     ensures falls { (s : Symbol) → weight page.new.stack + rank page.new.mode s < weight page.old.stack + rank page.old.mode s }
     ensures loose { is_loose page.new.mode ≡ true }
     ensures top { top_rank page.new.mode ≤ 6 }
-    ensures out { StaysOut page.old.mode page.new.mode }
     ensures closed { (nat_lt 1 (length page.old.stack) && is_first (group.Named tag.Head) page.old.stack) ≡ true → page.new ≡ record page.old { tree = page.new.tree; stack = drop 1 page.old.stack; mode = Mode.AfterHead } }
     ensures exact { (nat_lt 1 (length page.old.stack) && is_first (group.Named tag.Head) page.old.stack) ≡ true → IsTree (record page.old.tree { stack = popped page.old.tree.stack }) page.new }
     ensures follows { Passes leaving_head page.old page.new }
@@ -191,22 +186,20 @@ fn leave_head(page: &mut Construction)
 }
 
 /// A start tag that belongs into the head.
-#[tactic(auto, using(crate::proofs::Settled::head_rules, crate::proofs::RawText::head_names, crate::proofs::RulesInHead::arms))]
+#[tactic(auto, using(crate::proofs::Settled::head_rules, crate::proofs::RawText::headish_names, crate::proofs::RulesInHead::arms))]
 pub(crate) fn head_start(
     page: &mut Construction,
     token: &TokenKind,
     tag: Tag,
-) -> Result<(), Refusal>
+) -> Result<(), ArenaError>
     requires headish { is_headish tag ≡ true }
     requires symbol { symbol_of token.now ≡ Symbol.Start tag }
     requires calls { Calls page.old }
     ensures fits { OnOk result (Fits page.new) }
     ensures takes { OnOk result (Takes token.now page.old page.new) }
-    ensures parses { OnOk result (page.new.parses_foreign ≡ page.old.parses_foreign) }
     ensures falls { OnOk result (Falls Done (Symbol.Start tag) page.old page.new) }
     ensures grows { OnOk result (Grows Done page.old page.new) }
     ensures works { OnOk result (Worked Done token.now page.old page.new) }
-    ensures opens { OnOk result (HasOpened tag page.new) }
     ensures refuses { IfErr result (λ e. Refuses token.now e page.old page.new) }
     ensures follows { OnOk result (Follows (in_head_part Insert (InsertVoid tag) tag) token.now Done page.old page.new) }
 {
@@ -216,23 +209,21 @@ pub(crate) fn head_start(
 
 /// A start tag that belongs into the head, whose element goes to a target: last into the head, as if that were open, where it comes after
 /// the head's end.
-#[tactic(auto, using(crate::proofs::Settled::head_rules, crate::proofs::RawText::head_names, crate::proofs::RulesInHead::arms))]
+#[tactic(auto, using(crate::proofs::Settled::head_rules, crate::proofs::RawText::headish_names, crate::proofs::RulesInHead::arms))]
 fn head_start_at(
     page: &mut Construction,
     token: &TokenKind,
     tag: Tag,
     target: Target,
-) -> Result<(), Refusal>
+) -> Result<(), ArenaError>
     requires headish { is_headish tag ≡ true }
     requires symbol { symbol_of token.now ≡ Symbol.Start tag }
     requires calls { Calls page.old }
     ensures fits { OnOk result (Fits page.new) }
     ensures takes { OnOk result (Takes token.now page.old page.new) }
-    ensures parses { OnOk result (page.new.parses_foreign ≡ page.old.parses_foreign) }
     ensures falls { OnOk result (Falls Done (Symbol.Start tag) page.old page.new) }
     ensures grows { OnOk result (Grows Done page.old page.new) }
     ensures works { OnOk result (Worked Done token.now page.old page.new) }
-    ensures opens { OnOk result (HasOpened tag page.new) }
     ensures refuses { IfErr result (λ e. Refuses token.now e page.old page.new) }
     ensures follows { OnOk result (Follows (in_head_part (InsertAt target) (InsertVoidAt tag target) tag) token.now Done page.old page.new) }
     ensures here { OnOk result (target ≡ Current page.old.fostering → Follows (in_head_part Insert (InsertVoid tag) tag) token.now Done page.old page.new) }
@@ -247,12 +238,12 @@ fn head_start_at(
 }
 
 /// The rules for the "in head noscript" insertion mode (13.2.6.4.5).
-#[tactic(auto, using(crate::proofs::Settled::mode_rules, crate::proofs::RawText::head_names, crate::proofs::Begun::text_stays, crate::proofs::Begun::text_leaves, crate::proofs::RulesInHeadNoscript::arms))]
+#[tactic(auto, using(crate::proofs::Settled::mode_rules, crate::proofs::RawText::headish_names, crate::proofs::RulesInHeadNoscript::arms))]
 pub(crate) fn in_head_noscript(
     page: &mut Construction,
     token: &TokenKind,
     symbol: Symbol,
-) -> Result<Outcome, Refusal>
+) -> Result<Outcome, ArenaError>
     requires symbol { symbol_of token.now ≡ symbol }
     requires mode { page.old.mode ≡ Mode.InHeadNoscript }
     requires fits { Fits page.old }
@@ -260,12 +251,9 @@ pub(crate) fn in_head_noscript(
     requires free { IsTrue (is_free page.old.ledger.history symbol) }
     ensures fits { OnOk result (Fits page.new) }
     ensures takes { IfOk result (λ o. Steps o token.now page.old page.new) }
-    ensures parses { OnOk result (page.new.parses_foreign ≡ page.old.parses_foreign) }
     ensures falls { IfOk result (λ o. Falls o symbol page.old page.new) }
-    ensures out { OnOk result (TextStays symbol page.old.mode page.new.mode) }
     ensures grows { IfOk result (λ o. Grows o page.old page.new) }
     ensures works { IfOk result (λ o. Worked o token.now page.old page.new) }
-    ensures opens { IfOk result (λ o. Opens o symbol page.new) }
     ensures refuses { IfErr result (λ e. Refuses token.now e page.old page.new) }
     ensures follows { IfOk result (λ o. Follows (in_head_noscript symbol) token.now o page.old page.new) }
 {
@@ -309,22 +297,20 @@ pub(crate) fn in_head_noscript(
     Ok(Outcome::Done)
 }
 
-#[tactic(auto, using(crate::proofs::Settled::mode_rules, crate::proofs::RawText::head_names, crate::proofs::RulesInHeadNoscript::arms))]
+#[tactic(auto, using(crate::proofs::Settled::mode_rules, crate::proofs::RawText::headish_names, crate::proofs::RulesInHeadNoscript::arms))]
 fn start_in_noscript(
     page: &mut Construction,
     token: &TokenKind,
     tag: Tag,
-) -> Result<Outcome, Refusal>
+) -> Result<Outcome, ArenaError>
     requires mode { page.old.mode ≡ Mode.InHeadNoscript }
     requires symbol { symbol_of token.now ≡ Symbol.Start tag }
     requires calls { Calls page.old }
     ensures fits { OnOk result (Fits page.new) }
     ensures takes { IfOk result (λ o. Steps o token.now page.old page.new) }
-    ensures parses { OnOk result (page.new.parses_foreign ≡ page.old.parses_foreign) }
     ensures falls { IfOk result (λ o. Falls o (Symbol.Start tag) page.old page.new) }
     ensures grows { IfOk result (λ o. Grows o page.old page.new) }
     ensures works { IfOk result (λ o. Worked o token.now page.old page.new) }
-    ensures opens { IfOk result (λ o. Opens o (Symbol.Start tag) page.new) }
     ensures refuses { IfErr result (λ e. Refuses token.now e page.old page.new) }
     ensures follows { IfOk result (λ o. Follows (in_head_noscript_start tag) token.now o page.old page.new) }
 {
@@ -349,18 +335,16 @@ fn start_in_noscript(
 }
 
 /// A noscript in a noscript. (One was made; where not, the rules of the head go on.)
-#[tactic(auto, using(crate::proofs::Settled::mode_rules, crate::proofs::RawText::head_names, crate::proofs::RulesInHeadNoscript::inner))]
-fn noscript_in_noscript(page: &mut Construction, token: &TokenKind) -> Result<Outcome, Refusal>
+#[tactic(auto, using(crate::proofs::Settled::mode_rules, crate::proofs::RawText::headish_names, crate::proofs::RulesInHeadNoscript::inner))]
+fn noscript_in_noscript(page: &mut Construction, token: &TokenKind) -> Result<Outcome, ArenaError>
     requires mode { page.old.mode ≡ Mode.InHeadNoscript }
     requires symbol { symbol_of token.now ≡ Symbol.Start Tag.Noscript }
     requires calls { Calls page.old }
     ensures fits { OnOk result (Fits page.new) }
     ensures takes { IfOk result (λ o. Steps o token.now page.old page.new) }
-    ensures parses { OnOk result (page.new.parses_foreign ≡ page.old.parses_foreign) }
     ensures falls { IfOk result (λ o. Falls o (Symbol.Start Tag.Noscript) page.old page.new) }
     ensures grows { IfOk result (λ o. Grows o page.old page.new) }
     ensures works { IfOk result (λ o. Worked o token.now page.old page.new) }
-    ensures opens { IfOk result (λ o. Opens o (Symbol.Start Tag.Noscript) page.new) }
     ensures refuses { IfErr result (λ e. Refuses token.now e page.old page.new) }
     ensures follows { IfOk result (λ o. Follows (in_head_noscript_start Tag.Noscript) token.now o page.old page.new) }
 {
@@ -373,7 +357,7 @@ fn noscript_in_noscript(page: &mut Construction, token: &TokenKind) -> Result<Ou
 }
 
 /// Closes the noscript and goes on in the head. (In a real run the noscript is the current node; else the rules of the body go on.)
-#[tactic(auto, using(crate::proofs::Begun::out_rules, crate::proofs::RulesInHeadNoscript::arms))]
+#[tactic(auto, using(crate::proofs::RulesInHeadNoscript::arms))]
 fn leave_noscript(page: &mut Construction)
     requires mode { page.old.mode ≡ Mode.InHeadNoscript }
     requires opened { 0 < length page.old.stack }
@@ -386,7 +370,6 @@ fn leave_noscript(page: &mut Construction)
     ensures falls { (s : Symbol) → weight page.new.stack + rank page.new.mode s < weight page.old.stack + rank page.old.mode s }
     ensures loose { is_loose page.new.mode ≡ true }
     ensures top { top_rank page.new.mode ≤ 3 }
-    ensures out { StaysOut page.old.mode page.new.mode }
     ensures follows { Passes leaving_noscript page.old page.new }
 {
     if page.pop_if(Group::Named(Tag::Noscript)) {
@@ -397,12 +380,12 @@ fn leave_noscript(page: &mut Construction)
 }
 
 /// The rules for the "after head" insertion mode (13.2.6.4.6).
-#[tactic(auto, using(crate::proofs::Settled::mode_rules, crate::proofs::RawText::head_names, crate::proofs::Begun::text_stays, crate::proofs::RulesAfterHead::arms))]
+#[tactic(auto, using(crate::proofs::Settled::mode_rules, crate::proofs::RawText::headish_names, crate::proofs::RulesAfterHead::arms))]
 pub(crate) fn after_head(
     page: &mut Construction,
     token: &TokenKind,
     symbol: Symbol,
-) -> Result<Outcome, Refusal>
+) -> Result<Outcome, ArenaError>
     requires symbol { symbol_of token.now ≡ symbol }
     requires mode { page.old.mode ≡ Mode.AfterHead }
     requires fits { Fits page.old }
@@ -410,13 +393,10 @@ pub(crate) fn after_head(
     requires free { IsTrue (is_free page.old.ledger.history symbol) }
     ensures fits { OnOk result (Fits page.new) }
     ensures takes { IfOk result (λ o. Steps o token.now page.old page.new) }
-    ensures parses { OnOk result (page.new.parses_foreign ≡ page.old.parses_foreign) }
     ensures falls { IfOk result (λ o. Falls o symbol page.old page.new) }
-    ensures out { OnOk result (TextStays symbol page.old.mode page.new.mode) }
     ensures grows { IfOk result (λ o. Grows o page.old page.new) }
     ensures works { IfOk result (λ o. Worked o token.now page.old page.new) }
     ensures plain { IfOk result (λ o. Turns o symbol token.now page.old page.new) }
-    ensures opens { IfOk result (λ o. Opens o symbol page.new) }
     ensures refuses { IfErr result (λ e. Refuses token.now e page.old page.new) }
     ensures follows { IfOk result (λ o. Follows (after_head symbol) token.now o page.old page.new) }
 {
@@ -461,23 +441,21 @@ pub(crate) fn after_head(
     Ok(Outcome::Done)
 }
 
-#[tactic(auto, using(crate::proofs::Settled::mode_rules, crate::proofs::RawText::head_names, crate::proofs::RulesAfterHead::arms))]
+#[tactic(auto, using(crate::proofs::Settled::mode_rules, crate::proofs::RawText::headish_names, crate::proofs::RulesAfterHead::arms))]
 fn start_after_head(
     page: &mut Construction,
     token: &TokenKind,
     tag: Tag,
-) -> Result<Outcome, Refusal>
+) -> Result<Outcome, ArenaError>
     requires mode { page.old.mode ≡ Mode.AfterHead }
     requires symbol { symbol_of token.now ≡ Symbol.Start tag }
     requires calls { Calls page.old }
     ensures fits { OnOk result (Fits page.new) }
     ensures takes { IfOk result (λ o. Steps o token.now page.old page.new) }
-    ensures parses { OnOk result (page.new.parses_foreign ≡ page.old.parses_foreign) }
     ensures falls { IfOk result (λ o. Falls o (Symbol.Start tag) page.old page.new) }
     ensures grows { IfOk result (λ o. Grows o page.old page.new) }
     ensures works { IfOk result (λ o. Worked o token.now page.old page.new) }
     ensures plain { IfOk result (λ o. Turns o (Symbol.Start tag) token.now page.old page.new) }
-    ensures opens { IfOk result (λ o. Opens o (Symbol.Start tag) page.new) }
     ensures refuses { IfErr result (λ e. Refuses token.now e page.old page.new) }
     ensures follows { IfOk result (λ o. Follows (after_head_start tag) token.now o page.old page.new) }
 {

@@ -11,12 +11,10 @@ ghost use Rattle.html_construction.specs.Calls.{HasFate, IsTree, counting, docty
 ghost use Rattle.html_construction.specs.Grown.{Grown};
 ghost use Rattle.html_construction.specs.Quirks.{sets_quirks};
 ghost use Rattle.html_construction.specs.Works.{Works};
-ghost use Rattle.html_modes.specs.Begun.{TextStays};
 ghost use Rattle.html_modes.specs.Fitting.{Fits};
 ghost use Rattle.html_modes.specs.Foreign.{IsIgnored};
 ghost use Rattle.html_modes.specs.Plain.{Turns};
 ghost use Rattle.html_modes.specs.Steps.{Falls, Grows, Steps, Worked};
-ghost use Rattle.html_modes.specs.RawText.{Opens};
 ghost use Rattle.html_construction.specs.Plans.{PassesFor};
 ghost use Rattle.html_modes.specs.RuleForms.{inserting_doctype};
 ghost use Rattle.html_modes.specs.Rules.{Follows};
@@ -27,19 +25,19 @@ ghost use Rattle.html_modes.specs.RulesInitial.{initial, setting_quirks};
 use crate::modes::body_start::html_start;
 use crate::outcome::Outcome;
 use crate::quirks::sets_quirks;
-use html_construction::{Construction, Mode, Refusal};
+use html_construction::{ArenaError, Construction, Mode};
 use html_ledger::{Cause, Symbol};
 use html_names::Tag;
 use html_tokens::TokenKind;
 use html_tree::Target;
 
 /// The rules for the "initial" insertion mode (13.2.6.4.1).
-#[tactic(auto, using(crate::proofs::Settled::mode_rules, crate::proofs::RawText::open_rules, crate::proofs::Begun::text_stays, crate::proofs::RulesInitial::arms))]
+#[tactic(auto, using(crate::proofs::Settled::mode_rules, crate::proofs::RulesInitial::arms))]
 pub(crate) fn initial(
     page: &mut Construction,
     token: &TokenKind,
     symbol: Symbol,
-) -> Result<Outcome, Refusal>
+) -> Result<Outcome, ArenaError>
     requires symbol { symbol_of token.now ≡ symbol }
     requires mode { page.old.mode ≡ Mode.Initial }
     requires fits { Fits page.old }
@@ -47,13 +45,10 @@ pub(crate) fn initial(
     requires free { IsTrue (is_free page.old.ledger.history symbol) }
     ensures fits { OnOk result (Fits page.new) }
     ensures takes { IfOk result (λ o. Steps o token.now page.old page.new) }
-    ensures parses { OnOk result (page.new.parses_foreign ≡ page.old.parses_foreign) }
     ensures falls { IfOk result (λ o. Falls o symbol page.old page.new) }
-    ensures out { OnOk result (TextStays symbol page.old.mode page.new.mode) }
     ensures grows { IfOk result (λ o. Grows o page.old page.new) }
     ensures works { IfOk result (λ o. Worked o token.now page.old page.new) }
     ensures plain { IfOk result (λ o. Turns o symbol token.now page.old page.new) }
-    ensures opens { IfOk result (λ o. Opens o symbol page.new) }
     ensures refuses { IfErr result (λ e. Refuses token.now e page.old page.new) }
     ensures follows { IfOk result (λ o. Follows (initial symbol) token.now o page.old page.new) }
 {
@@ -87,12 +82,12 @@ fn set_quirks(page: &mut Construction, token: &TokenKind)
 }
 
 /// The rules for the "before html" insertion mode (13.2.6.4.2).
-#[tactic(auto, using(crate::proofs::Settled::mode_rules, crate::proofs::RawText::open_rules, crate::proofs::Begun::text_stays, crate::proofs::RulesBeforeHtml::arms))]
+#[tactic(auto, using(crate::proofs::Settled::mode_rules, crate::proofs::RulesBeforeHtml::arms))]
 pub(crate) fn before_html(
     page: &mut Construction,
     token: &TokenKind,
     symbol: Symbol,
-) -> Result<Outcome, Refusal>
+) -> Result<Outcome, ArenaError>
     requires symbol { symbol_of token.now ≡ symbol }
     requires mode { page.old.mode ≡ Mode.BeforeHtml }
     requires fits { Fits page.old }
@@ -100,13 +95,10 @@ pub(crate) fn before_html(
     requires free { IsTrue (is_free page.old.ledger.history symbol) }
     ensures fits { OnOk result (Fits page.new) }
     ensures takes { IfOk result (λ o. Steps o token.now page.old page.new) }
-    ensures parses { OnOk result (page.new.parses_foreign ≡ page.old.parses_foreign) }
     ensures falls { IfOk result (λ o. Falls o symbol page.old page.new) }
-    ensures out { OnOk result (TextStays symbol page.old.mode page.new.mode) }
     ensures grows { IfOk result (λ o. Grows o page.old page.new) }
     ensures works { IfOk result (λ o. Worked o token.now page.old page.new) }
     ensures plain { IfOk result (λ o. Turns o symbol token.now page.old page.new) }
-    ensures opens { IfOk result (λ o. Opens o symbol page.new) }
     ensures refuses { IfErr result (λ e. Refuses token.now e page.old page.new) }
     ensures follows { IfOk result (λ o. Follows (before_html symbol) token.now o page.old page.new) }
 {
@@ -147,12 +139,12 @@ pub(crate) fn before_html(
 }
 
 /// The rules for the "before head" insertion mode (13.2.6.4.3).
-#[tactic(auto, using(crate::proofs::Settled::mode_rules, crate::proofs::RawText::open_rules, crate::proofs::Begun::text_stays, crate::proofs::RulesBeforeHead::arms))]
+#[tactic(auto, using(crate::proofs::Settled::mode_rules, crate::proofs::RulesBeforeHead::arms))]
 pub(crate) fn before_head(
     page: &mut Construction,
     token: &TokenKind,
     symbol: Symbol,
-) -> Result<Outcome, Refusal>
+) -> Result<Outcome, ArenaError>
     requires symbol { symbol_of token.now ≡ symbol }
     requires mode { page.old.mode ≡ Mode.BeforeHead }
     requires fits { Fits page.old }
@@ -160,13 +152,10 @@ pub(crate) fn before_head(
     requires free { IsTrue (is_free page.old.ledger.history symbol) }
     ensures fits { OnOk result (Fits page.new) }
     ensures takes { IfOk result (λ o. Steps o token.now page.old page.new) }
-    ensures parses { OnOk result (page.new.parses_foreign ≡ page.old.parses_foreign) }
     ensures falls { IfOk result (λ o. Falls o symbol page.old page.new) }
-    ensures out { OnOk result (TextStays symbol page.old.mode page.new.mode) }
     ensures grows { IfOk result (λ o. Grows o page.old page.new) }
     ensures works { IfOk result (λ o. Worked o token.now page.old page.new) }
     ensures plain { IfOk result (λ o. Turns o symbol token.now page.old page.new) }
-    ensures opens { IfOk result (λ o. Opens o symbol page.new) }
     ensures refuses { IfErr result (λ e. Refuses token.now e page.old page.new) }
     ensures follows { IfOk result (λ o. Follows (before_head symbol) token.now o page.old page.new) }
 {
@@ -210,7 +199,7 @@ pub(crate) fn before_head(
 
 /// A DOCTYPE token: made where one is awaited, which is in the mode initial, and else ignored.
 #[tactic(auto, using(crate::proofs::Embedding::doctype_rules, crate::proofs::Ruled::doctype_plans))]
-pub(crate) fn doctype(page: &mut Construction, token: &TokenKind) -> Result<(), Refusal>
+pub(crate) fn doctype(page: &mut Construction, token: &TokenKind) -> Result<(), ArenaError>
     requires symbol { symbol_of token.now ≡ Symbol.Doctype }
     requires quiet { page.old.ledger.kept ≡ [] }
     ensures rest { OnOk result (page.new ≡ record page.old { tree = page.new.tree; ledger = page.new.ledger }) }

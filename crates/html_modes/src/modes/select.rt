@@ -8,15 +8,12 @@ ghost use Rattle.html_construction.specs.Grown.{Grown};
 ghost use Rattle.html_construction.specs.Modes.{is_of_selects, is_reset};
 ghost use Rattle.html_construction.specs.Works.{Works};
 ghost use Rattle.html_construction.specs.Weights.{weight};
-ghost use Rattle.html_modes.specs.Begun.{Ignores, TextStays};
-ghost use Rattle.html_tree.specs.Proper.{is_foreign_root};
 ghost use Rattle.html_modes.specs.Fitting.{Fits, Calls, is_loose};
 ghost use Rattle.html_modes.specs.Steps.{Falls, Grows, Steps, Worked};
 ghost use Rattle.html_modes.specs.Ranks.{rank};
 ghost use Rattle.html_modes.specs.declared.outcome.Outcome.TheVariants.{Done};
 ghost use Rattle.html_ledger.specs.MayDrop.{is_in_select};
 ghost use Rattle.html_modes.specs.Guards.{is_droppable};
-ghost use Rattle.html_modes.specs.RawText.{Opens};
 ghost use Rattle.html_ledger.specs.declared.fate.Cause.TheVariants.{InSelect};
 ghost use Rattle.html_construction.specs.Plans.{Chooses, Passes};
 ghost use Rattle.html_modes.specs.RuleForms.{again, ignored};
@@ -31,19 +28,19 @@ use crate::modes::initial::doctype;
 use crate::modes::template::template_end;
 use crate::modes::text::insert_text_char;
 use crate::outcome::Outcome;
-use html_construction::{Construction, Mode, Refusal};
+use html_construction::{ArenaError, Construction, Mode};
 use html_ledger::{Cause, Symbol};
 use html_names::{Scope, Tag};
 use html_tokens::TokenKind;
 use html_tree::Group;
 
 /// The rules for the "in select" insertion mode (13.2.6.4.16).
-#[tactic(auto, using(crate::proofs::Settled::mode_rules, crate::proofs::RawText::open_rules, crate::proofs::Begun::text_stays, crate::proofs::RulesInSelect::arms))]
+#[tactic(auto, using(crate::proofs::Settled::mode_rules, crate::proofs::RulesInSelect::arms))]
 pub(crate) fn in_select(
     page: &mut Construction,
     token: &TokenKind,
     symbol: Symbol,
-) -> Result<Outcome, Refusal>
+) -> Result<Outcome, ArenaError>
     requires seen { is_droppable symbol ≡ true → may_select page.old.ledger.history ≡ true }
     requires began { is_droppable symbol ≡ true → is_of_selects page.old.began ≡ true }
     requires symbol { symbol_of token.now ≡ symbol }
@@ -53,13 +50,9 @@ pub(crate) fn in_select(
     requires free { IsTrue (is_free page.old.ledger.history symbol) }
     ensures fits { OnOk result (Fits page.new) }
     ensures takes { IfOk result (λ o. Steps o token.now page.old page.new) }
-    ensures parses { OnOk result (page.new.parses_foreign ≡ page.old.parses_foreign) }
     ensures falls { IfOk result (λ o. Falls o symbol page.old page.new) }
-    ensures out { OnOk result (TextStays symbol page.old.mode page.new.mode) }
     ensures grows { IfOk result (λ o. Grows o page.old page.new) }
     ensures works { IfOk result (λ o. Worked o token.now page.old page.new) }
-    ensures ignores { IfOk result (λ o. Ignores o symbol) }
-    ensures opens { IfOk result (λ o. Opens o symbol page.new) }
     ensures refuses { IfErr result (λ e. Refuses token.now e page.old page.new) }
     ensures follows { IfOk result (λ o. Follows (in_select symbol) token.now o page.old page.new) }
 {
@@ -68,12 +61,12 @@ pub(crate) fn in_select(
 }
 
 /// The rules that both modes share.
-#[tactic(auto, using(crate::proofs::Settled::reset_rules, crate::proofs::RawText::open_rules, crate::proofs::Begun::ignoring_rules, crate::proofs::Begun::text_stays, crate::proofs::RulesInSelect::arms))]
+#[tactic(auto, using(crate::proofs::Settled::reset_rules, crate::proofs::RulesInSelect::arms))]
 fn select_rules(
     page: &mut Construction,
     token: &TokenKind,
     symbol: Symbol,
-) -> Result<Outcome, Refusal>
+) -> Result<Outcome, ArenaError>
     requires seen { is_droppable symbol ≡ true → may_select page.old.ledger.history ≡ true }
     requires began { is_droppable symbol ≡ true → is_of_selects page.old.began ≡ true }
     requires high { 7 ≤ rank page.old.mode symbol }
@@ -82,13 +75,9 @@ fn select_rules(
     requires free { IsTrue (is_free page.old.ledger.history symbol) }
     ensures fits { OnOk result (Fits page.new) }
     ensures takes { IfOk result (λ o. Steps o token.now page.old page.new) }
-    ensures parses { OnOk result (page.new.parses_foreign ≡ page.old.parses_foreign) }
     ensures falls { IfOk result (λ o. Falls o symbol page.old page.new) }
-    ensures out { OnOk result (TextStays symbol page.old.mode page.new.mode) }
     ensures grows { IfOk result (λ o. Grows o page.old page.new) }
     ensures works { IfOk result (λ o. Worked o token.now page.old page.new) }
-    ensures ignores { IfOk result (λ o. Ignores o symbol) }
-    ensures opens { IfOk result (λ o. Opens o symbol page.new) }
     ensures refuses { IfErr result (λ e. Refuses token.now e page.old page.new) }
     ensures follows { IfOk result (λ o. Follows (in_select symbol) token.now o page.old page.new) }
 {
@@ -115,12 +104,12 @@ fn select_rules(
     Ok(Outcome::Done)
 }
 
-#[tactic(auto, using(crate::proofs::Settled::reset_rules, crate::proofs::RawText::head_names, crate::proofs::Begun::ignoring_rules, crate::proofs::RulesInSelect::arms))]
+#[tactic(auto, using(crate::proofs::Settled::reset_rules, crate::proofs::RawText::headish_names, crate::proofs::RulesInSelect::arms))]
 fn select_start_tag(
     page: &mut Construction,
     token: &TokenKind,
     tag: Tag,
-) -> Result<Outcome, Refusal>
+) -> Result<Outcome, ArenaError>
     requires seen { may_select page.old.ledger.history ≡ true }
     requires began { is_of_selects page.old.began ≡ true }
     requires high { 7 ≤ rank page.old.mode (Symbol.Start tag) }
@@ -128,12 +117,9 @@ fn select_start_tag(
     requires calls { Calls page.old }
     ensures fits { OnOk result (Fits page.new) }
     ensures takes { IfOk result (λ o. Steps o token.now page.old page.new) }
-    ensures parses { OnOk result (page.new.parses_foreign ≡ page.old.parses_foreign) }
     ensures falls { IfOk result (λ o. Falls o (Symbol.Start tag) page.old page.new) }
     ensures grows { IfOk result (λ o. Grows o page.old page.new) }
     ensures works { IfOk result (λ o. Worked o token.now page.old page.new) }
-    ensures ignores { IfOk result (λ o. Ignores o (Symbol.Start tag)) }
-    ensures opens { IfOk result (λ o. Opens o (Symbol.Start tag) page.new) }
     ensures refuses { IfErr result (λ e. Refuses token.now e page.old page.new) }
     ensures follows { IfOk result (λ o. Follows (in_select_start tag) token.now o page.old page.new) }
 {
@@ -175,12 +161,11 @@ fn select_start_tag(
 }
 
 #[tactic(auto, using(crate::proofs::Settled::reset_rules, crate::proofs::RulesInSelect::arms))]
-fn select_end_tag(page: &mut Construction, token: &TokenKind, tag: Tag) -> Result<(), Refusal>
+fn select_end_tag(page: &mut Construction, token: &TokenKind, tag: Tag) -> Result<(), ArenaError>
     requires symbol { symbol_of token.now ≡ Symbol.End tag }
     requires calls { Calls page.old }
     ensures fits { OnOk result (Fits page.new) }
     ensures takes { OnOk result (Takes token.now page.old page.new) }
-    ensures parses { OnOk result (page.new.parses_foreign ≡ page.old.parses_foreign) }
     ensures falls { OnOk result (Falls Done (Symbol.End tag) page.old page.new) }
     ensures grows { OnOk result (Grows Done page.old page.new) }
     ensures works { OnOk result (Worked Done token.now page.old page.new) }
@@ -260,23 +245,19 @@ fn close_grouped_option(page: &mut Construction)
 }
 
 /// A start tag that closes the select, and is dropped where none is in scope.
-#[tactic(auto, using(crate::proofs::Settled::reset_rules, crate::proofs::RawText::open_rules, crate::proofs::Begun::ignoring_rules, crate::proofs::RulesInSelect::arms))]
-fn leave_select(page: &mut Construction, token: &TokenKind, tag: Tag) -> Result<Outcome, Refusal>
+#[tactic(auto, using(crate::proofs::Settled::reset_rules, crate::proofs::RulesInSelect::arms))]
+fn leave_select(page: &mut Construction, token: &TokenKind, tag: Tag) -> Result<Outcome, ArenaError>
     requires seen { may_select page.old.ledger.history ≡ true }
     requires began { is_of_selects page.old.began ≡ true }
-    requires native { is_foreign_root tag ≡ false }
     requires high { 7 ≤ rank page.old.mode (Symbol.Start tag) }
     requires outside { is_in_select tag ≡ false }
     requires symbol { symbol_of token.now ≡ Symbol.Start tag }
     requires calls { Calls page.old }
     ensures fits { OnOk result (Fits page.new) }
     ensures takes { IfOk result (λ o. Steps o token.now page.old page.new) }
-    ensures parses { OnOk result (page.new.parses_foreign ≡ page.old.parses_foreign) }
     ensures falls { IfOk result (λ o. Falls o (Symbol.Start tag) page.old page.new) }
     ensures grows { IfOk result (λ o. Grows o page.old page.new) }
     ensures works { IfOk result (λ o. Worked o token.now page.old page.new) }
-    ensures ignores { IfOk result (λ o. Ignores o (Symbol.Start tag)) }
-    ensures opens { IfOk result (λ o. Opens o (Symbol.Start tag) page.new) }
     ensures refuses { IfErr result (λ e. Refuses token.now e page.old page.new) }
     ensures follows { IfOk result (λ o. Follows (closing_select again (ignored InSelect)) token.now o page.old page.new) }
 {
@@ -311,12 +292,12 @@ fn close_select(page: &mut Construction) -> bool
 }
 
 /// The rules for the "in select in table" insertion mode (13.2.6.4.17).
-#[tactic(auto, using(crate::proofs::Settled::select_rules, crate::proofs::RawText::open_rules, crate::proofs::Begun::ignoring_rules, crate::proofs::Begun::text_stays, crate::proofs::RulesInSelectInTable::arms))]
+#[tactic(auto, using(crate::proofs::Settled::select_rules, crate::proofs::RulesInSelectInTable::arms))]
 pub(crate) fn in_select_in_table(
     page: &mut Construction,
     token: &TokenKind,
     symbol: Symbol,
-) -> Result<Outcome, Refusal>
+) -> Result<Outcome, ArenaError>
     requires seen { is_droppable symbol ≡ true → may_select page.old.ledger.history ≡ true }
     requires began { is_droppable symbol ≡ true → is_of_selects page.old.began ≡ true }
     requires symbol { symbol_of token.now ≡ symbol }
@@ -326,13 +307,9 @@ pub(crate) fn in_select_in_table(
     requires free { IsTrue (is_free page.old.ledger.history symbol) }
     ensures fits { OnOk result (Fits page.new) }
     ensures takes { IfOk result (λ o. Steps o token.now page.old page.new) }
-    ensures parses { OnOk result (page.new.parses_foreign ≡ page.old.parses_foreign) }
     ensures falls { IfOk result (λ o. Falls o symbol page.old page.new) }
-    ensures out { OnOk result (TextStays symbol page.old.mode page.new.mode) }
     ensures grows { IfOk result (λ o. Grows o page.old page.new) }
     ensures works { IfOk result (λ o. Worked o token.now page.old page.new) }
-    ensures ignores { IfOk result (λ o. Ignores o symbol) }
-    ensures opens { IfOk result (λ o. Opens o symbol page.new) }
     ensures refuses { IfErr result (λ e. Refuses token.now e page.old page.new) }
     ensures follows { IfOk result (λ o. Follows (in_select_in_table symbol) token.now o page.old page.new) }
 {

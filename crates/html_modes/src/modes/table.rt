@@ -8,11 +8,9 @@ ghost use Rattle.html_construction.specs.Grown.{Grown};
 ghost use Rattle.html_construction.specs.Modes.{is_reset};
 ghost use Rattle.html_construction.specs.Works.{Works};
 ghost use Rattle.html_construction.specs.Weights.{weight};
-ghost use Rattle.html_modes.specs.Begun.{TextStays};
 ghost use Rattle.html_modes.specs.Fitting.{Fits, Calls, is_loose, is_table_mode};
 ghost use Rattle.html_modes.specs.Steps.{Falls, Grows, Steps, Worked};
 ghost use Rattle.html_modes.specs.declared.outcome.Outcome.TheVariants.{Done};
-ghost use Rattle.html_modes.specs.RawText.{Opens};
 ghost use Rattle.html_construction.specs.Plans.{Asks, Chooses, Do, Passes, implying_part};
 ghost use Rattle.html_construction.specs.Words.{ClearTo, CollectsText, Switch};
 ghost use Rattle.html_tree.specs.declared.groups.TableContext.TheVariants as context;
@@ -29,19 +27,19 @@ use crate::modes::initial::doctype;
 use crate::modes::table_text::foster_char;
 use crate::modes::template::template_end;
 use crate::outcome::Outcome;
-use html_construction::{Construction, Mode, Refusal};
+use html_construction::{ArenaError, Construction, Mode};
 use html_ledger::{Cause, Symbol};
 use html_names::{Scope, Tag};
 use html_tokens::TokenKind;
 use html_tree::TableContext;
 
 /// The rules for the "in table" insertion mode (13.2.6.4.9).
-#[tactic(auto, using(crate::proofs::Settled::table_rules, crate::proofs::RawText::table_names, crate::proofs::Begun::text_stays, crate::proofs::RulesInTable::arms))]
+#[tactic(auto, using(crate::proofs::Settled::table_rules, crate::proofs::RawText::headish_names, crate::proofs::RulesInTable::arms))]
 pub(crate) fn in_table(
     page: &mut Construction,
     token: &TokenKind,
     symbol: Symbol,
-) -> Result<Outcome, Refusal>
+) -> Result<Outcome, ArenaError>
     requires symbol { symbol_of token.now ≡ symbol }
     requires mode { page.old.mode ≡ Mode.InTable }
     requires fits { Fits page.old }
@@ -49,12 +47,9 @@ pub(crate) fn in_table(
     requires free { IsTrue (is_free page.old.ledger.history symbol) }
     ensures fits { OnOk result (Fits page.new) }
     ensures takes { IfOk result (λ o. Steps o token.now page.old page.new) }
-    ensures parses { OnOk result (page.new.parses_foreign ≡ page.old.parses_foreign) }
     ensures falls { IfOk result (λ o. Falls o symbol page.old page.new) }
-    ensures out { OnOk result (TextStays symbol page.old.mode page.new.mode) }
     ensures grows { IfOk result (λ o. Grows o page.old page.new) }
     ensures works { IfOk result (λ o. Worked o token.now page.old page.new) }
-    ensures opens { IfOk result (λ o. Opens o symbol page.new) }
     ensures refuses { IfErr result (λ e. Refuses token.now e page.old page.new) }
     ensures follows { IfOk result (λ o. Follows (in_table symbol) token.now o page.old page.new) }
 {
@@ -70,18 +65,20 @@ pub(crate) fn in_table(
     }
 }
 
-#[tactic(auto, using(crate::proofs::Settled::table_rules, crate::proofs::RawText::table_names, crate::proofs::RulesInTable::arms))]
-fn start_in_table(page: &mut Construction, token: &TokenKind, tag: Tag) -> Result<Outcome, Refusal>
+#[tactic(auto, using(crate::proofs::Settled::table_rules, crate::proofs::RawText::headish_names, crate::proofs::RulesInTable::arms))]
+fn start_in_table(
+    page: &mut Construction,
+    token: &TokenKind,
+    tag: Tag,
+) -> Result<Outcome, ArenaError>
     requires symbol { symbol_of token.now ≡ Symbol.Start tag }
     requires mode { page.old.mode ≡ Mode.InTable }
     requires calls { Calls page.old }
     ensures fits { OnOk result (Fits page.new) }
     ensures takes { IfOk result (λ o. Steps o token.now page.old page.new) }
-    ensures parses { OnOk result (page.new.parses_foreign ≡ page.old.parses_foreign) }
     ensures falls { IfOk result (λ o. Falls o (Symbol.Start tag) page.old page.new) }
     ensures grows { IfOk result (λ o. Grows o page.old page.new) }
     ensures works { IfOk result (λ o. Worked o token.now page.old page.new) }
-    ensures opens { IfOk result (λ o. Opens o (Symbol.Start tag) page.new) }
     ensures refuses { IfErr result (λ e. Refuses token.now e page.old page.new) }
     ensures follows { IfOk result (λ o. Follows (in_table_start tag) token.now o page.old page.new) }
 {
@@ -130,7 +127,7 @@ fn start_in_table(page: &mut Construction, token: &TokenKind, tag: Tag) -> Resul
 }
 
 /// Opens a section of the table that no token asked for.
-fn imply_section(page: &mut Construction) -> Result<(), Refusal>
+fn imply_section(page: &mut Construction) -> Result<(), ArenaError>
     requires opened { 0 < length page.old.stack }
     requires listed { length page.old.tree.list ≤ length page.old.ledger.fates }
     ensures rest { OnOk result (page.new ≡ record page.old { tree = page.new.tree; stack = page.new.stack; mode = Mode.InTableBody }) }
@@ -149,24 +146,21 @@ fn imply_section(page: &mut Construction) -> Result<(), Refusal>
 }
 
 /// The rules of the mode in table that the modes in table body and in row share.
-#[tactic(auto, using(crate::proofs::Settled::table_rules, crate::proofs::RawText::table_names, crate::proofs::Begun::text_stays, crate::proofs::RulesInTable::arms))]
+#[tactic(auto, using(crate::proofs::Settled::table_rules, crate::proofs::RawText::headish_names, crate::proofs::RulesInTable::arms))]
 pub(crate) fn table_rules(
     page: &mut Construction,
     token: &TokenKind,
     symbol: Symbol,
-) -> Result<Outcome, Refusal>
+) -> Result<Outcome, ArenaError>
     requires mode { is_table_mode page.old.mode ≡ true }
     requires symbol { symbol_of token.now ≡ symbol }
     requires calls { Calls page.old }
     requires free { IsTrue (is_free page.old.ledger.history symbol) }
     ensures fits { OnOk result (Fits page.new) }
     ensures takes { IfOk result (λ o. Steps o token.now page.old page.new) }
-    ensures parses { OnOk result (page.new.parses_foreign ≡ page.old.parses_foreign) }
     ensures falls { IfOk result (λ o. Falls o symbol page.old page.new) }
-    ensures out { OnOk result (TextStays symbol page.old.mode page.new.mode) }
     ensures grows { IfOk result (λ o. Grows o page.old page.new) }
     ensures works { IfOk result (λ o. Worked o token.now page.old page.new) }
-    ensures opens { IfOk result (λ o. Opens o symbol page.new) }
     ensures refuses { IfErr result (λ e. Refuses token.now e page.old page.new) }
     ensures follows { IfOk result (λ o. Follows (in_table_other symbol) token.now o page.old page.new) }
 {
@@ -199,17 +193,19 @@ pub(crate) fn table_rules(
     Ok(Outcome::Done)
 }
 
-#[tactic(auto, using(crate::proofs::Settled::table_rules, crate::proofs::Begun::text_stays, crate::proofs::RulesInTable::arms))]
-fn table_rules_char(page: &mut Construction, token: &TokenKind, c: char) -> Result<Outcome, Refusal>
+#[tactic(auto, using(crate::proofs::Settled::table_rules, crate::proofs::RulesInTable::arms))]
+fn table_rules_char(
+    page: &mut Construction,
+    token: &TokenKind,
+    c: char,
+) -> Result<Outcome, ArenaError>
     requires mode { is_table_mode page.old.mode ≡ true }
     requires free { IsTrue (is_free page.old.ledger.history (Symbol.Char c)) }
     requires symbol { symbol_of token.now ≡ Symbol.Char c }
     requires calls { Calls page.old }
     ensures fits { OnOk result (Fits page.new) }
     ensures takes { IfOk result (λ o. Steps o token.now page.old page.new) }
-    ensures parses { OnOk result (page.new.parses_foreign ≡ page.old.parses_foreign) }
     ensures falls { IfOk result (λ o. Falls o (Symbol.Char c) page.old page.new) }
-    ensures out { OnOk result (TextStays (Symbol.Char c) page.old.mode page.new.mode) }
     ensures grows { IfOk result (λ o. Grows o page.old page.new) }
     ensures works { IfOk result (λ o. Worked o token.now page.old page.new) }
     ensures refuses { IfErr result (λ e. Refuses token.now e page.old page.new) }
@@ -236,22 +232,20 @@ fn collects_text(page: &mut Construction) -> bool
     tag.is_fostering() || tag.is(Tag::Template)
 }
 
-#[tactic(auto, using(crate::proofs::Settled::table_rules, crate::proofs::RawText::table_names, crate::proofs::RulesInTable::arms))]
+#[tactic(auto, using(crate::proofs::Settled::table_rules, crate::proofs::RawText::headish_names, crate::proofs::RulesInTable::arms))]
 fn table_rules_start(
     page: &mut Construction,
     token: &TokenKind,
     tag: Tag,
-) -> Result<Outcome, Refusal>
+) -> Result<Outcome, ArenaError>
     requires mode { is_table_mode page.old.mode ≡ true }
     requires symbol { symbol_of token.now ≡ Symbol.Start tag }
     requires calls { Calls page.old }
     ensures fits { OnOk result (Fits page.new) }
     ensures takes { IfOk result (λ o. Steps o token.now page.old page.new) }
-    ensures parses { OnOk result (page.new.parses_foreign ≡ page.old.parses_foreign) }
     ensures falls { IfOk result (λ o. Falls o (Symbol.Start tag) page.old page.new) }
     ensures grows { IfOk result (λ o. Grows o page.old page.new) }
     ensures works { IfOk result (λ o. Worked o token.now page.old page.new) }
-    ensures opens { IfOk result (λ o. Opens o (Symbol.Start tag) page.new) }
     ensures refuses { IfErr result (λ e. Refuses token.now e page.old page.new) }
     ensures follows { IfOk result (λ o. Follows (in_table_other_start tag) token.now o page.old page.new) }
 {
@@ -280,13 +274,16 @@ fn table_rules_start(
 }
 
 #[tactic(auto, using(crate::proofs::Settled::table_rules, crate::proofs::RulesInTable::arms))]
-fn table_rules_end(page: &mut Construction, token: &TokenKind, tag: Tag) -> Result<Outcome, Refusal>
+fn table_rules_end(
+    page: &mut Construction,
+    token: &TokenKind,
+    tag: Tag,
+) -> Result<Outcome, ArenaError>
     requires mode { is_table_mode page.old.mode ≡ true }
     requires symbol { symbol_of token.now ≡ Symbol.End tag }
     requires calls { Calls page.old }
     ensures fits { OnOk result (Fits page.new) }
     ensures takes { IfOk result (λ o. Steps o token.now page.old page.new) }
-    ensures parses { OnOk result (page.new.parses_foreign ≡ page.old.parses_foreign) }
     ensures falls { IfOk result (λ o. Falls o (Symbol.End tag) page.old page.new) }
     ensures grows { IfOk result (λ o. Grows o page.old page.new) }
     ensures works { IfOk result (λ o. Worked o token.now page.old page.new) }
@@ -316,13 +313,12 @@ fn table_rules_end(page: &mut Construction, token: &TokenKind, tag: Tag) -> Resu
 /// A table in a table, which closes the outer one. None is in scope in a template or a fragment alone. (There a table may be misplaced;
 /// where not, it would be inserted.)
 #[tactic(auto, using(crate::proofs::Settled::table_rules, crate::proofs::RulesInTable::arms))]
-fn table_in_table(page: &mut Construction, token: &TokenKind) -> Result<Outcome, Refusal>
+fn table_in_table(page: &mut Construction, token: &TokenKind) -> Result<Outcome, ArenaError>
     requires mode { is_table_mode page.old.mode ≡ true }
     requires symbol { symbol_of token.now ≡ Symbol.Start Tag.Table }
     requires calls { Calls page.old }
     ensures fits { OnOk result (Fits page.new) }
     ensures takes { IfOk result (λ o. Steps o token.now page.old page.new) }
-    ensures parses { OnOk result (page.new.parses_foreign ≡ page.old.parses_foreign) }
     ensures falls { IfOk result (λ o. Falls o (Symbol.Start Tag.Table) page.old page.new) }
     ensures grows { IfOk result (λ o. Grows o page.old page.new) }
     ensures works { IfOk result (λ o. Worked o token.now page.old page.new) }
@@ -365,13 +361,12 @@ fn close_table(page: &mut Construction) -> bool
 
 /// An input in a table, which stays there where it is hidden.
 #[tactic(auto, using(crate::proofs::Settled::table_rules, crate::proofs::RulesInTable::arms))]
-fn input_in_table(page: &mut Construction, token: &TokenKind) -> Result<Outcome, Refusal>
+fn input_in_table(page: &mut Construction, token: &TokenKind) -> Result<Outcome, ArenaError>
     requires mode { is_table_mode page.old.mode ≡ true }
     requires symbol { symbol_of token.now ≡ Symbol.Start Tag.Input }
     requires calls { Calls page.old }
     ensures fits { OnOk result (Fits page.new) }
     ensures takes { IfOk result (λ o. Steps o token.now page.old page.new) }
-    ensures parses { OnOk result (page.new.parses_foreign ≡ page.old.parses_foreign) }
     ensures falls { IfOk result (λ o. Falls o (Symbol.Start Tag.Input) page.old page.new) }
     ensures grows { IfOk result (λ o. Grows o page.old page.new) }
     ensures works { IfOk result (λ o. Worked o token.now page.old page.new) }
@@ -388,12 +383,11 @@ fn input_in_table(page: &mut Construction, token: &TokenKind) -> Result<Outcome,
 
 /// A form in a table, which can't have content.
 #[tactic(auto, using(crate::proofs::Settled::body_rules, crate::proofs::Ruled::rule_words))]
-fn form_in_table(page: &mut Construction, token: &TokenKind) -> Result<(), Refusal>
+fn form_in_table(page: &mut Construction, token: &TokenKind) -> Result<(), ArenaError>
     requires symbol { symbol_of token.now ≡ Symbol.Start Tag.Form }
     requires calls { Calls page.old }
     ensures fits { OnOk result (Fits page.new) }
     ensures takes { OnOk result (Takes token.now page.old page.new) }
-    ensures parses { OnOk result (page.new.parses_foreign ≡ page.old.parses_foreign) }
     ensures falls { OnOk result (Falls Done (Symbol.Start Tag.Form) page.old page.new) }
     ensures grows { OnOk result (Grows Done page.old page.new) }
     ensures works { OnOk result (Worked Done token.now page.old page.new) }
@@ -410,23 +404,20 @@ fn form_in_table(page: &mut Construction, token: &TokenKind) -> Result<(), Refus
 }
 
 /// The rules of the mode in body for what can't stand in a table: it is put before the table.
-#[tactic(auto, using(crate::proofs::Settled::foster_rules, crate::proofs::RawText::table_names, crate::proofs::Begun::text_stays, crate::proofs::RulesInTable::arms))]
+#[tactic(auto, using(crate::proofs::Settled::foster_rules, crate::proofs::RawText::headish_names, crate::proofs::RulesInTable::arms))]
 fn foster_rules(
     page: &mut Construction,
     token: &TokenKind,
     symbol: Symbol,
-) -> Result<Outcome, Refusal>
+) -> Result<Outcome, ArenaError>
     requires symbol { symbol_of token.now ≡ symbol }
     requires calls { Calls page.old }
     requires free { IsTrue (is_free page.old.ledger.history symbol) }
     ensures fits { OnOk result (Fits page.new) }
     ensures takes { IfOk result (λ o. Steps o token.now page.old page.new) }
-    ensures parses { OnOk result (page.new.parses_foreign ≡ page.old.parses_foreign) }
     ensures falls { IfOk result (λ o. Falls o symbol page.old page.new) }
-    ensures out { OnOk result (TextStays symbol page.old.mode page.new.mode) }
     ensures grows { IfOk result (λ o. Grows o page.old page.new) }
     ensures works { IfOk result (λ o. Worked o token.now page.old page.new) }
-    ensures opens { IfOk result (λ o. Opens o symbol page.new) }
     ensures refuses { IfErr result (λ e. Refuses token.now e page.old page.new) }
     ensures follows { IfOk result (λ o. is_root_end symbol ≡ false → Follows fostering token.now o page.old page.new) }
 {

@@ -7,11 +7,9 @@ ghost use Rattle.html_construction.specs.Built.{Keeps};
 ghost use Rattle.html_construction.specs.Grown.{Grown};
 ghost use Rattle.html_construction.specs.Works.{Works};
 ghost use Rattle.html_construction.specs.Weights.{weight};
-ghost use Rattle.html_modes.specs.Begun.{TextStays};
 ghost use Rattle.html_modes.specs.Fitting.{Fits, Calls};
 ghost use Rattle.html_modes.specs.Steps.{Falls, Grows, Steps, Worked};
 ghost use Rattle.html_modes.specs.Ranks.{rank};
-ghost use Rattle.html_modes.specs.RawText.{Opens};
 ghost use Rattle.html_construction.specs.Plans.{Chooses};
 ghost use Rattle.html_modes.specs.Rules.{Follows};
 ghost use Rattle.html_modes.specs.RulesInCaption.{closing_caption, in_caption, in_caption_end, in_caption_start};
@@ -23,19 +21,19 @@ use crate::modes::body_start::html_start;
 use crate::modes::initial::doctype;
 use crate::modes::template::{template_end, template_start_at};
 use crate::outcome::Outcome;
-use html_construction::{Construction, Mode, Refusal};
+use html_construction::{ArenaError, Construction, Mode};
 use html_ledger::{Cause, Symbol, is_space};
 use html_names::{Scope, Tag};
 use html_tokens::TokenKind;
 use html_tree::Group;
 
 /// The rules for the "in caption" insertion mode (13.2.6.4.11).
-#[tactic(auto, using(crate::proofs::Settled::part_rules, crate::proofs::RawText::open_rules, crate::proofs::Begun::text_stays, crate::proofs::RulesInCaption::arms))]
+#[tactic(auto, using(crate::proofs::Settled::part_rules, crate::proofs::RulesInCaption::arms))]
 pub(crate) fn in_caption(
     page: &mut Construction,
     token: &TokenKind,
     symbol: Symbol,
-) -> Result<Outcome, Refusal>
+) -> Result<Outcome, ArenaError>
     requires symbol { symbol_of token.now ≡ symbol }
     requires mode { page.old.mode ≡ Mode.InCaption }
     requires fits { Fits page.old }
@@ -43,12 +41,9 @@ pub(crate) fn in_caption(
     requires free { IsTrue (is_free page.old.ledger.history symbol) }
     ensures fits { OnOk result (Fits page.new) }
     ensures takes { IfOk result (λ o. Steps o token.now page.old page.new) }
-    ensures parses { OnOk result (page.new.parses_foreign ≡ page.old.parses_foreign) }
     ensures falls { IfOk result (λ o. Falls o symbol page.old page.new) }
-    ensures out { OnOk result (TextStays symbol page.old.mode page.new.mode) }
     ensures grows { IfOk result (λ o. Grows o page.old page.new) }
     ensures works { IfOk result (λ o. Worked o token.now page.old page.new) }
-    ensures opens { IfOk result (λ o. Opens o symbol page.new) }
     ensures refuses { IfErr result (λ e. Refuses token.now e page.old page.new) }
     ensures follows { IfOk result (λ o. Follows (in_caption symbol) token.now o page.old page.new) }
 {
@@ -69,22 +64,20 @@ pub(crate) fn in_caption(
     }
 }
 
-#[tactic(auto, using(crate::proofs::Settled::part_rules, crate::proofs::RawText::open_rules, crate::proofs::RulesInCaption::arms))]
+#[tactic(auto, using(crate::proofs::Settled::part_rules, crate::proofs::RulesInCaption::arms))]
 fn start_in_caption(
     page: &mut Construction,
     token: &TokenKind,
     tag: Tag,
-) -> Result<Outcome, Refusal>
+) -> Result<Outcome, ArenaError>
     requires mode { page.old.mode ≡ Mode.InCaption }
     requires symbol { symbol_of token.now ≡ Symbol.Start tag }
     requires calls { Calls page.old }
     ensures fits { OnOk result (Fits page.new) }
     ensures takes { IfOk result (λ o. Steps o token.now page.old page.new) }
-    ensures parses { OnOk result (page.new.parses_foreign ≡ page.old.parses_foreign) }
     ensures falls { IfOk result (λ o. Falls o (Symbol.Start tag) page.old page.new) }
     ensures grows { IfOk result (λ o. Grows o page.old page.new) }
     ensures works { IfOk result (λ o. Worked o token.now page.old page.new) }
-    ensures opens { IfOk result (λ o. Opens o (Symbol.Start tag) page.new) }
     ensures refuses { IfErr result (λ e. Refuses token.now e page.old page.new) }
     ensures follows { IfOk result (λ o. Follows (in_caption_start tag) token.now o page.old page.new) }
 {
@@ -102,13 +95,16 @@ fn start_in_caption(
 }
 
 #[tactic(auto, using(crate::proofs::Settled::part_rules, crate::proofs::RulesInCaption::arms))]
-fn end_in_caption(page: &mut Construction, token: &TokenKind, tag: Tag) -> Result<Outcome, Refusal>
+fn end_in_caption(
+    page: &mut Construction,
+    token: &TokenKind,
+    tag: Tag,
+) -> Result<Outcome, ArenaError>
     requires mode { page.old.mode ≡ Mode.InCaption }
     requires symbol { symbol_of token.now ≡ Symbol.End tag }
     requires calls { Calls page.old }
     ensures fits { OnOk result (Fits page.new) }
     ensures takes { IfOk result (λ o. Steps o token.now page.old page.new) }
-    ensures parses { OnOk result (page.new.parses_foreign ≡ page.old.parses_foreign) }
     ensures falls { IfOk result (λ o. Falls o (Symbol.End tag) page.old page.new) }
     ensures grows { IfOk result (λ o. Grows o page.old page.new) }
     ensures works { IfOk result (λ o. Worked o token.now page.old page.new) }
@@ -163,12 +159,12 @@ fn close_caption(page: &mut Construction) -> bool
 }
 
 /// The rules for the "in column group" insertion mode (13.2.6.4.12).
-#[tactic(auto, using(crate::proofs::Settled::part_rules, crate::proofs::RawText::open_rules, crate::proofs::Begun::text_stays, crate::proofs::RulesInColumnGroup::arms))]
+#[tactic(auto, using(crate::proofs::Settled::part_rules, crate::proofs::RulesInColumnGroup::arms))]
 pub(crate) fn in_column_group(
     page: &mut Construction,
     token: &TokenKind,
     symbol: Symbol,
-) -> Result<Outcome, Refusal>
+) -> Result<Outcome, ArenaError>
     requires symbol { symbol_of token.now ≡ symbol }
     requires mode { page.old.mode ≡ Mode.InColumnGroup }
     requires fits { Fits page.old }
@@ -176,12 +172,9 @@ pub(crate) fn in_column_group(
     requires free { IsTrue (is_free page.old.ledger.history symbol) }
     ensures fits { OnOk result (Fits page.new) }
     ensures takes { IfOk result (λ o. Steps o token.now page.old page.new) }
-    ensures parses { OnOk result (page.new.parses_foreign ≡ page.old.parses_foreign) }
     ensures falls { IfOk result (λ o. Falls o symbol page.old page.new) }
-    ensures out { OnOk result (TextStays symbol page.old.mode page.new.mode) }
     ensures grows { IfOk result (λ o. Grows o page.old page.new) }
     ensures works { IfOk result (λ o. Worked o token.now page.old page.new) }
-    ensures opens { IfOk result (λ o. Opens o symbol page.new) }
     ensures refuses { IfErr result (λ e. Refuses token.now e page.old page.new) }
     ensures follows { IfOk result (λ o. Follows (in_column_group symbol) token.now o page.old page.new) }
 {
@@ -233,13 +226,12 @@ fn end_in_column_group(
     page: &mut Construction,
     token: &TokenKind,
     tag: Tag,
-) -> Result<Outcome, Refusal>
+) -> Result<Outcome, ArenaError>
     requires mode { page.old.mode ≡ Mode.InColumnGroup }
     requires symbol { symbol_of token.now ≡ Symbol.End tag }
     requires calls { Calls page.old }
     ensures fits { OnOk result (Fits page.new) }
     ensures takes { IfOk result (λ o. Steps o token.now page.old page.new) }
-    ensures parses { OnOk result (page.new.parses_foreign ≡ page.old.parses_foreign) }
     ensures falls { IfOk result (λ o. Falls o (Symbol.End tag) page.old page.new) }
     ensures grows { IfOk result (λ o. Grows o page.old page.new) }
     ensures works { IfOk result (λ o. Worked o token.now page.old page.new) }
@@ -289,12 +281,12 @@ fn close_column_group(page: &mut Construction) -> bool
 
 /// A token that closes the column group, and is dropped where none is open. (In a real run a col was made then, or the context is a
 /// column group, and the token came in this mode; else the rules of the body go on.)
-#[tactic(auto, using(crate::proofs::Settled::part_rules, crate::proofs::RawText::open_rules, crate::proofs::Begun::text_stays, crate::proofs::RulesInColumnGroup::arms))]
+#[tactic(auto, using(crate::proofs::Settled::part_rules, crate::proofs::RulesInColumnGroup::arms))]
 fn leave_column_group(
     page: &mut Construction,
     token: &TokenKind,
     symbol: Symbol,
-) -> Result<Outcome, Refusal>
+) -> Result<Outcome, ArenaError>
     requires mode { page.old.mode ≡ Mode.InColumnGroup }
     requires high { 2 ≤ rank Mode.InColumnGroup symbol }
     requires back { rank Mode.InTable symbol < rank Mode.InColumnGroup symbol + 4 }
@@ -302,12 +294,9 @@ fn leave_column_group(
     requires calls { Calls page.old }
     ensures fits { OnOk result (Fits page.new) }
     ensures takes { IfOk result (λ o. Steps o token.now page.old page.new) }
-    ensures parses { OnOk result (page.new.parses_foreign ≡ page.old.parses_foreign) }
     ensures falls { IfOk result (λ o. Falls o symbol page.old page.new) }
-    ensures out { OnOk result (TextStays symbol page.old.mode page.new.mode) }
     ensures grows { IfOk result (λ o. Grows o page.old page.new) }
     ensures works { IfOk result (λ o. Worked o token.now page.old page.new) }
-    ensures opens { IfOk result (λ o. Opens o symbol page.new) }
     ensures refuses { IfErr result (λ e. Refuses token.now e page.old page.new) }
     ensures follows { IfOk result (λ o. Follows leaving_column_group token.now o page.old page.new) }
 {

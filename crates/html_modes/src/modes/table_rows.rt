@@ -7,11 +7,9 @@ ghost use Rattle.html_construction.specs.Built.{Keeps, Takes};
 ghost use Rattle.html_construction.specs.Grown.{Grown};
 ghost use Rattle.html_construction.specs.Works.{Works};
 ghost use Rattle.html_construction.specs.Weights.{weight};
-ghost use Rattle.html_modes.specs.Begun.{TextStays};
 ghost use Rattle.html_modes.specs.Fitting.{Fits, Calls};
 ghost use Rattle.html_modes.specs.declared.outcome.Outcome.TheVariants.{Done};
 ghost use Rattle.html_modes.specs.Steps.{Falls, Grows, Steps, Worked};
-ghost use Rattle.html_modes.specs.RawText.{Opens};
 ghost use Rattle.html_names.specs.declared.sets.Scope.TheVariants as scope;
 ghost use Rattle.html_tree.specs.declared.groups.Group.TheVariants as group;
 ghost use Rattle.html_tree.specs.declared.groups.Stop.TheVariants as stop;
@@ -25,19 +23,19 @@ ghost use Rattle.html_modes.specs.RulesInTableBody.{closing_section, in_table_bo
 use crate::modes::cell::cell_start;
 use crate::modes::table::table_rules;
 use crate::outcome::Outcome;
-use html_construction::{Construction, Mode, Refusal};
+use html_construction::{ArenaError, Construction, Mode};
 use html_ledger::{Cause, Symbol};
 use html_names::{Scope, Tag};
 use html_tokens::TokenKind;
 use html_tree::{Group, TableContext};
 
 /// The rules for the "in table body" insertion mode (13.2.6.4.13).
-#[tactic(auto, using(crate::proofs::Settled::part_rules, crate::proofs::RawText::table_names, crate::proofs::Begun::text_stays, crate::proofs::RulesInTableBody::arms))]
+#[tactic(auto, using(crate::proofs::Settled::part_rules, crate::proofs::RawText::headish_names, crate::proofs::RulesInTableBody::arms))]
 pub(crate) fn in_table_body(
     page: &mut Construction,
     token: &TokenKind,
     symbol: Symbol,
-) -> Result<Outcome, Refusal>
+) -> Result<Outcome, ArenaError>
     requires symbol { symbol_of token.now ≡ symbol }
     requires mode { page.old.mode ≡ Mode.InTableBody }
     requires fits { Fits page.old }
@@ -45,12 +43,9 @@ pub(crate) fn in_table_body(
     requires free { IsTrue (is_free page.old.ledger.history symbol) }
     ensures fits { OnOk result (Fits page.new) }
     ensures takes { IfOk result (λ o. Steps o token.now page.old page.new) }
-    ensures parses { OnOk result (page.new.parses_foreign ≡ page.old.parses_foreign) }
     ensures falls { IfOk result (λ o. Falls o symbol page.old page.new) }
-    ensures out { OnOk result (TextStays symbol page.old.mode page.new.mode) }
     ensures grows { IfOk result (λ o. Grows o page.old page.new) }
     ensures works { IfOk result (λ o. Worked o token.now page.old page.new) }
-    ensures opens { IfOk result (λ o. Opens o symbol page.new) }
     ensures refuses { IfErr result (λ e. Refuses token.now e page.old page.new) }
     ensures follows { IfOk result (λ o. Follows (in_table_body symbol) token.now o page.old page.new) }
 {
@@ -71,22 +66,20 @@ pub(crate) fn in_table_body(
     }
 }
 
-#[tactic(auto, using(crate::proofs::Settled::part_rules, crate::proofs::RawText::table_names, crate::proofs::RulesInTableBody::arms))]
+#[tactic(auto, using(crate::proofs::Settled::part_rules, crate::proofs::RawText::headish_names, crate::proofs::RulesInTableBody::arms))]
 fn table_body_start(
     page: &mut Construction,
     token: &TokenKind,
     tag: Tag,
-) -> Result<Outcome, Refusal>
+) -> Result<Outcome, ArenaError>
     requires mode { page.old.mode ≡ Mode.InTableBody }
     requires symbol { symbol_of token.now ≡ Symbol.Start tag }
     requires calls { Calls page.old }
     ensures fits { OnOk result (Fits page.new) }
     ensures takes { IfOk result (λ o. Steps o token.now page.old page.new) }
-    ensures parses { OnOk result (page.new.parses_foreign ≡ page.old.parses_foreign) }
     ensures falls { IfOk result (λ o. Falls o (Symbol.Start tag) page.old page.new) }
     ensures grows { IfOk result (λ o. Grows o page.old page.new) }
     ensures works { IfOk result (λ o. Worked o token.now page.old page.new) }
-    ensures opens { IfOk result (λ o. Opens o (Symbol.Start tag) page.new) }
     ensures refuses { IfErr result (λ e. Refuses token.now e page.old page.new) }
     ensures follows { IfOk result (λ o. Follows (in_table_body_start tag) token.now o page.old page.new) }
 {
@@ -122,13 +115,16 @@ fn table_body_start(
 }
 
 #[tactic(auto, using(crate::proofs::Settled::part_rules, crate::proofs::RulesInTableBody::arms))]
-fn table_body_end(page: &mut Construction, token: &TokenKind, tag: Tag) -> Result<Outcome, Refusal>
+fn table_body_end(
+    page: &mut Construction,
+    token: &TokenKind,
+    tag: Tag,
+) -> Result<Outcome, ArenaError>
     requires mode { page.old.mode ≡ Mode.InTableBody }
     requires symbol { symbol_of token.now ≡ Symbol.End tag }
     requires calls { Calls page.old }
     ensures fits { OnOk result (Fits page.new) }
     ensures takes { IfOk result (λ o. Steps o token.now page.old page.new) }
-    ensures parses { OnOk result (page.new.parses_foreign ≡ page.old.parses_foreign) }
     ensures falls { IfOk result (λ o. Falls o (Symbol.End tag) page.old page.new) }
     ensures grows { IfOk result (λ o. Grows o page.old page.new) }
     ensures works { IfOk result (λ o. Worked o token.now page.old page.new) }
@@ -161,13 +157,12 @@ fn table_body_end(page: &mut Construction, token: &TokenKind, tag: Tag) -> Resul
 
 /// An end tag of a section in the section.
 #[tactic(auto, using(crate::proofs::Settled::part_rules, crate::proofs::RulesInTableBody::arms))]
-fn section_end(page: &mut Construction, token: &TokenKind, tag: Tag) -> Result<(), Refusal>
+fn section_end(page: &mut Construction, token: &TokenKind, tag: Tag) -> Result<(), ArenaError>
     requires mode { page.old.mode ≡ Mode.InTableBody }
     requires symbol { symbol_of token.now ≡ Symbol.End tag }
     requires calls { Calls page.old }
     ensures fits { OnOk result (Fits page.new) }
     ensures takes { OnOk result (Takes token.now page.old page.new) }
-    ensures parses { OnOk result (page.new.parses_foreign ≡ page.old.parses_foreign) }
     ensures falls { OnOk result (Falls Done (Symbol.End tag) page.old page.new) }
     ensures grows { OnOk result (Grows Done page.old page.new) }
     ensures works { OnOk result (Worked Done token.now page.old page.new) }
@@ -205,12 +200,12 @@ fn close_section(page: &mut Construction) -> bool
 }
 
 /// The rules for the "in row" insertion mode (13.2.6.4.14).
-#[tactic(auto, using(crate::proofs::Settled::part_rules, crate::proofs::RawText::table_names, crate::proofs::Begun::text_stays, crate::proofs::RulesInRow::arms))]
+#[tactic(auto, using(crate::proofs::Settled::part_rules, crate::proofs::RawText::headish_names, crate::proofs::RulesInRow::arms))]
 pub(crate) fn in_row(
     page: &mut Construction,
     token: &TokenKind,
     symbol: Symbol,
-) -> Result<Outcome, Refusal>
+) -> Result<Outcome, ArenaError>
     requires symbol { symbol_of token.now ≡ symbol }
     requires mode { page.old.mode ≡ Mode.InRow }
     requires fits { Fits page.old }
@@ -218,12 +213,9 @@ pub(crate) fn in_row(
     requires free { IsTrue (is_free page.old.ledger.history symbol) }
     ensures fits { OnOk result (Fits page.new) }
     ensures takes { IfOk result (λ o. Steps o token.now page.old page.new) }
-    ensures parses { OnOk result (page.new.parses_foreign ≡ page.old.parses_foreign) }
     ensures falls { IfOk result (λ o. Falls o symbol page.old page.new) }
-    ensures out { OnOk result (TextStays symbol page.old.mode page.new.mode) }
     ensures grows { IfOk result (λ o. Grows o page.old page.new) }
     ensures works { IfOk result (λ o. Worked o token.now page.old page.new) }
-    ensures opens { IfOk result (λ o. Opens o symbol page.new) }
     ensures refuses { IfErr result (λ e. Refuses token.now e page.old page.new) }
     ensures follows { IfOk result (λ o. Follows (in_row symbol) token.now o page.old page.new) }
 {
@@ -244,18 +236,16 @@ pub(crate) fn in_row(
     }
 }
 
-#[tactic(auto, using(crate::proofs::Settled::part_rules, crate::proofs::RawText::table_names, crate::proofs::RulesInRow::arms))]
-fn row_start(page: &mut Construction, token: &TokenKind, tag: Tag) -> Result<Outcome, Refusal>
+#[tactic(auto, using(crate::proofs::Settled::part_rules, crate::proofs::RawText::headish_names, crate::proofs::RulesInRow::arms))]
+fn row_start(page: &mut Construction, token: &TokenKind, tag: Tag) -> Result<Outcome, ArenaError>
     requires mode { page.old.mode ≡ Mode.InRow }
     requires symbol { symbol_of token.now ≡ Symbol.Start tag }
     requires calls { Calls page.old }
     ensures fits { OnOk result (Fits page.new) }
     ensures takes { IfOk result (λ o. Steps o token.now page.old page.new) }
-    ensures parses { OnOk result (page.new.parses_foreign ≡ page.old.parses_foreign) }
     ensures falls { IfOk result (λ o. Falls o (Symbol.Start tag) page.old page.new) }
     ensures grows { IfOk result (λ o. Grows o page.old page.new) }
     ensures works { IfOk result (λ o. Worked o token.now page.old page.new) }
-    ensures opens { IfOk result (λ o. Opens o (Symbol.Start tag) page.new) }
     ensures refuses { IfErr result (λ e. Refuses token.now e page.old page.new) }
     ensures follows { IfOk result (λ o. Follows (in_row_start tag) token.now o page.old page.new) }
 {
@@ -278,13 +268,12 @@ fn row_start(page: &mut Construction, token: &TokenKind, tag: Tag) -> Result<Out
 }
 
 #[tactic(auto, using(crate::proofs::Settled::part_rules, crate::proofs::RulesInRow::arms))]
-fn row_end(page: &mut Construction, token: &TokenKind, tag: Tag) -> Result<Outcome, Refusal>
+fn row_end(page: &mut Construction, token: &TokenKind, tag: Tag) -> Result<Outcome, ArenaError>
     requires mode { page.old.mode ≡ Mode.InRow }
     requires symbol { symbol_of token.now ≡ Symbol.End tag }
     requires calls { Calls page.old }
     ensures fits { OnOk result (Fits page.new) }
     ensures takes { IfOk result (λ o. Steps o token.now page.old page.new) }
-    ensures parses { OnOk result (page.new.parses_foreign ≡ page.old.parses_foreign) }
     ensures falls { IfOk result (λ o. Falls o (Symbol.End tag) page.old page.new) }
     ensures grows { IfOk result (λ o. Grows o page.old page.new) }
     ensures works { IfOk result (λ o. Worked o token.now page.old page.new) }
@@ -327,13 +316,12 @@ fn section_end_in_row(
     page: &mut Construction,
     token: &TokenKind,
     tag: Tag,
-) -> Result<Outcome, Refusal>
+) -> Result<Outcome, ArenaError>
     requires mode { page.old.mode ≡ Mode.InRow }
     requires symbol { symbol_of token.now ≡ Symbol.End tag }
     requires calls { Calls page.old }
     ensures fits { OnOk result (Fits page.new) }
     ensures takes { IfOk result (λ o. Steps o token.now page.old page.new) }
-    ensures parses { OnOk result (page.new.parses_foreign ≡ page.old.parses_foreign) }
     ensures falls { IfOk result (λ o. Falls o (Symbol.End tag) page.old page.new) }
     ensures grows { IfOk result (λ o. Grows o page.old page.new) }
     ensures works { IfOk result (λ o. Worked o token.now page.old page.new) }

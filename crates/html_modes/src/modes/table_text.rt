@@ -7,10 +7,8 @@ ghost use Rattle.html_construction.specs.Built.{Keeps, Takes};
 ghost use Rattle.html_construction.specs.Grown.{Grown};
 ghost use Rattle.html_construction.specs.Works.{Works};
 ghost use Rattle.html_construction.specs.Weights.{weight};
-ghost use Rattle.html_modes.specs.Begun.{TextStays};
 ghost use Rattle.html_modes.specs.Fitting.{Fits};
-ghost use Rattle.html_modes.specs.Steps.{Counted, Counts, Falls, Settles, Spends, Steps};
-ghost use Rattle.html_modes.specs.RawText.{Opens};
+ghost use Rattle.html_modes.specs.Steps.{Counted, Counts, Falls, Spends, Steps};
 ghost use Rattle.html_modes.specs.declared.outcome.Outcome.TheVariants.{Done};
 ghost use Rattle.html_construction.specs.Plans.{Do};
 ghost use Rattle.html_construction.specs.Words.{InsertCharacter, is_null_or_space};
@@ -21,29 +19,25 @@ ghost use Rattle.html_modes.specs.RulesInTableText.{in_table_text, settled_by, s
 
 use crate::modes::body::body_char;
 use crate::outcome::Outcome;
-use html_construction::{Construction, Mode, Refusal};
+use html_construction::{ArenaError, Construction, Mode};
 use html_ledger::{Cause, Symbol, is_space};
 use html_tokens::TokenKind;
 
 /// The rules for the "in table text" insertion mode (13.2.6.4.10): code points are kept until another token comes.
-#[tactic(auto, using(crate::proofs::Settled::table_text_rules, crate::proofs::RawText::open_rules, crate::proofs::Begun::text_stays, crate::proofs::RulesInTableText::arms))]
+#[tactic(auto, using(crate::proofs::Settled::table_text_rules, crate::proofs::RulesInTableText::arms))]
 pub(crate) fn in_table_text(
     page: &mut Construction,
     token: &TokenKind,
     symbol: Symbol,
-) -> Result<Outcome, Refusal>
+) -> Result<Outcome, ArenaError>
     requires symbol { symbol_of token.now ≡ symbol }
     requires mode { page.old.mode ≡ Mode.InTableText }
     requires fits { Fits page.old }
     ensures fits { OnOk result (Fits page.new) }
     ensures takes { IfOk result (λ o. Steps o token.now page.old page.new) }
-    ensures parses { OnOk result (page.new.parses_foreign ≡ page.old.parses_foreign) }
     ensures falls { IfOk result (λ o. Falls o symbol page.old page.new) }
-    ensures out { OnOk result (TextStays symbol page.old.mode page.new.mode) }
     ensures spends { OnOk result (Spends 2 page.old page.new) }
     ensures counts { IfOk result (λ o. Counted 24 o token.now page.old page.new) }
-    ensures settles { IfOk result (λ o. Settles o symbol page.old page.new) }
-    ensures opens { IfOk result (λ o. Opens o symbol page.new) }
     ensures refuses { IfErr result (λ e. Refuses token.now e page.old page.new) }
     ensures follows { IfOk result (λ o. Follows (in_table_text symbol) token.now o page.old page.new) }
 {
@@ -65,7 +59,7 @@ pub(crate) fn in_table_text(
 }
 
 /// Gives the kept code points their fates: they stay in the table where all are white space, and are put before it else.
-fn flush(page: &mut Construction) -> Result<(), Refusal>
+fn flush(page: &mut Construction) -> Result<(), ArenaError>
     requires opened { 0 < length page.old.stack }
     requires listed { length page.old.tree.list ≤ length page.old.ledger.fates }
     ensures rest { OnOk result (page.new ≡ record page.old { tree = page.new.tree; ledger = page.new.ledger; stack = page.new.stack; frameset_ok = page.new.frameset_ok; fostering = page.new.fostering }) }
@@ -106,7 +100,7 @@ fn is_null_or_space(c: char) -> bool
 }
 
 /// Gives one kept code point its fate.
-fn settle_kept(page: &mut Construction, c: char, stays: bool) -> Result<(), Refusal>
+fn settle_kept(page: &mut Construction, c: char, stays: bool) -> Result<(), ArenaError>
     requires opened { 0 < length page.old.stack }
     requires quiet { page.old.ledger.kept ≡ [] }
     requires listed { length page.old.tree.list ≤ length page.old.ledger.fates }
@@ -132,7 +126,7 @@ fn settle_char(
     token: &TokenKind,
     c: char,
     stays: bool,
-) -> Result<(), Refusal>
+) -> Result<(), ArenaError>
     requires symbol { symbol_of token.now ≡ Symbol.Char c }
     requires opened { 0 < length page.old.stack }
     requires quiet { page.old.ledger.kept ≡ [] }
@@ -165,7 +159,7 @@ pub(crate) fn foster_char(
     page: &mut Construction,
     token: &TokenKind,
     c: char,
-) -> Result<(), Refusal>
+) -> Result<(), ArenaError>
     requires symbol { symbol_of token.now ≡ Symbol.Char c }
     requires opened { 0 < length page.old.stack }
     requires quiet { page.old.ledger.kept ≡ [] }

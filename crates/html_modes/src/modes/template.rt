@@ -8,12 +8,10 @@ ghost use Rattle.html_construction.specs.Grown.{Grown};
 ghost use Rattle.html_construction.specs.Modes.{is_reset};
 ghost use Rattle.html_construction.specs.Works.{Works};
 ghost use Rattle.html_construction.specs.Weights.{weight};
-ghost use Rattle.html_modes.specs.Begun.{TextStays};
 ghost use Rattle.html_modes.specs.Fitting.{Fits, Calls, is_loose};
 ghost use Rattle.html_modes.specs.Steps.{Falls, Grows, Steps, Worked};
 ghost use Rattle.html_modes.specs.Ranks.{rank};
 ghost use Rattle.html_modes.specs.declared.outcome.Outcome.TheVariants.{Done};
-ghost use Rattle.html_modes.specs.RawText.{Opens};
 ghost use Rattle.html_names.specs.declared.tag.Tag.TheVariants as tag;
 ghost use Rattle.html_tree.specs.declared.groups.Group.TheVariants as group;
 ghost use Rattle.html_tree.specs.declared.groups.Stop.TheVariants as stop;
@@ -28,7 +26,7 @@ ghost use Rattle.html_modes.specs.RulesInTemplate.{in_template, mode_in_template
 use crate::modes::body::body_rules;
 use crate::modes::head::head_start;
 use crate::outcome::Outcome;
-use html_construction::{Construction, Mode, Refusal};
+use html_construction::{ArenaError, Construction, Mode};
 use html_ledger::Symbol;
 use html_names::Tag;
 use html_tokens::TokenKind;
@@ -40,12 +38,11 @@ pub(crate) fn template_start_at(
     page: &mut Construction,
     token: &TokenKind,
     target: Target,
-) -> Result<(), Refusal>
+) -> Result<(), ArenaError>
     requires symbol { symbol_of token.now ≡ Symbol.Start Tag.Template }
     requires calls { Calls page.old }
     ensures fits { OnOk result (Fits page.new) }
     ensures takes { OnOk result (Takes token.now page.old page.new) }
-    ensures parses { OnOk result (page.new.parses_foreign ≡ page.old.parses_foreign) }
     ensures falls { OnOk result (Falls Done (Symbol.Start Tag.Template) page.old page.new) }
     ensures grows { OnOk result (Grows Done page.old page.new) }
     ensures works { OnOk result (Worked Done token.now page.old page.new) }
@@ -63,12 +60,11 @@ pub(crate) fn template_start_at(
 
 /// The end tag of a template.
 #[tactic(auto, using(crate::proofs::Settled::template_rules, crate::proofs::Ruled::rule_words))]
-pub(crate) fn template_end(page: &mut Construction, token: &TokenKind) -> Result<(), Refusal>
+pub(crate) fn template_end(page: &mut Construction, token: &TokenKind) -> Result<(), ArenaError>
     requires symbol { symbol_of token.now ≡ Symbol.End Tag.Template }
     requires calls { Calls page.old }
     ensures fits { OnOk result (Fits page.new) }
     ensures takes { OnOk result (Takes token.now page.old page.new) }
-    ensures parses { OnOk result (page.new.parses_foreign ≡ page.old.parses_foreign) }
     ensures falls { OnOk result (Falls Done (Symbol.End Tag.Template) page.old page.new) }
     ensures grows { OnOk result (Grows Done page.old page.new) }
     ensures works { OnOk result (Worked Done token.now page.old page.new) }
@@ -108,12 +104,12 @@ fn close_template(page: &mut Construction) -> bool
 }
 
 /// The rules for the "in template" insertion mode (13.2.6.4.18).
-#[tactic(auto, using(crate::proofs::Settled::template_rules, crate::proofs::RawText::head_names, crate::proofs::Begun::text_stays, crate::proofs::RulesInTemplate::arms))]
+#[tactic(auto, using(crate::proofs::Settled::template_rules, crate::proofs::RawText::headish_names, crate::proofs::RulesInTemplate::arms))]
 pub(crate) fn in_template(
     page: &mut Construction,
     token: &TokenKind,
     symbol: Symbol,
-) -> Result<Outcome, Refusal>
+) -> Result<Outcome, ArenaError>
     requires symbol { symbol_of token.now ≡ symbol }
     requires mode { page.old.mode ≡ Mode.InTemplate }
     requires fits { Fits page.old }
@@ -121,12 +117,9 @@ pub(crate) fn in_template(
     requires free { IsTrue (is_free page.old.ledger.history symbol) }
     ensures fits { OnOk result (Fits page.new) }
     ensures takes { IfOk result (λ o. Steps o token.now page.old page.new) }
-    ensures parses { OnOk result (page.new.parses_foreign ≡ page.old.parses_foreign) }
     ensures falls { IfOk result (λ o. Falls o symbol page.old page.new) }
-    ensures out { OnOk result (TextStays symbol page.old.mode page.new.mode) }
     ensures grows { IfOk result (λ o. Grows o page.old page.new) }
     ensures works { IfOk result (λ o. Worked o token.now page.old page.new) }
-    ensures opens { IfOk result (λ o. Opens o symbol page.new) }
     ensures refuses { IfErr result (λ e. Refuses token.now e page.old page.new) }
     ensures follows { IfOk result (λ o. Follows (in_template symbol) token.now o page.old page.new) }
 {
@@ -168,12 +161,14 @@ pub(crate) fn in_template(
 
 /// The end of the page, which closes the open templates one by one.
 #[tactic(auto, using(crate::proofs::Settled::template_rules, crate::proofs::Ruled::rule_words))]
-pub(crate) fn template_eof(page: &mut Construction, token: &TokenKind) -> Result<Outcome, Refusal>
+pub(crate) fn template_eof(
+    page: &mut Construction,
+    token: &TokenKind,
+) -> Result<Outcome, ArenaError>
     requires symbol { symbol_of token.now ≡ Symbol.Eof }
     requires calls { Calls page.old }
     ensures fits { OnOk result (Fits page.new) }
     ensures takes { IfOk result (λ o. Steps o token.now page.old page.new) }
-    ensures parses { OnOk result (page.new.parses_foreign ≡ page.old.parses_foreign) }
     ensures falls { IfOk result (λ o. Falls o (Symbol.Eof) page.old page.new) }
     ensures grows { IfOk result (λ o. Grows o page.old page.new) }
     ensures works { IfOk result (λ o. Worked o token.now page.old page.new) }

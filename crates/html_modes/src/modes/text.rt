@@ -7,11 +7,10 @@ ghost use Rattle.html_construction.specs.Built.{Keeps, Takes};
 ghost use Rattle.html_construction.specs.Grown.{Grown};
 ghost use Rattle.html_construction.specs.Works.{Works};
 ghost use Rattle.html_construction.specs.Weights.{weight, weight_of};
-ghost use Rattle.html_modes.specs.Begun.{TextStays};
 ghost use Rattle.html_modes.specs.Fitting.{Fits, Calls};
 ghost use Rattle.html_modes.specs.Steps.{Falls, Grows, Steps, Worked};
 ghost use Rattle.html_modes.specs.declared.outcome.Outcome.TheVariants.{Done};
-ghost use Rattle.html_modes.specs.RawText.{Adds, AddsText, Ends, HasOpened, IsLeft, Opens};
+ghost use Rattle.html_modes.specs.RawText.{Ends, IsLeft};
 ghost use Rattle.html_construction.specs.Tokens.{opens_own};
 ghost use Rattle.html_tree.specs.Seats.{is_part};
 ghost use Rattle.html_tree.specs.declared.groups.Target.TheVariants.{Current};
@@ -22,7 +21,7 @@ ghost use Rattle.html_modes.specs.RulesInHead.{holding_text};
 ghost use Rattle.html_modes.specs.RulesText.{leaving_text, text, text_char};
 
 use crate::outcome::Outcome;
-use html_construction::{Construction, Mode, Refusal};
+use html_construction::{ArenaError, Construction, Mode};
 use html_ledger::{Cause, Symbol};
 use html_names::Tag;
 use html_tokens::TokenKind;
@@ -34,7 +33,7 @@ pub(crate) fn text_start(
     page: &mut Construction,
     token: &TokenKind,
     tag: Tag,
-) -> Result<(), Refusal>
+) -> Result<(), ArenaError>
     requires small { weight_of tag ≤ 4 }
     requires named { opens_own tag ≡ true }
     requires part { is_part tag ≡ false }
@@ -42,11 +41,9 @@ pub(crate) fn text_start(
     requires calls { Calls page.old }
     ensures fits { OnOk result (Fits page.new) }
     ensures takes { OnOk result (Takes token.now page.old page.new) }
-    ensures parses { OnOk result (page.new.parses_foreign ≡ page.old.parses_foreign) }
     ensures falls { OnOk result (Falls Done (Symbol.Start tag) page.old page.new) }
     ensures grown { OnOk result (Grown 1 2 0 0 0 page.old page.new) }
     ensures works { OnOk result (Works 6 0 6 page.old page.new) }
-    ensures opens { OnOk result (HasOpened tag page.new) }
     ensures refuses { IfErr result (λ e. Refuses token.now e page.old page.new) }
     ensures follows { OnOk result (Follows (holding_text Insert) token.now Done page.old page.new) }
 {
@@ -61,7 +58,7 @@ pub(crate) fn text_start_at(
     token: &TokenKind,
     tag: Tag,
     target: Target,
-) -> Result<(), Refusal>
+) -> Result<(), ArenaError>
     requires small { weight_of tag ≤ 4 }
     requires named { opens_own tag ≡ true }
     requires part { is_part tag ≡ false }
@@ -69,11 +66,9 @@ pub(crate) fn text_start_at(
     requires calls { Calls page.old }
     ensures fits { OnOk result (Fits page.new) }
     ensures takes { OnOk result (Takes token.now page.old page.new) }
-    ensures parses { OnOk result (page.new.parses_foreign ≡ page.old.parses_foreign) }
     ensures falls { OnOk result (Falls Done (Symbol.Start tag) page.old page.new) }
     ensures grown { OnOk result (Grown 1 2 0 0 0 page.old page.new) }
     ensures works { OnOk result (Works 6 0 6 page.old page.new) }
-    ensures opens { OnOk result (HasOpened tag page.new) }
     ensures refuses { IfErr result (λ e. Refuses token.now e page.old page.new) }
     ensures follows { OnOk result (Follows (holding_text (InsertAt target)) token.now Done page.old page.new) }
     ensures here { OnOk result (target ≡ Current page.old.fostering → Follows (holding_text Insert) token.now Done page.old page.new) }
@@ -84,12 +79,12 @@ pub(crate) fn text_start_at(
 }
 
 /// The rules for the "text" insertion mode (13.2.6.4.8).
-#[tactic(auto, using(crate::proofs::Settled::text_rules, crate::proofs::RawText::text_texts, crate::proofs::Begun::text_stays, crate::proofs::RulesText::arms))]
+#[tactic(auto, using(crate::proofs::Settled::text_rules, crate::proofs::RawText::text_texts, crate::proofs::RulesText::arms))]
 pub(crate) fn text(
     page: &mut Construction,
     token: &TokenKind,
     symbol: Symbol,
-) -> Result<Outcome, Refusal>
+) -> Result<Outcome, ArenaError>
     requires symbol { symbol_of token.now ≡ symbol }
     requires mode { page.old.mode ≡ Mode.Text }
     requires fits { Fits page.old }
@@ -97,13 +92,9 @@ pub(crate) fn text(
     requires free { IsTrue (is_free page.old.ledger.history symbol) }
     ensures fits { OnOk result (Fits page.new) }
     ensures takes { IfOk result (λ o. Steps o token.now page.old page.new) }
-    ensures parses { OnOk result (page.new.parses_foreign ≡ page.old.parses_foreign) }
     ensures falls { IfOk result (λ o. Falls o symbol page.old page.new) }
-    ensures out { OnOk result (TextStays symbol page.old.mode page.new.mode) }
     ensures grows { IfOk result (λ o. Grows o page.old page.new) }
     ensures works { IfOk result (λ o. Worked o token.now page.old page.new) }
-    ensures opens { IfOk result (λ o. Opens o symbol page.new) }
-    ensures adds { IfOk result (λ o. Adds o symbol page.old page.new) }
     ensures ends { IfOk result (λ o. Ends o symbol token.now page.old page.new) }
     ensures refuses { IfErr result (λ e. Refuses token.now e page.old page.new) }
     ensures follows { IfOk result (λ o. Follows (text symbol) token.now o page.old page.new) }
@@ -146,12 +137,12 @@ fn leave_text(page: &mut Construction)
 }
 
 /// A code point of text, which is dropped where it is U+0000.
-#[tactic(auto, using(crate::proofs::RawText::text_texts, crate::proofs::RulesText::arms))]
+#[tactic(auto, using(crate::proofs::RulesText::arms))]
 pub(crate) fn insert_text_char(
     page: &mut Construction,
     token: &TokenKind,
     c: char,
-) -> Result<(), Refusal>
+) -> Result<(), ArenaError>
     requires opened { 0 < length page.old.stack }
     requires free { IsTrue (is_free page.old.ledger.history (Symbol.Char c)) }
     requires symbol { symbol_of token.now ≡ Symbol.Char c }
@@ -161,7 +152,6 @@ pub(crate) fn insert_text_char(
     ensures quiet { OnOk result (page.new.ledger.kept ≡ []) }
     ensures grown { OnOk result (Grown 1 1 0 0 0 page.old page.new) }
     ensures works { OnOk result (Works 6 0 6 page.old page.new) }
-    ensures adds { OnOk result (AddsText (c ∷ []) page.old page.new) }
     ensures refuses { IfErr result (λ e. Refuses token.now e page.old page.new) }
     ensures follows { OnOk result (Follows (text_char c) token.now Done page.old page.new) }
 {

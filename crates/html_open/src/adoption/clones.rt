@@ -9,8 +9,7 @@ ghost use Rattle.html_open.specs.Marking.{IsCounted};
 ghost use Rattle.html_open.specs.Opened.{AreNodes};
 ghost use Rattle.html_open.specs.ReopenedEntry.{IsRefused};
 
-use crate::error::OpenError;
-use html_arena::{Arena, Mark, NewNode, NodeId};
+use html_arena::{Arena, ArenaError, Mark, NewNode, NodeId};
 use std::marker::Model;
 
 /// How many of the elements between the formatting element and the furthest block may be cloned.
@@ -81,7 +80,7 @@ pub(crate) fn clone_all(
     arena: &mut Arena,
     originals: &[NodeId],
     formatting: NodeId,
-) -> Result<NodeId, OpenError>
+) -> Result<NodeId, ArenaError>
     requires originals { AreFormatting arena.old originals.now }
     requires formatting { AreFormatting arena.old (formatting ∷ []) }
     ensures number { IfOk result (λ id. id ≡ length arena.old.labels + length originals.now) }
@@ -96,7 +95,7 @@ pub(crate) fn clone_all(
 }
 
 /// Makes a clone of each element, in order.
-fn make_clones(arena: &mut Arena, originals: &[NodeId]) -> Result<(), OpenError>
+fn make_clones(arena: &mut Arena, originals: &[NodeId]) -> Result<(), ArenaError>
     requires { AreFormatting arena.old originals.now }
     ensures cloned { OnOk result (AreCloned arena.old arena.new originals.now) }
     ensures cut { IfErr result (λ e. IsCutShort arena.old arena.new originals.now e) }
@@ -110,7 +109,7 @@ fn make_clones(arena: &mut Arena, originals: &[NodeId]) -> Result<(), OpenError>
 }
 
 /// Makes a clone of an element.
-fn make_clone(arena: &mut Arena, node: NodeId) -> Result<NodeId, OpenError>
+fn make_clone(arena: &mut Arena, node: NodeId) -> Result<NodeId, ArenaError>
     requires node_in { node < length arena.old.labels }
     requires formatting { is_formatting (tag_at arena.old node) ≡ true }
     ensures number { IfOk result (λ id. id ≡ length arena.old.labels) }

@@ -16,11 +16,10 @@ use crate::adoption::clones::{clone_all, elements_to_clone};
 use crate::adoption::lists::{Plan, enter, leave, relisted, restacked, with_room};
 use crate::appropriate_place::place;
 use crate::entry::Entry;
-use crate::error::OpenError;
 use crate::list::FormattingList;
 use crate::places::Place;
 use crate::stack::OpenStack;
-use html_arena::{Arena, NodeId};
+use html_arena::{Arena, ArenaError, NodeId};
 use std::alloc::Global;
 
 /// The stack and the list after a round.
@@ -38,7 +37,7 @@ pub(crate) fn round(
     at: usize,
     block_at: usize,
     foster: bool,
-) -> Result<(), OpenError>
+) -> Result<(), ArenaError>
     requires open { IsOpen (open_at stack.old list.old arena.old) }
     requires can_place { CanPlace arena.old stack.old }
     requires inside { 0 < at }
@@ -76,7 +75,7 @@ fn regroup(
     at: usize,
     block_at: usize,
     target: Place,
-) -> Result<Regrouped, OpenError>
+) -> Result<Regrouped, ArenaError>
     requires open { IsOpen (open_at nodes.now entries.now arena.old) }
     requires inside { 0 < at }
     requires block { (s : Tag) × IsBlock s (open_at nodes.now entries.now arena.old) at block_at }

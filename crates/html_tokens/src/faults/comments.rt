@@ -1,11 +1,28 @@
 // What comments tell.
 ghost use Rattle.html_tokens.specs.Bounds.{Told};
-ghost use Rattle.html_tokens.specs.Errors.{IsQuiet};
+ghost use Rattle.html_tokens.specs.Errors.{IsQuiet, Opens};
+ghost use Rattle.html_tokens.specs.Input.{Decided};
+ghost use Rattle.html_tokens.specs.Inside.{closing_errors, is_closed, kind_errors};
+ghost use Rattle.std.specs.Prelude.{◌+◌, ◌<◌, ◌≤◌, ◌^◌, Bool, length};
 
 use super::{Faults, is_other};
 use crate::comment::CommentKind;
 use crate::fault_name::FaultName;
 use crate::input::{Input, Peek};
+
+/// Whether what closes a comment, of this length, is `-->`.
+fn is_closed(input: &Input, len: usize) -> bool
+    requires fit { len ≤ length input.now.queue.items }
+    ensures { Decided input.now (is_closed len) result }
+{
+    if len != 3 {
+        return false;
+    }
+    match input.peek(2) {
+        Peek::Is(Some('>')) => true,
+        Peek::Is(_) | Peek::Wait => false,
+    }
+}
 
 impl Faults {
     /// What a code point of a comment tells.
@@ -42,17 +59,37 @@ impl Faults {
 
     /// What the end of a comment tells, where so many code points close it.
     pub(crate) fn comment_end(&mut self, kind: CommentKind, input: &Input, len: usize, place: u64)
+        requires room { place + len < 2 ^ 64 }
+        requires fit { len ≤ length input.now.queue.items }
         ensures told { Told 2 0 self.old self.new }
-        ensures quiet { IsQuiet self.old self.new }
+        ensures opens { (closed : Bool) → Decided input.now (is_closed len) closed → Opens (kind_errors kind closed len place) self.old self.new }
+    {
+        self.kind_end(kind, input, len, place);
+        self.watch.opened = 0;
+    }
+
+    fn kind_end(&mut self, kind: CommentKind, input: &Input, len: usize, place: u64)
+        requires room { place + len < 2 ^ 64 }
+        requires fit { len ≤ length input.now.queue.items }
+        ensures told { Told 2 0 self.old self.new }
+        ensures opens { (closed : Bool) → Decided input.now (is_closed len) closed → Opens (kind_errors kind closed len place) self.old self.new }
     {
         match kind {
             CommentKind::Bogus => {}
-            CommentKind::Declared => {
-                self.nested_end(input, len, place);
-                self.declared_end(input, len, place);
-            }
+            CommentKind::Declared => self.declared_close(input, len, place),
         }
-        self.watch.opened = 0;
+    }
+
+    /// What closes a comment that `<!--` began.
+    fn declared_close(&mut self, input: &Input, len: usize, place: u64)
+        requires room { place + len < 2 ^ 64 }
+        requires fit { len ≤ length input.now.queue.items }
+        ensures told { Told 2 0 self.old self.new }
+        ensures opens { (closed : Bool) → Decided input.now (is_closed len) closed → Opens (closing_errors closed len place) self.old self.new }
+    {
+        let closed = is_closed(input, len);
+        self.nested_end(input, len, place);
+        self.declared_end(closed, len, place);
     }
 
     /// What closes a comment may hold the dashes of a `<!--`.
@@ -74,14 +111,15 @@ impl Faults {
     }
 
     /// What closes a comment is `-->`, or `--!>`, or the end.
-    fn declared_end(&mut self, input: &Input, len: usize, place: u64)
+    fn declared_end(&mut self, closed: bool, len: usize, place: u64)
+        requires room { place + len < 2 ^ 64 }
         ensures told { Told 1 0 self.old self.new }
-        ensures quiet { IsQuiet self.old self.new }
+        ensures opens { Opens (closing_errors closed len place) self.old self.new }
     {
-        let end = place.saturating_add(len as u64);
+        let end = place + len as u64;
         if len == 4 {
             self.tell(FaultName::IncorrectlyClosedComment, end.saturating_sub(1));
-        } else if len < 3 || is_other(input, 2, '>') {
+        } else if !closed {
             self.tell(FaultName::EofInComment, end);
         }
     }

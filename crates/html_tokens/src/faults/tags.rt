@@ -1,7 +1,8 @@
 // What tags tell.
-ghost use Rattle.std.specs.Prelude.{◌≡◌, ◌+◌, ◌-◌, ◌^◌, min, length};
+ghost use Rattle.std.specs.Prelude.{◌≡◌, ◌+◌, ◌-◌, ◌<◌, ◌^◌, [], ◌∷◌, true, min, length};
 ghost use Rattle.html_tokens.specs.Bounds.{Told};
-ghost use Rattle.html_tokens.specs.Errors.{IsQuiet};
+ghost use Rattle.html_tokens.specs.Errors.{IsQuiet, Opens, is_defined};
+ghost use Rattle.html_tokens.specs.Inside.{fault, fault_when, tag_end_errors};
 ghost use Rattle.html_tokens.specs.Places.{comparisons};
 
 use super::Faults;
@@ -170,24 +171,44 @@ impl Faults {
 
     /// What the `>` of an end tag tells.
     pub(crate) fn tag_close(&mut self, draft: &TagDraft, self_closing: bool, len: usize, place: u64)
+        requires room { place + len < 2 ^ 64 }
         ensures told { Told 2 0 self.old self.new }
-        ensures quiet { IsQuiet self.old self.new }
+        ensures opens { Opens (tag_end_errors draft.now.is_end (place + len) (record { attrs = draft.now.attrs; self_closing = self_closing; closed = true; len = len })) self.old self.new }
     {
         if !draft.is_end {
             return;
         }
-        let place = place.saturating_add(len as u64).saturating_sub(1);
-        if draft.attrs.len() != 0 {
-            self.tell(FaultName::EndTagWithAttributes, place);
-        }
-        if self_closing {
-            self.tell(FaultName::EndTagWithTrailingSolidus, place);
+        let place = (place + len as u64).saturating_sub(1);
+        self.tell_if(
+            draft.attrs.len() != 0,
+            FaultName::EndTagWithAttributes,
+            place,
+        );
+        self.tell_if(self_closing, FaultName::EndTagWithTrailingSolidus, place);
+    }
+
+    fn tell_if(&mut self, is: bool, name: FaultName, place: u64)
+        requires defined { is_defined name ≡ true }
+        ensures told { Told 1 0 self.old self.new }
+        ensures opens { Opens (fault_when is name place) self.old self.new }
+    {
+        if is {
+            self.tell(name, place);
         }
     }
 
     /// What the end of the input tells in a tag.
     pub(crate) fn tag_end(&mut self, draft: &TagDraft, place: u64)
         ensures told { Told 3 (length draft.now.attrs) self.old self.new }
+        ensures opens { Opens (fault FaultName.EofInTag place ∷ []) self.old self.new }
+    {
+        self.rest_end(draft, place);
+        self.tell(FaultName::EofInTag, place);
+    }
+
+    /// What the end of the input tells in what of a tag is being read.
+    fn rest_end(&mut self, draft: &TagDraft, place: u64)
+        ensures told { Told 2 (length draft.now.attrs) self.old self.new }
         ensures quiet { IsQuiet self.old self.new }
     {
         match draft.part {
@@ -195,6 +216,5 @@ impl Faults {
             Part::Number(_, _, value) => self.number(value, false, self.watch.reference),
             Part::Name | Part::Attributes | Part::AfterName | Part::Value | Part::Inside(_) => {}
         }
-        self.tell(FaultName::EofInTag, place);
     }
 }

@@ -1,7 +1,6 @@
 // Steps in comments.
 ghost use Rattle.std.specs.Prelude.{◌≡◌, ◌≤◌, ◌+◌, ◌^◌, ◌<◌, length, IfOk, OnErr, OnOk};
-ghost use Rattle.html_tokens.specs.Errors.{IsQuiet};
-ghost use Rattle.html_tokens.specs.Fed.{Steps, IsComment, EndsComment};
+ghost use Rattle.html_tokens.specs.Fed.{Steps, Tells, IsComment, EndsComment};
 ghost use Rattle.html_tokens.specs.Bounds.{IsBounded, IsWithin};
 
 use super::{Machine, Progress, State, token};
@@ -21,7 +20,7 @@ impl<'a> Machine<'a> {
         ensures finished { OnErr result (self.new.input.finished ≡ self.old.input.finished) }
         ensures bounded { IsBounded self.old faults.old → OnOk result (IsBounded self.new faults.new) }
         ensures within { IsBounded self.old faults.old → OnErr result (IsWithin self.new.place faults.new) }
-        ensures quiet { IsQuiet faults.old faults.new }
+        ensures tells { IfOk result (λ progress. Tells self.old progress faults.old faults.new) }
     {
         let State::Comment(draft) = &mut self.state else {
             return Ok(Progress::Wait);

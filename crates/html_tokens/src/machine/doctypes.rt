@@ -1,12 +1,12 @@
 // Steps in doctypes.
 ghost use Rattle.std.specs.Prelude.{◌≡◌, ◌≤◌, ◌+◌, ◌^◌, ◌<◌, length, IfOk, OnErr, OnOk};
-ghost use Rattle.html_tokens.specs.Errors.{IsQuiet};
-ghost use Rattle.html_tokens.specs.Fed.{Steps, IsDoctype, EndsDoctype};
+ghost use Rattle.html_tokens.specs.Fed.{Steps, Tells, IsDoctype, EndsDoctype};
 ghost use Rattle.html_tokens.specs.Bounds.{IsBounded, IsWithin};
 
 use super::{Machine, Progress, State, token};
 use crate::doctype::DoctypeReading;
 use crate::faults::Faults;
+use crate::input::Peek;
 use crate::token::{Region, TokenKind};
 use std::alloc::AllocError;
 use std::mem;
@@ -21,12 +21,14 @@ impl<'a> Machine<'a> {
         ensures finished { OnErr result (self.new.input.finished ≡ self.old.input.finished) }
         ensures bounded { IsBounded self.old faults.old → OnOk result (IsBounded self.new faults.new) }
         ensures within { IsBounded self.old faults.old → OnErr result (IsWithin self.new.place faults.new) }
-        ensures quiet { IsQuiet faults.old faults.new }
+        ensures tells { IfOk result (λ progress. Tells self.old progress faults.old faults.new) }
     {
         let State::Doctype(draft) = &mut self.state else {
             return Ok(Progress::Wait);
         };
-        let first = self.input.peek(0);
+        let Peek::Is(first) = self.input.peek(0) else {
+            return Ok(Progress::Wait);
+        };
         let (part, spaced) = (draft.part, draft.spaced);
         match draft.read(&self.input)? {
             DoctypeReading::Wait => Ok(Progress::Wait),

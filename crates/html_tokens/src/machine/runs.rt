@@ -18,7 +18,7 @@ use crate::bare_tag::BareTag;
 use crate::faults::Faults;
 use crate::short::keep_text;
 use crate::token::{Region, TextMode, Token, TokenKind};
-use html_charref::{PlainText, Str};
+use html_text::{PlainText, Str};
 use std::alloc::AllocError;
 
 impl<'a> Machine<'a> {

@@ -1,7 +1,6 @@
 // Sections in foreign content (HTML 13.2.5.69 to 13.2.5.71).
 ghost use Rattle.std.specs.Prelude.{◌≡◌, ◌≤◌, ◌+◌, ◌^◌, ◌<◌, Some, length, slice_get};
-ghost use Rattle.html_tokens.specs.Errors.{IsQuiet};
-ghost use Rattle.html_tokens.specs.Fed.{Passes, Steps};
+ghost use Rattle.html_tokens.specs.Fed.{Passes, Steps, Tells};
 ghost use Rattle.html_tokens.specs.Bounds.{IsBounded};
 ghost use Rattle.html_tokens.specs.Input.{Decided};
 ghost use Rattle.html_tokens.specs.declared.faults.Faults.{Faults};
@@ -29,7 +28,7 @@ impl<'a> Machine<'a> {
         requires room { self.old.place + length self.old.input.queue.items < 2 ^ 64 }
         ensures steps { Steps self.old result self.new }
         ensures bounded { IsBounded self.old faults.old → IsBounded self.new faults.new }
-        ensures quiet { IsQuiet faults.old faults.new }
+        ensures tells { Tells self.old result faults.old faults.new }
     {
         match self.input.peek(0) {
             Peek::Wait => Progress::Wait,

@@ -1,7 +1,6 @@
 // Steps in tags.
 ghost use Rattle.std.specs.Prelude.{◌≡◌, ◌≤◌, ◌+◌, ◌^◌, ◌<◌, Some, length, slice_get, IfOk, OnErr, OnOk, true};
-ghost use Rattle.html_tokens.specs.Errors.{IsQuiet};
-ghost use Rattle.html_tokens.specs.Fed.{Steps, IsTag, EndsTag};
+ghost use Rattle.html_tokens.specs.Fed.{Steps, Tells, IsTag, EndsTag};
 ghost use Rattle.html_tokens.specs.Input.{Decided};
 ghost use Rattle.html_tokens.specs.Tag.{reads_refs};
 ghost use Rattle.html_tokens.specs.Bounds.{IsBounded, IsWithin};
@@ -27,7 +26,7 @@ impl<'a> Machine<'a> {
         ensures finished { OnErr result (self.new.input.finished ≡ self.old.input.finished) }
         ensures bounded { IsBounded self.old faults.old → OnOk result (IsBounded self.new faults.new) }
         ensures within { IsBounded self.old faults.old → OnErr result (IsWithin self.new.place faults.new) }
-        ensures quiet { IsQuiet faults.old faults.new }
+        ensures tells { IfOk result (λ progress. Tells self.old progress faults.old faults.new) }
     {
         let State::Tag(draft) = &self.state else {
             return Ok(Progress::Wait);
@@ -66,7 +65,7 @@ impl<'a> Machine<'a> {
         ensures finished { OnErr result (self.new.input.finished ≡ self.old.input.finished) }
         ensures bounded { IsBounded self.old faults.old → OnOk result (IsBounded self.new faults.new) }
         ensures within { IsBounded self.old faults.old → OnErr result (IsWithin self.new.place faults.new) }
-        ensures quiet { IsQuiet faults.old faults.new }
+        ensures tells { IfOk result (λ progress. Tells self.old progress faults.old faults.new) }
     {
         let Some(found) = value_ref(self.table, &self.input) else {
             return Ok(Progress::Wait);
@@ -98,7 +97,7 @@ impl<'a> Machine<'a> {
         ensures finished { OnErr result (self.new.input.finished ≡ self.old.input.finished) }
         ensures bounded { IsBounded self.old faults.old → OnOk result (IsBounded self.new faults.new) }
         ensures within { IsBounded self.old faults.old → OnErr result (IsWithin self.new.place faults.new) }
-        ensures quiet { IsQuiet faults.old faults.new }
+        ensures tells { IfOk result (λ progress. Tells self.old progress faults.old faults.new) }
     {
         let State::Tag(draft) = &mut self.state else {
             return Ok(Progress::Wait);

@@ -23,9 +23,9 @@ use crate::groups::Target;
 use crate::paragraphs::open_node;
 use crate::target::put_new;
 use html_arena::{NewNode, NodeId, Origin};
-use html_charref::Str;
 use html_names::Tag;
-use html_open::OpenError;
+use html_open::ArenaError;
+use html_text::Str;
 use html_tokens::{Attrs, OptionalStr};
 
 impl OpenTree {
@@ -40,7 +40,7 @@ impl OpenTree {
         attrs: Attrs,
         token: u64,
         target: Target,
-    ) -> Result<NodeId, OpenError>
+    ) -> Result<NodeId, ArenaError>
         requires target { CanTarget self.old.stack target }
         requires seat { CanSeat self.old (tag_of name) target }
         requires name { opens (tag_of name) ≡ true }
@@ -80,7 +80,7 @@ impl OpenTree {
         attrs: Attrs,
         token: u64,
         target: Target,
-    ) -> Result<NodeId, OpenError>
+    ) -> Result<NodeId, ArenaError>
         requires target { CanTarget self.old.stack target }
         requires part { is_part (tag_of name) ≡ false }
         requires name { is_foreign_root (tag_of name) ≡ false }
@@ -110,7 +110,7 @@ impl OpenTree {
     /// # Errors
     ///
     /// `NodeBudget` and `HeldBudget` where the node would pass that limit; else `OutOfMemory`.
-    pub fn insert_implied(&mut self, tag: Tag, foster: bool) -> Result<NodeId, OpenError>
+    pub fn insert_implied(&mut self, tag: Tag, foster: bool) -> Result<NodeId, ArenaError>
         requires opened { 0 < length self.old.stack }
         requires seat { CanSeat self.old tag (Target.Current foster) }
         requires name { opens tag ≡ true }
@@ -142,7 +142,7 @@ impl OpenTree {
     /// # Errors
     ///
     /// `NodeBudget` and `HeldBudget` where the node would pass that limit; else `OutOfMemory`.
-    pub fn insert_implied_void(&mut self, tag: Tag, foster: bool) -> Result<NodeId, OpenError>
+    pub fn insert_implied_void(&mut self, tag: Tag, foster: bool) -> Result<NodeId, ArenaError>
         requires opened { 0 < length self.old.stack }
         requires part { is_part tag ≡ false }
         requires name { is_foreign_root tag ≡ false }
@@ -177,7 +177,7 @@ impl OpenTree {
         text: Str,
         token: u64,
         target: Target,
-    ) -> Result<NodeId, OpenError>
+    ) -> Result<NodeId, ArenaError>
         requires target { CanTarget self.old.stack target }
         requires token { self.old.tokens ≤ token }
         ensures id { IfOk result (λ id. id ≡ length self.old.tree.labels) }
@@ -213,7 +213,7 @@ impl OpenTree {
         public: OptionalStr,
         system: OptionalStr,
         token: u64,
-    ) -> Result<NodeId, OpenError>
+    ) -> Result<NodeId, ArenaError>
         requires token { self.old.tokens ≤ token }
         ensures id { IfOk result (λ id. id ≡ length self.old.tree.labels) }
         ensures exact { OnOk result (self.new ≡ record self.old {
@@ -250,7 +250,7 @@ impl OpenTree {
     /// # Errors
     ///
     /// `NodeBudget` and `HeldBudget` where the node would pass that limit; else `OutOfMemory`.
-    pub fn insert_root(&mut self, attrs: Attrs, token: u64) -> Result<NodeId, OpenError>
+    pub fn insert_root(&mut self, attrs: Attrs, token: u64) -> Result<NodeId, ArenaError>
         requires token { self.old.tokens ≤ token }
         ensures id { IfOk result (λ id. id ≡ length self.old.tree.labels) }
         ensures exact { OnOk result (self.new ≡ record self.old {
@@ -281,7 +281,7 @@ impl OpenTree {
     /// # Errors
     ///
     /// `NodeBudget` and `HeldBudget` where the node would pass that limit; else `OutOfMemory`.
-    pub fn insert_implied_root(&mut self) -> Result<NodeId, OpenError>
+    pub fn insert_implied_root(&mut self) -> Result<NodeId, ArenaError>
         ensures id { IfOk result (λ id. id ≡ length self.old.tree.labels) }
         ensures exact { OnOk result (self.new ≡ record self.old {
           stack = with_open self.old;
@@ -316,7 +316,7 @@ impl OpenTree {
         attrs: Attrs,
         token: u64,
         foster: bool,
-    ) -> Result<NodeId, OpenError>
+    ) -> Result<NodeId, ArenaError>
         requires opened { 0 < length self.old.stack }
         requires token { self.old.tokens ≤ token }
         requires formatting { is_formatting (tag_of name) ≡ true }
@@ -356,7 +356,7 @@ impl OpenTree {
         origin: Origin,
         next: u128,
         target: Target,
-    ) -> Result<NodeId, OpenError>
+    ) -> Result<NodeId, ArenaError>
         requires target { CanTarget self.old.stack target }
         requires first { CanBeFirst self.old.stack tag }
         requires seat { CanSeat self.old tag target }
@@ -395,7 +395,7 @@ impl OpenTree {
         origin: Origin,
         next: u128,
         target: Target,
-    ) -> Result<NodeId, OpenError>
+    ) -> Result<NodeId, ArenaError>
         requires target { CanTarget self.old.stack target }
         requires part { is_part tag ≡ false }
         requires name { is_foreign_root tag ≡ false }
@@ -434,7 +434,7 @@ impl OpenTree {
         origin: Origin,
         next: u128,
         target: Target,
-    ) -> Result<NodeId, OpenError>
+    ) -> Result<NodeId, ArenaError>
         requires target { CanTarget self.old.stack target }
         requires first { CanBeFirst self.old.stack (tag_of name) }
         requires seat { CanSeat self.old (tag_of name) target }
@@ -483,7 +483,7 @@ impl OpenTree {
         origin: Origin,
         next: u128,
         target: Target,
-    ) -> Result<NodeId, OpenError>
+    ) -> Result<NodeId, ArenaError>
         requires target { CanTarget self.old.stack target }
         requires part { is_part (tag_of name) ≡ false }
         requires name { is_foreign_root (tag_of name) ≡ false }

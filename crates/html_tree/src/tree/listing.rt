@@ -14,7 +14,7 @@ ghost use Rattle.html_tree.specs.Steps.{CountsReopening};
 use super::OpenTree;
 use html_arena::NodeId;
 use html_names::Tag;
-use html_open::{AdoptEnd, OpenError, adopt};
+use html_open::{AdoptEnd, ArenaError, adopt};
 
 impl OpenTree {
     ghost use Rattle.html_open.specs.declared.entry.Entry.TheVariants.{Marker};
@@ -24,7 +24,7 @@ impl OpenTree {
     /// # Errors
     ///
     /// `OutOfMemory`.
-    pub fn add_marker(&mut self) -> Result<(), OpenError>
+    pub fn add_marker(&mut self) -> Result<(), ArenaError>
         ensures exact { OnOk result (self.new ≡ record self.old { list = self.old.list ++ Marker ∷ []; steps = self.new.steps }) }
         ensures steps { OnOk result (self.new.steps ≤ self.old.steps + 1) }
         ensures counted { OnOk result (self.new.steps ≡ more self.old.steps 1) }
@@ -33,7 +33,7 @@ impl OpenTree {
         ensures tags { open_tags self.new ≡ open_tags self.old }
         ensures rest { self.new ≡ record self.old { list = self.new.list; steps = self.new.steps } }
         ensures tokens { self.new.tokens ≡ self.old.tokens }
-        ensures cause { IfErr result (λ e. e ≡ OpenError.OutOfMemory) }
+        ensures cause { IfErr result (λ e. e ≡ ArenaError.OutOfMemory) }
     {
         self.list.marker(&mut self.arena)?;
         Ok(())
@@ -41,7 +41,7 @@ impl OpenTree {
 
     /// Adds an open formatting element to the list; where three entries after the last marker have its name and its set of attributes, the
     /// earliest of them goes (the Noah's Ark clause).
-    pub(super) fn enlist(&mut self, node: NodeId) -> Result<(), OpenError>
+    pub(super) fn enlist(&mut self, node: NodeId) -> Result<(), ArenaError>
         requires { CanList (open_at self.old.stack self.old.list self.old.tree) node }
         ensures exact { OnOk result (self.new ≡ record self.old { list = pushed self.old.tree node self.old.list; steps = self.new.steps }) }
         ensures steps { OnOk result (self.new.steps ≤ self.old.steps + push_steps self.old.tree node self.old.list) }
@@ -50,7 +50,7 @@ impl OpenTree {
         ensures grown { OnOk result (Grown 0 0 1 0 self.old self.new) }
         ensures tags { open_tags self.new ≡ open_tags self.old }
         ensures rest { self.new ≡ record self.old { list = self.new.list; steps = self.new.steps } }
-        ensures cause { IfErr result (λ e. e ≡ OpenError.OutOfMemory) }
+        ensures cause { IfErr result (λ e. e ≡ ArenaError.OutOfMemory) }
     {
         self.list.push(&mut self.arena, node)?;
         Ok(())
@@ -100,7 +100,7 @@ impl OpenTree {
     /// # Errors
     ///
     /// `NodeBudget` and `HeldBudget` where the next clone would pass that limit; else `OutOfMemory`.
-    pub fn reopen(&mut self, foster: bool) -> Result<(), OpenError>
+    pub fn reopen(&mut self, foster: bool) -> Result<(), ArenaError>
         requires { 0 < length self.old.stack }
         ensures rest { self.new ≡ record self.old { stack = self.new.stack; list = self.new.list; tree = self.new.tree; steps = self.new.steps } }
         ensures exact { OnOk result (IsReopened foster self.old self.new) }
@@ -140,7 +140,7 @@ impl OpenTree {
     /// # Errors
     ///
     /// `NodeBudget` and `HeldBudget` where the next clone would pass that limit; else `OutOfMemory`.
-    pub fn adopt(&mut self, name: Tag, foster: bool) -> Result<AdoptEnd, OpenError>
+    pub fn adopt(&mut self, name: Tag, foster: bool) -> Result<AdoptEnd, ArenaError>
         requires opened { 0 < length self.old.stack }
         requires formatting { is_formatting name ≡ true }
         ensures rest { self.new ≡ record self.old { stack = self.new.stack; list = self.new.list; tree = self.new.tree; steps = self.new.steps } }

@@ -22,8 +22,8 @@ ghost use Rattle.html_tree.specs.Targets.{place_for};
 use super::OpenTree;
 use crate::groups::Target;
 use html_arena::NodeId;
-use html_charref::Str;
-use html_open::{OpenError, kept_by_edits};
+use html_open::{ArenaError, kept_by_edits};
+use html_text::Str;
 use html_tokens::Attrs;
 
 impl OpenTree {
@@ -32,7 +32,7 @@ impl OpenTree {
     /// # Errors
     ///
     /// `HeldBudget` where the added attributes would pass that limit; else `OutOfMemory`.
-    pub fn merge(&mut self, index: usize, attrs: Attrs) -> Result<(), OpenError>
+    pub fn merge(&mut self, index: usize, attrs: Attrs) -> Result<(), ArenaError>
         requires { index < length self.old.stack }
         ensures exact { OnOk result (self.new ≡ record self.old { tree = bare (with_merged self.old.tree (slice_index self.old.stack index) attrs); steps = self.new.steps }) }
         ensures steps { OnOk result (self.new.steps ≤ self.old.steps + 1 + length (attrs_in (label_of self.old.tree (slice_index self.old.stack index))) * length attrs) }
@@ -57,7 +57,12 @@ impl OpenTree {
     /// # Errors
     ///
     /// `NodeBudget` and `HeldBudget` where the node would pass that limit; else `OutOfMemory`.
-    pub fn replace_body(&mut self, name: Str, attrs: Attrs, token: u64) -> Result<NodeId, OpenError>
+    pub fn replace_body(
+        &mut self,
+        name: Str,
+        attrs: Attrs,
+        token: u64,
+    ) -> Result<NodeId, ArenaError>
         requires second { 1 < length self.old.stack }
         requires body { named self.old.tree tag.Body (slice_index self.old.stack 1) ≡ true }
         requires once { self.old.detached ≡ None }

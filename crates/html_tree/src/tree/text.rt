@@ -19,9 +19,9 @@ use crate::groups::Target;
 use crate::search::{Sought, last_index, last_node, steps_down};
 use crate::target::{put_new, text_before};
 use html_arena::{NewNode, NodeId};
-use html_charref::PlainText;
 use html_names::Tag;
-use html_open::{OpenError, kept_by_edits, place};
+use html_open::{ArenaError, kept_by_edits, place};
+use html_text::PlainText;
 
 impl OpenTree {
     /// Adds the longest front of a run of code points that the limit on held code points takes to the text that stands just before the
@@ -32,7 +32,7 @@ impl OpenTree {
     ///
     /// `NodeBudget` where there is no such text and a new one would pass that limit; `HeldBudget` where the first code point would pass
     /// that limit; else `OutOfMemory`.
-    pub fn append_run(&mut self, run: &[char], foster: bool) -> Result<(NodeId, usize), OpenError>
+    pub fn append_run(&mut self, run: &[char], foster: bool) -> Result<(NodeId, usize), ArenaError>
         requires opened { 0 < length self.old.stack }
         requires some { 0 < length run.now }
         ensures count { IfOk result (λ r. (0 < r.1) × (r.1 ≤ length run.now)) }
@@ -69,7 +69,7 @@ impl OpenTree {
         &mut self,
         text: &PlainText<'_>,
         foster: bool,
-    ) -> Result<(NodeId, usize), OpenError>
+    ) -> Result<(NodeId, usize), ArenaError>
         requires opened { 0 < length self.old.stack }
         requires some { 0 < length text.now }
         ensures count { IfOk result (λ r. (0 < r.1) × (r.1 ≤ length text.now)) }
@@ -140,7 +140,7 @@ impl OpenTree {
 
     /// The text that stands just before the place for the current node, or a new one there.
     #[inline(always)]
-    fn text_at(&mut self, foster: bool) -> Result<NodeId, OpenError>
+    fn text_at(&mut self, foster: bool) -> Result<NodeId, ArenaError>
         requires opened { 0 < length self.old.stack }
         ensures node { IfOk result (λ x. x ≡ text_node self.old foster) }
         ensures text { IfOk result (λ x. (x < length self.new.tree.labels) × IsText (label_of self.new.tree x)) }
@@ -182,7 +182,7 @@ impl OpenTree {
     }
 
     /// A new text, without code points, at the place for the current node.
-    fn insert_text(&mut self, foster: bool) -> Result<NodeId, OpenError>
+    fn insert_text(&mut self, foster: bool) -> Result<NodeId, ArenaError>
         requires opened { 0 < length self.old.stack }
         ensures id { IfOk result (λ id. id ≡ length self.old.tree.labels) }
         ensures text { IfOk result (λ x. (x < length self.new.tree.labels) × IsText (label_of self.new.tree x)) }
@@ -205,7 +205,7 @@ impl OpenTree {
     }
 
     /// Adds the longest front of a run that the limit on held code points takes to a text, and answers its length.
-    fn append_to(&mut self, node: NodeId, run: &[char]) -> Result<usize, OpenError>
+    fn append_to(&mut self, node: NodeId, run: &[char]) -> Result<usize, ArenaError>
         requires node_in { node < length self.old.tree.labels }
         requires is_text { IsText (label_of self.old.tree node) }
         requires free { IsFree self.old node }
@@ -225,13 +225,13 @@ impl OpenTree {
         kept_by_edits();
         let count = self.arena.append_run(node, run)?;
         if count == 0 {
-            return Err(OpenError::HeldBudget);
+            return Err(ArenaError::HeldBudget);
         }
         Ok(count)
     }
 
     /// Adds the longest front of a plain text that the limit on held code points takes to a text, and answers its length.
-    fn append_plain_to(&mut self, node: NodeId, text: &PlainText<'_>) -> Result<usize, OpenError>
+    fn append_plain_to(&mut self, node: NodeId, text: &PlainText<'_>) -> Result<usize, ArenaError>
         requires node_in { node < length self.old.tree.labels }
         requires is_text { IsText (label_of self.old.tree node) }
         requires free { IsFree self.old node }
@@ -251,7 +251,7 @@ impl OpenTree {
         kept_by_edits();
         let added = self.arena.append_plain(node, text)?;
         if added == 0 {
-            return Err(html_open::OpenError::HeldBudget);
+            return Err(html_open::ArenaError::HeldBudget);
         }
         Ok(added)
     }

@@ -2,6 +2,7 @@
 ghost use Rattle.std.specs.Prelude.{◌≡◌, length};
 ghost use Rattle.html_arena.specs.Tree.{WellFormed};
 ghost use Rattle.html_open.specs.Marking.{bare};
+ghost use Rattle.html_tree.specs.Forests.{IsForest};
 
 use super::OpenTree;
 use html_arena::{Arena, Limits, NodeId};
@@ -26,6 +27,13 @@ impl OpenTree {
         ensures value { result ≡ self.now.steps }
     {
         self.arena.meter().steps
+    }
+
+    /// What is always true of the nodes: a law.
+    pub fn forest(&self)
+        ensures forest { IsForest self.now.tree }
+    {
+        self.arena.forest();
     }
 
     /// The body that a frameset took the place of, if one did.

@@ -1,5 +1,5 @@
 use Rattle.std.proofs.Common.{◌∙◌}
-use Rattle.html_charref.proofs.Texts.{same_text}
+use Rattle.html_text.proofs.Texts.{same_text}
 use Rattle.html_dom.proofs.names.is_same_text.Goals as goal
 
 pub returns : goal.returns

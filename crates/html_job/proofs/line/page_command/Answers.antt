@@ -18,7 +18,7 @@ returns-clause-app c =
     let max_held = arg_added _ _ _ _ _ max_nodes c.in_ok-arg-6.ensures c.max_held.ensures.local c.max_held.ensures.rule in
     let max_input = arg_added _ _ _ _ _ max_held c.in_ok-arg-7.ensures c.max_input.ensures.local c.max_input.ensures.rule in
     let max_steps = arg_added _ _ _ _ _ max_input c.in_ok-arg-8.ensures c.max_steps.ensures.local c.max_steps.ensures.rule in
-    IfOk-weaker c.arg-9.result _ _ (λ r h. (arg_added _ r _ _ _ max_steps h c.input.ensures.local c.input.ensures.rule).app) c.arg-9.ensures
+    IfOk-weaker c.arg-9.result _ _ (λ r h. (arg_added _ r _ _ _ max_steps h c.inputs.ensures.local c.inputs.ensures.rule).app) c.arg-9.ensures
 
 pub returns-clause-local : goal.returns-clause-local
 returns-clause-local c =
@@ -34,4 +34,4 @@ returns-clause-local c =
     let max_held = arg_added _ _ _ _ _ max_nodes c.in_ok-arg-6.ensures c.max_held.ensures.local c.max_held.ensures.rule in
     let max_input = arg_added _ _ _ _ _ max_held c.in_ok-arg-7.ensures c.max_input.ensures.local c.max_input.ensures.rule in
     let max_steps = arg_added _ _ _ _ _ max_input c.in_ok-arg-8.ensures c.max_steps.ensures.local c.max_steps.ensures.rule in
-    IfOk-weaker c.arg-9.result _ _ (λ r h. (arg_added _ r _ _ _ max_steps h c.input.ensures.local c.input.ensures.rule).local) c.arg-9.ensures
+    IfOk-weaker c.arg-9.result _ _ (λ r h. (arg_added _ r _ _ _ max_steps h c.inputs.ensures.local c.inputs.ensures.rule).local) c.arg-9.ensures

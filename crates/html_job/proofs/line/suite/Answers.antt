@@ -12,7 +12,8 @@ returns-clause-app c =
     } in
     let entities = arg_added _ _ _ _ _ named c.in_ok-arg.ensures c.entities.ensures.local c.entities.ensures.rule in
     let foreign = arg_added _ _ _ _ _ entities c.in_ok-arg-2.ensures c.foreign.ensures.local c.foreign.ensures.rule in
-    IfOk-weaker c.arg-3.result _ _ (λ r h. (arg_added _ r _ _ _ foreign h c.files.ensures.local c.files.ensures.rule).app) c.arg-3.ensures
+    let verbose = arg_added _ _ _ _ _ foreign c.in_ok-arg-3.ensures c.verbose.ensures.local c.verbose.ensures.rule in
+    IfOk-weaker c.arg-4.result _ _ (λ r h. (arg_added _ r _ _ _ verbose h c.files.ensures.local c.files.ensures.rule).app) c.arg-4.ensures
 
 pub returns-clause-local : goal.returns-clause-local
 returns-clause-local c =
@@ -22,4 +23,5 @@ returns-clause-local c =
     } in
     let entities = arg_added _ _ _ _ _ named c.in_ok-arg.ensures c.entities.ensures.local c.entities.ensures.rule in
     let foreign = arg_added _ _ _ _ _ entities c.in_ok-arg-2.ensures c.foreign.ensures.local c.foreign.ensures.rule in
-    IfOk-weaker c.arg-3.result _ _ (λ r h. (arg_added _ r _ _ _ foreign h c.files.ensures.local c.files.ensures.rule).local) c.arg-3.ensures
+    let verbose = arg_added _ _ _ _ _ foreign c.in_ok-arg-3.ensures c.verbose.ensures.local c.verbose.ensures.rule in
+    IfOk-weaker c.arg-4.result _ _ (λ r h. (arg_added _ r _ _ _ verbose h c.files.ensures.local c.files.ensures.rule).local) c.arg-4.ensures

@@ -4,7 +4,6 @@ use Rattle.html_modes.proofs.Constructing.{body-taken}
 use Rattle.html_modes.proofs.Settled.{Pays-called, Toils-called}
 use Rattle.html_modes.proofs.Begun.{begun-refuses-any}
 use Rattle.html_modes.proofs.Plain.{alike-begun, alike-counted}
-use Rattle.html_modes.proofs.RawText.{run-other}
 use Rattle.html_modes.proofs.TextRuns.{run-goes-on}
 use Rattle.html_modes.proofs.plain_text.take_body_plain.Goals as goal
 
@@ -14,9 +13,6 @@ returns-clause-plain c =
     (alike-begun c.args.page.now c.begin_call.new.self c.args.page.now.mode (length c.args.page.now.stack) (length c.args.page.now.tree.tree.labels) c.begin_call.ensures.rest)
     c.in_ok-count.ensures.plain (alike-counted c.body_plain.new.page c.count_steps.new.self c.count_steps.ensures.rest c.count_steps.ensures.same)
     c.laws.ensures.sound c.laws.ensures.tags
-
-pub returns-clause-adds : goal.returns-clause-adds
-returns-clause-adds c = run-other (take c.in_ok-count.count c.args.text.now) c.args.page.now c.count_steps.new.self c.requires.loose
 
 pub returns-in_err-count-clause-refuses : goal.returns-in_err-count-clause-refuses
 returns-in_err-count-clause-refuses c = begun-refuses-any c.from_residual.result c.args.page.now c.begin_call.new.self c.body_plain.new.page c.in_err-count.field-0.0 c.from_residual.ensures.1 c.begin_call.ensures.begins c.in_err-count.ensures.refuses

@@ -1,9 +1,8 @@
 use Rattle.std.proofs.Common.{ap, sym, ◌∙◌}
 use Rattle.std.proofs.lemmas.Bool.{false≢true}
 use Rattle.html_construction.specs.States.{State}
-use Rattle.html_modes.proofs.Begun.{ignores-done, ignores-in}
 use Rattle.html_modes.proofs.Dispatching.{left-on}
-use Rattle.html_modes.proofs.Embedding.{Counted-stayed, Falls-after, Falls-stayed, Ignores-after, Settles-after, Settles-stayed, Spends-after, Spends-stayed, Steps-after, follows-done}
+use Rattle.html_modes.proofs.Embedding.{Counted-stayed, Falls-after, Falls-stayed, Spends-after, Spends-stayed, Steps-after, follows-done}
 use Rattle.html_modes.proofs.Settled.{Counted-after}
 use Rattle.html_modes.proofs.process.foreign_rules.Goals as goal
 
@@ -16,20 +15,11 @@ returns-then-goes_on-clause-falls c = Falls-after c.in_ok-outcome.outcome c.args
 pub returns-then-goes_on-clause-spends : goal.returns-then-goes_on-clause-spends
 returns-then-goes_on-clause-spends c = Spends-after c.in_ok-outcome.outcome c.args.symbol c.args.token.now c.args.page.now c.goes_on.new.page c.rules.new.page c.goes_on.ensures.rest c.goes_on.ensures.grown c.in_ok-outcome.ensures.spends
 
-pub returns-then-goes_on-clause-settles : goal.returns-then-goes_on-clause-settles
-returns-then-goes_on-clause-settles c = Settles-after c.in_ok-outcome.outcome c.args.symbol c.args.token.now c.args.page.now c.goes_on.new.page c.rules.new.page c.goes_on.ensures.rest c.in_ok-outcome.ensures.settles
-
-pub returns-then-goes_on-clause-ignores : goal.returns-then-goes_on-clause-ignores
-returns-then-goes_on-clause-ignores c = Ignores-after c.in_ok-outcome.outcome c.args.symbol c.args.token.now c.args.page.now c.goes_on.new.page c.rules.new.page c.goes_on.ensures.rest c.in_ok-outcome.ensures.ignores
-
 pub returns-then-goes_on-clause-counts : goal.returns-then-goes_on-clause-counts
 returns-then-goes_on-clause-counts c = Counted-after c.in_ok-outcome.outcome c.args.token.now c.args.page.now c.goes_on.new.page c.rules.new.page c.goes_on.ensures.grown c.goes_on.ensures.works c.in_ok-outcome.ensures.counts
 
 pub returns-clause-spends : goal.returns-clause-spends
 returns-clause-spends c = Spends-stayed c.args.page.now c.goes_on.new.page c.stay.new.page c.goes_on.ensures.grown c.in_ok-stay.ensures.grown
-
-pub returns-clause-settles : goal.returns-clause-settles
-returns-clause-settles c = Settles-stayed c.args.symbol c.args.page.now c.goes_on.new.page c.stay.new.page c.requires.quiet c.goes_on.ensures.grown c.in_ok-stay.ensures.grown
 
 pub returns-clause-counts : goal.returns-clause-counts
 returns-clause-counts c = Counted-stayed c.args.token.now c.args.page.now c.goes_on.new.page c.stay.new.page c.goes_on.ensures.grown c.in_ok-stay.ensures.grown c.goes_on.ensures.works c.in_ok-stay.ensures.works
@@ -37,11 +27,8 @@ returns-clause-counts c = Counted-stayed c.args.token.now c.args.page.now c.goes
 pub returns-clause-falls : goal.returns-clause-falls
 returns-clause-falls c = Falls-stayed c.args.symbol c.args.page.now c.goes_on.new.page c.stay.new.page c.requires.loose (ap (λ (x : State). x.mode) c.goes_on.ensures.rest) (ap (λ (x : State). x.mode) c.in_ok-stay.ensures.rest) c.goes_on.ensures.lighter c.in_ok-stay.ensures.heavier
 
-pub returns-clause-ignores : goal.returns-clause-ignores
-returns-clause-ignores c = ignores-in _ _ c.args.symbol (ignores-done c.args.symbol)
-
 pub returns-clause-follows : goal.returns-clause-follows
-returns-clause-follows c = λ n. follows-done c.args.around c.args.symbol c.args.token.now c.args.page.now c.goes_on.new.page c.stay.new.page c.goes_on.result c.goes_on.ensures.answer c.if-goes_on.false c.goes_on.ensures.same c.goes_on.ensures.exact c.in_ok-stay.ensures.stays c.in_ok-stay.ensures.ended c.goes_on.ensures.rest c.in_ok-stay.ensures.frameset
+returns-clause-follows c = λ n. follows-done c.args.around c.args.symbol c.args.token.now c.args.page.now c.goes_on.new.page c.stay.new.page c.goes_on.result c.goes_on.ensures.answer c.if-goes_on.false c.goes_on.ensures.same c.goes_on.ensures.exact c.in_ok-stay.ensures.stays c.in_ok-stay.ensures.ended c.goes_on.ensures.rest c.in_ok-stay.ensures.frameset c.in_ok-stay.ensures.rest
 
 pub returns-then-goes_on-clause-on : goal.returns-then-goes_on-clause-on
 returns-then-goes_on-clause-on c = λ n. left-on c.in_ok-outcome.outcome c.args.symbol c.args.token.now c.args.page.now c.goes_on.new.page c.rules.new.page c.goes_on.ensures.rest c.goes_on.ensures.exact c.in_ok-outcome.ensures.follows

@@ -1,18 +1,19 @@
-use Rattle.std.proofs.Common.{◌≡◌, ap, arith, false, inl, inr, length, subst, sym, ◌∙◌}
+use Rattle.std.proofs.Common.{◌≡◌, ap, arith, false, inl, inr, length, refl, subst, sym, ◌∙◌}
 use Rattle.html_open.proofs.Keeps.{cases_bool}
 use Rattle.html_construction.specs.States.{State}
-use Rattle.html_modes.specs.Dispatching.{Entries, IsEntry, last, next}
+use Rattle.html_modes.specs.Dispatching.{Entries, IsEntry, begun, last, next}
 use Rattle.html_modes.specs.Entering.{Enters}
-use Rattle.html_modes.specs.Guards.{is_text}
 use Rattle.html_modes.specs.Steps.{Steps, Toils, compared}
 use Rattle.html_modes.proofs.Dispatching.{counted-becomes}
 use Rattle.html_modes.proofs.Entering.{enters-done, enters-next}
 use Rattle.html_modes.proofs.Settled.{Entered, entered-next, toils-done}
-use Rattle.html_modes.proofs.Following.{follows-on, follows-once}
+use Rattle.html_modes.proofs.Following.{entries-embed}
+use Rattle.html_modes.proofs.Outside.{entries-outside, entry-parses, first-entry}
 use Rattle.html_modes.proofs.Plain.{IsAlike, alike-begun, alike-counted, alike-then, goes-not, goes-on, next-alike}
-use Rattle.html_modes.proofs.RawText.{adds-done, adds-not, ends-done, leaving-on, opens-settled}
-use Rattle.html_modes.specs.Begun.{TextStays, ignores_foreign}
-use Rattle.html_modes.proofs.Begun.{accepts-done, accepts-gives, began-own, begins-root, begun-refuses, done-foreign, done-not, first-entry, founded-begun, stays-settled, stays-then}
+use Rattle.html_modes.proofs.RawText.{ends-done, leaving-on}
+use Rattle.html_modes.proofs.TextAlone.{entries-add, entries-open}
+use Rattle.html_modes.specs.Begun.{ignores_foreign}
+use Rattle.html_modes.proofs.Begun.{accepts-done, accepts-gives, began-own, begins-root, begun-refuses, done-foreign, done-not, founded-begun}
 use Rattle.html_modes.proofs.process.take.Goals as goal
 
 pub steps-preserved : goal.steps-preserved
@@ -23,14 +24,14 @@ steps-preserved c =
     c.in_ok-step.ensures.spends c.in_ok-step.ensures.counts c.in_ok-step.ensures.falls before in
     record {
       fits = c.in_ok-step.ensures.fits;
-      parses = c.in_ok-step.ensures.parses ∙ ap (λ (x : State). x.parses_foreign) c.count_steps.ensures.rest ∙ i.parses;
+      parses = (entry-parses c.in_ok-step.field-0 c.args.symbol c.args.token.now c.count_steps.new.self c.step.new.page c.in_ok-step.ensures.entry) ∙ ap (λ (x : State). x.parses_foreign) c.count_steps.ensures.rest ∙ i.parses;
       keeps = λ h w. (subst (λ o. Steps o c.args.token.now c.count_steps.new.self c.step.new.page) c.in-Reprocess.is c.in_ok-step.ensures.takes) h (c.count_steps.ensures.keeps h (i.keeps h w));
       first = λ k w z. absurd (
           done-not c.in_ok-step.field-0
-          (first-entry c.begin_call.new.self c.steps.page c.count_steps.new.self c.in_ok-step.field-0 c.args.symbol i.first c.count_steps.ensures.rest (began-own c.args.page.now c.begin_call.new.self _ _ c.begin_call.ensures.rest) c.in_ok-step.ensures.ignores k w z)
+          (first-entry c.begin_call.new.self c.steps.page c.count_steps.new.self c.step.new.page c.in_ok-step.field-0 c.args.symbol c.args.token.now c.requires.symbol i.first c.count_steps.ensures.rest
+          (began-own c.args.page.now c.begin_call.new.self _ _ c.begin_call.ensures.rest) c.in_ok-step.ensures.entry k w z)
           c.in-Reprocess.is
           );
-      out = stays-then c.args.symbol c.begin_call.new.self.mode c.steps.page.mode c.count_steps.new.self.mode c.step.new.page.mode i.out (ap (λ (x : State). x.mode) c.count_steps.ensures.rest) c.in_ok-step.ensures.out;
       nodes = e.0;
       clones = e.1.0;
       implied = e.1.1.0;
@@ -45,18 +46,8 @@ steps-preserved c =
           (subst (λ o. IsEntry o c.args.symbol c.args.token.now c.count_steps.new.self c.step.new.page) c.in-Reprocess.is c.in_ok-step.ensures.entry) k
           );
       falls = e.1.1.1.1.1.1.1;
-      adds = λ m p. absurd (
-          adds-not c.in_ok-step.field-0 c.args.symbol c.begin_call.new.self c.count_steps.new.self c.step.new.page c.in-Reprocess.is
-          (alike-then c.begin_call.new.self c.steps.page c.count_steps.new.self (i.adds m p) (alike-counted c.steps.page c.count_steps.new.self c.count_steps.ensures.rest c.count_steps.ensures.same))
-          c.in_ok-step.ensures.adds m p
-          );
       ends = leaving-on c.in_ok-step.field-0 c.args.symbol c.args.token.now c.begin_call.new.self c.steps.page c.count_steps.new.self c.step.new.page c.in-Reprocess.is i.ends
           (alike-counted c.steps.page c.count_steps.new.self c.count_steps.ensures.rest c.count_steps.ensures.same) (λ h w. c.count_steps.ensures.keeps h (i.keeps h w)) c.count_steps.ensures.keeps c.in_ok-step.ensures.ends c.in_ok-step.ensures.takes;
-      foreign = λ g h. absurd (
-          follows-once c.in_ok-step.field-0 g c.args.symbol c.args.token.now c.begin_call.new.self c.count_steps.new.self c.step.new.page c.in-Reprocess.is
-          (alike-then c.begin_call.new.self c.steps.page c.count_steps.new.self (i.foreign g h) (alike-counted c.steps.page c.count_steps.new.self c.count_steps.ensures.rest c.count_steps.ensures.same))
-          c.in_ok-step.ensures.foreign h
-          );
       plain = λ h. absurd (
           goes-not c.in_ok-step.field-0 c.args.symbol c.args.token.now c.begin_call.new.self c.count_steps.new.self c.step.new.page c.in-Reprocess.is
           (alike-then c.begin_call.new.self c.steps.page c.count_steps.new.self (i.plain h) (alike-counted c.steps.page c.count_steps.new.self c.count_steps.ensures.rest c.count_steps.ensures.same))
@@ -86,19 +77,26 @@ returns-in-Done-clause-plain c = λ n h.
     goes-on c.in_ok-step.field-0 c.args.symbol c.args.token.now c.args.page.now c.count_steps.new.self c.step.new.page c.settle.new.page c.in-Done.is before c.in_ok-step.ensures.plain c.settle.ensures.same
     c.laws.ensures.sound c.laws.ensures.tags h
 
+pub returns-in-Done-clause-entries : goal.returns-in-Done-clause-entries
+returns-in-Done-clause-entries c = λ n.
+    subst (λ (x : State). Entries c.args.symbol c.args.token.now x c.settle.new.page) c.begin_call.ensures.rest (
+    c.steps.invariant.run c.settle.new.page (
+    last c.steps.page c.count_steps.new.self c.step.new.page c.settle.new.page (counted-becomes c.steps.page c.count_steps.new.self c.count_steps.ensures.rest c.count_steps.ensures.same)
+    (subst (λ o. IsEntry o c.args.symbol c.args.token.now c.count_steps.new.self c.step.new.page) c.in-Done.is c.in_ok-step.ensures.entry) c.settle.ensures.settled
+    )
+    )
+
 pub returns-in-Done-clause-opens : goal.returns-in-Done-clause-opens
-returns-in-Done-clause-opens c = λ n.
-    opens-settled c.in_ok-step.field-0 c.args.symbol c.step.new.page c.settle.new.page c.in-Done.is c.in_ok-step.ensures.opens c.settle.ensures.rest c.settle.ensures.same
+returns-in-Done-clause-opens c = λ n. entries-open c.args.symbol c.args.token.now (begun c.args.page.now) c.settle.new.page c.requires.symbol c.forest.ensures.forest (returns-in-Done-clause-entries c n)
 
 pub returns-in-Done-clause-adds : goal.returns-in-Done-clause-adds
-returns-in-Done-clause-adds c = λ n.
-    let begun : IsAlike c.args.page.now c.begin_call.new.self = alike-begun c.args.page.now c.begin_call.new.self c.args.page.now.mode (length c.args.page.now.stack) (length c.args.page.now.tree.tree.labels) c.begin_call.ensures.rest in
-    adds-done c.in_ok-step.field-0 c.args.symbol c.args.page.now c.count_steps.new.self c.step.new.page c.settle.new.page c.in-Done.is
-    (λ m p. alike-then c.args.page.now c.begin_call.new.self c.count_steps.new.self begun (
-    alike-then c.begin_call.new.self c.steps.page c.count_steps.new.self (c.steps.invariant.adds (ap (λ (x : State). is_text x.mode) begun.same ∙ m) p)
-    (alike-counted c.steps.page c.count_steps.new.self c.count_steps.ensures.rest c.count_steps.ensures.same)
-    ))
-    c.in_ok-step.ensures.adds c.settle.ensures.same
+returns-in-Done-clause-adds c = λ n. entries-add c.args.symbol c.args.token.now c.args.page.now c.settle.new.page c.requires.symbol (returns-in-Done-clause-entries c n)
+
+pub returns-in-Done-clause-out : goal.returns-in-Done-clause-out
+returns-in-Done-clause-out c = λ n. record { out = λ p. entries-outside c.args.symbol c.args.token.now (begun c.args.page.now) c.settle.new.page c.requires.symbol p (returns-in-Done-clause-entries c n) }
+
+pub returns-in-Done-clause-embeds : goal.returns-in-Done-clause-embeds
+returns-in-Done-clause-embeds c = λ n. entries-embed c.args.symbol c.args.token.now c.args.page.now (begun c.args.page.now) c.settle.new.page refl (returns-in-Done-clause-entries c n)
 
 pub returns-in-Done-clause-ends : goal.returns-in-Done-clause-ends
 returns-in-Done-clause-ends c = λ n.
@@ -114,21 +112,14 @@ returns-in-Done-clause-takes c = λ n.
     c.count_steps.ensures.keeps c.in_ok-step.ensures.takes c.settle.ensures.keeps)
 
 pub returns-in-Done-clause-gives : goal.returns-in-Done-clause-gives
-returns-in-Done-clause-gives c = λ n. accepts-gives c.args.token.now c.args.page.now c.settle.new.page
-    (accepts-done c.args.token.now c.in_ok-step.field-0 c.args.page.now c.begin_call.new.self c.steps.page c.count_steps.new.self c.step.new.page c.settle.new.page c.in-Done.is c.begin_call.ensures.begins c.steps.invariant.keeps
-    c.count_steps.ensures.keeps c.in_ok-step.ensures.takes c.settle.ensures.keeps)
-
-pub returns-in-Done-clause-out : goal.returns-in-Done-clause-out
-returns-in-Done-clause-out c = λ n.
-    subst (λ (x : State). TextStays c.args.symbol x.mode c.settle.new.page.mode) c.begin_call.ensures.rest
-    (stays-settled c.args.symbol c.begin_call.new.self.mode c.step.new.page.mode c.settle.new.page.mode
-    (stays-then c.args.symbol c.begin_call.new.self.mode c.steps.page.mode c.count_steps.new.self.mode c.step.new.page.mode c.steps.invariant.out (ap (λ (x : State). x.mode) c.count_steps.ensures.rest) c.in_ok-step.ensures.out) c.settle.ensures.out)
+returns-in-Done-clause-gives c = λ n. accepts-gives c.args.token.now c.args.page.now c.settle.new.page (returns-in-Done-clause-takes c n)
 
 pub returns-in-Foreign-clause-ignores : goal.returns-in-Foreign-clause-ignores
 returns-in-Foreign-clause-ignores c = λ w. elim (cases_bool (ignores_foreign c.args.page.now.mode)) [
   | inl k ↦ absurd (
       done-foreign c.in_ok-step.field-0 c.in-Foreign.name
-      (first-entry c.begin_call.new.self c.steps.page c.count_steps.new.self c.in_ok-step.field-0 c.args.symbol c.steps.invariant.first c.count_steps.ensures.rest (began-own c.args.page.now c.begin_call.new.self _ _ c.begin_call.ensures.rest) c.in_ok-step.ensures.ignores
+      (first-entry c.begin_call.new.self c.steps.page c.count_steps.new.self c.step.new.page c.in_ok-step.field-0 c.args.symbol c.args.token.now c.requires.symbol c.steps.invariant.first c.count_steps.ensures.rest
+      (began-own c.args.page.now c.begin_call.new.self _ _ c.begin_call.ensures.rest) c.in_ok-step.ensures.entry
       (ap (λ (x : State). ignores_foreign x.mode) c.begin_call.ensures.rest ∙ k) (founded-begun c.args.page.now c.begin_call.new.self _ _ c.begin_call.ensures.rest w)
       (begins-root c.args.token.now c.args.symbol c.in_ok-step.field-0 c.in-Foreign.name _ c.requires.symbol c.in-Foreign.is (subst (λ o. Steps o c.args.token.now c.count_steps.new.self c.step.new.page) c.in-Foreign.is c.in_ok-step.ensures.takes).0))
       c.in-Foreign.is
@@ -151,24 +142,8 @@ returns-in-Foreign-clause-refused c =
 
 pub returns-in-Done-clause-parses : goal.returns-in-Done-clause-parses
 returns-in-Done-clause-parses c =
-    ap (λ (x : State). x.parses_foreign) c.settle.ensures.rest ∙ c.in_ok-step.ensures.parses ∙ ap (λ (x : State). x.parses_foreign) c.count_steps.ensures.rest ∙ c.steps.invariant.parses ∙ ap (λ (x : State). x.parses_foreign) c.begin_call.ensures.rest
+    ap (λ (x : State). x.parses_foreign) c.settle.ensures.rest ∙ (entry-parses c.in_ok-step.field-0 c.args.symbol c.args.token.now c.count_steps.new.self c.step.new.page c.in_ok-step.ensures.entry) ∙ ap (λ (x : State). x.parses_foreign) c.count_steps.ensures.rest ∙ c.steps.invariant.parses ∙ ap (λ (x : State). x.parses_foreign) c.begin_call.ensures.rest
 
 pub returns-in-Foreign-clause-parses : goal.returns-in-Foreign-clause-parses
 returns-in-Foreign-clause-parses c =
-    c.in_ok-step.ensures.parses ∙ ap (λ (x : State). x.parses_foreign) c.count_steps.ensures.rest ∙ c.steps.invariant.parses ∙ ap (λ (x : State). x.parses_foreign) c.begin_call.ensures.rest
-
-pub returns-in-Done-clause-embeds : goal.returns-in-Done-clause-embeds
-returns-in-Done-clause-embeds c = λ n.
-    follows-on c.in_ok-step.field-0 c.args.symbol c.args.token.now c.args.page.now c.begin_call.new.self c.count_steps.new.self c.step.new.page c.settle.new.page
-    (alike-begun c.args.page.now c.begin_call.new.self c.args.page.now.mode (length c.args.page.now.stack) (length c.args.page.now.tree.tree.labels) c.begin_call.ensures.rest)
-    (λ g h. alike-then c.begin_call.new.self c.steps.page c.count_steps.new.self (c.steps.invariant.foreign g h) (alike-counted c.steps.page c.count_steps.new.self c.count_steps.ensures.rest c.count_steps.ensures.same))
-    c.in_ok-step.ensures.foreign c.settle.ensures.rest
-
-pub returns-in-Done-clause-entries : goal.returns-in-Done-clause-entries
-returns-in-Done-clause-entries c = λ n.
-    subst (λ (x : State). Entries c.args.symbol c.args.token.now x c.settle.new.page) c.begin_call.ensures.rest (
-    c.steps.invariant.run c.settle.new.page (
-    last c.steps.page c.count_steps.new.self c.step.new.page c.settle.new.page (counted-becomes c.steps.page c.count_steps.new.self c.count_steps.ensures.rest c.count_steps.ensures.same)
-    (subst (λ o. IsEntry o c.args.symbol c.args.token.now c.count_steps.new.self c.step.new.page) c.in-Done.is c.in_ok-step.ensures.entry) c.settle.ensures.settled
-    )
-    )
+    (entry-parses c.in_ok-step.field-0 c.args.symbol c.args.token.now c.count_steps.new.self c.step.new.page c.in_ok-step.ensures.entry) ∙ ap (λ (x : State). x.parses_foreign) c.count_steps.ensures.rest ∙ c.steps.invariant.parses ∙ ap (λ (x : State). x.parses_foreign) c.begin_call.ensures.rest

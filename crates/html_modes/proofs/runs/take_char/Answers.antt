@@ -1,4 +1,3 @@
-use Rattle.std.proofs.Common.{refl}
 use Rattle.html_modes.proofs.Settled.{char-foreign}
 use Rattle.html_modes.proofs.TextRuns.{char-goes-on}
 use Rattle.html_modes.proofs.runs.take_char.Goals as goal
@@ -10,15 +9,6 @@ pub returns-clause-plain : goal.returns-clause-plain
 returns-clause-plain c = λ v.
     char-goes-on c.args.c c.args.page.now c.take.new.page v
     (c.in_ok-take.ensures.plain (char-foreign c.args.c c.in_ok-take.field-0 c.in_ok-take.ensures.foreign))
-
-pub returns-clause-adds : goal.returns-clause-adds
-returns-clause-adds c = c.in_ok-take.ensures.adds (char-foreign c.args.c c.in_ok-take.field-0 c.in_ok-take.ensures.foreign)
-
-pub returns-clause-gives : goal.returns-clause-gives
-returns-clause-gives c = c.in_ok-take.ensures.gives (char-foreign c.args.c c.in_ok-take.field-0 c.in_ok-take.ensures.foreign)
-
-pub returns-clause-out : goal.returns-clause-out
-returns-clause-out c = (c.in_ok-take.ensures.out (char-foreign c.args.c c.in_ok-take.field-0 c.in_ok-take.ensures.foreign)).out refl
 
 pub returns-clause-founded : goal.returns-clause-founded
 returns-clause-founded c = c.in_ok-take.ensures.founded (char-foreign c.args.c c.in_ok-take.field-0 c.in_ok-take.ensures.foreign)

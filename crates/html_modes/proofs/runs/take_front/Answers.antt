@@ -6,8 +6,11 @@ use Rattle.html_ledger.specs.declared.history.History.{History}
 use Rattle.html_ledger.specs.declared.symbol.Symbol.TheVariants.{Char}
 use Rattle.html_ledger.specs.Flags.{is_free, is_not_null, may_text_run}
 use Rattle.html_modes.specs.Plain.{GoesOnText}
-use Rattle.html_modes.specs.RawText.{AddsText}
+use Rattle.html_tokens.specs.declared.token.TokenKind.TheVariants as kind
+use Rattle.html_modes.proofs.Begun.{accepts-gives, run-gives}
 use Rattle.html_modes.proofs.Constructing.{char-taken}
+use Rattle.html_modes.proofs.Outside.{constructs-outside}
+use Rattle.html_modes.proofs.TextAlone.{text-adds}
 use Rattle.html_modes.proofs.runs.take_front.Goals as goal
 
 three : (a b c : Bool) → a ≡ false → b ≡ true → IsTrue c → IsTrue (not a && (b && c))
@@ -52,10 +55,17 @@ returns-clause-plain c = λ v.
     subst (λ run. GoesOnText run c.args.page.now c.take_char.new.page) (sym (first-taken c.args.text.now x c.requires.some c.index-text-0-2.is))
     (c.in_ok-take_char.ensures.plain (first-visible c.args.text.now x c.requires.some c.index-text-0-2.is v))
 
-pub returns-clause-adds : goal.returns-clause-adds
-returns-clause-adds c =
-    let x = c.index-text-0-2.result in
-    subst (λ run. AddsText run c.args.page.now c.take_char.new.page) (sym (first-taken c.args.text.now x c.requires.some c.index-text-0-2.is)) c.in_ok-take_char.ensures.adds
-
 pub returns-clause-constructs : goal.returns-clause-constructs
 returns-clause-constructs c = char-taken c.args.text.now c.index-text-0-2.result c.args.page.now c.take_char.new.page (first-taken c.args.text.now c.index-text-0-2.result c.requires.some c.index-text-0-2.is) c.in_ok-take_char.ensures.entries
+
+pub returns-clause-adds : goal.returns-clause-adds
+returns-clause-adds c = text-adds (take 1 c.args.text.now) c.args.page.now c.take_char.new.page (returns-clause-constructs c)
+
+pub returns-clause-out : goal.returns-clause-out
+returns-clause-out c = constructs-outside (take 1 c.args.text.now) c.args.page.now c.take_char.new.page (returns-clause-constructs c)
+
+pub returns-clause-gives : goal.returns-clause-gives
+returns-clause-gives c = accepts-gives (kind.Char c.index-text-0-2.result) c.args.page.now c.take_char.new.page c.in_ok-take_char.ensures.takes
+
+pub returns-then-takes_run-clause-gives : goal.returns-then-takes_run-clause-gives
+returns-then-takes_run-clause-gives c = run-gives (take c.in_ok-count.count (take c.null_index-end.result c.args.text.now)) c.args.page.now c.take_run.new.page c.in_ok-count.ensures.takes

@@ -14,7 +14,7 @@ use Rattle.html_open.proofs.Costing.{adopted-held}
 use Rattle.html_open.proofs.Narrowing.{adopted-narrow, refused-narrow}
 use Rattle.html_open.proofs.Descending.{closed-more, closed-none, closed-rebased, descends-round, descends-start, ends-closed, ends-made, made-more, made-none, made-rebase}
 use Rattle.std.proofs.lemmas.Result.{err_from_is_err_and}
-use Rattle.html_open.specs.declared.error.OpenError.{OpenError}
+use Rattle.html_arena.specs.declared.arena.ArenaError.{ArenaError}
 use Rattle.html_open.specs.Adopting.{IsRefusal}
 use Rattle.html_open.proofs.Staying.{survives-ends, survives-popped, survives-rebase, survives-round, survives-start, survives-stopped, survives-then}
 use Rattle.html_open.proofs.Stopping.{refusal-is, stopped-can-place, stopped-closed, stopped-free, stopped-length, stopped-made, stopped-open, stopped-told}
@@ -136,7 +136,7 @@ returns-in_err-end-clause-clones c =
 pub returns-in_err-end-clause-cause : goal.returns-in_err-end-clause-cause
 returns-in_err-end-clause-cause c =
     let p = err_from_is_err_and c.from_residual.result c.from_residual.ensures.1 in
-    rw p.1 (subst (λ (e : OpenError). IsRefusal c.args.name c.args.foster (open_at c.args.stack.now c.args.list.now c.args.arena.now) (open_at c.turn-turned.new.stack c.turn-turned.new.list c.turn-turned.new.arena) e) (sym p.2)
+    rw p.1 (subst (λ (e : ArenaError). IsRefusal c.args.name c.args.foster (open_at c.args.stack.now c.args.list.now c.args.arena.now) (open_at c.turn-turned.new.stack c.turn-turned.new.list c.turn-turned.new.arena) e) (sym p.2)
     (refusal-is c.args.name c.args.foster c.args.stack.now c.args.list.now c.args.arena.now c.pop_unlisted.new.arena.steps c.rounding._index (open_at c.pop_unlisted.new.stack c.args.list.now c.pop_unlisted.new.arena) (open_at c.rounding.stack c.rounding.list c.rounding.arena) (open_at c.turn-turned.new.stack c.turn-turned.new.list c.turn-turned.new.arena) c.in_err-end.field-0.0 (ap (λ (v : List ℕ). open_at v c.args.list.now c.pop_unlisted.new.arena) (c.pop_unlisted.ensures.same_stack c.if-pop_unlisted.false) ∙ ap (λ (t : Tree). open_at c.args.stack.now c.args.list.now t) (c.pop_unlisted.ensures.same_tree c.if-pop_unlisted.false)) (c.pop_unlisted.ensures.no c.if-pop_unlisted.false) c.rounding-test.true c.rounding.invariant.rounds c.in_err-end.ensures.stopped))
 
 pub returns-in_err-end-clause-told : goal.returns-in_err-end-clause-told

@@ -7,7 +7,7 @@ use Rattle.html_open.specs.Opened.{IsOpen, open_at}
 use Rattle.html_open.specs.Placing.{CanPlace}
 use Rattle.std.proofs.lemmas.Result.{err_from_is_err_and}
 use Rattle.html_open.specs.declared.adoption.AdoptEnd.TheVariants.{Done, OtherEndTag}
-use Rattle.html_open.specs.declared.error.OpenError.{OpenError}
+use Rattle.html_arena.specs.declared.arena.ArenaError.{ArenaError}
 use Rattle.html_open.specs.Adopting.{IsStopped, round_originals}
 use Rattle.html_open.specs.Cloning.{IsCut}
 use Rattle.html_open.proofs.Cutting.{cut-rebase}
@@ -101,7 +101,7 @@ pub returns-in_err-round-in-FurthestBlock-clause-stopped : goal.returns-in_err-r
 returns-in_err-round-in-FurthestBlock-clause-stopped c =
     let p = err_from_is_err_and c.from_residual.result c.from_residual.ensures.1 in
     let d = subst (λ (t : Tree). IsCut t c.round.new.arena (round_originals (open_at c.args.stack.now c.args.list.now t) c.in-FurthestBlock.at c.in-FurthestBlock.block_at) c.in_err-round-in-FurthestBlock.field-0.0) c.find.ensures.tree c.in_err-round-in-FurthestBlock.ensures.cut in
-    rw p.1 (subst (λ (e : OpenError). IsStopped c.args.name (open_at c.args.stack.now c.args.list.now c.args.arena.now) (open_at c.round.new.stack c.round.new.list c.round.new.arena) e) (sym p.2) (record {
+    rw p.1 (subst (λ (e : ArenaError). IsStopped c.args.name (open_at c.args.stack.now c.args.list.now c.args.arena.now) (open_at c.round.new.stack c.round.new.list c.round.new.arena) e) (sym p.2) (record {
       at = c.in-FurthestBlock.at;
       b = c.in-FurthestBlock.block_at;
       block = c.in-FurthestBlock.ensures.found;

@@ -5,7 +5,7 @@ use Rattle.std.specs.List.{flat_map}
 use Rattle.std.proofs.lemmas.List.{length-append}
 use Rattle.html_page.specs.Escaped.{escaped}
 use Rattle.html_page.proofs.Runs.{begin_cut, step_cut, keep_cut, pass_cut, run_is, start_within, whole, whole_at, passed, last_run}
-use Rattle.html_output.proofs.Puts.{Moves-nil, Moves-is, Moves-trans, front_after, put_err, put_after}
+use Rattle.html_device.proofs.Puts.{Moves-nil, Moves-is, Moves-trans, front_after, put_err, put_after}
 use Rattle.html_page.proofs.escape.put_escaped.Goals as goal
 
 room : (o p : ℕ) (r s e : List ℕ) (m : ℕ) → o + length r < m → r ≡ e ++ s → p ≡ o + length e → p + length s < m

@@ -3,7 +3,7 @@ use Rattle.std.specs.Str.{encode_utf8_all}
 use Rattle.std.specs.List.{flat_map}
 use Rattle.std.specs.Str.Iter.{char_indices_offset, char_indices_rest}
 use Rattle.html_page.specs.Escaped.{escaped}
-use Rattle.html_output.specs.Putting.{Moves, held}
+use Rattle.html_device.specs.Putting.{Moves, held}
 use Rattle.html_page.proofs.Runs.{IsCut}
 use Rattle.html_page.proofs.escape.put_escaped.Given as goal
 

@@ -1,7 +1,7 @@
 use Rattle.std.proofs.Common.{◌++◌, sym, ◌∙◌, append_assoc}
 use Rattle.std.specs.Str.{encode_utf8_all}
 use Rattle.html_arena.specs.declared.walk.Event.TheVariants.{Enter, Leave}
-use Rattle.html_output.proofs.Puts.{Moves-trans, front_after, front_first, put_after, put_err}
+use Rattle.html_device.proofs.Puts.{Moves-trans, front_after, front_first, put_after, put_err}
 use Rattle.html_page.specs.Serialised.{event_text, html_below}
 use Rattle.html_page.proofs.Cuts.{node-cut}
 use Rattle.html_page.proofs.parts.put_node.Goals as goal

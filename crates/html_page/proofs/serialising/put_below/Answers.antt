@@ -5,7 +5,7 @@ use Rattle.std.proofs.lemmas.Str.{encodes-append}
 use Rattle.html_arena.specs.declared.walk.Event.{Event}
 use Rattle.html_arena.specs.Steps.{node_in}
 use Rattle.html_page.specs.Serialised.{event_text}
-use Rattle.html_output.proofs.Puts.{Moves-nil, Moves-is, Moves-trans, front_after, put_err}
+use Rattle.html_device.proofs.Puts.{Moves-nil, Moves-is, Moves-trans, front_after, put_err}
 use Rattle.html_page.proofs.Texts.{texts, texts_all}
 use Rattle.html_page.proofs.serialising.put_below.Goals as goal
 

@@ -3,7 +3,7 @@ use Rattle.std.specs.List.{All}
 use Rattle.std.specs.Str.{encode_utf8_all}
 use Rattle.html_arena.specs.declared.walk.Event.{Event}
 use Rattle.html_arena.specs.Steps.{node_in}
-use Rattle.html_output.specs.Putting.{Moves, held}
+use Rattle.html_device.specs.Putting.{Moves, held}
 use Rattle.html_page.specs.Serialised.{html_below}
 use Rattle.html_page.proofs.Texts.{texts}
 use Rattle.html_page.proofs.serialising.put_below.Given as goal

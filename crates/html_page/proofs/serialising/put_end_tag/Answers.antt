@@ -4,7 +4,7 @@ use Rattle.std.specs.Str.{encode_utf8_all}
 use Rattle.html_page.specs.Html.{end_tag, is_foreign_name, is_void_name, written_name}
 use Rattle.html_page.proofs.Kin.{foreign_name, void_name}
 use Rattle.html_page.proofs.Tagged.{between}
-use Rattle.html_output.proofs.Puts.{Moves-is, Moves-nil, put_is}
+use Rattle.html_device.proofs.Puts.{Moves-is, Moves-nil, put_is}
 use Rattle.html_page.proofs.serialising.put_end_tag.Goals as goal
 
 pub returns-then-is_void-clause-bytes : goal.returns-then-is_void-clause-bytes

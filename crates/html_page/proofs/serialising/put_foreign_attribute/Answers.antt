@@ -4,7 +4,7 @@ use Rattle.std.specs.Str.{encode_utf8_all, chars}
 use Rattle.std.specs.List.{flat_map}
 use Rattle.html_page.specs.Html.{escaped_in_value, qualified}
 use Rattle.html_page.proofs.Tagged.{attribute_cut}
-use Rattle.html_output.proofs.Puts.{Moves-trans, front_first, front_after, put_err, put_after}
+use Rattle.html_device.proofs.Puts.{Moves-trans, front_first, front_after, put_err, put_after}
 use Rattle.html_page.proofs.serialising.put_foreign_attribute.Goals as goal
 
 pub returns-in_err-put_foreign_name-clause-bytes : goal.returns-in_err-put_foreign_name-clause-bytes

@@ -5,7 +5,7 @@ use Rattle.html_names.specs.Foreign.{local_name}
 use Rattle.html_page.specs.Html.{written_name}
 use Rattle.html_page.proofs.Qualified.{local_bytes}
 use Rattle.html_page.proofs.Tagged.{between}
-use Rattle.html_output.proofs.Puts.{put_is}
+use Rattle.html_device.proofs.Puts.{put_is}
 use Rattle.html_page.proofs.serialising.put_foreign_end.Goals as goal
 
 pub returns-clause-bytes : goal.returns-clause-bytes

@@ -2,7 +2,7 @@ use Rattle.std.proofs.Common.{List, ℕ, ◌++◌, sym, ap, ◌∙◌, refl, app
 use Rattle.std.specs.Prelude.{codes}
 use Rattle.std.specs.Str.{chars, encode_utf8_all}
 use Rattle.html_page.specs.Html.{qualified}
-use Rattle.html_output.proofs.Puts.{Moves-trans, front_first, front_after, put_err, put_after}
+use Rattle.html_device.proofs.Puts.{Moves-trans, front_first, front_after, put_err, put_after}
 use Rattle.html_page.proofs.serialising.put_foreign_name.Goals as goal
 
 abbrev bytes_of : List ℕ → List ℕ

@@ -6,7 +6,7 @@ use Rattle.html_names.specs.Foreign.{local_name}
 use Rattle.html_page.specs.Html.{attribute}
 use Rattle.html_page.proofs.Qualified.{local_bytes}
 use Rattle.html_page.proofs.Tagged.{start_tag_cut, opened_at, opened_more, opened_all}
-use Rattle.html_output.proofs.Puts.{Moves-trans, Moves-is, front_first, front_after, put_err, put_after}
+use Rattle.html_device.proofs.Puts.{Moves-trans, Moves-is, front_first, front_after, put_err, put_after}
 use Rattle.html_page.proofs.serialising.put_foreign_tag.Goals as goal
 
 pub returns-in_err-put_between-clause-bytes : goal.returns-in_err-put_between-clause-bytes

@@ -3,7 +3,7 @@ use Rattle.std.specs.Prelude.{codes}
 use Rattle.std.specs.List.{flat_map}
 use Rattle.std.specs.Str.{encode_utf8_all}
 use Rattle.html_page.specs.Html.{attribute}
-use Rattle.html_output.specs.Putting.{Moves, held}
+use Rattle.html_device.specs.Putting.{Moves, held}
 use Rattle.html_page.proofs.serialising.put_html_tag.Given as goal
 
 -- the name and the attributes so far are put; and the writer is no more at fault than at the start

@@ -5,7 +5,7 @@ use Rattle.html_arena.specs.declared.data.NodeData.TheVariants.{Doctype}
 use Rattle.html_page.specs.Html.{opening}
 use Rattle.html_page.specs.Label.{label_for}
 use Rattle.html_page.proofs.Tagged.{between}
-use Rattle.html_output.proofs.Puts.{put_is}
+use Rattle.html_device.proofs.Puts.{put_is}
 use Rattle.html_page.proofs.serialising.put_opening.Goals as goal
 
 pub returns-in-Comment-clause-bytes : goal.returns-in-Comment-clause-bytes

@@ -1,7 +1,7 @@
 use Rattle.std.proofs.Common.{arith, subst, sym, ◌∙◌, Some, None}
 use Rattle.std.specs.Str.{IsUtf8}
 use Rattle.std.proofs.lemmas.Str.Pattern.{split_parts}
-use Rattle.html_output.proofs.Puts.{put_is}
+use Rattle.html_device.proofs.Puts.{put_is}
 use Rattle.html_page.proofs.Qualified.{cut_name, local_text, prefix_text, whole_name}
 use Rattle.html_page.proofs.serialising.put_qualified.Goals as goal
 

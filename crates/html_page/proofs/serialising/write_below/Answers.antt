@@ -2,8 +2,8 @@ use Rattle.std.proofs.Common.{ℕ, List, ◌≡◌, []}
 use Rattle.std.specs.Prelude.{Option, Result, Ok, Err, OnErr}
 use Rattle.html_device.specs.Device.{AppendsFront}
 use Rattle.html_device.specs.declared.device.DeviceFault.{DeviceFault}
-use Rattle.html_output.specs.Putting.{Moves}
-use Rattle.html_output.proofs.Puts.{written_front}
+use Rattle.html_device.specs.Putting.{Moves}
+use Rattle.html_device.proofs.Puts.{written_front}
 use Rattle.html_page.proofs.serialising.write_below.Goals as goal
 
 last_front : (a b c : Option (List ℕ)) (h k xs : List ℕ) (r : Result (Unit {0}) DeviceFault) → h ≡ [] → Moves a h b k xs → OnErr r (AppendsFront b c k) → OnErr r (AppendsFront a c xs)

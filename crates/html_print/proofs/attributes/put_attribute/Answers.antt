@@ -1,7 +1,7 @@
 use Rattle.std.proofs.Common.{sym, ap, ◌∙◌}
 use Rattle.std.specs.Str.{encode_utf8_all}
 use Rattle.std.proofs.lemmas.Str.{encodes-chars}
-use Rattle.html_output.proofs.Puts.{put_is}
+use Rattle.html_device.proofs.Puts.{put_is}
 use Rattle.html_print.specs.Order.{printed_name}
 use Rattle.html_print.specs.Lines.{shown_attribute}
 use Rattle.html_print.proofs.Bytes.{attribute_bytes, line_bytes}

@@ -1,8 +1,8 @@
 use Rattle.std.proofs.Common.{drop, suc, sym, ap, ◌∙◌}
 use Rattle.std.specs.List.{flat_map}
-use Rattle.html_output.proofs.Puts.{Moves-is, Moves-trans, front_after, put_err}
+use Rattle.html_device.proofs.Puts.{Moves-is, Moves-trans, front_after, put_err}
 use Rattle.html_print.proofs.Bytes.{attribute_line, attribute_lines}
-use Rattle.html_output.proofs.OneByOne.{all_of, from_one, one_more}
+use Rattle.html_device.proofs.OneByOne.{all_of, from_one, one_more}
 use Rattle.html_print.proofs.attributes.put_attributes.Goals as goal
 
 pub returns-in_err-put_attribute-clause-bytes : goal.returns-in_err-put_attribute-clause-bytes

@@ -1,6 +1,6 @@
 use Rattle.std.proofs.Common.{◌≡◌, true, take}
 use Rattle.std.specs.List.{flat_map}
-use Rattle.html_output.specs.Putting.{Moves, held}
+use Rattle.html_device.specs.Putting.{Moves, held}
 use Rattle.html_print.proofs.Bytes.{attribute_line}
 use Rattle.html_print.proofs.attributes.put_attributes.Given as goal
 

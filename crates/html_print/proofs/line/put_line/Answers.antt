@@ -1,7 +1,7 @@
 use Rattle.std.proofs.Common.{Bor, List, ℕ, [], ◌∷◌, ◌*◌, ◌++◌, replicate, refl, sym, ◌∙◌, append_assoc}
 use Rattle.std.specs.Prelude.{codes}
 use Rattle.std.specs.List.{flat_map}
-use Rattle.html_output.proofs.Puts.{Moves-trans, front_after, front_first, put_err, put_after}
+use Rattle.html_device.proofs.Puts.{Moves-trans, front_after, front_first, put_err, put_after}
 use Rattle.html_print.proofs.line.put_line.Goals as goal
 
 abbrev blanks : ℕ → List ℕ

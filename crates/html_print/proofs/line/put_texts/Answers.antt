@@ -1,7 +1,7 @@
 use Rattle.std.proofs.Common.{Bor, List, ℕ, drop, suc, sym}
 use Rattle.std.specs.List.{flat_map}
-use Rattle.html_output.proofs.Puts.{Moves-is, Moves-trans, front_after, put_err}
-use Rattle.html_output.proofs.OneByOne.{all_of, from_one, one_more}
+use Rattle.html_device.proofs.Puts.{Moves-is, Moves-trans, front_after, put_err}
+use Rattle.html_device.proofs.OneByOne.{all_of, from_one, one_more}
 use Rattle.html_print.proofs.line.put_texts.Goals as goal
 
 abbrev bytes : Bor (List ℕ) → List ℕ

@@ -1,6 +1,6 @@
 use Rattle.std.proofs.Common.{◌≡◌, true, take}
 use Rattle.std.specs.List.{flat_map}
-use Rattle.html_output.specs.Putting.{Moves, held}
+use Rattle.html_device.specs.Putting.{Moves, held}
 use Rattle.html_print.proofs.line.put_texts.Given as goal
 
 -- the texts so far are put; and the writer is no more at fault than at the start

@@ -1,7 +1,7 @@
 use Rattle.std.proofs.Common.{List, ℕ, [], cond, refl, sym, ap, ◌∙◌}
 use Rattle.std.specs.Prelude.{Bool, codes}
 use Rattle.std.specs.Str.{encode_utf8_all}
-use Rattle.html_output.proofs.Puts.{Moves-is, Moves-nil, put_is}
+use Rattle.html_device.proofs.Puts.{Moves-is, Moves-nil, put_is}
 use Rattle.html_page.proofs.Tagged.{ascii_only}
 use Rattle.html_print.specs.Lines.{line}
 use Rattle.html_print.proofs.Bytes.{line_bytes}

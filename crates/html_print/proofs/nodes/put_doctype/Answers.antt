@@ -1,4 +1,4 @@
-use Rattle.html_output.proofs.Puts.{put_is}
+use Rattle.html_device.proofs.Puts.{put_is}
 use Rattle.html_page.specs.Html.{text_or_empty}
 use Rattle.html_page.specs.Label.Label.{doctype}
 use Rattle.html_print.specs.Lines.{shown}

@@ -3,7 +3,7 @@ use Rattle.html_tokens.specs.declared.attributes.Attr.{Attr}
 use Rattle.html_arena.specs.Data.{attrs_in}
 use Rattle.html_arena.specs.Tree.{label_of}
 use Rattle.html_page.specs.Label.{label_for}
-use Rattle.html_output.proofs.Puts.{Moves-trans, front_after, front_first, put_err, put_after}
+use Rattle.html_device.proofs.Puts.{Moves-trans, front_after, front_first, put_err, put_after}
 use Rattle.html_print.specs.Order.{IsInOrder}
 use Rattle.html_print.proofs.AtNode.{at_node, attribute_part, contents_part, node_bytes, own_part}
 use Rattle.html_print.proofs.nodes.put_node.Goals as goal

@@ -2,7 +2,7 @@ use Rattle.std.proofs.Common.{List, ℕ, [], ap, ◌∙◌, refl}
 use Rattle.std.specs.Prelude.{codes}
 use Rattle.std.specs.Str.{encode_utf8_all}
 use Rattle.html_arena.specs.declared.data.NodeData.{NodeData}
-use Rattle.html_output.proofs.Puts.{put_is}
+use Rattle.html_device.proofs.Puts.{put_is}
 use Rattle.html_page.specs.Label.{label_for}
 use Rattle.html_print.specs.Lines.{line, shown}
 use Rattle.html_print.proofs.Bytes.{line_between, line_bytes}

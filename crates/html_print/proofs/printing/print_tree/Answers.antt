@@ -3,7 +3,7 @@ use Rattle.std.specs.Prelude.{Option, Result, Ok, Err, OnErr}
 use Rattle.std.specs.Str.{encode_utf8_all}
 use Rattle.html_arena.specs.Tree.{Tree}
 use Rattle.html_device.specs.Device.{AppendsFront}
-use Rattle.html_output.proofs.Puts.{Appends-nil}
+use Rattle.html_device.proofs.Puts.{Appends-nil}
 use Rattle.html_print.specs.Printed.{IsPrinted}
 use Rattle.html_print.specs.declared.error.PrintError.{PrintError}
 use Rattle.html_print.proofs.Walks.{printed_somehow}

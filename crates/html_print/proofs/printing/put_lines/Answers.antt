@@ -7,7 +7,7 @@ use Rattle.html_arena.specs.declared.walk.Event.{Event}
 use Rattle.html_arena.specs.declared.walk.Event.TheVariants.{Enter, Leave}
 use Rattle.html_arena.specs.declared.walk.Show.TheVariants.{All as Everything}
 use Rattle.html_page.specs.Shows.{label_at}
-use Rattle.html_output.proofs.Puts.{Moves-nil, Moves-is, Moves-trans, front_after, put_err}
+use Rattle.html_device.proofs.Puts.{Moves-nil, Moves-is, Moves-trans, front_after, put_err}
 use Rattle.html_print.specs.Lines.{levels, lines_at}
 use Rattle.html_print.proofs.Walks.{Low, Texts, enter_low, enter_texts, is_printed, leave_low, leave_texts, low_all, no_texts, rest_in, some_text}
 use Rattle.html_print.proofs.printing.put_lines.Goals as goal

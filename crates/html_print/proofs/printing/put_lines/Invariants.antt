@@ -8,7 +8,7 @@ use Rattle.html_arena.specs.Steps.{events, node_in}
 use Rattle.html_arena.specs.Tree.{label_of}
 use Rattle.html_arena.specs.declared.walk.Event.{Event}
 use Rattle.html_arena.specs.declared.walk.Show.TheVariants.{All as Everything}
-use Rattle.html_output.specs.Putting.{Moves, held}
+use Rattle.html_device.specs.Putting.{Moves, held}
 use Rattle.html_print.proofs.Walks.{Low, Texts}
 use Rattle.html_print.proofs.printing.put_lines.Given as goal
 

@@ -5,8 +5,8 @@ use Rattle.std.specs.Str.{encode_utf8_all}
 use Rattle.html_arena.specs.Tree.{Tree}
 use Rattle.html_device.specs.Device.{AppendsFront}
 use Rattle.html_device.specs.declared.device.DeviceFault.{DeviceFault}
-use Rattle.html_output.specs.Putting.{Moves, MovesFront}
-use Rattle.html_output.proofs.Puts.{front_written, written_all, written_front}
+use Rattle.html_device.specs.Putting.{Moves, MovesFront}
+use Rattle.html_device.proofs.Puts.{front_written, written_all, written_front}
 use Rattle.html_print.specs.Printed.{IsPrinted}
 use Rattle.html_print.proofs.Walks.{map_printed}
 use Rattle.html_print.proofs.printing.write_lines.Goals as goal

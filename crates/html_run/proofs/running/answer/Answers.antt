@@ -1,11 +1,10 @@
 use Rattle.std.proofs.Common.{inl, inr, sym, ◌∙◌}
 use Rattle.std.proofs.lemmas.Bool.{true≢false}
 use Rattle.html_job.specs.declared.jobs.Command.TheVariants as command
-use Rattle.html_lists.specs.Counts.{count_lines}
-use Rattle.html_lists.specs.Errors.{error_lines}
+use Rattle.html_print.specs.Counts.{count_lines}
+use Rattle.html_print.specs.Errors.{error_lines}
 use Rattle.html_parser.specs.declared.page.Tree.{Tree}
 use Rattle.html_run.specs.Jobs.{start_for}
-use Rattle.html_run.specs.Profiles.{profile_of}
 use Rattle.html_run.proofs.Answers.{all-listed, all-shown, answered-by, failed-by, front-listed, front-shown, nothing-answered}
 use Rattle.html_run.proofs.Fronts.{all-written, front-written, on-ok}
 use Rattle.html_run.proofs.Read.{read-tree}
@@ -55,14 +54,14 @@ pub returns-in-Normalise-clause-answered : goal.returns-in-Normalise-clause-answ
 returns-in-Normalise-clause-answered g c =
     let (bytes, consumed, is) = c.in_ok-tree.ensures.tree in
     answered-by c.args.job.now.command command.Normalise c.in-Normalise.is c.args.job.now.lines c.args.job.now.profile (start_for c.args.job.now c.args.table.now) _ _ _ _ c.serialise.result
-    (all-written (start_for c.args.job.now c.args.table.now) c.profile.result (profile_of c.args.job.now.profile) c.profile.ensures c.in_ok-tree.tree bytes _ _ c.serialise.result
+    (all-written (start_for c.args.job.now c.args.table.now) c.args.job.now.profile c.in_ok-tree.tree bytes _ _ c.serialise.result
     consumed c.in_ok-tree.ensures.end is c.serialise.ensures.size c.serialise.ensures.only _ _ c.serialise.ensures.ok)
 
 pub returns-in-Normalise-clause-failed : goal.returns-in-Normalise-clause-failed
 returns-in-Normalise-clause-failed g c =
     let (bytes, consumed, is) = c.in_ok-tree.ensures.tree in
     failed-by c.args.job.now.command command.Normalise c.in-Normalise.is c.args.job.now.lines c.args.job.now.profile (start_for c.args.job.now c.args.table.now) _ _ _ _ c.serialise.result
-    (front-written (start_for c.args.job.now c.args.table.now) c.profile.result (profile_of c.args.job.now.profile) c.profile.ensures c.in_ok-tree.tree bytes _ _ c.serialise.result
+    (front-written (start_for c.args.job.now c.args.table.now) c.args.job.now.profile c.in_ok-tree.tree bytes _ _ c.serialise.result
     consumed c.in_ok-tree.ensures.end is c.serialise.ensures.size c.serialise.ensures.only _ _ c.serialise.ensures.err c.serialise.ensures.cause)
 
 pub returns-clause-answered : goal.returns-clause-answered

@@ -1,5 +1,5 @@
 use Rattle.std.proofs.Common.{ℕ, List, Bool, false, subst, sym}
-use Rattle.html_lists.specs.Errors.{error_lines}
+use Rattle.html_print.specs.Errors.{error_lines}
 use Rattle.html_parser.specs.declared.page.Tree.{Tree}
 use Rattle.html_run.specs.Jobs.{start_for}
 use Rattle.html_run.proofs.Answers.{all-listed, errors-answered, errors-failed, front-listed}

@@ -7,6 +7,6 @@ returns-clause-told g c = λ _. inr (
   c.in-Ok.table,
   c.in-Ok.ensures.table,
   c.in-Err-answer.ensures.cause,
-  c.tell_cause.ensures.status,
-  c.tell_cause.ensures.line,
+  c.tell.ensures.status,
+  c.tell.ensures.line,
 )

@@ -4,4 +4,4 @@ use Rattle.html_suite.proofs.suite.run_trees.Given as goal
 
 -- some cases more were run
 abbrev pub invariant-cases : goal.invariant-cases
-invariant-cases g l = (start : Option (List ℕ)) → HasRun l.name start (g.W.Sink.taken l.fn.writer) l.fn.counts → HasRun l.name start (g.W.Sink.taken l.writer) l.counts
+invariant-cases g l = (start : Option (List ℕ)) → HasRun l.options.verbose l.name start (g.W.Sink.taken l.fn.writer) l.fn.counts → HasRun l.options.verbose l.name start (g.W.Sink.taken l.writer) l.counts

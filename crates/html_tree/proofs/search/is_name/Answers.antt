@@ -1,6 +1,6 @@
 use Rattle.std.proofs.Common.{ap, ◌∙◌}
 use Rattle.std.specs.Str.{bytes_eq, chars}
-use Rattle.html_charref.proofs.Texts.{same_text}
+use Rattle.html_text.proofs.Texts.{same_text}
 use Rattle.html_tree.proofs.search.is_name.Goals as goal
 
 pub returns : goal.returns

@@ -1,7 +1,7 @@
 use Rattle.std.proofs.Common.{◌∷◌, [], ◌++◌, refl, sym, ◌∙◌, ap, subst, length, arith}
 use Rattle.html_arena.specs.Tree.{Tree}
 use Rattle.std.proofs.lemmas.Result.{err_from_is_err_and}
-use Rattle.html_open.specs.declared.error.OpenError.{OpenError}
+use Rattle.html_arena.specs.declared.arena.ArenaError.{ArenaError}
 use Rattle.html_open.specs.Cloning.{IsCut}
 use Rattle.html_open.proofs.Cutting.{cut-at, cut-before}
 use Rattle.html_open.proofs.Clones.{cloned-formatting, cloned-length, cloned-longer, cloned-more}
@@ -24,14 +24,14 @@ returns-clause-cloned c = cloned-more c.args.arena.now c.make_clones.new.arena c
 pub returns-in_err-make_clones-clause-cut : goal.returns-in_err-make_clones-clause-cut
 returns-in_err-make_clones-clause-cut c =
     let p = err_from_is_err_and c.from_residual.result c.from_residual.ensures.1 in
-    rw p.1 (subst (λ (e : OpenError). IsCut c.args.arena.now c.make_clones.new.arena (c.args.originals.now ++ c.args.formatting ∷ []) e) (sym p.2)
+    rw p.1 (subst (λ (e : ArenaError). IsCut c.args.arena.now c.make_clones.new.arena (c.args.originals.now ++ c.args.formatting ∷ []) e) (sym p.2)
     (cut-before c.args.arena.now c.make_clones.new.arena c.args.originals.now (c.args.formatting ∷ []) c.in_err-make_clones.field-0.0 c.in_err-make_clones.ensures.cut))
 
 pub returns-in_err-clone-clause-cut : goal.returns-in_err-clone-clause-cut
 returns-in_err-clone-clause-cut c =
     let p = err_from_is_err_and c.from_residual-in_err-clone.result c.from_residual-in_err-clone.ensures.1 in
     let b = (c.requires.formatting c.args.formatting (has-first c.args.formatting [])).0 in
-    rw p.1 (subst (λ (e : OpenError). IsCut c.args.arena.now c.make_clone.new.arena (c.args.originals.now ++ c.args.formatting ∷ []) e) (sym p.2)
+    rw p.1 (subst (λ (e : ArenaError). IsCut c.args.arena.now c.make_clone.new.arena (c.args.originals.now ++ c.args.formatting ∷ []) e) (sym p.2)
     (cut-at c.args.arena.now c.make_clones.new.arena c.make_clone.new.arena (c.args.originals.now ++ c.args.formatting ∷ []) c.args.originals.now [] c.args.formatting c.in_err-clone.field-0.0 refl b c.in_ok-make_clones.ensures.cloned c.forest.ensures.held
     c.in_err-clone.ensures.cause c.in_err-clone.ensures.same))
 

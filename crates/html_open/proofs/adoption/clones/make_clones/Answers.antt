@@ -2,7 +2,7 @@ use Rattle.std.proofs.Common.{◌≡◌, ◌∷◌, [], ℕ, take, sym, ap, subs
 use Rattle.html_arena.specs.Siblings.{has}
 use Rattle.html_arena.specs.Tree.{Tree}
 use Rattle.std.proofs.lemmas.Result.{err_from_is_err_and}
-use Rattle.html_open.specs.declared.error.OpenError.{OpenError}
+use Rattle.html_arena.specs.declared.arena.ArenaError.{ArenaError}
 use Rattle.html_open.specs.Cloning.{IsCutShort}
 use Rattle.html_open.proofs.Cutting.{cut-next}
 use Rattle.html_open.proofs.Counting.{grown-then}
@@ -29,7 +29,7 @@ pub returns-in_err-make_clone-clause-cut : goal.returns-in_err-make_clone-clause
 returns-in_err-make_clone-clause-cut c =
     let p = err_from_is_err_and c.from_residual.result c.from_residual.ensures.1 in
     let b = (c.requires c.node-item.result (subst (λ (y : ℕ). has y c.args.originals.now ≡ true) (sym c.node-item.is) (has-at c.args.originals.now c.loop-node.node-index c.node-item.result c.loop-node-test.true))).0 in
-    rw p.1 (subst (λ (e : OpenError). IsCutShort c.args.arena.now c.make_clone.new.arena c.args.originals.now e) (sym p.2)
+    rw p.1 (subst (λ (e : ArenaError). IsCutShort c.args.arena.now c.make_clone.new.arena c.args.originals.now e) (sym p.2)
     (cut-next c.args.arena.now c.loop-node.arena c.make_clone.new.arena c.args.originals.now c.loop-node.node-index c.node-item.result c.in_err-make_clone.field-0.0 c.loop-node-test.true c.node-item.is b c.loop-node.invariant.cloned c.forest.ensures.held
     c.in_err-make_clone.ensures.cause c.in_err-make_clone.ensures.same))
 

@@ -4,7 +4,7 @@ use Rattle.html_arena.specs.Data.{is_linkable}
 use Rattle.html_arena.specs.Tree.{label_of, marked}
 use Rattle.std.proofs.Common.{get_or, refl}
 use Rattle.std.proofs.lemmas.Result.{err_from_is_err_and}
-use Rattle.html_open.specs.declared.error.OpenError.{OpenError}
+use Rattle.html_arena.specs.declared.arena.ArenaError.{ArenaError}
 use Rattle.html_open.specs.Adopting.{round_originals}
 use Rattle.html_open.specs.Cloning.{AreCloned, AreFormatting, HaveEntered, IsCut}
 use Rattle.html_open.specs.Opened.{open_at}
@@ -97,7 +97,7 @@ returns-clause-regrouped c = regrouped c.args.nodes.now c.args.entries.now c.arg
 pub returns-in_err-clone-clause-cut : goal.returns-in_err-clone-clause-cut
 returns-in_err-clone-clause-cut c =
     let p = err_from_is_err_and c.from_residual.result c.from_residual.ensures.1 in
-    rw p.1 (subst (λ (e : OpenError). IsCut c.args.arena.now c.clone_all.new.arena (round_originals (open_at c.args.nodes.now c.args.entries.now c.args.arena.now) c.args.at c.args.block_at) e) (sym p.2)
+    rw p.1 (subst (λ (e : ArenaError). IsCut c.args.arena.now c.clone_all.new.arena (round_originals (open_at c.args.nodes.now c.args.entries.now c.args.arena.now) c.args.at c.args.block_at) e) (sym p.2)
     (cut-after c.args.nodes.now c.args.entries.now c.args.arena.now c.args.at c.args.block_at c.forest.ensures.well_formed c.requires.«open» c.requires.block.0 c.requires.block.1 c.elements_to_clone-originals.result c.elements_to_clone-originals.ensures c.as_slice.result.now c.index-nodes-at.result c.clone_all.new.arena c.in_err-clone.field-0.0
     c.as_slice.ensures (index-is c.args.nodes.now c.args.at c.index-nodes-at.result (at-within c.args.nodes.now c.args.entries.now c.args.arena.now c.args.at c.args.block_at c.forest.ensures.well_formed c.requires.«open» c.requires.block.0 c.requires.block.1) c.index-nodes-at.is) c.in_err-clone.ensures.cut))
 

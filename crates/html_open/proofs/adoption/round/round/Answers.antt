@@ -8,7 +8,7 @@ use Rattle.html_open.specs.Adopting.{IsKept, IsRegrouped, Round, clones_down}
 use Rattle.html_open.specs.Opened.{IsOpen, open_at}
 use Rattle.html_open.specs.Placing.{IsPlace, place_at, place_of, way_up}
 use Rattle.std.proofs.lemmas.Result.{err_from_is_err_and}
-use Rattle.html_open.specs.declared.error.OpenError.{OpenError}
+use Rattle.html_arena.specs.declared.arena.ArenaError.{ArenaError}
 use Rattle.html_open.specs.Adopting.{round_originals}
 use Rattle.html_open.specs.Cloning.{IsCut}
 use Rattle.html_open.proofs.Cutting.{cut-rebase}
@@ -88,7 +88,7 @@ returns-in_err-regrouped-clause-cut c =
     let a = subst (λ (v : List ℕ). IsCut c.place-target.new.arena c.regroup.new.arena (round_originals (open_at v c.as_slice-entries.result.now c.place-target.new.arena) c.args.at c.args.block_at) c.in_err-regrouped.field-0.0) c.as_slice-nodes.ensures k in
     let b = subst (λ (v : List Entry). IsCut c.place-target.new.arena c.regroup.new.arena (round_originals (open_at c.args.stack.now v c.place-target.new.arena) c.args.at c.args.block_at) c.in_err-regrouped.field-0.0) (c.as_slice-entries.ensures.value ∙ c.list.view_is) a in
     let d = subst (λ (t : Tree). IsCut t c.regroup.new.arena (round_originals (open_at c.args.stack.now c.args.list.now t) c.args.at c.args.block_at) c.in_err-regrouped.field-0.0) (steps-then c.args.arena.now c.charge.new.self c.place-target.new.arena (c.charge.ensures ∙ sym (ap (λ (v : Tree). stepped c.args.arena.now v.steps) c.charge.ensures)) (c.place-target.ensures.steps ∙ sym (ap (λ (v : Tree). stepped c.charge.new.self v.steps) c.place-target.ensures.steps))) b in
-    rw p.1 (subst (λ (e : OpenError). IsCut c.args.arena.now c.regroup.new.arena (round_originals (open_at c.args.stack.now c.args.list.now c.args.arena.now) c.args.at c.args.block_at) e) (sym p.2)
+    rw p.1 (subst (λ (e : ArenaError). IsCut c.args.arena.now c.regroup.new.arena (round_originals (open_at c.args.stack.now c.args.list.now c.args.arena.now) c.args.at c.args.block_at) e) (sym p.2)
     (cut-rebase c.args.arena.now c.place-target.new.arena.steps c.regroup.new.arena (round_originals (open_at c.args.stack.now c.args.list.now c.args.arena.now) c.args.at c.args.block_at) c.in_err-regrouped.field-0.0 d))
 
 pub returns-clause-steps : goal.returns-clause-steps

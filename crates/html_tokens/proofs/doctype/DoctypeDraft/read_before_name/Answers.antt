@@ -4,12 +4,12 @@ use Rattle.html_tokens.specs.Doctype.{name_or_end, ids_of}
 use Rattle.html_tokens.proofs.DoctypeLemmas.{reads_space, reads_close, name_begins}
 use Rattle.html_tokens.proofs.doctype.DoctypeDraft.read_before_name.Goals as goal
 
-pub returns-then-is_space : goal.returns-then-is_space
-returns-then-is_space c = reads_space c.args.self.now parts.BeforeName (name_or_end (ids_of c.args.self.now)) c.args.c c.requires (λ text. refl) (sym c.if-is_space.ensures)
+pub returns-then-is_space-clause-reads : goal.returns-then-is_space-clause-reads
+returns-then-is_space-clause-reads c = reads_space c.args.self.now parts.BeforeName (name_or_end (ids_of c.args.self.now)) c.args.c c.requires (λ text. refl) (sym c.if-is_space.ensures)
 
-pub returns-then-c-eq62 : goal.returns-then-c-eq62
-returns-then-c-eq62 c = reads_close c.args.self.now parts.BeforeName (name_or_end (ids_of c.args.self.now)) _ c.args.c c.requires (λ text. refl) c.if-c-eq62.true (λ rest. refl)
+pub returns-then-c-eq62-clause-reads : goal.returns-then-c-eq62-clause-reads
+returns-then-c-eq62-clause-reads c = reads_close c.args.self.now parts.BeforeName (name_or_end (ids_of c.args.self.now)) _ c.args.c c.requires (λ text. refl) c.if-c-eq62.true (λ rest. refl)
 
-pub returns : goal.returns
-returns c =
+pub returns-clause-reads : goal.returns-clause-reads
+returns-clause-reads c =
     name_begins c.args.self.now c.args.c c.push.new.self c.requires (sym c.if-is_space.ensures) c.if-c-eq62.false (rw (c.in_ok-push.ensures.ok, c.new.ensures, c.name_char.ensures) refl)

@@ -4,13 +4,13 @@ use Rattle.html_tokens.specs.Doctype.{wanted_system, ids_of}
 use Rattle.html_tokens.proofs.DoctypeLemmas.{reads_space, reads_close, reads_id, differs}
 use Rattle.html_tokens.proofs.doctype.DoctypeDraft.read_before_system.Goals as goal
 
-pub returns-then-is_space : goal.returns-then-is_space
-returns-then-is_space c = reads_space c.args.self.now parts.BeforeSystem (wanted_system (ids_of c.args.self.now)) c.args.c c.requires (λ text. refl) (sym c.if-is_space.ensures)
+pub returns-then-is_space-clause-reads : goal.returns-then-is_space-clause-reads
+returns-then-is_space-clause-reads c = reads_space c.args.self.now parts.BeforeSystem (wanted_system (ids_of c.args.self.now)) c.args.c c.requires (λ text. refl) (sym c.if-is_space.ensures)
 
-pub returns-then-c-eq62 : goal.returns-then-c-eq62
-returns-then-c-eq62 c = reads_close c.args.self.now parts.BeforeSystem (wanted_system (ids_of c.args.self.now)) _ c.args.c c.requires (λ text. refl) c.if-c-eq62.true (λ rest. refl)
+pub returns-then-c-eq62-clause-reads : goal.returns-then-c-eq62-clause-reads
+returns-then-c-eq62-clause-reads c = reads_close c.args.self.now parts.BeforeSystem (wanted_system (ids_of c.args.self.now)) _ c.args.c c.requires (λ text. refl) c.if-c-eq62.true (λ rest. refl)
 
-pub returns : goal.returns
-returns c =
+pub returns-clause-reads : goal.returns-clause-reads
+returns-clause-reads c =
     reads_id c.args.self.now _ parts.BeforeSystem (parts.System c.args.c) (wanted_system (ids_of c.args.self.now)) c.args.c c.requires (λ text. refl) (sym c.if-is_space.ensures) c.if-c-eq62.false
     (λ rest. rw (differs c.args.c 62 c.if-c-eq62.false) refl) c.begin_id.ensures

@@ -1,4 +1,5 @@
 use Rattle.std.proofs.Common.{◌≡◌, ◌+◌, ◌∙◌, refl, arith, [], true, false}
+use Rattle.std.proofs.lemmas.List.{drop-append-le}
 use Rattle.html_tokens.specs.Tokens.{piece, token}
 use Rattle.html_tokens.specs.declared.comment.CommentKind.TheVariants.{Declared, Bogus}
 use Rattle.html_tokens.specs.declared.token.Begin.TheVariants as begins
@@ -18,7 +19,7 @@ returns-in-Empty-clause-steps c =
     rw c.enter.ensures
     (open_more _ _ c.args.region 3 _ c.requires.state (passes_to _ _ 3 _ _ c.pass.ensures) some fit (λ e. e)
     (λ more switches h. empty_passed _ begins.Markup c.args.region _ _ _ 3 _ more switches (c.requires.markup more h) refl (rw (is more h) refl) some fit)
-    (λ more switches h. errors_passed _ begins.Markup c.args.region _ _ _ 3 _ more switches (piece [] 3) (c.requires.markup more h) refl (rw (is more h) refl) refl some fit))
+    (λ more switches h. errors_passed _ begins.Markup c.args.region _ _ _ 3 _ more switches (piece [] 3) (c.requires.markup more h) refl (rw (is more h) refl) refl some fit (rw (is more h) refl)))
 
 pub returns-in-Comment-clause-steps : goal.returns-in-Comment-clause-steps
 returns-in-Comment-clause-steps c =
@@ -27,7 +28,7 @@ returns-in-Comment-clause-steps c =
     let fit = rw c.in-Comment.is at c.requires.fit in
     open_more _ _ c.args.region 4 _ c.requires.state c.begin_comment.ensures some fit (λ e. e)
     (λ more switches h. comment_begins _ c.args.region _ Declared 4 _ _ _ more switches (c.requires.markup more h) (rw (is more h) refl) some fit)
-    (λ more switches h. comment_opens _ c.args.region _ Declared 4 _ _ _ more switches (c.requires.markup more h) (rw (is more h) refl) some fit)
+    (λ more switches h. comment_opens _ c.args.region _ Declared 4 _ _ _ more switches (c.requires.markup more h) (rw (is more h) refl) some fit (rw (is more h, drop-append-le 4 _ more fit) refl))
 
 pub returns-in-Bogus-clause-steps : goal.returns-in-Bogus-clause-steps
 returns-in-Bogus-clause-steps c =
@@ -37,7 +38,7 @@ returns-in-Bogus-clause-steps c =
     let k = c.in-Bogus.opened in
     open_more _ _ c.args.region k _ c.requires.state c.begin_comment-in-Bogus.ensures some fit (λ e. e)
     (λ more switches h. comment_begins _ c.args.region _ Bogus k _ _ _ more switches (c.requires.markup more h) (rw (is more h) refl) some fit)
-    (λ more switches h. comment_opens _ c.args.region _ Bogus k _ _ _ more switches (c.requires.markup more h) (rw (is more h) refl) some fit)
+    (λ more switches h. comment_opens _ c.args.region _ Bogus k _ _ _ more switches (c.requires.markup more h) (rw (is more h) refl) some fit (rw (is more h) refl))
 
 pub returns-in-ShortComment-clause-steps : goal.returns-in-ShortComment-clause-steps
 returns-in-ShortComment-clause-steps c =
@@ -49,7 +50,7 @@ returns-in-ShortComment-clause-steps c =
     let given : c.token.result ≡ token (kinds.Comment []) t.place (t.place + k) = c.token.ensures ∙ rw (c.new-data.ensures, c.enter-in-ShortComment.ensures, c.pass-in-ShortComment.ensures.place) refl in
     rw (given, c.enter-in-ShortComment.ensures)
     (open_gives _ _ c.args.region begins.Markup (token (kinds.Comment []) t.place (t.place + k)) k c.requires.state (passes_to _ _ k _ _ c.pass-in-ShortComment.ensures) some fit
-    (λ switch mode. refl) (λ name. refl) refl c.requires.markup (λ more h. rw (is more h) refl))
+    (λ switch mode. refl) (λ name. refl) refl c.requires.markup (λ more h. rw (is more h) refl) (λ more h. rw (is more h) refl))
 
 pub returns-in-Literal-clause-steps : goal.returns-in-Literal-clause-steps
 returns-in-Literal-clause-steps c =
@@ -60,21 +61,21 @@ returns-in-Literal-clause-steps c =
     let gave = c.less_given.ensures in
     rw gave.0
     (open_gives _ _ c.args.region begins.Markup (token (kinds.Char 60) t.place (t.place + 1)) 1 c.requires.state gave.1 some fit
-    (λ switch mode. refl) (λ name. refl) refl c.requires.markup (λ more h. rw (is more h) refl))
+    (λ switch mode. refl) (λ name. refl) refl c.requires.markup (λ more h. rw (is more h) refl) (λ more h. rw (is more h) refl))
 
 pub returns-in-StartTag-clause-steps : goal.returns-in-StartTag-clause-steps
 returns-in-StartTag-clause-steps c =
     let is = rw c.in-StartTag.is at c.requires.found in
     let some = rw c.in-StartTag.is at c.requires.some in
     let fit = rw c.in-StartTag.is at c.requires.fit in
-    tag_opens _ _ begins.Markup c.args.region false 1 c.requires.state c.begin_tag.ensures some fit c.requires.markup refl (λ more h. rw (is more h) refl)
+    tag_opens _ _ begins.Markup c.args.region false 1 c.requires.state c.begin_tag.ensures some fit c.requires.markup refl (λ more h. rw (is more h) refl) (λ more h. rw (is more h) refl)
 
 pub returns-in-EndTag-clause-steps : goal.returns-in-EndTag-clause-steps
 returns-in-EndTag-clause-steps c =
     let is = rw c.in-EndTag.is at c.requires.found in
     let some = rw c.in-EndTag.is at c.requires.some in
     let fit = rw c.in-EndTag.is at c.requires.fit in
-    tag_opens _ _ begins.Markup c.args.region true 2 c.requires.state c.begin_tag-in-EndTag.ensures some fit c.requires.markup refl (λ more h. rw (is more h) refl)
+    tag_opens _ _ begins.Markup c.args.region true 2 c.requires.state c.begin_tag-in-EndTag.ensures some fit c.requires.markup refl (λ more h. rw (is more h) refl) (λ more h. rw (is more h) refl)
 
 pub returns-in-StartTag-clause-bounded : goal.returns-in-StartTag-clause-bounded
 returns-in-StartTag-clause-bounded c = tag_begun c.args.self.now c.begin_tag.new.self c.args.region false 1 1 c.args.faults.now c.tell_some.new.self c.requires.state c.begin_tag.ensures c.tell_some.ensures.told (omega arith) (omega arith)

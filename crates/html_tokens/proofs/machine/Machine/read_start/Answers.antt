@@ -1,5 +1,5 @@
 use Rattle.std.proofs.Math.Nat.{min-le_left}
-use Rattle.std.proofs.Common.{◌≤◌, arith, length}
+use Rattle.std.proofs.Common.{◌≤◌, ◌∙◌, arith, length}
 use Rattle.std.proofs.lemmas.List.{drop-drop, take_rest}
 use Rattle.html_tokens.proofs.WholeLemmas.{begins_whole, closes_whole, fails_within, gives_bounded, on_refusal, whole_bounded}
 use Rattle.html_tokens.proofs.machine.Machine.read_start.Goals as goal
@@ -28,7 +28,7 @@ returns-in_ok-given-in-Some-clause-given c =
     let skips =
     begins_whole c.args.self.now c.pass.new.self c.new-draft.result c.take_front.new.self n c.requires.state some c.requires.begun c.requires.start c.requires.silent c.new-draft.ensures (rw (c.unread.ensures, take_rest items 1) at c.in_ok-taken.ensures.copies) c.pass.ensures in
     let named = rw (c.unread.ensures, take_rest items 1, drop-drop n 1 items, ← c.pass.ensures.items) at c.in_ok-taken.ensures.named in
-    closes_whole c.args.self.now c.pass.new.self c.give_tag.new.self c.take_front.new.self c.in-Some.self_closing c.in-Some.len c.in_ok-given-in-Some.given skips named (rw c.unread-2.ensures at c.in-Some.ensures) c.in_ok-given-in-Some.ensures.ends c.requires.silent
+    closes_whole c.args.self.now c.pass.new.self c.give_tag.new.self c.take_front.new.self c.in-Some.self_closing c.in-Some.len c.in_ok-given-in-Some.given skips named (rw c.unread-2.ensures at c.in-Some.ensures) c.in_ok-given-in-Some.ensures.ends c.requires.silent (c.in_ok-taken.ensures.copies.3 ∙ c.new-draft.ensures.0)
 
 pub returns-in_ok-given-in-Some-clause-bounded : goal.returns-in_ok-given-in-Some-clause-bounded
 returns-in_ok-given-in-Some-clause-bounded c = λ b.

@@ -1,8 +1,6 @@
-use Rattle.std.proofs.Common.{None, refl, ◌<◌, length, arith}
+use Rattle.std.proofs.Common.{None, ◌<◌, length, arith}
 use Rattle.html_tokens.proofs.StreamLemmas.{more_skips}
-use Rattle.html_tokens.proofs.TagLemmas.{tag_more}
-use Rattle.html_tokens.proofs.ToldLemmas.{silent_in}
-use Rattle.html_tokens.specs.declared.machine.State.TheVariants.{Tag}
+use Rattle.html_tokens.proofs.TagLemmas.{tag_more, tag_silent}
 use Rattle.html_tokens.proofs.machine.Machine.tag_on.Goals as goal
 
 pub returns-clause-skips : goal.returns-clause-skips
@@ -12,4 +10,4 @@ returns-clause-skips c =
     more_skips c.args.self.now c.pass.new.self
     (tag_more c.args.self.now c.pass.new.self c.in-Tag.draft c.read.new.self c.in-Is-Some.c None c.in-Tag.is (rw c.in-More.is at c.in_ok-read.ensures.reads)
     first.0 (λ e. absurd (c.if-c-eq47.false e)) (omega arith) c.pass.ensures)
-    (silent_in c.args.self.now (Tag c.in-Tag.draft) c.in-Tag.is (λ mode name place rest. refl))
+    (tag_silent c.args.self.now c.in-Tag.draft c.read.new.self c.in-Is-Some.c None c.in-Tag.is (rw c.in-More.is at c.in_ok-read.ensures.reads) first.0 (λ e. absurd (c.if-c-eq47.false e)) some)

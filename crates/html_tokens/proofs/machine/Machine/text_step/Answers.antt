@@ -16,7 +16,7 @@ returns-in-Is-None-clause-steps c =
 pub returns-in-Some-EndMark-clause-steps : goal.returns-in-Some-EndMark-clause-steps
 returns-in-Some-EndMark-clause-steps c =
     let found = rw c.in-Some-EndMark.field-0-is at c.in-Some-EndMark.ensures in
-    tag_opens _ _ begins.EndMark c.args.region true 2 c.requires.state c.begin_tag.ensures (omega arith) (found.1 refl) found.0 refl (λ more h. refl)
+    tag_opens _ _ begins.EndMark c.args.region true 2 c.requires.state c.begin_tag.ensures (omega arith) (found.1 refl) found.0 refl (λ more h. refl) (λ more h. refl)
 
 pub returns-in-Some-Section-clause-steps : goal.returns-in-Some-Section-clause-steps
 returns-in-Some-Section-clause-steps c =

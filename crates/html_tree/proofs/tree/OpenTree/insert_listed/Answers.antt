@@ -4,7 +4,7 @@ use Rattle.html_tree.specs.Targets.{target_steps}
 use Rattle.std.proofs.lemmas.Result.{err_from_is_err_and}
 use Rattle.html_arena.specs.declared.data.NewNode.TheVariants.{Element}
 use Rattle.html_arena.specs.declared.data.Origin.TheVariants.{Token}
-use Rattle.html_open.specs.declared.error.OpenError.TheVariants.{OutOfMemory}
+use Rattle.html_arena.specs.declared.arena.ArenaError.TheVariants.{OutOfMemory}
 use Rattle.html_tree.specs.Inserting.{IsLack, IsRefused, with_new, with_open}
 use Rattle.html_tree.specs.declared.groups.Target.TheVariants as target
 use Rattle.html_tree.specs.Targets.{place_for}

@@ -1,8 +1,0 @@
-use Rattle.std.proofs.Common.{◌≡◌, ◌+◌, ◌++◌, length, take}
-use Rattle.html_charref.proofs.short.copy_to.Given as goal
-
-abbrev pub invariant-loop-index : goal.invariant-loop-index
-invariant-loop-index l = record {
-  same_len : length l.block ≡ length l.fn.block;
-  copied : take (l.at + l.index) l.block ≡ take l.at l.fn.block ++ take l.index l.bytes;
-}

@@ -1,5 +1,0 @@
--- Claimed.
-pub mod Audit
-pub mod Counts
-pub mod Errors
-pub mod FaultNames

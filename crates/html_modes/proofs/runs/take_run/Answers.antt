@@ -1,9 +1,0 @@
-use Rattle.std.proofs.Common.{take}
-use Rattle.html_modes.proofs.Begun.{run-gives}
-use Rattle.html_modes.proofs.runs.take_run.Goals as goal
-
-pub returns-then-is_text-clause-gives : goal.returns-then-is_text-clause-gives
-returns-then-is_text-clause-gives c = run-gives (take c.in_ok-count.count c.args.run.now) c.args.page.now c.take_text_run.new.page c.in_ok-count.ensures.takes
-
-pub returns-clause-gives : goal.returns-clause-gives
-returns-clause-gives c = run-gives (take c.in_ok-count-2.count c.args.run.now) c.args.page.now c.take_body_run.new.page c.in_ok-count-2.ensures.takes

@@ -1,4 +1,0 @@
-pub mod HexDigits
-pub mod OneByOne
-pub mod Puts
-pub mod Spaces

@@ -1,5 +1,0 @@
-use Rattle.html_output.proofs.Spaces.{some_blanks}
-use Rattle.html_output.proofs.texts.spaces.Goals as goal
-
-pub returns : goal.returns
-returns c = some_blanks 256 c.args.count c.requires

@@ -1,4 +1,0 @@
--- Claimed.
-pub mod Codes
-pub mod Pieces
-pub mod Putting

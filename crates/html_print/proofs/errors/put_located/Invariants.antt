@@ -1,0 +1,13 @@
+use Rattle.std.proofs.Common.{◌≡◌, true, take}
+use Rattle.html_device.specs.Putting.{Moves, held}
+use Rattle.html_print.specs.Errors.{located_lines}
+use Rattle.html_print.proofs.errors.put_located.Given as goal
+
+-- the lines of the errors so far are put; and the writer is no more at fault than at the start
+abbrev pub invariant-errors : goal.invariant-errors
+invariant-errors g l = record {
+  input : l.lines.bytes.now ≡ l.bytes;
+  put : Moves (g.W.Sink.taken l.fn.writer) (held l.fn.output) (g.W.Sink.taken l.writer) (held l.output) (located_lines l.bytes (take l.error-index l.errors));
+  failing : g.W.Sink.failed l.writer ≡ true → g.W.Sink.failed l.fn.writer ≡ true;
+  stalling : g.W.Sink.stalled l.writer ≡ true → g.W.Sink.stalled l.fn.writer ≡ true;
+}

@@ -1,3 +1,0 @@
--- Claimed.
-pub mod Outcome
-pub mod Told

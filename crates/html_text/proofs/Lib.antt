@@ -1,0 +1,5 @@
+pub mod Texts
+pub mod Ascii
+pub mod Encoding
+pub mod PlainTexts
+pub mod Marks

@@ -1,0 +1,3 @@
+-- Claimed.
+pub mod Plain
+pub mod Texts

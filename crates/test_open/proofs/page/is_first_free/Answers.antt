@@ -1,0 +1,10 @@
+use Rattle.std.proofs.Common.{◌<◌, length, refl, sym, subst}
+use Rattle.html_arena.specs.Tree.{Tree}
+use Rattle.test_open.proofs.UnderWay.{first-in}
+use Rattle.test_open.proofs.page.is_first_free.Goals as goal
+
+pub marked-requires : goal.marked-requires
+marked-requires c =
+    let b = first-in c.args.arena.now c.args.stack.now c.requires (c.if-is_empty.ensures.no refl) in
+    subst (λ (v : Tree). c.at-first.result < length v.labels) (sym c.at-first.ensures.steps)
+    (subst (λ v. v < length c.args.arena.now.labels) (sym c.at-first.ensures.node) b)
