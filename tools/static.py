@@ -1,5 +1,6 @@
 #!/usr/bin/env python3
-"""Static libraries as the gate leaves them: built of what it has just proved, with a note of what they were made from, so that nothing proves it twice.
+"""Static libraries as the gate leaves them: built of what it, or an earlier run on this machine, has proved, with a note of what they were made from, so that
+nothing proves it twice.
 
 Run as a program, `static.py NAME`, at the top of the repository, it tells by its status whether a crate's library is such a one, of the files that are
 there now.
@@ -19,11 +20,12 @@ CHECK_ALONE = ("--logic-built", "--jobs")
 
 
 def archive_of(crate):
-    return Path(crate.folder, "out", f"lib{crate.name}.a")
+    # (what `rt ci` keeps has a name that begins with the crate's)
+    return Path(crate.folder, "out", f"{crate.name}.a")
 
 
 def note_of(crate):
-    return Path(crate.folder, "out", f"lib{crate.name}.a.proved")
+    return Path(crate.folder, "out", f"{crate.name}.a.proved")
 
 
 def note(crate):
@@ -52,13 +54,20 @@ def prove(crate, flags):
 
 
 def build_what_is_proved():
-    """Has `rt ci` build each static library that it proves."""
-    of_rt = rt.Crate.ci
+    """Has `rt ci` build each static library that it proves, and keep it with its note for later runs on this machine, as it keeps other libraries."""
+    of_rt, made, is_whole = rt.Crate.ci, rt.Kept.made, rt.Kept.is_whole
 
     def ci(crate, flags, tests):
         return prove(crate, flags) if crate.is_static and not tests else of_rt(crate, flags, tests)
 
-    rt.Crate.ci = ci
+    def made_of(kept, crate, tests):
+        both = [it.name for it in (archive_of(crate), note_of(crate)) if it.is_file()]
+        return both if crate.is_static and not tests else made(kept, crate, tests)
+
+    def is_whole_of(kept, crate, tests, files):
+        return len(files) == 2 if crate.is_static and not tests else is_whole(kept, crate, tests, files)
+
+    rt.Crate.ci, rt.Kept.made, rt.Kept.is_whole = ci, made_of, is_whole_of
 
 
 if __name__ == "__main__":

@@ -42,6 +42,20 @@ def processes_below(top):
     return below
 
 
+def end_with_all_below(pid):
+    """Ends a process, which may tidy up for some seconds, and all below it."""
+    below = processes_below(pid)
+    with contextlib.suppress(OSError):
+        os.kill(pid, signal.SIGTERM)
+    begun = time.time()
+    # (one that has ended, and that nobody has waited for, has no words)
+    while time.time() < begun + 10 and (found := process(pid)) and found.words != [""]:
+        time.sleep(0.1)
+    for it in (pid, *below):
+        with contextlib.suppress(OSError):
+            os.kill(it, signal.SIGKILL)
+
+
 def check_of(it):
     """Returns the crate that a process checks and whether it is for the proof, the tests or an edit, or None."""
     if os.path.basename(it.words[0]) != "rattle" or "--crate-name" not in it.words:
