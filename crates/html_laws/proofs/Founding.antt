@@ -475,22 +475,25 @@ settled-founded c g = by (is_unfounded c) g
     by false (inl k) = inl (record { none = k.none; early = k.early; templates = k.templates; refused = k.refused })
     by false (inr k) = inr (record { roots = k.roots; late = k.late; back = k.back; templates = k.templates; refused = k.refused })
 
-begun-state : (a : State) → IsSame a (begun a)
+pub begun-state : (a : State) → IsSame a (begun a)
 begun-state a = record { roots = refl; mode_is = refl; original_is = refl; templates_are = refl; parses = refl }
 
 module _ (t : TokenKind) where
   abbrev y : Symbol
   y = symbol_of t
 
+  pub entry-past : (o : _) (a z : State) → IsReady a → IsPast a → IsEntry o y t a z → IsPast z
+  entry-past o a z k g e =
+      (runs-past plan plans-sound (html_symbol y) (waits a.mode) (entry_plan a y) t a (ending o) z
+      (of-entry (sound (html_symbol y) (waits a.mode)) a y (λ c. refl) refl (plan-sound a.mode y g.late)) (symbol-names t) g g.back
+      (entry-follows o y t a z k.is_native.none e)).past
+
   pub entry-founded : (o : _) (a z : State) → IsReady a → IsFounded a → IsEntry o y t a z → IsFounded z
   entry-founded o a z k (inl g) e =
       runs-founded plan (html_symbol y) (entry_plan a y) t a (ending o) z
       (of-entry (begins (html_symbol y)) a y (λ c. refl) refl (plan-begins (html_symbol y) a.mode y g.early)) (symbol-names t) g
       (entry-follows o y t a z k.is_native.none e)
-  entry-founded o a z k (inr g) e =
-      inr (runs-past plan plans-sound (html_symbol y) (waits a.mode) (entry_plan a y) t a (ending o) z
-      (of-entry (sound (html_symbol y) (waits a.mode)) a y (λ c. refl) refl (plan-sound a.mode y g.late)) (symbol-names t) g g.back
-      (entry-follows o y t a z k.is_native.none e)).past
+  entry-founded o a z k (inr g) e = inr (entry-past o a z k g e)
 
   pub entries-founded : (a z : State) → Entries y t a z → IsReady a → IsFounded a → IsFounded z
   entries-founded _ _ (next a b c z i j r) k g =
@@ -516,7 +519,7 @@ fragment-one l =
     let r = own-most (label_for (empty_tree l) d) in
     omega (arith, e, p, q, r)
 
-templates-late : (s : Setting) → list_all is_late (first_templates s) ≡ true
+pub templates-late : (s : Setting) → list_all is_late (first_templates s) ≡ true
 templates-late Document = refl
 templates-late (Fragment context in_form) = by (is_same context tag.Template)
   where
@@ -545,7 +548,7 @@ core-founded a b e g = founded-same b a (record {
   parses = ap (λ (v : State). v.parses_foreign) e;
 }) g
 
-first-founded : (s : Setting) (l : Option Limits) (a : State) → IsFirst s l a → a.parses_foreign ≡ false → IsFounded a
+pub first-founded : (s : Setting) (l : Option Limits) (a : State) → IsFirst s l a → a.parses_foreign ≡ false → IsFounded a
 first-founded s l a k f =
     let e = first-core s l a k ∙ ap (λ v. core (begun (first_state s l a.quirks v 0))) f in
     founded-same (begun a) a (record { roots = refl; mode_is = refl; original_is = refl; templates_are = refl; parses = refl })

@@ -37,4 +37,12 @@ pub mod Tagless
 pub mod Reading
 pub mod Nesting
 pub mod Bodies
+pub mod Hosts
+pub mod Basing
+pub mod Laying
+pub mod Planting
+pub mod Replanting
+pub mod Grafts
+pub mod Hosted
+pub mod Hosting
 pub mod Pages

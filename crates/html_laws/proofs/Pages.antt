@@ -21,11 +21,13 @@ use Rattle.html_parser.specs.Kinds.{kinds}
 use Rattle.html_parser.specs.Parsed.{Headline}
 use Rattle.html_parser.specs.Start.{Start, parses, text_start}
 use Rattle.html_construction.proofs.Planned.{halves as both}
+use Rattle.html_laws.specs.Contents.{InputsHaveNoTemplateInItself, TreesHaveNoTemplateInItself}
 use Rattle.html_laws.specs.Elements.{InputsHaveOneBody, InputsHaveOneRoot, TreesHaveOneBody, TreesHaveOneRoot, count_of}
 use Rattle.html_laws.specs.OnePage.{InputsHaveOnePage, InputsHaveOneTree, IsOnePage, RefusesForeign}
 use Rattle.html_laws.specs.Outcomes.{BeginAlike}
 use Rattle.html_laws.proofs.Bodies.{built-body}
 use Rattle.html_laws.proofs.Founding.{pages-root}
+use Rattle.html_laws.proofs.Hosting.{pages-hosts}
 use Rattle.html_laws.proofs.Reading.{built-reads}
 use Rattle.html_laws.proofs.Texts.{texts-one}
 
@@ -79,6 +81,14 @@ inputs-root start bytes page r p =
 pub trees-root : TreesHaveOneRoot
 trees-root start bytes tree r p =
     pages-root start.setting start.limits (kinds p.tokens) p.fates tree.arena r.no_context (built start bytes r p.tokens p.fates tree.arena p.is.built)
+
+pub inputs-hosts : InputsHaveNoTemplateInItself
+inputs-hosts start bytes page r p =
+    pages-hosts start.setting start.limits (kinds page.tokens) page.fates page.arena r.no_context (built start bytes r page.tokens page.fates page.arena p.built)
+
+pub trees-hosts : TreesHaveNoTemplateInItself
+trees-hosts start bytes tree r p =
+    pages-hosts start.setting start.limits (kinds p.tokens) p.fates tree.arena r.no_context (built start bytes r p.tokens p.fates tree.arena p.is.built)
 
 -- the bodies of what was built of an input
 headline-body : (start : Start) (bytes : List ℕ) (ts : List Token) (fs : List Fate) (t : Nodes) (root n steps : ℕ) (errors : List PageFault) → RefusesForeign start → Headline start bytes ts fs t root errors n steps → count_of tag.Body t.labels ≤ 1

@@ -1,4 +1,5 @@
 -- Claimed.
+pub mod Contents
 pub mod Elements
 pub mod Likeness
 pub mod OnePage

@@ -1,4 +1,9 @@
 // That the rules of tree construction have one outcome (13.2.6), and parsing with them.
+ghost use Rattle.html_laws.specs.Contents.{
+  InputsHaveNoTemplateInItself,
+  PagesHaveNoTemplateInItself,
+  TreesHaveNoTemplateInItself,
+};
 ghost use Rattle.html_laws.specs.Elements.{
   InputsHaveOneBody,
   InputsHaveOneRoot,
@@ -42,4 +47,12 @@ pub fn pages_have_one_body()
     ensures tokens { PagesHaveOneBody }
     ensures page { InputsHaveOneBody }
     ensures tree { TreesHaveOneBody }
+{}
+
+/// A law: no template stands in its own contents, where foreign content is refused and is not the context: neither in what the rules build of tokens, nor in
+/// the page of an input.
+pub fn pages_have_no_template_in_itself()
+    ensures tokens { PagesHaveNoTemplateInItself }
+    ensures page { InputsHaveNoTemplateInItself }
+    ensures tree { TreesHaveNoTemplateInItself }
 {}

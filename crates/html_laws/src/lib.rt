@@ -5,6 +5,6 @@
 mod laws;
 
 pub use laws::{
-    construction_has_one_outcome, pages_have_one_body, pages_have_one_root,
-    parsing_has_one_outcome, rules_have_one_outcome,
+    construction_has_one_outcome, pages_have_no_template_in_itself, pages_have_one_body,
+    pages_have_one_root, parsing_has_one_outcome, rules_have_one_outcome,
 };
