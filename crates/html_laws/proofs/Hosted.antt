@@ -1,11 +1,13 @@
 -- What the words of the rules, reopening and adoption make of what the open elements stand below.
-use Rattle.std.proofs.Common.{◌≡◌, ◌<◌, ◌≤◌, ◌⊎◌, is_some, length-append, ℕ, zero, suc, ◌+◌, ◌-◌, Bool, true, false, cond, eqb, not, ◌≢◌, List, [], ◌∷◌, ◌++◌, append-nil, get_or, length, set, take, drop, Option, Some, None, slice_index, inl, inr, refl, sym, ◌∙◌, ap, subst, arith}
+use Rattle.std.proofs.Common.{◌≡◌, ◌==◌, ◌<◌, ◌≤◌, ◌⊎◌, is_some, length-append, ℕ, zero, suc, ◌+◌, ◌-◌, Bool, true, false, cond, eqb, not, ◌≢◌, List, [], ◌∷◌, ◌++◌, append-nil, get_or, length, set, take, drop, Option, Some, None, slice_index, inl, inr, refl, sym, ◌∙◌, ap, subst, arith}
 use Rattle.std.specs.List.{list_any}
 use Rattle.std.proofs.lemmas.Bool.{cases_lt, false≢true}
 use Rattle.std.proofs.lemmas.List.{get_or_past, length-set, take-append-drop}
 use Rattle.std.proofs.Math.Seq.{take-append_seam}
+use Rattle.html_names.specs.declared.foreign.Space.{Space}
 use Rattle.html_names.specs.declared.tag.Tag.{Tag}
 use Rattle.html_names.specs.declared.tag.Tag.TheVariants as tag
+use Rattle.html_names.specs.Foreign.{space_of}
 use Rattle.html_names.specs.Names.{name_of, tag_of}
 use Rattle.html_names.specs.Sets.{is_formatting, is_special, is_template}
 use Rattle.html_names.specs.Tags.{is_same}
@@ -24,6 +26,7 @@ use Rattle.html_arena.specs.Tree.{Tree as Nodes, added, added_template, children
 use Rattle.html_arena.proofs.Siblings.{cases_bool, cases_eqb, eqb-self, has-append, has-last}
 use Rattle.html_tokens.specs.declared.attributes.Attr.{Attr}
 use Rattle.html_tokens.specs.declared.token.TokenKind.{TokenKind}
+use Rattle.html_tokens.specs.Cut.{null_replaced}
 use Rattle.html_open.specs.declared.adoption.AdoptEnd.{AdoptEnd}
 use Rattle.html_open.specs.declared.adoption.AdoptEnd.TheVariants.{Done, OtherEndTag}
 use Rattle.html_open.specs.declared.entry.Entry.{Entry}
@@ -44,6 +47,7 @@ use Rattle.html_open.proofs.SafePlaces.{same-tag}
 use Rattle.html_tree.specs.declared.groups.Target.{Target}
 use Rattle.html_tree.specs.declared.groups.Target.TheVariants as target
 use Rattle.html_tree.specs.Closing.{before_index, bodiless, first_few, kept_to, popped, remaining}
+use Rattle.html_tree.specs.Foreign.{found_foreign, home_end, left_foreign}
 use Rattle.html_tree.specs.Inserting.{with_new, with_open}
 use Rattle.html_tree.specs.Listing.{IsAdopted, IsReopened}
 use Rattle.html_tree.specs.Searching.{found_name}
@@ -54,12 +58,17 @@ use Rattle.html_tree.proofs.Closings.{first-few-up, without-first}
 use Rattle.html_tree.proofs.Kept.{first-few}
 use Rattle.html_ledger.specs.Entries.{number_of}
 use Rattle.html_ledger.specs.declared.setting.Setting.TheVariants.{Document, Fragment}
+use Rattle.html_ledger.specs.declared.symbol.Symbol.{Symbol}
+use Rattle.html_ledger.specs.declared.symbol.Symbol.TheVariants.{Start, End as EndSymbol, Char, Comment as CommentSymbol, Doctype as DoctypeSymbol, Eof}
 use Rattle.html_construction.specs.Beginning.{first_state}
-use Rattle.html_construction.specs.Calls.{HasEnded, IsLinkClosed, comment_of, doctype_of, element_of, form_closed, formless, implied_of, void_of}
+use Rattle.html_construction.specs.Calls.{HasEnded, IsLinkClosed, IsTree, comment_of, counting, doctype_of, element_of, foreign_of, form_closed, formless, implied_of, opened_at, placed_at, void_of}
+use Rattle.html_construction.specs.Foreign.{foreign_tag}
 use Rattle.html_construction.specs.Plans.{IsMoved}
 use Rattle.html_construction.specs.States.{State}
-use Rattle.html_construction.specs.Tokens.{attrs_of, char_of, data_of, element_name, name_id, public_id, system_id, tag_name}
-use Rattle.html_construction.specs.Words.{AddMarker, Becomes, ClearTo, ClearToMarker, CloseForm, CloseNamed, CloseThrough, Drop, End, Implied, Imply, ImplyHead, ImplyPart, ImplyRoot, ImplyVoid, Insert, InsertAt, InsertCharacter, InsertClosedForm, InsertComment, InsertCommentAt, InsertDoctype, InsertForeign, InsertForeignVoid, InsertForm, InsertHead, InsertListed, InsertPart, InsertRoot, InsertVoid, InsertVoidAt, MergeIntoBody, MergeIntoRoot, Pop, Quirks, ReplaceBody, Switch, Word, after}
+use Rattle.html_construction.specs.Tokens.{attrs_of, char_of, closes_itself, data_of, element_name, foreign_attrs, foreign_name, name_id, public_id, system_id, tag_name}
+use Rattle.html_construction.specs.Words.{AddMarker, Becomes, ClearTo, ClearToMarker, CloseForm, CloseNamed, CloseThrough, Drop, End, Implied, Imply, ImplyHead, ImplyPart, ImplyRoot, ImplyVoid, Insert, InsertAt, InsertCharacter, InsertClosedForm, InsertComment, InsertCommentAt, InsertDoctype, InsertForeign, InsertForeignVoid, InsertForm, InsertHead, InsertListed, InsertPart, InsertRoot, InsertVoid, InsertVoidAt, MergeIntoBody, MergeIntoRoot, Pop, Quirks, ReplaceBody, Switch, Word, after, with_stack}
+use Rattle.html_modes.specs.Fitting.{is_loose}
+use Rattle.html_modes.specs.Foreign.{Stayed, around_foreign, embedded, ends_any, if_goes, leaves_foreign, stack_after}
 use Rattle.html_laws.specs.Contents.{NoTemplateHoldsItself, IsOver, StandsIn, deeper, inside as within, itself}
 use Rattle.html_laws.specs.Likeness.{core}
 use Rattle.html_laws.proofs.Hosts.{IsLaid, IsTied, base}
@@ -427,8 +436,6 @@ calm b InsertForm = not b
 calm b InsertClosedForm = not b
 calm b InsertRoot = false
 calm b ImplyRoot = false
-calm b (InsertForeign s) = false
-calm b (InsertForeignVoid s) = false
 calm b w = true
 
 no-template : (b : Bool) (t : TokenKind) → names_template t ≡ b → not b ≡ true → is_template (tag_of (tag_name t)) ≡ false
@@ -507,6 +514,9 @@ replaced v d f k =
     let c = cut-body v.tree v.stack v.list v.head v.form k in
     subst (λ (s : List ℕ). IsHostedAt (with_new (bodiless v).tree (Last (get (first_of s) 0)) d) (s ++ length (bodiless v).tree.labels ∷ []) v.list v.head v.form) (sym c.1)
     (first-opened (bodiless v).tree c.0 d v.list v.head v.form (f (bodiless v).tree) c.2)
+
+foreign-fresh : (v : Nodes) (s : Space) (t : TokenKind) (a : State) → IsFresh v (foreign_of a s t)
+foreign-fresh v s t a = element-fresh v (foreign_name s (tag_name t)) (foreign_attrs s (attrs_of t)) (Token (number_of a.ledger))
 
 module _ (b : Bool) (t : TokenKind) (a : State) (n : names_template t ≡ b) (k : IsHosted a) where
   abbrev own : NewNode
@@ -587,8 +597,8 @@ module _ (b : Bool) (t : TokenKind) (a : State) (n : names_template t ≡ b) (k 
   kept-word InsertCharacter h = texted v a.fostering (char_of t) k
   kept-word MergeIntoRoot h = alike-hosted v.tree (bare (with_merged v.tree (slice_index v.stack 0) (attrs_of t))) v.stack v.list v.head v.form (merged-alike v.tree (slice_index v.stack 0) (attrs_of t)) k
   kept-word MergeIntoBody h = alike-hosted v.tree (bare (with_merged v.tree (slice_index v.stack 1) (attrs_of t))) v.stack v.list v.head v.form (merged-alike v.tree (slice_index v.stack 1) (attrs_of t)) k
-  kept-word (InsertForeign s) h = absurd (false≢true h)
-  kept-word (InsertForeignVoid s) h = absurd (false≢true h)
+  kept-word (InsertForeign s) h = opened v (foreign_of a s t) a.fostering (foreign-fresh v.tree s t a) k
+  kept-word (InsertForeignVoid s) h = leaf v (foreign_of a s t) (target.Current a.fostering) (foreign-fresh v.tree s t a) k
   kept-word w h = k
 
 pub word-hosted : (b : Bool) (w : Word) (t : TokenKind) (a : State) → names_template t ≡ b → calm b w ≡ true → IsHosted a → IsHosted (after w t a)
@@ -716,6 +726,65 @@ link-at foster u z r k = by (last_named u.tree tag.A u.list) refl
 
 pub link-hosted : (a b : State) → IsMoved a b → IsLinkClosed a.fostering a.tree b.tree → IsHosted a → IsHosted b
 link-hosted a b i m k = moved-hosted a b i (link-at a.fostering a.tree b.tree m k)
+
+-- FOREIGN CONTENT
+
+-- what the rules for it close
+pub closed-hosted : (y : Symbol) (t : TokenKind) (a : State) → IsHosted a → IsHosted (with_stack (stack_after a.tree y t) a)
+closed-hosted y t a k = by (leaves_foreign y t) (ends_any y) (length a.tree.stack == 1)
+  where
+    v : Tree
+    v = a.tree
+
+    by : (x e r : Bool) → IsHostedAt v.tree (cond x (left_foreign v) (cond e (cond r v.stack (before_index (found_foreign v (tag_name t)) v.stack)) v.stack)) v.list v.head v.form
+    by true e r = few-hosted v.tree (home_end v) v.stack v.list v.head v.form k
+    by false true true = k
+    by false true false = before-hosted v.tree (found_foreign v (tag_name t)) v.stack v.list v.head v.form k
+    by false false r = k
+
+tree-hosted : (v : Tree) (z : State) → IsTree v z → IsHostedAt v.tree v.stack v.list v.head v.form → IsHosted z
+tree-hosted v z i k =
+    same-of IsHostedAt v z.tree (ap (λ (x : Tree). x.tree) i.tree_is) (ap (λ (x : Tree). x.stack) i.tree_is) (ap (λ (x : Tree). x.list) i.tree_is) (ap (λ (x : Tree). x.head) i.tree_is)
+    (ap (λ (x : Tree). x.form) i.tree_is) k
+
+embedded-hosted : (s : Space) (t : TokenKind) (a z : State) → IsTree (embedded a s t) z → IsHosted a → IsHosted z
+embedded-hosted s t a z i k = by (closes_itself t) i
+  where
+    d : NewNode
+    d = foreign_of a s t
+
+    v : Tree
+    v = counting (number_of a.ledger + 1) a.tree
+
+    by : (b : Bool) → IsTree (cond b (placed_at d (target.Current a.fostering) v) (opened_at d (target.Current a.fostering) v)) z → IsHosted z
+    by true i = tree-hosted (placed_at d (target.Current a.fostering) v) z i (leaf a.tree d (target.Current a.fostering) (foreign-fresh a.tree.tree s t a) k)
+    by false i = tree-hosted (opened_at d (target.Current a.fostering) v) z i (opened a.tree d a.fostering (foreign-fresh a.tree.tree s t a) k)
+
+-- no end of a page stays there
+end-around : (a : State) (t : TokenKind) (g : Tag) → around_foreign a Eof t ≡ Some g → ⊥
+end-around a t g e = by (is_loose a.mode) (foreign_tag a) e
+  where
+    by : (b : Bool) (o : Option Tag) → cond b (if_goes a Eof t o) None ≡ Some g → ⊥
+    by true None e = absurd (let k = e in cc)
+    by true (Some x) e = absurd (let k = e in cc)
+    by false o e = absurd (let k = e in cc)
+
+-- and what they make of a token that stays there
+pub stayed-hosted : (g : Tag) (y : Symbol) (t : TokenKind) (a z : State) → around_foreign a y t ≡ Some g → Stayed g y t a z → IsHosted a → IsHosted z
+stayed-hosted g (Start n) t a z e s k = embedded-hosted (space_of g) t a z s.tree_is k
+stayed-hosted g (EndSymbol n) t a z e s k = tree-hosted (record a.tree { stack = stack_after a.tree (EndSymbol n) t }) z s (closed-hosted (EndSymbol n) t a k)
+stayed-hosted g (Char c) t a z e s k = tree-hosted (record a.tree { tree = with_text a.tree a.fostering (null_replaced c ∷ []) }) z s.tree_is (texted a.tree a.fostering (null_replaced c ∷ []) k)
+stayed-hosted g CommentSymbol t a z e s k =
+    tree-hosted (placed_at (comment_of a t) (target.Current a.fostering) (counting (number_of a.ledger + 1) a.tree)) z s.tree_is
+    (leaf a.tree (comment_of a t) (target.Current a.fostering) (comment-fresh a.tree.tree (data_of t) (number_of a.ledger)) k)
+stayed-hosted g DoctypeSymbol t a z e s k = by a.ledger.history.awaits_doctype refl
+  where
+    by : (b : Bool) → a.ledger.history.awaits_doctype ≡ b → IsHosted z
+    by true f =
+        tree-hosted (placed_at (doctype_of a t) target.Document (counting (number_of a.ledger + 1) a.tree)) z (s.made_is f)
+        (leaf a.tree (doctype_of a t) target.Document (doctype-fresh a.tree.tree (name_id t) (public_id t) (system_id t) (number_of a.ledger)) k)
+    by false f = tree-hosted a.tree z (s.tree_is f) k
+stayed-hosted g Eof t a z e s k = absurd (end-around a t g e)
 
 -- AN ELEMENT OF THE HEAD, MADE AFTER IT
 

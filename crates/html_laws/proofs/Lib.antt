@@ -44,5 +44,6 @@ pub mod Planting
 pub mod Replanting
 pub mod Grafts
 pub mod Hosted
+pub mod Modes
 pub mod Hosting
 pub mod Pages

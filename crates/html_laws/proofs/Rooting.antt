@@ -143,12 +143,12 @@ reset-late context head ms (g ∷ below) h = by (is_none_left below) (reset-late
     by true k = outermost-late head ms (unwrap_or context tag.Html) h
     by false k = or-late (element_mode head ms g below) (reset_mode context head ms below) (element-late head ms g below h) k
 
-take-late : (n : ℕ) (ms : List Mode) → list_all is_late ms ≡ true → list_all is_late (take n ms) ≡ true
+pub take-late : (n : ℕ) (ms : List Mode) → list_all is_late ms ≡ true → list_all is_late (take n ms) ≡ true
 take-late zero ms h = refl
 take-late (suc n) [] h = refl
 take-late (suc n) (m ∷ ms) h = (let c = both (is_late m) (list_all is_late ms) h in join (is_late m) (list_all is_late (take n ms)) c.0 (take-late n ms c.1))
 
-push-late : (ms : List Mode) (m : Mode) → list_all is_late ms ≡ true → is_late m ≡ true → list_all is_late (ms ++ m ∷ []) ≡ true
+pub push-late : (ms : List Mode) (m : Mode) → list_all is_late ms ≡ true → is_late m ≡ true → list_all is_late (ms ++ m ∷ []) ≡ true
 push-late [] m h k = join (is_late m) true k refl
 push-late (n ∷ ms) m h k = (let c = both (is_late n) (list_all is_late ms) h in join (is_late n) (list_all is_late (ms ++ m ∷ [])) c.0 (push-late ms m c.1 k))
 

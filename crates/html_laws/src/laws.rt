@@ -49,8 +49,7 @@ pub fn pages_have_one_body()
     ensures tree { TreesHaveOneBody }
 {}
 
-/// A law: no template stands in its own contents, where foreign content is refused and is not the context: neither in what the rules build of tokens, nor in
-/// the page of an input.
+/// A law: no template stands in its own contents: neither in what the rules build of tokens, nor in the page of an input.
 pub fn pages_have_no_template_in_itself()
     ensures tokens { PagesHaveNoTemplateInItself }
     ensures page { InputsHaveNoTemplateInItself }

@@ -19,7 +19,7 @@ use Rattle.html_ledger.specs.Entries.{Entries, number_of}
 use Rattle.html_ledger.specs.Flags.{may_embed}
 use Rattle.html_ledger.specs.MayDrop.{is_foreign_root}
 use Rattle.html_ledger.specs.Spaces.{is_space}
-use Rattle.html_tree.specs.declared.groups.Target.TheVariants.{Current}
+use Rattle.html_tree.specs.declared.groups.Target.TheVariants.{Current, Document as AtDocument}
 use Rattle.html_tree.specs.Foreign.{found_foreign, left_foreign}
 use Rattle.html_tree.specs.Listing.{IsReopened}
 use Rattle.html_tree.specs.OpenTags.{open_tags}
@@ -28,7 +28,7 @@ use Rattle.html_tree.specs.Texts.{text_node, with_text}
 use Rattle.html_construction.specs.declared.mode.Mode.{Mode}
 use Rattle.html_construction.specs.declared.mode.Mode.TheVariants as mode
 use Rattle.html_construction.specs.Built.{Keeps}
-use Rattle.html_construction.specs.Calls.{HasFate, IsTree, comment_of, counting, foreign_of, opened_at, placed_at}
+use Rattle.html_construction.specs.Calls.{HasFate, IsTree, comment_of, counting, doctype_of, foreign_of, opened_at, placed_at}
 use Rattle.html_construction.specs.Foreign.{adjusted_tag, foreign_tag, if_foreign}
 use Rattle.html_construction.specs.Grown.{Grown}
 use Rattle.html_construction.specs.States.{State}
@@ -125,11 +125,15 @@ turned-off c a b n s e = rw (n, s) e
 pub commented : (k : TokenKind) (a b : State) → HasFate Comment (Made (length a.tree.tree.labels)) a b → IsTree (placed_at (comment_of a k) (Current a.fostering) (counting (number_of a.ledger + 1) a.tree)) b → IsCommented k a b
 commented k a b f t = record { fate_is = f; tree_is = t }
 
-pub ignored-doctype : (a b : State) → HasFate Doctype (Dropped Misplaced) a b → b.tree ≡ a.tree → IsIgnored a b
-ignored-doctype a b f e = record { fate_is = λ w. f; tree_is = λ w. record { tree_is = e ∙ ap (λ n. record a.tree { steps = n }) (sym (ap (λ (x : Tree). x.steps) e)) } }
+pub ignored-doctype : (k : TokenKind) (a b : State) → a.ledger.history.awaits_doctype ≡ false → HasFate Doctype (Dropped Misplaced) a b → b.tree ≡ a.tree → IsIgnored k a b
+ignored-doctype k a b n f e = record {
+  fate_is = λ w. f;
+  tree_is = λ w. record { tree_is = e ∙ ap (λ n. record a.tree { steps = n }) (sym (ap (λ (x : Tree). x.steps) e)) };
+  made_is = λ w. absurd (false≢true (sym n ∙ w));
+}
 
-pub awaited-doctype : (a b : State) → a.ledger.history.awaits_doctype ≡ true → IsIgnored a b
-awaited-doctype a b w = record { fate_is = λ n. absurd (false≢true (sym n ∙ w)); tree_is = λ n. absurd (false≢true (sym n ∙ w)) }
+pub awaited-doctype : (k : TokenKind) (a b : State) → a.ledger.history.awaits_doctype ≡ true → IsTree (placed_at (doctype_of a k) AtDocument (counting (number_of a.ledger + 1) a.tree)) b → IsIgnored k a b
+awaited-doctype k a b w t = record { fate_is = λ n. absurd (false≢true (sym n ∙ w)); tree_is = λ n. absurd (false≢true (sym n ∙ w)); made_is = λ n. t }
 
 pub ruleset doctype_rules = (ignored-doctype, awaited-doctype)
 
@@ -312,6 +316,7 @@ follows-done g y k a m b r q n same h s w e f p = record {
   stayed = stayed-after g y k a m b (λ e. same e n) h s w (or-first (leaves_foreign y k) _ (sym q ∙ n));
   frameset_ok_is = f ∙ ap (λ (x : State). frameset_ok_after y x.frameset_ok) e;
   mode_is = ap (λ (x : State). x.mode) p ∙ ap (λ (x : State). x.mode) e;
+  templates_are = ap (λ (x : State). x.templates) p ∙ ap (λ (x : State). x.templates) e;
   parses_is = ap (λ (x : State). x.parses_foreign) p ∙ ap (λ (x : State). x.parses_foreign) e;
 }
 

@@ -69,7 +69,7 @@ stayed-aside g (Start t) k a b s v m d n h = embedded-aside (space_of g) (Start 
 stayed-aside g (Char c) k a b s v m d n h = record { fate_is = record { ledger_is = h.fate_is.ledger_is }; tree_is = record { tree_is = h.tree_is.tree_is } }
 stayed-aside g (End t) k a b s v m d n h = record { tree_is = h.tree_is }
 stayed-aside g Comment k a b s v m d n h = record { fate_is = record { ledger_is = h.fate_is.ledger_is }; tree_is = record { tree_is = h.tree_is.tree_is } }
-stayed-aside g Doctype k a b s v m d n h = record { fate_is = λ w. record { ledger_is = (h.fate_is w).ledger_is }; tree_is = λ w. record { tree_is = (h.tree_is w).tree_is } }
+stayed-aside g Doctype k a b s v m d n h = record { fate_is = λ w. record { ledger_is = (h.fate_is w).ledger_is }; tree_is = λ w. record { tree_is = (h.tree_is w).tree_is }; made_is = λ w. record { tree_is = (h.made_is w).tree_is } }
 stayed-aside g Eof k a b s v m d n h = tt
 
 -- the token is done with in its first entry
@@ -96,6 +96,7 @@ entries-embed y k a _ _ q (last i b c z j e r) = record {
         stayed = subst (λ (x : State). Stayed g y k a x) (sym same) (stayed-begun g y k a b c l w.stayed);
         frameset_ok_is = ap (λ (x : State). x.frameset_ok) same ∙ w.frameset_ok_is ∙ ap (λ (x : State). frameset_ok_after y x.frameset_ok) l.state_is;
         mode_is = ap (λ (x : State). x.mode) same ∙ w.mode_is ∙ ap (λ (x : State). x.mode) l.state_is;
+        templates_are = ap (λ (x : State). x.templates) same ∙ w.templates_are ∙ ap (λ (x : State). x.templates) l.state_is;
         parses_is = ap (λ (x : State). x.parses_foreign) same ∙ w.parses_is ∙ ap (λ (x : State). x.parses_foreign) l.state_is;
       };
 }

@@ -16,14 +16,14 @@ use Rattle.html_ledger.specs.declared.symbol.Symbol.TheVariants.{Start, End, Cha
 use Rattle.html_ledger.specs.Entries.{number_of}
 use Rattle.html_ledger.specs.Flags.{must_drop}
 use Rattle.html_ledger.specs.Spaces.{is_space}
-use Rattle.html_tree.specs.declared.groups.Target.TheVariants.{Current}
+use Rattle.html_tree.specs.declared.groups.Target.TheVariants.{Current, Document as AtDocument}
 use Rattle.html_tree.specs.Closing.{before_index}
 use Rattle.html_tree.specs.Foreign.{found_foreign, is_at_html_point, left_foreign}
 use Rattle.html_tree.specs.Listing.{IsReopened}
 use Rattle.html_tree.specs.OpenTags.{open_tags}
 use Rattle.html_tree.specs.States.{State as Tree}
 use Rattle.html_tree.specs.Texts.{text_node, with_text}
-use Rattle.html_construction.specs.Calls.{HasFate, IsTree, comment_of, counting, foreign_of, opened_at, placed_at}
+use Rattle.html_construction.specs.Calls.{HasFate, IsTree, comment_of, counting, doctype_of, foreign_of, opened_at, placed_at}
 use Rattle.html_construction.specs.Foreign.{foreign_tag}
 use Rattle.html_construction.specs.Modes.{is_of_frames, is_of_selects}
 use Rattle.html_construction.specs.States.{State}
@@ -128,10 +128,11 @@ pub record IsCommented (k : TokenKind) (a b : State) : Type 0 where
   pub fate_is : HasFate Comment (Made (length a.tree.tree.labels)) a b
   pub tree_is : IsTree (placed_at (comment_of a k) (Current a.fostering) (counting (number_of a.ledger + 1) a.tree)) b
 
--- a DOCTYPE is ignored, as one is wherever none is awaited
-pub record IsIgnored (a b : State) : Type 0 where
+-- a DOCTYPE is ignored, as one is wherever none is awaited (where one is, it is made: own)
+pub record IsIgnored (k : TokenKind) (a b : State) : Type 0 where
   pub fate_is : a.ledger.history.awaits_doctype ≡ false → HasFate Doctype (Dropped Misplaced) a b
   pub tree_is : a.ledger.history.awaits_doctype ≡ false → IsTree a.tree b
+  pub made_is : a.ledger.history.awaits_doctype ≡ true → IsTree (placed_at (doctype_of a k) AtDocument (counting (number_of a.ledger + 1) a.tree)) b
 
 -- The flag frameset-ok after it: off after a code point that is neither U+0000 nor white space, and else as it was.
 abbrev pub frameset_ok_after : Symbol → Bool → Bool
@@ -143,7 +144,7 @@ abbrev pub Stays : Tag → Symbol → TokenKind → State → State → Type 0
 Stays g (Start t) k a b = IsEmbedded (space_of g) (Start t) k a b
 Stays g (Char c) k a b = IsInserted c a b
 Stays g Comment k a b = IsCommented k a b
-Stays g Doctype k a b = IsIgnored a b
+Stays g Doctype k a b = IsIgnored k a b
 Stays g _ k a b = Unit {0}
 
 -- the same with what an end tag closes
@@ -157,6 +158,7 @@ pub record Follows (g : Tag) (o : Outcome) (y : Symbol) (k : TokenKind) (a b : S
   pub stayed : Stayed g y k a b
   pub frameset_ok_is : b.frameset_ok ≡ frameset_ok_after y a.frameset_ok
   pub mode_is : b.mode ≡ a.mode
+  pub templates_are : b.templates ≡ a.templates
   pub parses_is : b.parses_foreign ≡ a.parses_foreign
 
 -- So is an entry of a token that goes by them and stays in foreign content, where the mode is none of selects or of frames and the token is not dropped in

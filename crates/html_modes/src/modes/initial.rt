@@ -209,7 +209,7 @@ pub(crate) fn doctype(page: &mut Construction, token: &TokenKind) -> Result<(), 
     ensures works { OnOk result (Works 6 0 6 page.old page.new) }
     ensures exact { OnOk result (page.old.ledger.history.awaits_doctype ≡ true → IsTree (placed_at (doctype_of page.old token.now) Document (counting (number_of page.old.ledger + 1) page.old.tree)) page.new) }
     ensures fate { OnOk result (page.old.ledger.history.awaits_doctype ≡ true → HasFate Symbol.Doctype (Made (length page.old.tree.tree.labels)) page.old page.new) }
-    ensures ignored { OnOk result (IsIgnored page.old page.new) }
+    ensures ignored { OnOk result (IsIgnored token.now page.old page.new) }
     ensures refuses { IfErr result (λ e. Refuses token.now e page.old page.new) }
     ensures follows { OnOk result (PassesFor inserting_doctype token.now page.old page.new) }
 {
