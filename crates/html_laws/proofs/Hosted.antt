@@ -777,13 +777,14 @@ stayed-hosted g (Char c) t a z e s k = tree-hosted (record a.tree { tree = with_
 stayed-hosted g CommentSymbol t a z e s k =
     tree-hosted (placed_at (comment_of a t) (target.Current a.fostering) (counting (number_of a.ledger + 1) a.tree)) z s.tree_is
     (leaf a.tree (comment_of a t) (target.Current a.fostering) (comment-fresh a.tree.tree (data_of t) (number_of a.ledger)) k)
-stayed-hosted g DoctypeSymbol t a z e s k = by a.ledger.history.awaits_doctype refl
+stayed-hosted g DoctypeSymbol t a z e s k = by a.ledger.history.awaits_doctype s.tree_is
   where
-    by : (b : Bool) → a.ledger.history.awaits_doctype ≡ b → IsHosted z
-    by true f =
-        tree-hosted (placed_at (doctype_of a t) target.Document (counting (number_of a.ledger + 1) a.tree)) z (s.made_is f)
-        (leaf a.tree (doctype_of a t) target.Document (doctype-fresh a.tree.tree (name_id t) (public_id t) (system_id t) (number_of a.ledger)) k)
-    by false f = tree-hosted a.tree z (s.tree_is f) k
+    made : Tree
+    made = placed_at (doctype_of a t) target.Document (counting (number_of a.ledger + 1) a.tree)
+
+    by : (b : Bool) → IsTree (cond b made a.tree) z → IsHosted z
+    by true i = tree-hosted made z i (leaf a.tree (doctype_of a t) target.Document (doctype-fresh a.tree.tree (name_id t) (public_id t) (system_id t) (number_of a.ledger)) k)
+    by false i = tree-hosted a.tree z i k
 stayed-hosted g Eof t a z e s k = absurd (end-around a t g e)
 
 -- AN ELEMENT OF THE HEAD, MADE AFTER IT

@@ -126,14 +126,10 @@ pub commented : (k : TokenKind) (a b : State) → HasFate Comment (Made (length 
 commented k a b f t = record { fate_is = f; tree_is = t }
 
 pub ignored-doctype : (k : TokenKind) (a b : State) → a.ledger.history.awaits_doctype ≡ false → HasFate Doctype (Dropped Misplaced) a b → b.tree ≡ a.tree → IsIgnored k a b
-ignored-doctype k a b n f e = record {
-  fate_is = λ w. f;
-  tree_is = λ w. record { tree_is = e ∙ ap (λ n. record a.tree { steps = n }) (sym (ap (λ (x : Tree). x.steps) e)) };
-  made_is = λ w. absurd (false≢true (sym n ∙ w));
-}
+ignored-doctype k a b n f e = record { fate_is = λ w. f; tree_is = rw n (record { tree_is = e ∙ ap (λ n. record a.tree { steps = n }) (sym (ap (λ (x : Tree). x.steps) e)) }) }
 
 pub awaited-doctype : (k : TokenKind) (a b : State) → a.ledger.history.awaits_doctype ≡ true → IsTree (placed_at (doctype_of a k) AtDocument (counting (number_of a.ledger + 1) a.tree)) b → IsIgnored k a b
-awaited-doctype k a b w t = record { fate_is = λ n. absurd (false≢true (sym n ∙ w)); tree_is = λ n. absurd (false≢true (sym n ∙ w)); made_is = λ n. t }
+awaited-doctype k a b w t = record { fate_is = λ n. absurd (false≢true (sym n ∙ w)); tree_is = rw w t }
 
 pub ruleset doctype_rules = (ignored-doctype, awaited-doctype)
 

@@ -19,7 +19,7 @@ use Rattle.html_construction.specs.Tokens.{closes_itself}
 use Rattle.html_construction.specs.Words.{Becomes}
 use Rattle.html_modes.specs.Dispatching.{Entries, IsEntry, begun, last, next, settled}
 use Rattle.html_modes.specs.Fitting.{is_loose}
-use Rattle.html_modes.specs.Foreign.{Follows, FollowsForeign, IsEmbedded, Stayed, around_foreign, embedded, frameset_ok_after, goes_on}
+use Rattle.html_modes.specs.Foreign.{Follows, FollowsForeign, IsEmbedded, Stayed, around_foreign, embedded, frameset_ok_after, goes_on, with_doctype}
 use Rattle.html_modes.specs.Guards.{is_table_text}
 use Rattle.html_modes.specs.declared.outcome.Outcome.{Outcome}
 use Rattle.html_modes.specs.declared.outcome.Outcome.TheVariants.{Done, Reprocess}
@@ -69,7 +69,13 @@ stayed-aside g (Start t) k a b s v m d n h = embedded-aside (space_of g) (Start 
 stayed-aside g (Char c) k a b s v m d n h = record { fate_is = record { ledger_is = h.fate_is.ledger_is }; tree_is = record { tree_is = h.tree_is.tree_is } }
 stayed-aside g (End t) k a b s v m d n h = record { tree_is = h.tree_is }
 stayed-aside g Comment k a b s v m d n h = record { fate_is = record { ledger_is = h.fate_is.ledger_is }; tree_is = record { tree_is = h.tree_is.tree_is } }
-stayed-aside g Doctype k a b s v m d n h = record { fate_is = λ w. record { ledger_is = (h.fate_is w).ledger_is }; tree_is = λ w. record { tree_is = (h.tree_is w).tree_is }; made_is = λ w. record { tree_is = (h.made_is w).tree_is } }
+stayed-aside g Doctype k a b s v m d n h = record {
+  fate_is = λ w. record { ledger_is = (h.fate_is w).ledger_is };
+  tree_is = of-tree (with_doctype a k) (with_doctype (aside a s v m d n) k) b same h.tree_is;
+}
+  where
+    same : with_doctype (aside a s v m d n) k ≡ record (with_doctype a k) { steps = (with_doctype (aside a s v m d n) k).steps }
+    same = elim (cases_bool a.ledger.history.awaits_doctype) [ inl e ↦ rw e refl | inr e ↦ rw e refl ]
 stayed-aside g Eof k a b s v m d n h = tt
 
 -- the token is done with in its first entry

@@ -128,11 +128,14 @@ pub record IsCommented (k : TokenKind) (a b : State) : Type 0 where
   pub fate_is : HasFate Comment (Made (length a.tree.tree.labels)) a b
   pub tree_is : IsTree (placed_at (comment_of a k) (Current a.fostering) (counting (number_of a.ledger + 1) a.tree)) b
 
--- a DOCTYPE is ignored, as one is wherever none is awaited (where one is, it is made: own)
+-- the tree after a DOCTYPE: as it was; where one is still awaited, as none is there, with one made (own)
+abbrev pub with_doctype : State → TokenKind → Tree
+with_doctype a k = cond a.ledger.history.awaits_doctype (placed_at (doctype_of a k) AtDocument (counting (number_of a.ledger + 1) a.tree)) a.tree
+
+-- a DOCTYPE is ignored, as one is wherever none is awaited
 pub record IsIgnored (k : TokenKind) (a b : State) : Type 0 where
   pub fate_is : a.ledger.history.awaits_doctype ≡ false → HasFate Doctype (Dropped Misplaced) a b
-  pub tree_is : a.ledger.history.awaits_doctype ≡ false → IsTree a.tree b
-  pub made_is : a.ledger.history.awaits_doctype ≡ true → IsTree (placed_at (doctype_of a k) AtDocument (counting (number_of a.ledger + 1) a.tree)) b
+  pub tree_is : IsTree (with_doctype a k) b
 
 -- The flag frameset-ok after it: off after a code point that is neither U+0000 nor white space, and else as it was.
 abbrev pub frameset_ok_after : Symbol → Bool → Bool
