@@ -6,12 +6,13 @@ use Rattle.html_charref.specs.declared.table.Row.{Row}
 use Rattle.html_tokens.specs.Copied.{AllPass, is_copied, is_without, copied_in, copied_by, CopiesTag, CopiesComment, cut_by}
 use Rattle.std.proofs.Common.{Result, Ok, Err}
 use Rattle.std.specs.Result.{IfOk}
-use Rattle.html_tokens.specs.Inside.{comment_errors, declared_errors}
-use Rattle.html_tokens.specs.Cut.{Cut, comment_mark, cut, null_replaced, ends_unquoted}
+use Rattle.html_tokens.specs.Inside.{comment_char_errors, comment_errors}
+use Rattle.html_tokens.specs.Cut.{Cut, cut, null_replaced, ends_unquoted}
 use Rattle.html_tokens.specs.Draft.{draft_cut, mark_of, passed}
 use Rattle.html_tokens.specs.declared.comment.CommentDraft.{CommentDraft}
 use Rattle.html_tokens.specs.declared.comment.CommentKind.{CommentKind}
 use Rattle.html_tokens.specs.declared.comment.CommentKind.TheVariants.{Declared, Bogus}
+use Rattle.html_tokens.proofs.CommentLemmas.{more_errors}
 use Rattle.html_tokens.proofs.Cuts.{longer_draft}
 use Rattle.html_tokens.specs.Value.{value_cut, end_mark}
 use Rattle.html_tokens.specs.Tag.{between, name_char, ends_name, ends_attr, tail, after_some, draft_tag, longer_tag, tag_by}
@@ -249,17 +250,20 @@ comment_copies d (c ∷ xs) a more =
     ∙ cut_by_more (length xs) (draft_cut (record d { «data» = (d.«data» ++ c ∷ []) ++ xs }) more)
     ∙ ap (λ (x : List ℕ). cut_by (suc (length xs)) (draft_cut (record d { «data» = x }) more)) (append_assoc d.«data» (c ∷ []) xs))
 
-marked_none : (place c : ℕ) (rest : List ℕ) → comment_mark (c ∷ rest) ≡ None → declared_errors place (c ∷ rest) ≡ declared_errors (place + 1) rest
-unfolding declared_errors
-marked_none place c rest e = rw e refl
+-- nor begins a `<!--`
+none_nested : (kind : CommentKind) (place c : ℕ) (rest : List ℕ) → is_copied (copied_by kind) c ≡ true → comment_char_errors kind place (c ∷ rest) ≡ []
+none_nested Declared place c rest h =
+    let a = neither (c == 0) _ h in
+    let b = neither (c == 45) _ a.1 in
+    rw (is_not (c == 60) b.1) refl
+none_nested Bogus place c rest h = refl
 
 -- no code point that is copied closes a comment
 errors_copied : (kind : CommentKind) (place : ℕ) (xs : List ℕ) → AllPass (is_copied (copied_by kind)) xs → (more : List ℕ) → comment_errors kind place (xs ++ more) ≡ comment_errors kind (place + length xs) more
-errors_copied Bogus place xs a more = refl
-errors_copied Declared place [] a more = rw add-zero refl
-errors_copied Declared place (c ∷ xs) a more =
+errors_copied kind place [] a more = rw add-zero refl
+errors_copied kind place (c ∷ xs) a more =
     let e : place + suc (length xs) ≡ (place + 1) + length xs = omega arith in
-    marked_none place c (xs ++ more) ((comment_one Declared c a.0).0 (xs ++ more)) ∙ rw e (errors_copied Declared (place + 1) xs a.1 more)
+    more_errors kind place c (xs ++ more) ((comment_one kind c a.0).0 (xs ++ more)) ∙ rw (none_nested kind place c (xs ++ more) a.0, e) (errors_copied kind (place + 1) xs a.1 more)
 
 comment_front : (d : CommentDraft) (text : List ℕ) (n : ℕ) → n ≤ length text → AllPass (is_copied (copied_by d.kind)) (take n text) → CopiesComment d text n (record d { «data» = d.«data» ++ take n text })
 comment_front d text n h a = (

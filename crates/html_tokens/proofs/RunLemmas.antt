@@ -79,7 +79,7 @@ plain_given old new c items run s h e p i =
 
 -- a code point of plain text tells nothing
 plain_silent : (old : Machine) (c : ℕ) (items : List ℕ) → old.state ≡ Text Plain → is_plain old.mode c ≡ true → old.input.queue.items ≡ c ∷ items → IsSilent old
-plain_silent old c items s h e = silent_begun old Plain begins.Char s (λ more f. rw e (plain_begins old.mode old.last_name c (items ++ more) h)) (λ place text. refl)
+plain_silent old c items s h e = silent_begun old Plain begins.Char s (λ more f. rw e (plain_begins old.mode old.last_name c (items ++ more) h)) (some_there old.input.queue.items items c e) (λ place text. refl)
 
 pub plain_told : (old new : Machine) (c : ℕ) (items : List ℕ) (f f' : Faults) (run : Run) → old.state ≡ Text Plain → is_plain old.mode c ≡ true → old.input.queue.items ≡ c ∷ items → Passes old 1 (Text Plain) new → IsQuiet f f' → IsAt old run → AreTold old f run →
     (switch : Option TextMode) → AreTold (answered (token (kinds.Char c) old.place (old.place + 1)) switch new) f' (gave run (token (kinds.Char c) old.place (old.place + 1)) switch)

@@ -1,5 +1,5 @@
 -- What each step gives, over plain variables.
-use Rattle.std.proofs.Common.{◌≡◌, ℕ, suc, ◌+◌, ◌<◌, ◌≤◌, List, [], ◌∷◌, ◌++◌, length, map, drop, Bool, Option, Some, None, true, false, refl, ap, sym, subst, ◌∙◌, arith, length-append}
+use Rattle.std.proofs.Common.{◌≡◌, ℕ, suc, ◌+◌, ◌<◌, ◌≤◌, List, [], ◌∷◌, ◌++◌, length, map, drop, Bool, Option, Some, None, true, false, refl, ap, sym, subst, ◌∙◌, arith, length-append, append_assoc, append-nil}
 use Rattle.html_tokens.specs.Cut.{Cut, null_replaced}
 use Rattle.html_tokens.specs.Draft.{draft_cut}
 use Rattle.html_tokens.specs.Tokens.{tokens_after, text_char, token, begun_piece, stays, switch_of}
@@ -16,7 +16,7 @@ use Rattle.std.proofs.lemmas.List.{drop-append-le}
 use Rattle.html_tokens.specs.Copied.{CopiesComment, cut_by}
 use Rattle.html_tokens.specs.Errors.{errors_after, inside_errors, piece_errors, told_in}
 use Rattle.html_tokens.specs.declared.faults.Fault.{Fault}
-use Rattle.html_tokens.proofs.ErrorLemmas.{errors_begun, errors_end, errors_past, errors_past_all, errors_past_one, errors_text, none_at_end}
+use Rattle.html_tokens.proofs.ErrorLemmas.{errors_at_end, errors_begun, errors_past, errors_past_all, errors_past_one, errors_text, region_quiet, told_at_end}
 use Rattle.html_tokens.specs.Fed.{Skips, coming, errors_coming, to_come, IsDrained, IsEnded, Passes, SameCount, Steps, switch_to, slack, GivesChars}
 use Rattle.html_tokens.specs.Input.{Decided, IsShort}
 use Rattle.html_tokens.specs.Inside.{MovesComment, comment_errors, comment_told}
@@ -76,7 +76,7 @@ pub char_errors : (rows : List Row) (region after : Region) (mode : TextMode) (n
 char_errors rows region after mode name place place' c items items' more switch switches e t r p =
     let t' = rw e at t in
     let r' = rw e at r in
-    rw (e, t', p) (errors_text rows mode region after name place c (items' ++ more) switch switches t' r')
+    rw (e, t', p, region_quiet region place (c ∷ (items' ++ more)) (omega arith)) (errors_text rows mode region after name place c (items' ++ more) switch switches t' r')
 
 there : (items more : List ℕ) → 0 < length items → 0 < length (items ++ more)
 there items more h = omega (arith, length-append items more)
@@ -90,7 +90,7 @@ pub errors_opened : (rows : List Row) (b : Begin) (region : Region) (mode : Text
     ++ (inside ++ errors_after rows j (mode_after first.tokens switches mode) (name_after first.tokens name) (place + opened) (drop opened items ++ more) (drop (length first.tokens) switches))
 errors_opened rows b region mode name place opened j items more switches first inside e s p l h k i =
     errors_begun rows b mode region name place (items ++ more) switches first e s p (omega arith) (there items more (omega arith))
-    ∙ rw (e, l, i) (ap (λ (es : List Fault). piece_errors b place (items ++ more) ++ (inside ++ es)) (errors_past rows opened j _ _ place items more _ k))
+    ∙ rw (e, l, i, region_quiet region place (items ++ more) (there items more (omega arith))) (ap (λ (es : List Fault). piece_errors b place (items ++ more) ++ (inside ++ es)) (errors_past rows opened j _ _ place items more _ k))
 
 -- the errors of what begins and is passed whole
 pub errors_passed : (rows : List Row) (b : Begin) (region : Region) (mode : TextMode) (name : Option (List ℕ)) (place len : ℕ) (items more : List ℕ) (switches : List (Option TextMode)) (first : Piece) →
@@ -218,11 +218,6 @@ text_ends Plain rows mode name place switches = refl
 text_ends Escaped rows mode name place switches = refl
 text_ends Double rows mode name place switches = refl
 
-errors_none : (region : Region) (rows : List Row) (mode : TextMode) (name : Option (List ℕ)) (place : ℕ) (switches : List (Option TextMode)) → errors_coming rows (Text region) mode name place [] switches ≡ []
-errors_none Plain rows mode name place switches = errors_end rows 0 mode name place switches
-errors_none Escaped rows mode name place switches = errors_end rows _ _ name place _
-errors_none Double rows mode name place switches = errors_end rows _ _ name place _
-
 -- nothing may follow, and nothing is unread
 pub all_read : (finished : Bool) (items : List ℕ) → ((more : List ℕ) → MayFollow finished more → items ++ more ≡ []) → (finished ≡ true) × (items ≡ [])
 all_read true [] e = (refl, refl)
@@ -236,7 +231,8 @@ state_ends old new region s n e = (
   (λ more switch switches f. rw (s, e more f, n) (text_ends region old.table.now old.mode old.last_name old.place (switch ∷ switches))),
   rw n (record { count = refl; finished = refl; table = refl; drained = λ _ _. all_read old.input.finished old.input.queue.items e }),
   rw n refl,
-  (λ more switch switches f. rw (s, e more f, n, none_at_end old.table.now region old.mode old.last_name old.place) (errors_none region old.table.now old.mode old.last_name old.place (switch ∷ switches))),
+  (λ more switch switches f. rw (s, e more f, n)
+      (errors_at_end old.table.now region old.mode old.last_name old.place (switch ∷ switches) ∙ sym (told_at_end old.table.now region old.mode old.last_name old.place) ∙ sym (append-nil _))),
 )
 
 -- a comment reads on by a code point
@@ -257,8 +253,8 @@ comment_closes rows draft draft' mode name place n items more switch switches e 
     ap (λ (c : Cut). token (kinds.Comment c.before) draft.start (place + c.len) ∷ tokens_after rows c.len (stays switch mode) name place (items ++ more) switches) e
     ∙ rw s (ap (λ (ts : List Token). token (kinds.Comment draft'.«data») draft.start (place + n) ∷ ts) (rw add-zero at (tokens_past rows n 0 (stays switch mode) name place items more switches h)))
 
-told_before : (whole told later before after : List Fault) → told ≡ [] → whole ≡ later → before ≡ after → whole ++ before ≡ told ++ (later ++ after)
-told_before whole told later before after t e h = rw (t, e, h) refl
+told_before : (whole told later before after : List Fault) → whole ≡ told ++ later → before ≡ after → whole ++ before ≡ told ++ (later ++ after)
+told_before whole told later before after e h = rw (e, h) (append_assoc told later after)
 
 told_same_then : (whole told before after : List Fault) → whole ≡ told → before ≡ after → whole ++ before ≡ told ++ after
 told_same_then whole told before after e h = rw (e, h) refl
@@ -268,8 +264,9 @@ comment_tells : (rows : List Row) (draft draft' : CommentDraft) (mode : TextMode
     errors_coming rows (Comment draft) mode name place (items ++ more) switches ≡ told_in rows (Comment draft) mode name place (items ++ more) ++ errors_coming rows (Comment draft') mode name (place + 1) (items' ++ more) switches
 comment_tells rows draft draft' mode name place items items' more switches e i h k none =
     let goes = comment_goes draft.kind place (items ++ more) none (there items more h) in
-    let on : comment_errors draft.kind place (items ++ more) ≡ comment_errors draft'.kind (place + 1) (items' ++ more) = rw (k, i) (goes.0 ∙ ap (λ (x : List ℕ). comment_errors draft.kind (place + 1) x) (drop-append-le 1 items more h)) in
-    told_before (comment_errors draft.kind place (items ++ more)) (comment_told draft.kind place (items ++ more)) (comment_errors draft'.kind (place + 1) (items' ++ more)) _ _ goes.1 on
+    let on : comment_errors draft.kind place (items ++ more) ≡ comment_told draft.kind place (items ++ more) ++ comment_errors draft'.kind (place + 1) (items' ++ more) =
+    rw (k, i) (goes.0 ∙ ap (λ (x : List ℕ). comment_told draft.kind place (items ++ more) ++ comment_errors draft.kind (place + 1) x) (drop-append-le 1 items more h)) in
+    told_before (comment_errors draft.kind place (items ++ more)) (comment_told draft.kind place (items ++ more)) (comment_errors draft'.kind (place + 1) (items' ++ more)) _ _ on
     (ap (λ (c : Cut). errors_after rows c.len (stays (switch_of switches) mode) name place (items ++ more) (drop 1 switches)) e
     ∙ errors_past_one rows (draft_cut draft' (items' ++ more)).len (stays (switch_of switches) mode) name place items items' more (drop 1 switches) i h)
 

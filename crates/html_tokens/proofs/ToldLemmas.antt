@@ -1,6 +1,6 @@
 -- What steps and runs tell.
 use Rattle.std.proofs.Common.{◌≡◌, ℕ, List, [], ◌∷◌, ◌++◌, length, Option, Some, None, true, false, refl, ap, subst, sym, ◌∙◌, append_assoc, append-nil}
-use Rattle.html_tokens.specs.Errors.{all_told, IsQuiet, Opens, defined, piece_errors, told_in, with_told}
+use Rattle.html_tokens.specs.Errors.{all_told, IsQuiet, Opens, defined, piece_errors, region_end_errors, told_in, with_told}
 use Rattle.html_tokens.specs.Fed.{IsSilent, Skips, Steps, Tells, TellsAt, told_at, errors_to_come, errors_to_come_after}
 use Rattle.html_tokens.specs.Input.{Decided, MayFollow}
 use Rattle.html_tokens.specs.Marks.{begin_at}
@@ -16,7 +16,8 @@ use Rattle.html_tokens.specs.declared.token.Begin.{Begin}
 use Rattle.html_tokens.specs.declared.token.Region.{Region}
 use Rattle.html_tokens.specs.declared.token.TextMode.{TextMode}
 use Rattle.html_tokens.specs.declared.token.Token.{Token}
-use Rattle.html_tokens.proofs.ErrorLemmas.{none_at_end}
+use Rattle.html_tokens.proofs.ErrorLemmas.{region_quiet, told_at_end}
+use Rattle.html_tokens.proofs.Cuts.{not_empty}
 use Rattle.html_tokens.proofs.StreamLemmas.{same_mode, switch_is}
 use Rattle.std.proofs.lemmas.Bool.{false≢true}
 use Rattle.html_tokens.specs.Given.{MaySwitch}
@@ -101,12 +102,12 @@ pub silent_in : (t : Machine) (s : State) → t.state ≡ s → ((rows : List Ro
 silent_in t s e h = λ more f. rw e (h t.table.now t.mode t.last_name t.place (t.input.queue.items ++ more))
 
 -- what begins tells nothing
-pub silent_begun : (t : Machine) (region : Region) (b : Begin) → t.state ≡ Text region → Decided t.input (begin_at t.mode region t.last_name) b → ((place : ℕ) (text : List ℕ) → piece_errors b place text ≡ []) → IsSilent t
-silent_begun t region b s begun h = λ more f. rw (s, begun more f) (h t.place (t.input.queue.items ++ more))
+pub silent_begun : (t : Machine) (region : Region) (b : Begin) → t.state ≡ Text region → Decided t.input (begin_at t.mode region t.last_name) b → 0 < length t.input.queue.items → ((place : ℕ) (text : List ℕ) → piece_errors b place text ≡ []) → IsSilent t
+silent_begun t region b s begun some h = λ more f. rw (s, begun more f, region_quiet region t.place (t.input.queue.items ++ more) (not_empty t.input.queue.items more some)) (h t.place (t.input.queue.items ++ more))
 
--- the end tells nothing
-pub silent_end : (t : Machine) (region : Region) → t.state ≡ Text region → ((more : List ℕ) → MayFollow t.input.finished more → t.input.queue.items ++ more ≡ []) → IsSilent t
-silent_end t region s e = λ more f. rw (s, e more f) (none_at_end t.table.now region t.mode t.last_name t.place)
+-- what the end tells is told
+pub tells_end : (t : Machine) (region : Region) (old new : Faults) → t.state ≡ Text region → ((more : List ℕ) → MayFollow t.input.finished more → t.input.queue.items ++ more ≡ []) → Opens (region_end_errors region t.place) old new → TellsAt t old new
+tells_end t region old new s e opens = tells_decided t (region_end_errors region t.place) old new (λ more f. rw (s, e more f) (told_at_end t.table.now region t.mode t.last_name t.place)) opens
 
 -- RUNS
 
@@ -134,9 +135,9 @@ told_given old new f f' run given switch s tells i told = λ kept more switches 
 
 -- what a `<` begins tells what is decided
 pub opens_told : (t : Machine) (region : Region) (found : Opener) (told : List Fault) → t.state ≡ Text region → Decided t.input (begin_at t.mode region t.last_name) begins.Markup → Decided t.input opener found →
-    Decided t.input (opening_errors found t.place) told → (more : List ℕ) → MayFollow t.input.finished more → told_at t more ≡ told
-opens_told t region found told s begun is errors = λ more f.
-    rw (s, begun more f)
+    Decided t.input (opening_errors found t.place) told → 0 < length t.input.queue.items → (more : List ℕ) → MayFollow t.input.finished more → told_at t more ≡ told
+opens_told t region found told s begun is errors some = λ more f.
+    rw (s, begun more f, region_quiet region t.place (t.input.queue.items ++ more) (not_empty t.input.queue.items more some))
     (ap (λ (o : Opener). opening_errors o t.place (t.input.queue.items ++ more)) (is more f) ∙ errors more f)
 
 -- a piece was fed

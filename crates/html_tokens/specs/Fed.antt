@@ -10,12 +10,13 @@ use Rattle.html_tokens.specs.Inside.{comment_errors, draft_errors, section_error
 use Rattle.html_tokens.specs.Tag.{draft_tag}
 use Rattle.html_tokens.specs.Tag.{Tag as WholeTag}
 use Rattle.html_tokens.specs.Tokens.{token, tokens_after, text_after, chars_at, tag_tokens, tag_kind, doctype_kind, stays, switch_of, switched, mode_after, name_after, name_after_kind}
-use Rattle.html_tokens.specs.Errors.{all_told, errors_after, IsQuiet, defined, told_in}
+use Rattle.html_tokens.specs.Errors.{all_told, errors_after, front_errors, IsQuiet, defined, told_in}
 use Rattle.html_tokens.specs.Marks.{front, name_len}
 use Rattle.html_tokens.specs.Reference.{numbered}
 use Rattle.html_charref.specs.Number.{char_of}
 use Rattle.html_charref.specs.Table.{longest_len}
 use Rattle.html_charref.specs.declared.table.Row.{Row}
+use Rattle.html_tokens.specs.declared.token.Region.{Region}
 use Rattle.html_tokens.specs.declared.token.Region.TheVariants.{Plain, Escaped, Double}
 use Rattle.html_tokens.specs.declared.comment.CommentDraft.{CommentDraft}
 use Rattle.html_tokens.specs.declared.tag.TagDraft.{TagDraft}
@@ -61,17 +62,21 @@ coming rows Ended mode name place rest switches = []
 abbrev pub to_come : Machine → List ℕ → List (Option TextMode) → List Token
 to_come t more switches = coming t.table.now t.state t.mode t.last_name t.place (t.input.queue.items ++ more) switches
 
--- the errors from a place of text in a region on
+-- the errors after text at a place
 abbrev pub text_errors : List Row → List ℕ → TextMode → Option (List ℕ) → ℕ → List ℕ → List (Option TextMode) → List Fault
 text_errors rows chars mode name place text switches =
     let given = chars_at mode place chars in
     errors_after rows (length chars) (mode_after given switches mode) name place text (drop (length given) switches)
 
+-- the errors from a place of text in a region on
+abbrev pub region_errors : List Row → Region → TextMode → Option (List ℕ) → ℕ → List ℕ → List (Option TextMode) → List Fault
+region_errors rows region mode name place text switches = front_errors mode region name place text ++ text_errors rows (front mode region name text) mode name place text switches
+
 -- the errors still to come from a state at a place, where this is the whole rest of the text
 abbrev pub errors_coming : List Row → State → TextMode → Option (List ℕ) → ℕ → List ℕ → List (Option TextMode) → List Fault
 errors_coming rows (Text Plain) mode name place rest switches = errors_after rows 0 mode name place rest switches
-errors_coming rows (Text Escaped) mode name place rest switches = text_errors rows (front mode Escaped name rest) mode name place rest switches
-errors_coming rows (Text Double) mode name place rest switches = text_errors rows (front mode Double name rest) mode name place rest switches
+errors_coming rows (Text Escaped) mode name place rest switches = region_errors rows Escaped mode name place rest switches
+errors_coming rows (Text Double) mode name place rest switches = region_errors rows Double mode name place rest switches
 errors_coming rows (Number draft) mode name place rest switches =
     errors_after rows (numbered draft.base draft.value rest).len (stays (switch_of switches) mode) name place rest (drop 1 switches)
 errors_coming rows (Second c start) mode name place rest switches = errors_after rows 0 (stays (switch_of switches) mode) name place rest (drop 1 switches)

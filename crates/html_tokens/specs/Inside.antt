@@ -1,10 +1,11 @@
--- Claimed, but for this crate's own functions: ends_here, tag_told, declared_told, comment_told, kind_errors, ClosesComment, MovesComment, section_told, PassesErrors, MovesDoctype, MovesPart.
+-- Claimed, but for this crate's own functions: ends_here, tag_told, nests_in, comment_told, kind_errors, ClosesComment, MovesComment, section_told, PassesErrors, MovesDoctype, MovesPart.
 -- The parse errors inside of a piece of the text, after what opens it (HTML 13.2.2).
 use Rattle.std.specs.Prelude.{◌≡◌, ◌⊎◌, ◌<◌, ℕ, zero, suc, ◌+◌, ◌-◌, List, [], ◌∷◌, ◌++◌, length, drop, Bool, true, false, cond, Option, Some, None, slice_get, ◌==◌, ◌&&◌, ◌||◌, not}
-use Rattle.html_tokens.specs.Cut.{comment_mark, is, is_space, section_mark}
+use Rattle.html_tokens.specs.Cut.{is, is_space, passes, section_mark}
 use Rattle.html_tokens.specs.Draft.{mark_of}
 use Rattle.html_tokens.specs.Doctype.{is_quote, keyword_at}
 use Rattle.html_tokens.specs.Input.{MayFollow}
+use Rattle.html_tokens.specs.Marks.{declares}
 use Rattle.html_tokens.specs.Tag.{Tail, tag_of}
 use Rattle.html_charref.specs.declared.table.Row.{Row}
 use Rattle.html_tokens.specs.declared.comment.CommentDraft.{CommentDraft}
@@ -80,34 +81,43 @@ closing_errors closed n place = cond (n == 4) (fault names.IncorrectlyClosedComm
 abbrev pub is_closed : ℕ → List ℕ → Bool
 is_closed n text = n == 3 && is 62 (slice_get text 2)
 
--- where a mark of this length closes a comment
-abbrev pub mark_errors : Option ℕ → ℕ → List ℕ → List Fault → List Fault
-mark_errors (Some n) place text later = closing_errors (is_closed n text) n place
-mark_errors None place text later = later
+-- `<!--` stands here, and then another code point than `>` (HTML 13.2.5.46 to 13.2.5.49)
+abbrev pub nests : List ℕ → Bool
+nests text = declares text && passes (λ c. not (c == 62)) (slice_get text 4)
 
--- The errors of the rest of a comment that `<!--` began: those of what closes it first, or of the end.
-unfoldable pub declared_errors : ℕ → List ℕ → List Fault
-declared_errors place [] = fault names.EofInComment place ∷ []
-declared_errors place (c ∷ rest) = mark_errors (comment_mark (c ∷ rest)) place (c ∷ rest) (declared_errors (place + 1) rest)
+-- so in a comment that `<!--` began
+abbrev pub nests_in : CommentKind → List ℕ → Bool
+nests_in comments.Declared text = nests text
+nests_in comments.Bogus text = false
 
--- The end of a bogus comment tells nothing (HTML 13.2.5.41).
-abbrev pub comment_errors : CommentKind → ℕ → List ℕ → List Fault
-comment_errors comments.Declared place text = declared_errors place text
-comment_errors comments.Bogus place text = []
+-- what a code point tells that belongs to a comment: nested-comment, after the `<!--` that it begins
+abbrev pub comment_char_errors : CommentKind → ℕ → List ℕ → List Fault
+comment_char_errors kind place text = fault_when (nests_in kind text) names.NestedComment (place + 4)
 
--- what a step tells at the front of the rest of a comment
-abbrev pub declared_told : ℕ → List ℕ → List Fault
-declared_told place [] = fault names.EofInComment place ∷ []
-declared_told place (c ∷ rest) = mark_errors (comment_mark (c ∷ rest)) place (c ∷ rest) []
-
-abbrev pub comment_told : CommentKind → ℕ → List ℕ → List Fault
-comment_told comments.Declared place text = declared_told place text
-comment_told comments.Bogus place text = []
+-- the end of the text: eof-in-comment (HTML 13.2.5.43 to 13.2.5.52), and nothing in a bogus comment (HTML 13.2.5.41)
+abbrev pub comment_end_errors : CommentKind → ℕ → List Fault
+comment_end_errors comments.Declared place = fault names.EofInComment place ∷ []
+comment_end_errors comments.Bogus place = []
 
 -- what closes a comment of this kind tells
 abbrev pub kind_errors : CommentKind → Bool → ℕ → ℕ → List Fault
 kind_errors comments.Declared closed n place = closing_errors closed n place
 kind_errors comments.Bogus closed n place = []
+
+-- where a mark of this length closes a comment
+abbrev pub mark_errors : CommentKind → Option ℕ → ℕ → List ℕ → List Fault → List Fault
+mark_errors kind (Some n) place text later = kind_errors kind (is_closed n text) n place
+mark_errors kind None place text later = later
+
+-- The errors of the rest of a comment: those of each code point that belongs to it, and of what closes it first, or of the end.
+unfoldable pub comment_errors : CommentKind → ℕ → List ℕ → List Fault
+comment_errors kind place [] = comment_end_errors kind place
+comment_errors kind place (c ∷ rest) = mark_errors kind (mark_of kind (c ∷ rest)) place (c ∷ rest) (comment_char_errors kind place (c ∷ rest) ++ comment_errors kind (place + 1) rest)
+
+-- what a step tells at the front of the rest of a comment
+abbrev pub comment_told : CommentKind → ℕ → List ℕ → List Fault
+comment_told kind place [] = comment_end_errors kind place
+comment_told kind place (c ∷ rest) = mark_errors kind (mark_of kind (c ∷ rest)) place (c ∷ rest) (comment_char_errors kind place (c ∷ rest))
 
 -- a code point belongs to the comment, or so many close it; or the text ends
 abbrev pub ClosesComment : CommentKind → List ℕ → ℕ → Type 0

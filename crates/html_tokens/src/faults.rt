@@ -2,7 +2,7 @@
 ghost use Rattle.std.specs.Prelude.{◌≡◌, ◌+◌, ◌<◌, ◌≤◌, ◌^◌, ◌&&◌, ℕ, [], ◌∷◌, true, false, length, option_to_list, slice_get, IfSome, MatchOption, OnOk, Some};
 ghost use Rattle.html_tokens.specs.Order.{IsAdded};
 ghost use Rattle.html_tokens.specs.Bounds.{Told};
-ghost use Rattle.html_tokens.specs.Errors.{bogus_error, is_cdata, is_defined, IsQuiet, literal_error, Opens, opening_errors};
+ghost use Rattle.html_tokens.specs.Errors.{bogus_error, is_cdata, is_defined, IsQuiet, literal_error, Opens, opening_errors, region_end_errors};
 ghost use Rattle.html_tokens.specs.Inside.{fault};
 ghost use Rattle.html_tokens.specs.Input.{Decided, IsShort};
 ghost use Rattle.html_tokens.specs.Tokens.{opened_len, opener};
@@ -35,8 +35,6 @@ pub struct Watch {
     pub letters: Option<u64>,
     /// Where the code point stands that comes after a closing quote.
     pub quote: Option<u64>,
-    /// How many code points of `<!--` have just been read in a comment.
-    pub opened: u8,
 }
 
 /// The parse errors told so far, and how many attribute names were compared.
@@ -168,7 +166,6 @@ impl Faults {
                 reference: 0,
                 letters: None,
                 quote: None,
-                opened: 0,
             },
         }
     }
@@ -189,7 +186,7 @@ impl Faults {
 
     /// Whether no earlier code point lets a later one tell more than it tells by itself.
     pub(crate) fn is_quiet(&self) -> bool {
-        self.watch.letters.is_none() && self.watch.opened == 0
+        self.watch.letters.is_none()
     }
 
     /// Adds an error, or notes that memory was refused.
@@ -246,7 +243,7 @@ impl Faults {
     /// What the end tells in text.
     pub(crate) fn text_end(&mut self, region: Region, place: u64)
         ensures told { Told 1 0 self.old self.new }
-        ensures quiet { IsQuiet self.old self.new }
+        ensures opens { Opens (region_end_errors region place) self.old self.new }
     {
         match region {
             Region::Plain => {}

@@ -25,11 +25,14 @@ impl<'a> Machine<'a> {
         let State::Comment(draft) = &mut self.state else {
             return Ok(Progress::Wait);
         };
+        let Some(nests) = draft.kind.nests(&self.input) else {
+            return Ok(Progress::Wait);
+        };
         let first = self.input.peek(0);
         match draft.read(&mut self.input)? {
             Reading::Wait => Ok(Progress::Wait),
             Reading::More => {
-                faults.comment_char(draft.kind, first, self.place);
+                faults.comment_char(nests, first, self.place);
                 self.place += 1;
                 Ok(Progress::More)
             }
