@@ -14,6 +14,8 @@ use Rattle.html_tokens.specs.declared.comment.CommentKind.{CommentKind}
 use Rattle.html_tokens.specs.declared.comment.CommentKind.TheVariants.{Declared, Bogus}
 use Rattle.html_tokens.proofs.CommentLemmas.{more_errors}
 use Rattle.html_tokens.proofs.Cuts.{longer_draft}
+use Rattle.html_tokens.proofs.PartLemmas.{attr_name_front_told, cut_in_two, first_false, inside_front_told, is_not, name_front_told, neither}
+use Rattle.html_tokens.specs.InsideTags.{part_errors}
 use Rattle.html_tokens.specs.Value.{value_cut, end_mark}
 use Rattle.html_tokens.specs.Tag.{between, name_char, ends_name, ends_attr, tail, after_some, draft_tag, longer_tag, tag_by}
 use Rattle.html_tokens.specs.Tag.{Tag as WholeTag}
@@ -25,14 +27,6 @@ use Rattle.html_tokens.specs.declared.tag.TagDraft.{TagDraft}
 use Rattle.html_tokens.specs.declared.tag.Part.TheVariants as parts
 use Rattle.html_tokens.specs.declared.tag.ValueEnd.{ValueEnd}
 use Rattle.html_tokens.specs.declared.tag.ValueEnd.TheVariants as ends
-
-pub neither : (a b : Bool) → not (a || b) ≡ true → (a ≡ false) × (not b ≡ true)
-neither true b h = absurd (false≢true h)
-neither false b h = (refl, h)
-
-pub is_not : (b : Bool) → not b ≡ true → b ≡ false
-is_not true h = absurd (false≢true h)
-is_not false h = refl
 
 pub not-false : (b : Bool) → not b ≡ false → b ≡ true
 not-false true h = refl
@@ -108,10 +102,6 @@ name_stands c h =
     let g = is_not (between 65 90 c) f.1 in
     (a.0, rw (g, b.0) refl)
 
-pub first_false : (a b : Bool) → (a || b) ≡ false → a ≡ false
-first_false true b h = absurd (false≢true (sym h))
-first_false false b h = refl
-
 name_one : (d : TagDraft) (c : ℕ) → d.part ≡ parts.Name → is_copied copied.Name c ≡ true → (rows : List Row) (rest : List ℕ) →
     draft_tag rows d (c ∷ rest) ≡ longer_tag (draft_tag rows (record d { name = d.name ++ c ∷ [] }) rest)
 unfolding cut tail
@@ -159,9 +149,6 @@ unquoted_one d c p h rows rest =
     let g = neither (c == 38) _ f.1 in
     value_one ends.Space d c p (λ rest. rw a.0 refl) g.0 (not_null c b.0) rows rest
 
-cut_in_two : (n : ℕ) (text more : List ℕ) → text ++ more ≡ take n text ++ (drop n text ++ more)
-cut_in_two n text more = ap (λ (x : List ℕ). x ++ more) (sym (take-append-drop n text)) ∙ append_assoc (take n text) (drop n text) more
-
 tag_front : (p : ℕ → Bool) (Q : TagDraft → Type 0) (put : TagDraft → List ℕ → TagDraft) →
     ((d : TagDraft) (c : ℕ) → Q d → p c ≡ true → (rows : List Row) (rest : List ℕ) → draft_tag rows d (c ∷ rest) ≡ longer_tag (draft_tag rows (put d (c ∷ [])) rest)) →
     ((d : TagDraft) (c : ℕ) → Q d → Q (put d (c ∷ []))) → ((d : TagDraft) → put d [] ≡ d) → ((d : TagDraft) (c : ℕ) (cs : List ℕ) → put (put d (c ∷ [])) cs ≡ put d (c ∷ cs)) →
@@ -178,6 +165,7 @@ name_front d text n p h a = (
   h,
   refl,
   refl,
+  name_front_told d.part text n p h a,
 )
 
 pub attr_name_front : (d : TagDraft) (text : List ℕ) (n : ℕ) → d.part ≡ parts.AttrName → n ≤ length text → AllPass (is_copied copied.Name) (take n text) → CopiesTag d text n (record d { attr_name = d.attr_name ++ take n text })
@@ -187,27 +175,30 @@ attr_name_front d text n p h a = (
   h,
   refl,
   refl,
+  attr_name_front_told d.part text n p h a,
 )
 
 value_front : (p : ℕ → Bool) (end : ValueEnd) →
     ((d : TagDraft) (c : ℕ) → d.part ≡ parts.Inside end → p c ≡ true → (rows : List Row) (rest : List ℕ) → draft_tag rows d (c ∷ rest) ≡ longer_tag (draft_tag rows (record d { attr_value = d.attr_value ++ c ∷ [] }) rest)) →
-    (d : TagDraft) (text : List ℕ) (n : ℕ) → d.part ≡ parts.Inside end → n ≤ length text → AllPass p (take n text) → CopiesTag d text n (record d { attr_value = d.attr_value ++ take n text })
-value_front p end one d text n q h a = (
+    (d : TagDraft) (text : List ℕ) (n : ℕ) → d.part ≡ parts.Inside end → n ≤ length text → AllPass p (take n text) →
+    ((rows : List Row) (place : ℕ) (more : List ℕ) → part_errors rows d.part place (text ++ more) ≡ part_errors rows d.part (place + n) (drop n text ++ more)) → CopiesTag d text n (record d { attr_value = d.attr_value ++ take n text })
+value_front p end one d text n q h a told = (
   tag_front p (λ (e : TagDraft). e.part ≡ parts.Inside end) (λ (e : TagDraft) (xs : List ℕ). record e { attr_value = e.attr_value ++ xs })
       one (λ e c q. q) (λ e. rw (append-nil e.attr_value) refl) (λ e c cs. rw append_assoc refl) d text n q h a,
   h,
   refl,
   refl,
+  told,
 )
 
 pub inside_front : (end : ValueEnd) (d : TagDraft) (text : List ℕ) (n : ℕ) → d.part ≡ parts.Inside end → n ≤ length text → AllPass (is_copied (copied_in end)) (take n text) → CopiesTag d text n (record d { attr_value = d.attr_value ++ take n text })
-inside_front ends.DoubleQuote d text n q h a = value_front (is_copied copied.DoubleQuoted) ends.DoubleQuote double_one d text n q h a
-inside_front ends.SingleQuote d text n q h a = value_front (is_copied copied.SingleQuoted) ends.SingleQuote single_one d text n q h a
-inside_front ends.Space d text n q h a = value_front (is_copied copied.Unquoted) ends.Space unquoted_one d text n q h a
+inside_front ends.DoubleQuote d text n q h a = value_front (is_copied copied.DoubleQuoted) ends.DoubleQuote double_one d text n q h a (inside_front_told ends.DoubleQuote d.part text n q h a)
+inside_front ends.SingleQuote d text n q h a = value_front (is_copied copied.SingleQuoted) ends.SingleQuote single_one d text n q h a (inside_front_told ends.SingleQuote d.part text n q h a)
+inside_front ends.Space d text n q h a = value_front (is_copied copied.Unquoted) ends.Space unquoted_one d text n q h a (inside_front_told ends.Space d.part text n q h a)
 
 -- nothing is copied
 pub none_front : (d : TagDraft) (text : List ℕ) → CopiesTag d text 0 d
-none_front d text = ((λ rows more. sym (tag_by_none (draft_tag rows d (text ++ more)))), omega arith, refl, refl)
+none_front d text = ((λ rows more. sym (tag_by_none (draft_tag rows d (text ++ more)))), omega arith, refl, refl, (λ rows place more. rw add-zero refl))
 
 pub name_copied : {E : Type 0} (r : Result ℕ E) (d : TagDraft) (text new : List ℕ) → d.part ≡ parts.Name →
     IfOk r (λ n. n ≤ length text) → IfOk r (λ n. AllPass (is_copied copied.Name) (take n text)) → IfOk r (λ n. new ≡ d.name ++ take n text) → IfOk r (λ n. CopiesTag d text n (record d { name = new }))

@@ -9,6 +9,7 @@ pub mod ToldLemmas
 pub mod FedLemmas
 pub mod CommentLemmas
 pub mod EndLemmas
+pub mod PartLemmas
 pub mod SectionLemmas
 pub mod StreamLemmas
 pub mod TagLemmas

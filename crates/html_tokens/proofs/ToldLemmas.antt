@@ -77,6 +77,10 @@ opens_both es fs a b c o p = λ kept. let later = p kept in let first = o later.
 pub quiet_opens : (old new : Faults) → IsQuiet old new → Opens [] old new
 quiet_opens old new q = λ kept. ((q kept).0, (q kept).1 ∙ sym (told_none (defined old.list)))
 
+-- where there is none
+pub opens_quietly : (es : List Fault) (old new : Faults) → es ≡ [] → Opens es old new → IsQuiet old new
+opens_quietly es old new e o = λ kept. ((o kept).0, (o kept).1 ∙ ap (λ (x : List Fault). all_told (defined old.list) x) e ∙ told_none (defined old.list))
+
 pub opens_none : (f : Faults) → Opens [] f f
 opens_none f = quiet_opens f f (quiet_same f)
 

@@ -3,7 +3,8 @@
 use Rattle.std.specs.Prelude.{◌≡◌, ℕ, zero, suc, ◌+◌, ◌-◌, List, [], ◌∷◌, ◌++◌, length, drop, Bool, true, false, cond, Option, nat_le, slice_get, is_none}
 use Rattle.std.specs.List.{filter}
 use Rattle.html_tokens.specs.Cut.{is}
-use Rattle.html_tokens.specs.Inside.{begun_tag_errors, comment_errors, comment_told, doctype_errors, doctype_told, fault, section_errors, section_told, tag_told}
+use Rattle.html_tokens.specs.Inside.{comment_errors, comment_told, doctype_errors, doctype_told, fault, section_errors, section_told, tag_told}
+use Rattle.html_tokens.specs.InsideTags.{begun_tag_errors, part_told}
 use Rattle.html_tokens.specs.Tag.{draft_tag}
 use Rattle.html_tokens.specs.Marks.{begin_at, is_stop, region_in, stands}
 use Rattle.html_tokens.specs.Tokens.{mode_after, name_after, next, opener}
@@ -41,6 +42,12 @@ is_defined names.EofInCdata = true
 is_defined names.EofInDoctype = true
 is_defined names.EofInTag = true
 is_defined names.EndTagWithAttributes = true
+is_defined names.MissingAttributeValue = true
+is_defined names.MissingWhitespaceBetweenAttributes = true
+is_defined names.UnexpectedCharacterInAttributeName = true
+is_defined names.UnexpectedCharacterInUnquotedAttributeValue = true
+is_defined names.UnexpectedEqualsSignBeforeAttributeName = true
+is_defined names.UnexpectedSolidusInTag = true
 is_defined names.EndTagWithTrailingSolidus = true
 is_defined names.MissingDoctypeName = true
 is_defined names.MissingWhitespaceBeforeDoctypeName = true
@@ -170,7 +177,7 @@ told_in rows (Number draft) mode name place rest = []
 told_in rows (Second c start) mode name place rest = []
 told_in rows (Comment draft) mode name place rest = comment_told draft.kind place rest
 told_in rows (Doctype draft) mode name place rest = doctype_told draft.part draft.spaced place rest
-told_in rows (Tag draft) mode name place rest = tag_told draft.is_end place (draft_tag rows draft rest).tail
+told_in rows (Tag draft) mode name place rest = part_told draft.part place rest ++ tag_told draft.is_end place (draft_tag rows draft rest).tail
 told_in rows Section mode name place rest = section_told place rest
 told_in rows Ended mode name place rest = []
 

@@ -7,6 +7,7 @@ use Rattle.html_tokens.specs.Doctype.{draft_doctype, new_doctype, ids_of, closes
 use Rattle.html_tokens.specs.declared.doctype.DoctypeDraft.{DoctypeDraft}
 use Rattle.html_tokens.specs.Input.{MayFollow, IsShort}
 use Rattle.html_tokens.specs.Inside.{comment_errors, draft_errors, section_errors, tag_end_errors}
+use Rattle.html_tokens.specs.InsideTags.{part_errors}
 use Rattle.html_tokens.specs.Tag.{draft_tag}
 use Rattle.html_tokens.specs.Tag.{Tag as WholeTag}
 use Rattle.html_tokens.specs.Tokens.{token, tokens_after, text_after, chars_at, tag_tokens, tag_kind, doctype_kind, stays, switch_of, switched, mode_after, name_after, name_after_kind}
@@ -85,7 +86,8 @@ errors_coming rows (Doctype draft) mode name place rest switches = draft_errors 
 errors_coming rows (Tag draft) mode name place rest switches =
     let t = draft_tag rows draft rest in
     let given = tag_tokens draft.is_end draft.start (place + t.tail.len) t in
-    tag_end_errors draft.is_end (place + t.tail.len) t.tail ++ errors_after rows t.tail.len (mode_after given switches mode) (name_after given name) place rest (drop (length given) switches)
+    part_errors rows draft.part place rest
+    ++ (tag_end_errors draft.is_end (place + t.tail.len) t.tail ++ errors_after rows t.tail.len (mode_after given switches mode) (name_after given name) place rest (drop (length given) switches))
 errors_coming rows Section mode name place rest switches =
     let section = cut section_mark rest in
     let given = chars_at Foreign place section.before in

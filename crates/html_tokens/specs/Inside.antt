@@ -6,8 +6,7 @@ use Rattle.html_tokens.specs.Draft.{mark_of}
 use Rattle.html_tokens.specs.Doctype.{is_quote, keyword_at}
 use Rattle.html_tokens.specs.Input.{MayFollow}
 use Rattle.html_tokens.specs.Marks.{declares}
-use Rattle.html_tokens.specs.Tag.{Tail, tag_of}
-use Rattle.html_charref.specs.declared.table.Row.{Row}
+use Rattle.html_tokens.specs.Tag.{Tail}
 use Rattle.html_tokens.specs.declared.comment.CommentDraft.{CommentDraft}
 use Rattle.html_tokens.specs.declared.comment.CommentKind.{CommentKind}
 use Rattle.html_tokens.specs.declared.comment.CommentKind.TheVariants as comments
@@ -57,10 +56,6 @@ tag_end_errors is_end end t =
     cond t.closed
     (cond is_end (fault_when (not (length t.attrs == 0)) names.EndTagWithAttributes (end - 1) ++ fault_when t.self_closing names.EndTagWithTrailingSolidus (end - 1)) [])
     (fault names.EofInTag end ∷ [])
-
--- the same of a tag that begins at a place, and its name after so many code points
-abbrev pub begun_tag_errors : List Row → Bool → ℕ → ℕ → List ℕ → List Fault
-begun_tag_errors rows is_end opened place text = let t = (tag_of rows (drop opened text)).tail in tag_end_errors is_end (place + opened + t.len) t
 
 -- what stands at the front ends the tag: `>`, or `/>`, or the end of the text
 abbrev pub ends_here : Tail → Bool

@@ -9,6 +9,7 @@ pub mod Fed
 pub mod Given
 pub mod Input
 pub mod Inside
+pub mod InsideTags
 pub mod Marks
 pub mod Paused
 pub mod Reference

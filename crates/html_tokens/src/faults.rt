@@ -33,8 +33,6 @@ pub struct Watch {
     pub reference: u64,
     /// Where the letters of a name would go on that is in no table.
     pub letters: Option<u64>,
-    /// Where the code point stands that comes after a closing quote.
-    pub quote: Option<u64>,
 }
 
 /// The parse errors told so far, and how many attribute names were compared.
@@ -165,7 +163,6 @@ impl Faults {
             watch: Watch {
                 reference: 0,
                 letters: None,
-                quote: None,
             },
         }
     }

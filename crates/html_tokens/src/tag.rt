@@ -3,6 +3,7 @@ ghost use Rattle.std.specs.Prelude.{length, ◌≡◌, ℕ, ◌≤◌, ◌+◌, 
 ghost use Rattle.html_tokens.specs.Copied.{copied_in, CopiesTag};
 ghost use Rattle.html_tokens.specs.Cut.{is_space, ends_unquoted};
 ghost use Rattle.html_tokens.specs.Tag.{name_char, ReadsTag, ends_name, ends_attr, AddsAttr, reads_refs, is_number, Settles, OpensRef, ReadsRef, IsInside, GoesOn, ClosesAt};
+ghost use Rattle.html_tokens.specs.InsideTags.{looks_on, may_tell, MovesRef, MovesTag, SettlesPart, TurnsTo};
 ghost use Rattle.html_tokens.specs.Reference.{is_digit};
 ghost use Rattle.html_charref.specs.Number.{char_of};
 ghost use Rattle.html_charref.specs.Entities.{codes_with};
@@ -36,6 +37,45 @@ pub enum ValueEnd {
     DoubleQuote,
     SingleQuote,
     Space,
+}
+
+impl Part {
+    /// Whether a code point is judged by the one after it here.
+    pub(crate) fn looks_on(self, c: char) -> bool
+        ensures { result ≡ looks_on self c }
+    {
+        match self {
+            Part::Inside(ValueEnd::DoubleQuote) | Part::Number(ValueEnd::DoubleQuote, ..) => {
+                matches!(c, '/' | '"')
+            }
+            Part::Inside(ValueEnd::SingleQuote) | Part::Number(ValueEnd::SingleQuote, ..) => {
+                matches!(c, '/' | '\'')
+            }
+            Part::Name
+            | Part::Attributes
+            | Part::AttrName
+            | Part::AfterName
+            | Part::Value
+            | Part::Inside(ValueEnd::Space)
+            | Part::Number(ValueEnd::Space, ..) => c == '/',
+        }
+    }
+
+    /// Whether a code point may tell an error here, but for `/`.
+    pub(crate) fn may_tell(self, c: char) -> bool
+        ensures { result ≡ may_tell self c }
+    {
+        match self {
+            Part::Name => false,
+            Part::Attributes => matches!(c, '=' | '"' | '\'' | '<'),
+            Part::AttrName | Part::AfterName => matches!(c, '"' | '\'' | '<'),
+            Part::Value => matches!(c, '>' | '<' | '=' | '`'),
+            Part::Inside(ValueEnd::DoubleQuote) => c == '"',
+            Part::Inside(ValueEnd::SingleQuote) => c == '\'',
+            Part::Inside(ValueEnd::Space) => matches!(c, '"' | '\'' | '<' | '=' | '`'),
+            Part::Number(..) => true,
+        }
+    }
 }
 
 impl ValueEnd {
@@ -145,6 +185,7 @@ impl TagDraft {
         requires plain { reads_refs self.old.part ≡ true → c ≡ 38 → ⊥ }
         ensures reads { IfOk result (λ reading. ReadsTag self.old c after reading self.new) }
         ensures closes { IfOk result (λ reading. ClosesAt c reading) }
+        ensures moves { IfOk result (λ reading. MovesTag self.old.part c after reading self.new.part) }
         ensures attrs { OnOk result (length self.new.attrs ≤ length self.old.attrs + 1) }
     {
         self.settle(c)?;
@@ -157,6 +198,7 @@ impl TagDraft {
         requires goes_on { GoesOn self.old.part c }
         ensures reads { IfOk result (λ reading. ReadsTag self.old c after reading self.new) }
         ensures closes { IfOk result (λ reading. ClosesAt c reading) }
+        ensures moves { IfOk result (λ reading. MovesTag self.old.part c after reading self.new.part) }
         ensures attrs { OnOk result (length self.new.attrs ≤ length self.old.attrs + 1) }
     {
         if let Part::Number(end, base, value) = self.part {
@@ -172,6 +214,7 @@ impl TagDraft {
         requires plain { reads_refs self.old.part ≡ true → c ≡ 38 → ⊥ }
         ensures reads { IfOk result (λ reading. ReadsTag self.old c after reading self.new) }
         ensures closes { IfOk result (λ reading. ClosesAt c reading) }
+        ensures moves { IfOk result (λ reading. MovesTag self.old.part c after reading self.new.part) }
         ensures attrs { OnOk result (length self.new.attrs ≤ length self.old.attrs + 1) }
     {
         match self.part {
@@ -192,6 +235,7 @@ impl TagDraft {
         requires { self.old.part ≡ Part.Name }
         ensures reads { IfOk result (λ reading. ReadsTag self.old c after reading self.new) }
         ensures closes { IfOk result (λ reading. ClosesAt c reading) }
+        ensures turns { IfOk result (λ reading. TurnsTo self.old.part c after reading self.new.part) }
         ensures attrs { OnOk result (length self.new.attrs ≤ length self.old.attrs + 1) }
     {
         if ends_name(c) {
@@ -207,6 +251,7 @@ impl TagDraft {
         requires { self.old.part ≡ Part.Attributes }
         ensures reads { IfOk result (λ reading. ReadsTag self.old c after reading self.new) }
         ensures closes { IfOk result (λ reading. ClosesAt c reading) }
+        ensures turns { IfOk result (λ reading. TurnsTo self.old.part c after reading self.new.part) }
         ensures attrs { self.new.attrs ≡ self.old.attrs }
     {
         if c == '>' {
@@ -232,6 +277,7 @@ impl TagDraft {
         requires { self.old.part ≡ Part.AttrName }
         ensures reads { IfOk result (λ reading. ReadsTag self.old c after reading self.new) }
         ensures closes { IfOk result (λ reading. ClosesAt c reading) }
+        ensures turns { IfOk result (λ reading. TurnsTo self.old.part c after reading self.new.part) }
         ensures attrs { OnOk result (length self.new.attrs ≤ length self.old.attrs + 1) }
     {
         if ends_attr(c) {
@@ -247,6 +293,7 @@ impl TagDraft {
         requires { self.old.part ≡ Part.AfterName }
         ensures reads { IfOk result (λ reading. ReadsTag self.old c after reading self.new) }
         ensures closes { IfOk result (λ reading. ClosesAt c reading) }
+        ensures turns { IfOk result (λ reading. TurnsTo self.old.part c after reading self.new.part) }
         ensures attrs { OnOk result (length self.new.attrs ≤ length self.old.attrs + 1) }
     {
         if is_space(c) {
@@ -266,6 +313,7 @@ impl TagDraft {
         requires plain { c ≡ 38 → ⊥ }
         ensures reads { IfOk result (λ reading. ReadsTag self.old c after reading self.new) }
         ensures closes { IfOk result (λ reading. ClosesAt c reading) }
+        ensures turns { IfOk result (λ reading. TurnsTo self.old.part c after reading self.new.part) }
         ensures attrs { OnOk result (length self.new.attrs ≤ length self.old.attrs + 1) }
     {
         if is_space(c) {
@@ -289,6 +337,7 @@ impl TagDraft {
         requires plain { c ≡ 38 → ⊥ }
         ensures reads { IfOk result (λ reading. ReadsTag self.old c after reading self.new) }
         ensures closes { IfOk result (λ reading. ClosesAt c reading) }
+        ensures turns { IfOk result (λ reading. TurnsTo self.old.part c after reading self.new.part) }
         ensures attrs { OnOk result (length self.new.attrs ≤ length self.old.attrs + 1) }
     {
         if c == '"' {
@@ -305,6 +354,7 @@ impl TagDraft {
         requires plain { c ≡ 38 → ⊥ }
         ensures reads { IfOk result (λ reading. ReadsTag self.old c after reading self.new) }
         ensures closes { IfOk result (λ reading. ClosesAt c reading) }
+        ensures turns { IfOk result (λ reading. TurnsTo self.old.part c after reading self.new.part) }
         ensures attrs { OnOk result (length self.new.attrs ≤ length self.old.attrs + 1) }
     {
         if c == '\'' {
@@ -321,6 +371,7 @@ impl TagDraft {
         requires plain { c ≡ 38 → ⊥ }
         ensures reads { IfOk result (λ reading. ReadsTag self.old c after reading self.new) }
         ensures closes { IfOk result (λ reading. ClosesAt c reading) }
+        ensures turns { IfOk result (λ reading. TurnsTo self.old.part c after reading self.new.part) }
         ensures attrs { OnOk result (length self.new.attrs ≤ length self.old.attrs + 1) }
     {
         if ends_unquoted(c) {
@@ -334,6 +385,7 @@ impl TagDraft {
     /// The number that is being read is whole, where this code point is no part of it.
     fn settle(&mut self, c: char) -> Result<(), AllocError>
         ensures ok { OnOk result (Settles self.old c self.new) }
+        ensures part { OnOk result (SettlesPart self.old.part c self.new.part) }
         ensures refs { OnOk result (reads_refs self.new.part ≡ reads_refs self.old.part) }
         ensures attrs { OnOk result (self.new.attrs ≡ self.old.attrs) }
     {
@@ -361,6 +413,7 @@ impl TagDraft {
         requires part { self.old.part ≡ Part.Number end base value }
         requires belongs { is_digit base c ≡ false → c ≡ 59 }
         ensures ok { OnOk result ((after : Option ℕ) → ReadsTag self.old c after TagReading.More self.new) }
+        ensures moves { OnOk result ((after : Option ℕ) → MovesTag self.old.part c after TagReading.More self.new.part) }
         ensures attrs { OnOk result (self.new.attrs ≡ self.old.attrs) }
     {
         match digit(c, base) {
@@ -384,6 +437,7 @@ impl TagDraft {
     pub(crate) fn read_ref(&mut self, found: ValueRef) -> Result<(), AllocError>
         requires refs { reads_refs self.old.part ≡ true }
         ensures ok { OnOk result (ReadsRef self.old found self.new) }
+        ensures moves { OnOk result (MovesRef self.old.part found self.new.part) }
         ensures attrs { OnOk result (self.new.attrs ≡ self.old.attrs) }
     {
         self.open_ref()?;
@@ -394,6 +448,7 @@ impl TagDraft {
     fn open_ref(&mut self) -> Result<(), AllocError>
         requires refs { reads_refs self.old.part ≡ true }
         ensures ok { OnOk result (OpensRef self.old self.new) }
+        ensures part { OnOk result (SettlesPart self.old.part 38 self.new.part) }
         ensures attrs { OnOk result (self.new.attrs ≡ self.old.attrs) }
     {
         match self.part {
@@ -412,6 +467,7 @@ impl TagDraft {
     fn take_ref(&mut self, found: ValueRef) -> Result<(), AllocError>
         requires inside { IsInside self.old.part }
         ensures ok { OnOk result (ReadsRef self.old found self.new) }
+        ensures moves { OnOk result (MovesRef self.old.part found self.new.part) }
         ensures attrs { OnOk result (self.new.attrs ≡ self.old.attrs) }
     {
         match found {

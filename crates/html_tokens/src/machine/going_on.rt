@@ -72,8 +72,8 @@ impl<'a> Machine<'a> {
         }
     }
 
-    /// Reads a code point in a tag that no token can come of: none that may close the tag or begin a reference. Whether
-    /// there was one.
+    /// Reads a code point in a tag that no token can come of, and no error: none that may close the tag or begin a
+    /// reference. Whether there was one.
     fn tag_on(&mut self, faults: &mut Faults) -> Result<bool, AllocError>
         requires room { self.old.place + length self.old.input.queue.items < 2 ^ 64 }
         ensures skips { OnOk result (Skips self.old self.new) }
@@ -93,7 +93,7 @@ impl<'a> Machine<'a> {
             Peek::Is(None) => return Ok(false),
             Peek::Is(Some(c)) => c,
         };
-        if c == '>' || c == '/' || c == '&' {
+        if c == '>' || c == '/' || c == '&' || draft.part.may_tell(c) {
             return Ok(false);
         }
         faults.tag_char(draft, c, None, self.place);

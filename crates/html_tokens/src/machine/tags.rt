@@ -2,6 +2,7 @@
 ghost use Rattle.std.specs.Prelude.{◌≡◌, ◌≤◌, ◌+◌, ◌^◌, ◌<◌, Some, length, slice_get, IfOk, OnErr, OnOk, true};
 ghost use Rattle.html_tokens.specs.Fed.{Steps, Tells, IsTag, EndsTag};
 ghost use Rattle.html_tokens.specs.Input.{Decided};
+ghost use Rattle.html_tokens.specs.InsideTags.{looks_on};
 ghost use Rattle.html_tokens.specs.Tag.{reads_refs};
 ghost use Rattle.html_tokens.specs.Bounds.{IsBounded, IsWithin};
 ghost use Rattle.std.specs.Prelude.{option_to_list};
@@ -44,7 +45,7 @@ impl<'a> Machine<'a> {
             return self.value_step(faults);
         }
         let mut after = None;
-        if c == '/' {
+        if draft.part.looks_on(c) {
             match self.input.peek(1) {
                 Peek::Wait => return Ok(Progress::Wait),
                 Peek::Is(found) => after = found,
@@ -89,7 +90,7 @@ impl<'a> Machine<'a> {
         requires state { IsTag self.old.state }
         requires plain { (draft : TagDraft) → self.old.state ≡ State.Tag draft → reads_refs draft.part ≡ true → c ≡ 38 → ⊥ }
         requires first { Decided self.old.input (λ rest. slice_get rest 0) (Some c) }
-        requires second { c ≡ 47 → Decided self.old.input (λ rest. slice_get rest 1) after }
+        requires second { (draft : TagDraft) → self.old.state ≡ State.Tag draft → looks_on draft.part c ≡ true → Decided self.old.input (λ rest. slice_get rest 1) after }
         requires fit { 1 + length (option_to_list after) ≤ length self.old.input.queue.items }
         requires room { self.old.place + length self.old.input.queue.items < 2 ^ 64 }
         ensures steps { IfOk result (λ progress. Steps self.old progress self.new) }

@@ -1,4 +1,5 @@
 use Rattle.html_tokens.proofs.ValueLemmas.{value_opens, number_opens}
+use Rattle.html_tokens.proofs.PartLemmas.{and_settles, value_settles}
 use Rattle.html_tokens.proofs.tag.TagDraft.open_ref.Goals as goal
 
 pub returns-in-Value-clause-ok : goal.returns-in-Value-clause-ok
@@ -6,3 +7,9 @@ returns-in-Value-clause-ok c = value_opens c.args.self.now c.in-Value.is
 
 pub returns-in-Number-clause-ok : goal.returns-in-Number-clause-ok
 returns-in-Number-clause-ok c = number_opens c.number_ends.result c.args.self.now c.number_ends.new.self c.in-Number.end _ c.in-Number.value c.in-Number.is c.number_ends.ensures.ok
+
+pub returns-in-Value-clause-part : goal.returns-in-Value-clause-part
+returns-in-Value-clause-part c = rw c.in-Value.is value_settles
+
+pub returns-in-Number-clause-part : goal.returns-in-Number-clause-part
+returns-in-Number-clause-part c = and_settles c.number_ends.result c.args.self.now c.number_ends.new.self c.in-Number.end _ c.in-Number.value _ c.in-Number.is c.number_ends.ensures.ok

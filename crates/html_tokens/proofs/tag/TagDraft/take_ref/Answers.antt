@@ -1,4 +1,6 @@
 use Rattle.html_tokens.proofs.ValueLemmas.{codes_read_from, unknown_read_from, number_pushed}
+use Rattle.html_tokens.proofs.PartLemmas.{codes_move, numeric_move, unknown_move}
+use Rattle.std.proofs.Common.{refl}
 use Rattle.html_tokens.proofs.tag.TagDraft.take_ref.Goals as goal
 
 pub returns-in-Numeric-clause-ok : goal.returns-in-Numeric-clause-ok
@@ -9,3 +11,14 @@ returns-in-Unknown-clause-ok c = unknown_read_from c.push_codes.result c.args.se
 
 pub returns-in-Codes-clause-ok : goal.returns-in-Codes-clause-ok
 returns-in-Codes-clause-ok c = codes_read_from c.push_codes-in-Codes.result c.args.self.now c.push_codes-in-Codes.new.self c.args.found _ c.in-Codes.first c.in-Codes.second c.in-Codes.is c.requires.inside c.push_codes-in-Codes.ensures.ok
+
+pub returns-in-Numeric-clause-moves : goal.returns-in-Numeric-clause-moves
+returns-in-Numeric-clause-moves c =
+    numeric_move c.args.self.now.part c.begin_number.new.self.part c.args.found c.in-Numeric.base _ c.in-Numeric.is c.requires.inside (λ end p. rw (c.begin_number.ensures.number end p) refl)
+
+pub returns-in-Unknown-clause-moves : goal.returns-in-Unknown-clause-moves
+returns-in-Unknown-clause-moves c = unknown_move c.push_codes.result c.args.self.now c.push_codes.new.self c.args.found _ c.in-Unknown.is c.requires.inside c.push_codes.ensures.ok
+
+pub returns-in-Codes-clause-moves : goal.returns-in-Codes-clause-moves
+returns-in-Codes-clause-moves c =
+    codes_move c.push_codes-in-Codes.result c.args.self.now c.push_codes-in-Codes.new.self c.args.found _ _ c.in-Codes.first c.in-Codes.second c.in-Codes.is c.requires.inside c.push_codes-in-Codes.ensures.ok

@@ -1,0 +1,562 @@
+-- What the code points of a tag tell, part by part.
+use Rattle.std.proofs.Common.{◌≡◌, ◌⊎◌, ℕ, zero, suc, ◌+◌, ◌-◌, ◌*◌, ◌<◌, ◌≤◌, List, [], ◌∷◌, ◌++◌, length, take, drop, Bool, true, false, not, ◌&&◌, ◌||◌, ◌==◌, cond, Option, Some, None, Result, Ok, Err, refl, ap, sym, ◌∙◌, inl, inr, arith, append-nil, append_assoc, add-zero, zero-add, length-append, length-drop}
+use Rattle.std.specs.List.{slice_get}
+use Rattle.std.specs.Result.{IfOk, OnOk}
+use Rattle.std.specs.Char.{digit_value}
+use Rattle.std.proofs.lemmas.Bool.{false≢true}
+use Rattle.std.proofs.lemmas.Bool.Decides.{nat_tests}
+use Rattle.std.proofs.lemmas.List.{take-append-drop, length-take-le}
+use Rattle.html_charref.specs.Entities.{codes_with}
+use Rattle.html_charref.specs.Number.{radix}
+use Rattle.html_charref.specs.declared.number.Base.{Base}
+use Rattle.html_charref.specs.declared.number.Base.TheVariants.{Decimal, Hex}
+use Rattle.html_charref.specs.declared.table.Row.{Row}
+use Rattle.html_tokens.specs.Copied.{AllPass, copied_in, is_copied}
+use Rattle.html_tokens.specs.Cut.{ends_unquoted, is, is_space, passes}
+use Rattle.html_tokens.specs.Doctype.{is_quote}
+use Rattle.html_tokens.specs.Inside.{fault_when}
+use Rattle.html_tokens.specs.InsideTags.{MovesRef, MovesTag, SettlesPart, TurnsTo, after_value, ends_in, ends_outside, ends_tag, looks_on, looks_on_in, may_tell, next_part, number_len, part_errors, part_told, quote_errors, ref_rest, settled, tag_char_errors, tag_part_errors, unquoted_errors, value_errors}
+use Rattle.html_tokens.specs.Reference.{is_digit, literal, numbered, Numbered, ref_opener, Reference}
+use Rattle.html_tokens.specs.Tag.{ends_attr, ends_name, is_number, IsInside, reads_refs}
+use Rattle.html_tokens.specs.Value.{Begins, ref_len, value_reference}
+use Rattle.html_tokens.specs.declared.copied.Copied.TheVariants as copied
+use Rattle.html_tokens.specs.declared.fault_name.FaultName.TheVariants as names
+use Rattle.html_tokens.specs.declared.faults.Fault.{Fault}
+use Rattle.html_tokens.specs.declared.reference.ValueRef.{ValueRef}
+use Rattle.html_tokens.specs.declared.reference.ValueRef.TheVariants as refs
+use Rattle.html_tokens.specs.declared.tag.Part.{Part}
+use Rattle.html_tokens.specs.declared.tag.Part.TheVariants as parts
+use Rattle.html_tokens.specs.declared.tag.TagDraft.{TagDraft}
+use Rattle.html_tokens.specs.declared.tag.TagReading.{TagReading}
+use Rattle.html_tokens.specs.declared.tag.TagReading.TheVariants.{More, Closed}
+use Rattle.html_tokens.specs.declared.tag.ValueEnd.{ValueEnd}
+use Rattle.html_tokens.specs.declared.tag.ValueEnd.TheVariants as ends
+use Rattle.html_tokens.specs.declared.token.RefOpener.TheVariants.{Numeric}
+use Rattle.html_tokens.proofs.EndLemmas.{differs}
+use Rattle.html_tokens.proofs.StepLemmas.{digit_first, digits_stop, not_semicolon}
+
+pub neither : (a b : Bool) → not (a || b) ≡ true → (a ≡ false) × (not b ≡ true)
+neither true b h = absurd (false≢true h)
+neither false b h = (refl, h)
+
+pub is_not : (b : Bool) → not b ≡ true → b ≡ false
+is_not true h = absurd (false≢true h)
+is_not false h = refl
+
+pub first_false : (a b : Bool) → (a || b) ≡ false → a ≡ false
+first_false true b h = absurd (false≢true (sym h))
+first_false false b h = refl
+
+pub second_false : (a b : Bool) → (a || b) ≡ false → b ≡ false
+second_false true b h = absurd (false≢true (sym h))
+second_false false b h = h
+
+told_alone : (part : Part) (c : ℕ) (found after : Option ℕ) (place : ℕ) → looks_on part c ≡ false → tag_char_errors part c found place ≡ tag_char_errors part c after place
+told_alone parts.Name c found after place h = rw h refl
+told_alone parts.Attributes c found after place h = rw h refl
+told_alone parts.AttrName c found after place h = rw h refl
+told_alone parts.AfterName c found after place h = rw h refl
+told_alone parts.Value c found after place h = refl
+told_alone (parts.Inside ends.DoubleQuote) c found after place h = rw (second_false (c == 47) (c == 34) h) refl
+told_alone (parts.Inside ends.SingleQuote) c found after place h = rw (second_false (c == 47) (c == 39) h) refl
+told_alone (parts.Inside ends.Space) c found after place h = refl
+told_alone (parts.Number ends.DoubleQuote base v) c found after place h = rw (second_false (c == 47) (c == 34) h) refl
+told_alone (parts.Number ends.SingleQuote base v) c found after place h = rw (second_false (c == 47) (c == 39) h) refl
+told_alone (parts.Number ends.Space base v) c found after place h = refl
+
+ends_alone : (part : Part) (c : ℕ) (found after : Option ℕ) → looks_on part c ≡ false → ends_tag part c found ≡ ends_tag part c after
+ends_alone parts.Name c found after h = rw h refl
+ends_alone parts.Attributes c found after h = rw h refl
+ends_alone parts.AttrName c found after h = rw h refl
+ends_alone parts.AfterName c found after h = rw h refl
+ends_alone parts.Value c found after h = refl
+ends_alone (parts.Inside end) c found after h = refl
+ends_alone (parts.Number end base v) c found after h = refl
+
+slash_in : (end : ValueEnd) (c : ℕ) → c ≡ 47 → looks_on_in end c ≡ true
+slash_in ends.DoubleQuote c e = rw e refl
+slash_in ends.SingleQuote c e = rw e refl
+slash_in ends.Space c e = rw e refl
+
+-- a `/` is judged by the code point after it
+pub looks_slash : (part : Part) (c : ℕ) → c ≡ 47 → looks_on part c ≡ true
+looks_slash parts.Name c e = rw e refl
+looks_slash parts.Attributes c e = rw e refl
+looks_slash parts.AttrName c e = rw e refl
+looks_slash parts.AfterName c e = rw e refl
+looks_slash parts.Value c e = rw e refl
+looks_slash (parts.Inside end) c e = slash_in end c e
+looks_slash (parts.Number end base v) c e = slash_in end c e
+
+bool_is : (b : Bool) → (b ≡ true) ⊎ (b ≡ false)
+bool_is true = inl refl
+bool_is false = inr refl
+
+-- the code point after it is known where it is judged by it
+told_by : (part : Part) (c : ℕ) (found after : Option ℕ) (place : ℕ) → (looks_on part c ≡ true → found ≡ after) → tag_char_errors part c found place ≡ tag_char_errors part c after place
+told_by part c found after place h = elim (bool_is (looks_on part c)) [
+  | inl e ↦ ap (λ (x : Option ℕ). tag_char_errors part c x place) (h e)
+  | inr e ↦ told_alone part c found after place e
+]
+
+ends_by : (part : Part) (c : ℕ) (found after : Option ℕ) → (looks_on part c ≡ true → found ≡ after) → ends_tag part c found ≡ ends_tag part c after
+ends_by part c found after h = elim (bool_is (looks_on part c)) [
+  | inl e ↦ ap (λ (x : Option ℕ). ends_tag part c x) (h e)
+  | inr e ↦ ends_alone part c found after e
+]
+
+pub told_first : (part : Part) (c : ℕ) (rest : List ℕ) (after : Option ℕ) (place : ℕ) → (looks_on part c ≡ true → slice_get rest 0 ≡ after) → part_told part place (c ∷ rest) ≡ tag_char_errors part c after place
+told_first part c rest after place h = told_by part c (slice_get rest 0) after place h
+
+-- OUTSIDE OF NUMBERS
+
+plain_part : (rows : List Row) (part : Part) (place : ℕ) (text : List ℕ) → is_number part ≡ false → part_errors rows part place text ≡ tag_part_errors rows part 0 place text
+plain_part rows parts.Name place text h = refl
+plain_part rows parts.Attributes place text h = refl
+plain_part rows parts.AttrName place text h = refl
+plain_part rows parts.AfterName place text h = refl
+plain_part rows parts.Value place text h = refl
+plain_part rows (parts.Inside end) place text h = refl
+plain_part rows (parts.Number end base v) place text h = absurd (false≢true (sym h))
+
+either_plain : (b : Bool) (x y : Part) → is_number x ≡ false → is_number y ≡ false → is_number (cond b x y) ≡ false
+either_plain true x y p q = p
+either_plain false x y p q = q
+
+value_plain : (end : ValueEnd) (c : ℕ) → is_number (after_value end c) ≡ false
+value_plain ends.DoubleQuote c = either_plain (c == 34) _ _ refl refl
+value_plain ends.SingleQuote c = either_plain (c == 39) _ _ refl refl
+value_plain ends.Space c = either_plain (ends_unquoted c) _ _ refl refl
+
+next_plain : (part : Part) (c : ℕ) → is_number (next_part part c) ≡ false
+next_plain parts.Name c = either_plain (ends_name c) _ _ refl refl
+next_plain parts.Attributes c = either_plain (ends_name c) _ _ refl refl
+next_plain parts.AttrName c = either_plain (is_space c) _ _ refl (either_plain (c == 61) _ _ refl (either_plain (ends_name c) _ _ refl refl))
+next_plain parts.AfterName c = either_plain (is_space c) _ _ refl (either_plain (c == 61) _ _ refl (either_plain (ends_name c) _ _ refl refl))
+next_plain parts.Value c = either_plain (is_space c) _ _ refl (either_plain (c == 34) _ _ refl (either_plain (c == 39) _ _ refl (value_plain ends.Space c)))
+next_plain (parts.Inside end) c = value_plain end c
+next_plain (parts.Number end base v) c = value_plain end c
+
+unroll : (rows : List Row) (part : Part) (place c : ℕ) (rest : List ℕ) → tag_part_errors rows part 0 place (c ∷ rest)
+    ≡ tag_char_errors part c (slice_get rest 0) place ++ cond (ends_tag part c (slice_get rest 0)) [] (tag_part_errors rows (next_part part c) (ref_rest rows part c rest) (place + 1) rest)
+unfolding tag_part_errors
+unroll rows part place c rest = refl
+
+past : (rows : List Row) (part : Part) (k place c : ℕ) (rest : List ℕ) → tag_part_errors rows part (suc k) place (c ∷ rest) ≡ tag_part_errors rows part k (place + 1) rest
+unfolding tag_part_errors
+past rows part k place c rest = refl
+
+no_ref : (part : Part) (c : ℕ) → (reads_refs part ≡ true → c ≡ 38 → ⊥) → (reads_refs part && c == 38) ≡ false
+no_ref part c h = elim (bool_is (reads_refs part)) [
+  | inl e ↦ rw (e, differs c 38 (h e)) refl
+  | inr e ↦ rw e refl
+]
+
+-- a code point is passed
+pub goes : (rows : List Row) (part : Part) (place c : ℕ) (rest : List ℕ) (after : Option ℕ) → is_number part ≡ false → (reads_refs part ≡ true → c ≡ 38 → ⊥) → (looks_on part c ≡ true → slice_get rest 0 ≡ after) → ends_tag part c after ≡ false →
+    part_errors rows part place (c ∷ rest) ≡ tag_char_errors part c after place ++ part_errors rows (next_part part c) (place + 1) rest
+goes rows part place c rest after n r h e =
+    plain_part rows part place (c ∷ rest) n ∙ unroll rows part place c rest
+    ∙ rw (told_by part c (slice_get rest 0) after place h, ends_by part c (slice_get rest 0) after h, e, no_ref part c r)
+    (ap (λ (es : List Fault). tag_char_errors part c after place ++ es) (sym (plain_part rows (next_part part c) (place + 1) rest (next_plain part c))))
+
+ends_part : (rows : List Row) (part : Part) (place c : ℕ) (rest : List ℕ) (after : Option ℕ) → is_number part ≡ false → (looks_on part c ≡ true → slice_get rest 0 ≡ after) → ends_tag part c after ≡ true →
+    part_errors rows part place (c ∷ rest) ≡ tag_char_errors part c after place
+ends_part rows part place c rest after n h e =
+    plain_part rows part place (c ∷ rest) n ∙ unroll rows part place c rest
+    ∙ rw (told_by part c (slice_get rest 0) after place h, ends_by part c (slice_get rest 0) after h, e) (append-nil (tag_char_errors part c after place))
+
+moves_by : (reading : TagReading) (old new : Part) (c : ℕ) (after : Option ℕ) → is_number old ≡ false → (reads_refs old ≡ true → c ≡ 38 → ⊥) → TurnsTo old c after reading new → MovesTag old c after reading new
+moves_by More old new c after n r (e, t) = λ rows place rest h. rw t (goes rows old place c rest after n r h e)
+moves_by (Closed b k) old new c after n r e = λ rows place rest h. ends_part rows old place c rest after n h e
+
+-- what closes a tag
+pub closes_by : (old new : Part) (c : ℕ) (after : Option ℕ) (self_closing : Bool) (n : ℕ) → is_number old ≡ false → ends_tag old c after ≡ true → MovesTag old c after (Closed self_closing n) new
+closes_by old new c after self_closing n p e = λ rows place rest h. ends_part rows old place c rest after p h e
+
+pub turns_move : {E : Type 0} (r : Result TagReading E) (old new : Part) (c : ℕ) (after : Option ℕ) → is_number old ≡ false → (reads_refs old ≡ true → c ≡ 38 → ⊥) → IfOk r (λ reading. TurnsTo old c after reading new) → IfOk r (λ reading. MovesTag old c after reading new)
+turns_move (Ok reading) old new c after n p t = moves_by reading old new c after n p t
+turns_move (Err e) old new c after n p t = tt
+
+-- the same code point is read in another part
+turns_on : (reading : TagReading) (old mid new : Part) (c : ℕ) (after : Option ℕ) → ends_tag old c after ≡ ends_tag mid c after → next_part old c ≡ next_part mid c → TurnsTo mid c after reading new → TurnsTo old c after reading new
+turns_on More old mid new c after e f t = (e ∙ t.0, t.1 ∙ sym f)
+turns_on (Closed b k) old mid new c after e f t = e ∙ t
+
+pub turns_from : {E : Type 0} (r : Result TagReading E) (old mid new : Part) (c : ℕ) (after : Option ℕ) → ends_tag old c after ≡ ends_tag mid c after → next_part old c ≡ next_part mid c → IfOk r (λ reading. TurnsTo mid c after reading new) → IfOk r (λ reading. TurnsTo old c after reading new)
+turns_from (Ok reading) old mid new c after e f t = turns_on reading old mid new c after e f t
+turns_from (Err x) old mid new c after e f t = tt
+
+moves_on : (reading : TagReading) (old mid new : Part) (c : ℕ) (after : Option ℕ) → SettlesPart old c mid → MovesTag mid c after reading new → MovesTag old c after reading new
+moves_on More old mid new c after s m = λ rows place rest h. s.0 rows place rest ∙ m rows place rest (λ l. h (sym s.2 ∙ l)) ∙ ap (λ (es : List Fault). es ++ part_errors rows new (place + 1) rest) (sym (s.1 after place))
+moves_on (Closed b k) old mid new c after s m = λ rows place rest h. s.0 rows place rest ∙ m rows place rest (λ l. h (sym s.2 ∙ l)) ∙ sym (s.1 after place)
+
+pub moves_settled : {E : Type 0} (r : Result TagReading E) (old mid new : Part) (c : ℕ) (after : Option ℕ) → SettlesPart old c mid → IfOk r (λ reading. MovesTag mid c after reading new) → IfOk r (λ reading. MovesTag old c after reading new)
+moves_settled (Ok reading) old mid new c after s m = moves_on reading old mid new c after s m
+moves_settled (Err e) old mid new c after s m = tt
+
+-- NUMBERS
+
+apart : (base : Base) (c k : ℕ) → is_digit base c ≡ true → is_digit base k ≡ false → (c == k) ≡ false
+apart base c k d e = differs c k (λ f. absurd (false≢true (sym e ∙ ap (λ (x : ℕ). is_digit base x) (sym f) ∙ d)))
+
+no_digit : (base : Base) → (is_digit base 34 ≡ false) × (is_digit base 39 ≡ false) × (is_digit base 60 ≡ false) × (is_digit base 61 ≡ false) × (is_digit base 96 ≡ false) × (is_digit base 38 ≡ false) × (is_digit base 59 ≡ false)
+no_digit Hex = (refl, refl, refl, refl, refl, refl, refl)
+no_digit Decimal = (refl, refl, refl, refl, refl, refl, refl)
+
+-- a digit tells nothing
+digit_told : (end : ValueEnd) (base : Base) (c : ℕ) (after : Option ℕ) (place : ℕ) → is_digit base c ≡ true → value_errors end c after place ≡ []
+digit_told ends.DoubleQuote base c after place d = rw (apart base c 34 d (no_digit base).0) refl
+digit_told ends.SingleQuote base c after place d = rw (apart base c 39 d (no_digit base).1) refl
+digit_told ends.Space base c after place d =
+    let n = no_digit base in
+    rw (apart base c 34 d n.0, apart base c 39 d n.1, apart base c 60 d n.2, apart base c 61 d n.3, apart base c 96 d n.4) refl
+
+-- nor does a `;`
+semicolon_told : (end : ValueEnd) (after : Option ℕ) (place : ℕ) → value_errors end 59 after place ≡ []
+semicolon_told ends.DoubleQuote after place = refl
+semicolon_told ends.SingleQuote after place = refl
+semicolon_told ends.Space after place = refl
+
+number_on : (rows : List Row) (end : ValueEnd) (base : Base) (v k place c : ℕ) (rest : List ℕ) → (numbered base v (c ∷ rest)).len ≡ suc k → part_errors rows (parts.Number end base v) place (c ∷ rest) ≡ tag_part_errors rows (parts.Inside end) k (place + 1) rest
+number_on rows end base v k place c rest e = ap (λ (n : ℕ). tag_part_errors rows (parts.Inside end) n place (c ∷ rest)) e ∙ past rows (parts.Inside end) k place c rest
+
+pub moves_digit : (end : ValueEnd) (base : Base) (v w c : ℕ) (after : Option ℕ) → is_digit base c ≡ true → MovesTag (parts.Number end base v) c after More (parts.Number end base w)
+moves_digit end base v w c after d = λ rows place rest h.
+    rw (digit_told end base c after place d)
+    (number_on rows end base v (numbered base w rest).len place c rest (ap (λ (n : Numbered). n.len) (digit_first base v c rest d)))
+
+pub moves_semicolon : (end : ValueEnd) (base : Base) (v c : ℕ) (after : Option ℕ) → c ≡ 59 → MovesTag (parts.Number end base v) c after More (parts.Inside end)
+moves_semicolon end base v c after e = λ rows place rest h.
+    rw (e, semicolon_told end after place)
+    (number_on rows end base v 0 place 59 rest (ap (λ (n : Numbered). n.len) (digits_stop base v 59 rest (no_digit base).6)))
+
+stops_len : (base : Base) (v c : ℕ) (rest : List ℕ) → is_digit base c ≡ false → ¬ (c ≡ 59) → (numbered base v (c ∷ rest)).len ≡ 0
+stops_len base v c rest d s = ap (λ (n : Numbered). n.len) (digits_stop base v c rest d) ∙ not_semicolon c s
+
+pub settles_number : (end : ValueEnd) (base : Base) (v c : ℕ) → is_digit base c ≡ false → ¬ (c ≡ 59) → SettlesPart (parts.Number end base v) c (parts.Inside end)
+settles_number end base v c d s = ((λ rows place rest. ap (λ (n : ℕ). tag_part_errors rows (parts.Inside end) n place (c ∷ rest)) (stops_len base v c rest d s)), (λ after place. refl), refl)
+
+pub settles_same : (part : Part) (c : ℕ) → SettlesPart part c part
+settles_same part c = ((λ rows place rest. refl), (λ after place. refl), refl)
+
+-- REFERENCES
+
+skipped : (rows : List Row) (part : Part) (k j place : ℕ) (text : List ℕ) → k ≤ length text → tag_part_errors rows part (k + j) place text ≡ tag_part_errors rows part j (place + k) (drop k text)
+skipped rows part zero j place text h = rw (zero-add, add-zero) refl
+skipped rows part (suc k) j place [] h = absurd (omega arith)
+skipped rows part (suc k) j place (c ∷ rest) h =
+    let e : suc k + j ≡ suc (k + j) = omega arith in
+    let f : place + suc k ≡ place + 1 + k = omega arith in
+    rw (e, f) (past rows part (k + j) place c rest ∙ skipped rows part k j (place + 1) rest (omega arith))
+
+-- a `&` in a value tells nothing of these
+pub and_told : (part : Part) (after : Option ℕ) (place : ℕ) → reads_refs part ≡ true → tag_char_errors part 38 after place ≡ []
+and_told parts.Name after place h = absurd (false≢true h)
+and_told parts.Attributes after place h = absurd (false≢true h)
+and_told parts.AttrName after place h = absurd (false≢true h)
+and_told parts.AfterName after place h = absurd (false≢true h)
+and_told parts.Value after place h = refl
+and_told (parts.Inside ends.DoubleQuote) after place h = refl
+and_told (parts.Inside ends.SingleQuote) after place h = refl
+and_told (parts.Inside ends.Space) after place h = refl
+and_told (parts.Number ends.DoubleQuote base v) after place h = refl
+and_told (parts.Number ends.SingleQuote base v) after place h = refl
+and_told (parts.Number ends.Space base v) after place h = refl
+
+and_passed : (rows : List Row) (end : ValueEnd) (k place : ℕ) (rest : List ℕ) → (value_reference rows (38 ∷ rest)).len ≡ suc k → tag_part_errors rows (parts.Inside end) 0 place (38 ∷ rest) ≡ tag_part_errors rows (parts.Inside end) k (place + 1) rest
+and_passed rows ends.DoubleQuote k place rest e = let f : suc k - 1 ≡ k = omega arith in unroll rows (parts.Inside ends.DoubleQuote) place 38 rest ∙ rw (e, f) refl
+and_passed rows ends.SingleQuote k place rest e = let f : suc k - 1 ≡ k = omega arith in unroll rows (parts.Inside ends.SingleQuote) place 38 rest ∙ rw (e, f) refl
+and_passed rows ends.Space k place rest e = let f : suc k - 1 ≡ k = omega arith in unroll rows (parts.Inside ends.Space) place 38 rest ∙ rw (e, f) refl
+
+ref_passed : (rows : List Row) (end : ValueEnd) (k j place : ℕ) (rest : List ℕ) → (value_reference rows (38 ∷ rest)).len ≡ suc (k + j) → k ≤ length rest →
+    tag_part_errors rows (parts.Inside end) 0 place (38 ∷ rest) ≡ tag_part_errors rows (parts.Inside end) j (place + suc k) (drop k rest)
+ref_passed rows end k j place rest e h =
+    let f : place + suc k ≡ place + 1 + k = omega arith in
+    rw f (and_passed rows end (k + j) place rest e ∙ skipped rows (parts.Inside end) k j (place + 1) rest h)
+
+codes_moved : (end : ValueEnd) (n first : ℕ) (second : Option ℕ) → MovesRef (parts.Inside end) (refs.Codes n first second) (parts.Inside end)
+codes_moved end zero first second = λ rows place rest b some fit. absurd (omega arith)
+codes_moved end (suc k) first second = λ rows place rest b some fit.
+    let e : suc k ≡ suc (k + 0) = omega arith in
+    ref_passed rows end k 0 place rest (ap (λ (r : Reference). r.len) b ∙ e) (omega arith)
+
+number_moved : (end : ValueEnd) (base : Base) (n : ℕ) → MovesRef (parts.Inside end) (refs.Numeric base n) (parts.Number end base 0)
+number_moved end base zero = λ rows place rest b some fit. absurd (omega arith)
+number_moved end base (suc k) = λ rows place rest b some fit.
+    let m = numbered base 0 (drop k rest) in
+    let e : suc k + m.len ≡ suc (k + m.len) = omega arith in
+    ref_passed rows end k m.len place rest (rw b e) (omega arith)
+
+inside_moved : (part : Part) (found : ValueRef) (n first : ℕ) (second : Option ℕ) → found ≡ refs.Codes n first second → IsInside part → MovesRef part found part
+inside_moved parts.Name found n first second f i = absurd i
+inside_moved parts.Attributes found n first second f i = absurd i
+inside_moved parts.AttrName found n first second f i = absurd i
+inside_moved parts.AfterName found n first second f i = absurd i
+inside_moved parts.Value found n first second f i = absurd i
+inside_moved (parts.Inside end) found n first second f i = rw f (codes_moved end n first second)
+inside_moved (parts.Number end base v) found n first second f i = absurd i
+
+unknown_moved : (part : Part) (found : ValueRef) → found ≡ refs.Unknown → IsInside part → MovesRef part found part
+unknown_moved parts.Name found f i = absurd i
+unknown_moved parts.Attributes found f i = absurd i
+unknown_moved parts.AttrName found f i = absurd i
+unknown_moved parts.AfterName found f i = absurd i
+unknown_moved parts.Value found f i = absurd i
+unknown_moved (parts.Inside end) found f i = rw f (codes_moved end 1 38 None)
+unknown_moved (parts.Number end base v) found f i = absurd i
+
+numeric_moved : (part new : Part) (found : ValueRef) (base : Base) (n : ℕ) → found ≡ refs.Numeric base n → IsInside part → ((end : ValueEnd) → part ≡ parts.Inside end → new ≡ parts.Number end base 0) → MovesRef part found new
+numeric_moved parts.Name new found base n f i m = absurd i
+numeric_moved parts.Attributes new found base n f i m = absurd i
+numeric_moved parts.AttrName new found base n f i m = absurd i
+numeric_moved parts.AfterName new found base n f i m = absurd i
+numeric_moved parts.Value new found base n f i m = absurd i
+numeric_moved (parts.Inside end) new found base n f i m = rw (f, m end refl) (number_moved end base n)
+numeric_moved (parts.Number end base' v) new found base n f i m = absurd i
+
+pub codes_move : {X E : Type 0} (r : Result X E) (old new : TagDraft) (found : ValueRef) (v : List ℕ) (n first : ℕ) (second : Option ℕ) → found ≡ refs.Codes n first second → IsInside old.part → OnOk r (new ≡ record old { attr_value = v }) → OnOk r (MovesRef old.part found new.part)
+codes_move (Ok x) old new found v n first second f i e = rw e (inside_moved old.part found n first second f i)
+codes_move (Err x) old new found v n first second f i e = tt
+
+pub unknown_move : {X E : Type 0} (r : Result X E) (old new : TagDraft) (found : ValueRef) (v : List ℕ) → found ≡ refs.Unknown → IsInside old.part → OnOk r (new ≡ record old { attr_value = v }) → OnOk r (MovesRef old.part found new.part)
+unknown_move (Ok x) old new found v f i e = rw e (unknown_moved old.part found f i)
+unknown_move (Err x) old new found v f i e = tt
+
+pub numeric_move : (old new : Part) (found : ValueRef) (base : Base) (n : ℕ) → found ≡ refs.Numeric base n → IsInside old → ((end : ValueEnd) → old ≡ parts.Inside end → new ≡ parts.Number end base 0) → MovesRef old found new
+numeric_move old new found base n f i m = numeric_moved old new found base n f i m
+
+-- a `&` begins a value, or ends a number
+pub value_settles : SettlesPart parts.Value 38 (parts.Inside ends.Space)
+value_settles = ((λ rows place rest. unroll rows parts.Value place 38 rest ∙ sym (unroll rows (parts.Inside ends.Space) place 38 rest)), (λ after place. refl), refl)
+
+pub and_settles : {X E : Type 0} (r : Result X E) (old new : TagDraft) (end : ValueEnd) (base : Base) (v : ℕ) (w : List ℕ) → old.part ≡ parts.Number end base v → OnOk r (new ≡ record old { part = parts.Inside end; attr_value = w }) → OnOk r (SettlesPart old.part 38 new.part)
+and_settles (Ok x) old new end base v w p e = rw (e, p) (settles_number end base v 38 (no_digit base).5 (λ e. absurd (omega arith)))
+and_settles (Err x) old new end base v w p e = tt
+
+pub refs_move : {X E : Type 0} (r : Result X E) (old mid new : Part) (found : ValueRef) → SettlesPart old 38 mid → OnOk r (MovesRef mid found new) → OnOk r (MovesRef old found new)
+refs_move (Ok x) old mid new found s m = λ rows place rest b some fit. s.0 rows place rest ∙ m rows place rest b some fit
+refs_move (Err x) old mid new found s m = tt
+
+-- WHAT TELLS NOTHING
+
+record IsNone4 (c : ℕ) : Type 0 where
+  double : (c == 34) ≡ false
+  single : (c == 39) ≡ false
+  less : (c == 60) ≡ false
+
+none_attr : (c : ℕ) → (c == 34 || (c == 39 || c == 60)) ≡ false → IsNone4 c
+none_attr c h =
+    let b = second_false (c == 34) _ h in
+    record { double = first_false (c == 34) _ h; single = first_false (c == 39) _ b; less = second_false (c == 39) (c == 60) b }
+
+quiet_value : (c place : ℕ) → (c == 62 || (c == 60 || (c == 61 || c == 96))) ≡ false → cond (is_quote c) [] (fault_when (c == 62) names.MissingAttributeValue place ++ unquoted_errors c place) ≡ []
+quiet_value c place h =
+    let a = first_false (c == 62) _ h in
+    let b = second_false (c == 62) _ h in
+    let d = first_false (c == 60) _ b in
+    let e = second_false (c == 60) _ b in
+    let f = first_false (c == 61) _ e in
+    let g = second_false (c == 61) _ e in
+    elim (bool_is (is_quote c)) [
+      | inl q ↦ rw q refl
+      | inr q ↦ rw (q, a, first_false (c == 34) (c == 39) q, second_false (c == 34) (c == 39) q, d, f, g) refl
+    ]
+
+-- a code point that may tell no error
+pub quiet_char : (part : Part) (c : ℕ) (after : Option ℕ) (place : ℕ) → may_tell part c ≡ false → ¬ (c ≡ 47) → tag_char_errors part c after place ≡ []
+quiet_char parts.Name c after place h s = rw (differs c 47 s) refl
+quiet_char parts.Attributes c after place h s =
+    let n = none_attr c (second_false (c == 61) _ h) in
+    rw (differs c 47 s, first_false (c == 61) _ h, n.double, n.single, n.less) refl
+quiet_char parts.AttrName c after place h s = let n = none_attr c h in rw (differs c 47 s, n.double, n.single, n.less) refl
+quiet_char parts.AfterName c after place h s = let n = none_attr c h in rw (differs c 47 s, n.double, n.single, n.less) refl
+quiet_char parts.Value c after place h s = quiet_value c place h
+quiet_char (parts.Inside ends.DoubleQuote) c after place h s = rw h refl
+quiet_char (parts.Inside ends.SingleQuote) c after place h s = rw h refl
+quiet_char (parts.Inside ends.Space) c after place h s = rw h refl
+quiet_char (parts.Number end base v) c after place h s = absurd (false≢true (sym h))
+
+-- nor is it judged by the one after it
+pub quiet_looks : (part : Part) (c : ℕ) → may_tell part c ≡ false → ¬ (c ≡ 47) → looks_on part c ≡ false
+quiet_looks parts.Name c h s = differs c 47 s
+quiet_looks parts.Attributes c h s = differs c 47 s
+quiet_looks parts.AttrName c h s = differs c 47 s
+quiet_looks parts.AfterName c h s = differs c 47 s
+quiet_looks parts.Value c h s = differs c 47 s
+quiet_looks (parts.Inside ends.DoubleQuote) c h s = rw (differs c 47 s, h) refl
+quiet_looks (parts.Inside ends.SingleQuote) c h s = rw (differs c 47 s, h) refl
+quiet_looks (parts.Inside ends.Space) c h s = differs c 47 s
+quiet_looks (parts.Number end base v) c h s = absurd (false≢true (sym h))
+
+-- FRONTS
+
+-- a code point is passed, and tells nothing
+pub passes_quietly : (rows : List Row) (part next : Part) (place c : ℕ) (rest : List ℕ) → is_number part ≡ false → (reads_refs part ≡ true → c ≡ 38 → ⊥) → ends_tag part c (slice_get rest 0) ≡ false → tag_char_errors part c (slice_get rest 0) place ≡ [] → next_part part c ≡ next →
+    part_errors rows part place (c ∷ rest) ≡ part_errors rows next (place + 1) rest
+passes_quietly rows part next place c rest n r e t p =
+    goes rows part place c rest (slice_get rest 0) n r (λ h. refl) e ∙ rw (t, p) refl
+
+pub cut_in_two : (n : ℕ) (text more : List ℕ) → text ++ more ≡ take n text ++ (drop n text ++ more)
+cut_in_two n text more = ap (λ (x : List ℕ). x ++ more) (sym (take-append-drop n text)) ∙ append_assoc (take n text) (drop n text) more
+
+-- where one of these code points is passed so, a front of them is
+front_of : (p : ℕ → Bool) (part : Part) → ((c : ℕ) → p c ≡ true → (rows : List Row) (place : ℕ) (rest : List ℕ) → part_errors rows part place (c ∷ rest) ≡ part_errors rows part (place + 1) rest) →
+    (xs : List ℕ) → AllPass p xs → (rows : List Row) (place : ℕ) (more : List ℕ) → part_errors rows part place (xs ++ more) ≡ part_errors rows part (place + length xs) more
+front_of p part one [] a rows place more = rw add-zero refl
+front_of p part one (c ∷ xs) a rows place more =
+    let e : place + suc (length xs) ≡ place + 1 + length xs = omega arith in
+    rw e (one c a.0 rows place (xs ++ more) ∙ front_of p part one xs a.1 rows (place + 1) more)
+
+parts_front : (p : ℕ → Bool) (part : Part) → ((c : ℕ) → p c ≡ true → (rows : List Row) (place : ℕ) (rest : List ℕ) → part_errors rows part place (c ∷ rest) ≡ part_errors rows part (place + 1) rest) →
+    (text : List ℕ) (n : ℕ) → n ≤ length text → AllPass p (take n text) → (rows : List Row) (place : ℕ) (more : List ℕ) → part_errors rows part place (text ++ more) ≡ part_errors rows part (place + n) (drop n text ++ more)
+parts_front p part one text n h a rows place more =
+    ap (λ (x : List ℕ). part_errors rows part place x) (cut_in_two n text more)
+    ∙ front_of p part one (take n text) a rows place (drop n text ++ more)
+    ∙ ap (λ (k : ℕ). part_errors rows part (place + k) (drop n text ++ more)) (length-take-le n text h)
+
+-- what a name takes as it stands
+pub record IsNamePart (c : ℕ) : Type 0 where
+  pub ends : ends_name c ≡ false
+  pub equals : (c == 61) ≡ false
+  pub space : is_space c ≡ false
+  pub slash : (c == 47) ≡ false
+  pub greater : (c == 62) ≡ false
+  pub double : (c == 34) ≡ false
+  pub single : (c == 39) ≡ false
+  pub less : (c == 60) ≡ false
+
+pub name_part : (c : ℕ) → is_copied copied.Name c ≡ true → IsNamePart c
+name_part c h =
+    let a = neither (ends_attr c) _ h in
+    let b = neither (c == 0) _ a.1 in
+    let d = neither (c == 34) _ b.1 in
+    let e = neither (c == 39) _ d.1 in
+    let f = neither (c == 60) _ e.1 in
+    let n : ends_name c ≡ false = first_false (ends_name c) (c == 61) a.0 in
+    let s : (is_space c || c == 47) ≡ false = first_false (is_space c || c == 47) (c == 62) n in
+    record {
+      ends = n;
+      equals = second_false (ends_name c) (c == 61) a.0;
+      space = first_false (is_space c) (c == 47) s;
+      slash = second_false (is_space c) (c == 47) s;
+      greater = second_false (is_space c || c == 47) (c == 62) n;
+      double = d.0;
+      single = e.0;
+      less = f.0;
+    }
+
+name_one : (c : ℕ) → is_copied copied.Name c ≡ true → (rows : List Row) (place : ℕ) (rest : List ℕ) → part_errors rows parts.Name place (c ∷ rest) ≡ part_errors rows parts.Name (place + 1) rest
+name_one c h rows place rest =
+    let n = name_part c h in
+    passes_quietly rows parts.Name parts.Name place c rest refl (λ r. absurd (false≢true r)) (rw (n.greater, n.slash) refl) (rw n.slash refl) (rw n.ends refl)
+
+attr_name_one : (c : ℕ) → is_copied copied.Name c ≡ true → (rows : List Row) (place : ℕ) (rest : List ℕ) → part_errors rows parts.AttrName place (c ∷ rest) ≡ part_errors rows parts.AttrName (place + 1) rest
+attr_name_one c h rows place rest =
+    let n = name_part c h in
+    passes_quietly rows parts.AttrName parts.AttrName place c rest refl (λ r. absurd (false≢true r)) (rw (n.greater, n.slash) refl) (rw (n.slash, n.double, n.single, n.less) refl) (rw (n.ends, n.space, n.equals) refl)
+
+not_and : (c : ℕ) → (c == 38) ≡ false → c ≡ 38 → ⊥
+not_and c h e = absurd (false≢true (sym h ∙ rw e refl))
+
+double_one : (c : ℕ) → is_copied copied.DoubleQuoted c ≡ true → (rows : List Row) (place : ℕ) (rest : List ℕ) → part_errors rows (parts.Inside ends.DoubleQuote) place (c ∷ rest) ≡ part_errors rows (parts.Inside ends.DoubleQuote) (place + 1) rest
+double_one c h rows place rest =
+    let b = neither (c == 34) _ (neither (c == 0) _ h).1 in
+    passes_quietly rows (parts.Inside ends.DoubleQuote) (parts.Inside ends.DoubleQuote) place c rest refl (λ r e. not_and c (is_not (c == 38) b.1) e) refl (rw b.0 refl) (rw b.0 refl)
+
+single_one : (c : ℕ) → is_copied copied.SingleQuoted c ≡ true → (rows : List Row) (place : ℕ) (rest : List ℕ) → part_errors rows (parts.Inside ends.SingleQuote) place (c ∷ rest) ≡ part_errors rows (parts.Inside ends.SingleQuote) (place + 1) rest
+single_one c h rows place rest =
+    let b = neither (c == 39) _ (neither (c == 0) _ h).1 in
+    passes_quietly rows (parts.Inside ends.SingleQuote) (parts.Inside ends.SingleQuote) place c rest refl (λ r e. not_and c (is_not (c == 38) b.1) e) refl (rw b.0 refl) (rw b.0 refl)
+
+pub record IsUnquotedPart (c : ℕ) : Type 0 where
+  pub ends : ends_unquoted c ≡ false
+  pub space : is_space c ≡ false
+  pub greater : (c == 62) ≡ false
+  pub double : (c == 34) ≡ false
+  pub single : (c == 39) ≡ false
+  pub reference : (c == 38) ≡ false
+  pub less : (c == 60) ≡ false
+  pub equals : (c == 61) ≡ false
+  pub grave : (c == 96) ≡ false
+
+pub unquoted_part : (c : ℕ) → is_copied copied.Unquoted c ≡ true → IsUnquotedPart c
+unquoted_part c h =
+    let a = neither (ends_unquoted c) _ h in
+    let b = neither (c == 0) _ a.1 in
+    let d = neither (c == 34) _ b.1 in
+    let e = neither (c == 39) _ d.1 in
+    let f = neither (c == 38) _ e.1 in
+    let g = neither (c == 60) _ f.1 in
+    let i = neither (c == 61) _ g.1 in
+    record {
+      ends = a.0;
+      space = first_false (is_space c) (c == 62) a.0;
+      greater = second_false (is_space c) (c == 62) a.0;
+      double = d.0;
+      single = e.0;
+      reference = f.0;
+      less = g.0;
+      equals = i.0;
+      grave = is_not (c == 96) i.1;
+    }
+
+unquoted_one : (c : ℕ) → is_copied copied.Unquoted c ≡ true → (rows : List Row) (place : ℕ) (rest : List ℕ) → part_errors rows (parts.Inside ends.Space) place (c ∷ rest) ≡ part_errors rows (parts.Inside ends.Space) (place + 1) rest
+unquoted_one c h rows place rest =
+    let u = unquoted_part c h in
+    passes_quietly rows (parts.Inside ends.Space) (parts.Inside ends.Space) place c rest refl (λ r e. not_and c u.reference e) u.greater (rw (u.double, u.single, u.less, u.equals, u.grave) refl) (rw u.ends refl)
+
+-- a value without quotes begins, and ends
+pub value_opens_told : (rows : List Row) (place c : ℕ) (rest : List ℕ) → is_copied copied.Unquoted c ≡ true → part_errors rows parts.Value place (c ∷ rest) ≡ part_errors rows (parts.Inside ends.Space) place (c ∷ rest)
+value_opens_told rows place c rest h =
+    let u = unquoted_part c h in
+    passes_quietly rows parts.Value (parts.Inside ends.Space) place c rest refl (λ r e. not_and c u.reference e) u.greater (rw (u.double, u.single, u.greater, u.less, u.equals, u.grave) refl) (rw (u.ends, u.space, u.double, u.single) refl)
+    ∙ sym (unquoted_one c h rows place rest)
+
+space_ends : (c : ℕ) → ends_unquoted c ≡ true → (c ≡ 9) ⊎ (c ≡ 10) ⊎ (c ≡ 12) ⊎ (c ≡ 32) ⊎ (c ≡ 62)
+space_ends c h = grind (arith, nat_tests)
+
+name_ends : (c : ℕ) → ends_name c ≡ true → (c ≡ 9) ⊎ (c ≡ 10) ⊎ (c ≡ 12) ⊎ (c ≡ 32) ⊎ (c ≡ 47) ⊎ (c ≡ 62)
+name_ends c h = grind (arith, nat_tests)
+
+turned : (rows : List Row) (part : Part) (place c : ℕ) (rest : List ℕ) → tag_char_errors part c (slice_get rest 0) place ≡ tag_char_errors parts.Attributes c (slice_get rest 0) place → ends_tag part c (slice_get rest 0) ≡ ends_tag parts.Attributes c (slice_get rest 0) → next_part part c ≡ next_part parts.Attributes c →
+    ref_rest rows part c rest ≡ 0 → tag_part_errors rows part 0 place (c ∷ rest) ≡ tag_part_errors rows parts.Attributes 0 place (c ∷ rest)
+turned rows part place c rest t e n r = unroll rows part place c rest ∙ rw (t, e, n, r) refl ∙ sym (unroll rows parts.Attributes place c rest)
+
+pub space_closes_told : (rows : List Row) (place c : ℕ) (rest : List ℕ) → ends_unquoted c ≡ true → part_errors rows (parts.Inside ends.Space) place (c ∷ rest) ≡ part_errors rows parts.Attributes place (c ∷ rest)
+space_closes_told rows place c rest h = elim (space_ends c h) [
+  | inl e ↦ rw e (turned rows (parts.Inside ends.Space) place 9 rest refl refl refl refl)
+  | inr (inl e) ↦ rw e (turned rows (parts.Inside ends.Space) place 10 rest refl refl refl refl)
+  | inr (inr (inl e)) ↦ rw e (turned rows (parts.Inside ends.Space) place 12 rest refl refl refl refl)
+  | inr (inr (inr (inl e))) ↦ rw e (turned rows (parts.Inside ends.Space) place 32 rest refl refl refl refl)
+  | inr (inr (inr (inr e))) ↦ rw e (turned rows (parts.Inside ends.Space) place 62 rest refl refl refl refl)
+]
+
+pub name_ends_told : (rows : List Row) (place c : ℕ) (rest : List ℕ) → ends_name c ≡ true → part_errors rows parts.Name place (c ∷ rest) ≡ part_errors rows parts.Attributes place (c ∷ rest)
+name_ends_told rows place c rest h = elim (name_ends c h) [
+  | inl e ↦ rw e (turned rows parts.Name place 9 rest refl refl refl refl)
+  | inr (inl e) ↦ rw e (turned rows parts.Name place 10 rest refl refl refl refl)
+  | inr (inr (inl e)) ↦ rw e (turned rows parts.Name place 12 rest refl refl refl refl)
+  | inr (inr (inr (inl e))) ↦ rw e (turned rows parts.Name place 32 rest refl refl refl refl)
+  | inr (inr (inr (inr (inl e)))) ↦ rw e (turned rows parts.Name place 47 rest (sym (append-nil _)) refl refl refl)
+  | inr (inr (inr (inr (inr e)))) ↦ rw e (turned rows parts.Name place 62 rest refl refl refl refl)
+]
+
+pub name_front_told : (part : Part) (text : List ℕ) (n : ℕ) → part ≡ parts.Name → n ≤ length text → AllPass (is_copied copied.Name) (take n text) → (rows : List Row) (place : ℕ) (more : List ℕ) → part_errors rows part place (text ++ more) ≡ part_errors rows part (place + n) (drop n text ++ more)
+name_front_told part text n p h a rows place more = rw p (parts_front (is_copied copied.Name) parts.Name name_one text n h a rows place more)
+
+pub attr_name_front_told : (part : Part) (text : List ℕ) (n : ℕ) → part ≡ parts.AttrName → n ≤ length text → AllPass (is_copied copied.Name) (take n text) → (rows : List Row) (place : ℕ) (more : List ℕ) → part_errors rows part place (text ++ more) ≡ part_errors rows part (place + n) (drop n text ++ more)
+attr_name_front_told part text n p h a rows place more = rw p (parts_front (is_copied copied.Name) parts.AttrName attr_name_one text n h a rows place more)
+
+value_front_told : (end : ValueEnd) (text : List ℕ) (n : ℕ) → n ≤ length text → AllPass (is_copied (copied_in end)) (take n text) → (rows : List Row) (place : ℕ) (more : List ℕ) → part_errors rows (parts.Inside end) place (text ++ more) ≡ part_errors rows (parts.Inside end) (place + n) (drop n text ++ more)
+value_front_told ends.DoubleQuote text n h a rows place more = parts_front (is_copied copied.DoubleQuoted) (parts.Inside ends.DoubleQuote) double_one text n h a rows place more
+value_front_told ends.SingleQuote text n h a rows place more = parts_front (is_copied copied.SingleQuoted) (parts.Inside ends.SingleQuote) single_one text n h a rows place more
+value_front_told ends.Space text n h a rows place more = parts_front (is_copied copied.Unquoted) (parts.Inside ends.Space) unquoted_one text n h a rows place more
+
+pub inside_front_told : (end : ValueEnd) (part : Part) (text : List ℕ) (n : ℕ) → part ≡ parts.Inside end → n ≤ length text → AllPass (is_copied (copied_in end)) (take n text) → (rows : List Row) (place : ℕ) (more : List ℕ) → part_errors rows part place (text ++ more) ≡ part_errors rows part (place + n) (drop n text ++ more)
+inside_front_told end part text n p h a rows place more = rw p (value_front_told end text n h a rows place more)
+
+-- nothing is left at the end
+pub part_ends : (rows : List Row) (part : Part) (place : ℕ) → part_errors rows part place [] ≡ []
+unfolding tag_part_errors
+part_ends rows part place = refl
