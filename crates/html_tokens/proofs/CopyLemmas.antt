@@ -246,8 +246,8 @@ none_nested : (kind : CommentKind) (place c : ℕ) (rest : List ℕ) → is_copi
 none_nested Declared place c rest h =
     let a = neither (c == 0) _ h in
     let b = neither (c == 45) _ a.1 in
-    rw (is_not (c == 60) b.1) refl
-none_nested Bogus place c rest h = refl
+    rw (is_not (c == 60) b.1, a.0) refl
+none_nested Bogus place c rest h = rw (neither (c == 0) _ h).0 refl
 
 -- no code point that is copied closes a comment
 errors_copied : (kind : CommentKind) (place : ℕ) (xs : List ℕ) → AllPass (is_copied (copied_by kind)) xs → (more : List ℕ) → comment_errors kind place (xs ++ more) ≡ comment_errors kind (place + length xs) more

@@ -1,7 +1,9 @@
 -- The errors of a text, piece by piece.
-use Rattle.std.proofs.Common.{◌≡◌, ◌⊎◌, ℕ, zero, suc, ◌+◌, ◌-◌, ◌<◌, ◌≤◌, List, [], ◌∷◌, ◌++◌, length, drop, Bool, Option, cond, true, false, refl, ap, sym, inl, inr, ◌∙◌, ◌==◌, arith, append-nil, length-append, add-zero, zero-add}
+use Rattle.std.proofs.Common.{◌≡◌, ◌⊎◌, ℕ, zero, suc, ◌+◌, ◌-◌, ◌<◌, ◌≤◌, List, [], ◌∷◌, ◌++◌, length, drop, Bool, Option, Some, cond, true, false, refl, ap, sym, inl, inr, ◌∙◌, ◌==◌, arith, append_assoc, append-nil, length-append, add-zero, zero-add}
+use Rattle.std.proofs.lemmas.Bool.{false≢true}
 use Rattle.std.proofs.lemmas.List.{drop-append-le}
-use Rattle.html_tokens.specs.Errors.{errors_after, front_errors, inside_errors, piece_errors, region_end_errors, region_told, told_in}
+use Rattle.html_tokens.specs.Inside.{null_errors}
+use Rattle.html_tokens.specs.Errors.{begin_told, errors_after, front_errors, inside_errors, piece_errors, region_end_errors, region_told, told_in}
 use Rattle.html_tokens.specs.Fed.{errors_coming, region_errors, text_errors}
 use Rattle.html_tokens.specs.Tokens.{begun_piece, chars_at, mode_after, name_after, next, Piece, stays}
 use Rattle.html_tokens.specs.Marks.{begin_at, is_end_mark, is_stop, front, opens_section, region_in}
@@ -48,7 +50,7 @@ unfolding front_errors
 front_errors_stop mode region name place c rest b e s = rw (e, s) refl
 
 front_errors_go : (mode : TextMode) (region : Region) (name : Option (List ℕ)) (place c : ℕ) (rest : List ℕ) → begin_at mode region name (c ∷ rest) ≡ begins.Char →
-    front_errors mode region name place (c ∷ rest) ≡ front_errors mode (region_in mode region (c ∷ rest)) name (place + 1) rest
+    front_errors mode region name place (c ∷ rest) ≡ null_errors (Some c) place ++ front_errors mode (region_in mode region (c ∷ rest)) name (place + 1) rest
 unfolding front_errors
 front_errors_go mode region name place c rest e = rw e refl
 
@@ -126,18 +128,20 @@ errors_on : (rows : List Row) (cs : List ℕ) (mode : TextMode) (name : Option (
 unfolding errors_after
 errors_on rows cs mode name place c rest switch switches = rw (← chars_turned switch mode (place + 1) cs) refl
 
--- in text, one code point is one Char, and tells none of them
+-- in text, one code point is one Char, and tells whether it is U+0000
 pub errors_text : (rows : List Row) (mode : TextMode) (region after : Region) (name : Option (List ℕ)) (place c : ℕ) (rest : List ℕ) (switch : Option TextMode) (switches : List (Option TextMode)) →
     begin_at mode region name (c ∷ rest) ≡ begins.Char → region_in mode region (c ∷ rest) ≡ after →
-    errors_coming rows (Text region) mode name place (c ∷ rest) (switch ∷ switches) ≡ errors_coming rows (Text after) (stays switch mode) name (place + 1) rest switches
+    errors_coming rows (Text region) mode name place (c ∷ rest) (switch ∷ switches) ≡ null_errors (Some c) place ++ errors_coming rows (Text after) (stays switch mode) name (place + 1) rest switches
 errors_text rows mode region after name place c rest switch switches e r =
     in_region rows region mode name place (c ∷ rest) (switch ∷ switches)
     ∙ rw (front_go mode region name c rest e, front_errors_go mode region name place c rest e, r)
+    (append_assoc (null_errors (Some c) place) (front_errors mode after name (place + 1) rest) _
+    ∙ ap (λ (es : List Fault). null_errors (Some c) place ++ es)
     (ap (λ (es : List Fault). front_errors mode after name (place + 1) rest ++ es)
     (errors_on rows (front mode after name rest) mode name place c rest switch switches
     ∙ ap (λ (cs : List ℕ). text_errors rows cs (stays switch mode) name (place + 1) rest switches) (front_turned switch mode after name rest))
     ∙ ap (λ (es : List Fault). es ++ text_errors rows (front (stays switch mode) after name rest) (stays switch mode) name (place + 1) rest switches) (front_errors_turned switch mode after name (place + 1) rest)
-    ∙ sym (in_region rows after (stays switch mode) name (place + 1) rest switches))
+    ∙ sym (in_region rows after (stays switch mode) name (place + 1) rest switches)))
 
 errors_back : (rows : List Row) (k : ℕ) (mode : TextMode) (name : Option (List ℕ)) (place c : ℕ) (rest : List ℕ) (switches : List (Option TextMode)) → 0 < k →
     errors_after rows (k - 1) mode name (place + 1) rest switches ≡ errors_after rows k mode name place (c ∷ rest) switches
@@ -177,17 +181,25 @@ errors_past_one rows len mode name place items items' more switches i h =
     let m : suc len ≡ 1 + len = omega arith in
     rw (m, i) (errors_past rows 1 len mode name place items more switches h)
 
-mark_or_char : (b : Bool) (place : ℕ) (text : List ℕ) → piece_errors (cond b begins.EndMark begins.Char) place text ≡ []
-mark_or_char true place text = refl
-mark_or_char false place text = refl
+-- of what is no text the same is told
+pub stop_told : (b : Begin) (place : ℕ) (text : List ℕ) → is_stop b ≡ true → begin_told b place text ≡ piece_errors b place text
+stop_told begins.Char place text s = absurd (false≢true s)
+stop_told begins.Markup place text s = refl
+stop_told begins.EndMark place text s = refl
+stop_told begins.Reference place text s = refl
+stop_told begins.Section place text s = refl
+
+mark_or_char : (b : Bool) (place : ℕ) → begin_told (cond b begins.EndMark begins.Char) place [] ≡ []
+mark_or_char true place = refl
+mark_or_char false place = refl
 
 -- at the end nothing begins
-none_begins : (region : Region) (mode : TextMode) (name : Option (List ℕ)) (place : ℕ) → piece_errors (begin_at mode region name []) place [] ≡ []
+none_begins : (region : Region) (mode : TextMode) (name : Option (List ℕ)) (place : ℕ) → begin_told (begin_at mode region name []) place [] ≡ []
 none_begins region Data name place = refl
-none_begins region Rcdata name place = mark_or_char (is_end_mark name []) place []
-none_begins region Rawtext name place = mark_or_char (is_end_mark name []) place []
-none_begins Plain Script name place = mark_or_char (is_end_mark name []) place []
-none_begins Escaped Script name place = mark_or_char (is_end_mark name []) place []
+none_begins region Rcdata name place = mark_or_char (is_end_mark name []) place
+none_begins region Rawtext name place = mark_or_char (is_end_mark name []) place
+none_begins Plain Script name place = mark_or_char (is_end_mark name []) place
+none_begins Escaped Script name place = mark_or_char (is_end_mark name []) place
 none_begins Double Script name place = refl
 none_begins region Plaintext name place = refl
 none_begins region Foreign name place = refl

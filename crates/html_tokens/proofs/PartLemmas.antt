@@ -15,7 +15,7 @@ use Rattle.html_tokens.specs.Copied.{AllPass, copied_in, is_copied}
 use Rattle.html_tokens.specs.Cut.{ends_unquoted, is, is_space, passes}
 use Rattle.html_tokens.specs.Doctype.{is_quote}
 use Rattle.html_tokens.specs.Inside.{fault_when}
-use Rattle.html_tokens.specs.InsideTags.{MovesRef, MovesTag, SettlesPart, TurnsTo, after_value, ends_in, ends_outside, ends_tag, looks_on, looks_on_in, may_tell, next_part, number_len, part_errors, part_told, quote_errors, ref_rest, settled, tag_char_errors, tag_part_errors, unquoted_errors, value_errors}
+use Rattle.html_tokens.specs.InsideTags.{MovesRef, MovesTag, SettlesPart, TurnsTo, after_value, ends_in, ends_outside, ends_tag, looks_on, looks_on_in, may_tell, may_tell_in, next_part, number_len, part_char_errors, part_errors, part_told, quote_errors, ref_rest, settled, tag_char_errors, tag_part_errors, unquoted_errors, value_errors}
 use Rattle.html_tokens.specs.Reference.{is_digit, literal, numbered, Numbered, ref_opener, Reference}
 use Rattle.html_tokens.specs.Tag.{ends_attr, ends_name, is_number, IsInside, reads_refs}
 use Rattle.html_tokens.specs.Value.{Begins, ref_len, value_reference}
@@ -200,9 +200,9 @@ moves_settled (Err e) old mid new c after s m = tt
 apart : (base : Base) (c k : ℕ) → is_digit base c ≡ true → is_digit base k ≡ false → (c == k) ≡ false
 apart base c k d e = differs c k (λ f. absurd (false≢true (sym e ∙ ap (λ (x : ℕ). is_digit base x) (sym f) ∙ d)))
 
-no_digit : (base : Base) → (is_digit base 34 ≡ false) × (is_digit base 39 ≡ false) × (is_digit base 60 ≡ false) × (is_digit base 61 ≡ false) × (is_digit base 96 ≡ false) × (is_digit base 38 ≡ false) × (is_digit base 59 ≡ false)
-no_digit Hex = (refl, refl, refl, refl, refl, refl, refl)
-no_digit Decimal = (refl, refl, refl, refl, refl, refl, refl)
+no_digit : (base : Base) → (is_digit base 34 ≡ false) × (is_digit base 39 ≡ false) × (is_digit base 60 ≡ false) × (is_digit base 61 ≡ false) × (is_digit base 96 ≡ false) × (is_digit base 38 ≡ false) × (is_digit base 59 ≡ false) × (is_digit base 0 ≡ false)
+no_digit Hex = (refl, refl, refl, refl, refl, refl, refl, refl)
+no_digit Decimal = (refl, refl, refl, refl, refl, refl, refl, refl)
 
 -- a digit tells nothing
 digit_told : (end : ValueEnd) (base : Base) (c : ℕ) (after : Option ℕ) (place : ℕ) → is_digit base c ≡ true → value_errors end c after place ≡ []
@@ -223,7 +223,7 @@ number_on rows end base v k place c rest e = ap (λ (n : ℕ). tag_part_errors r
 
 pub moves_digit : (end : ValueEnd) (base : Base) (v w c : ℕ) (after : Option ℕ) → is_digit base c ≡ true → MovesTag (parts.Number end base v) c after More (parts.Number end base w)
 moves_digit end base v w c after d = λ rows place rest h.
-    rw (digit_told end base c after place d)
+    rw (digit_told end base c after place d, apart base c 0 d (no_digit base).7)
     (number_on rows end base v (numbered base w rest).len place c rest (ap (λ (n : Numbered). n.len) (digit_first base v c rest d)))
 
 pub moves_semicolon : (end : ValueEnd) (base : Base) (v c : ℕ) (after : Option ℕ) → c ≡ 59 → MovesTag (parts.Number end base v) c after More (parts.Inside end)
@@ -340,12 +340,12 @@ refs_move (Err x) old mid new found s m = tt
 
 -- WHAT TELLS NOTHING
 
-record IsNone4 (c : ℕ) : Type 0 where
+record IsAttrPlain (c : ℕ) : Type 0 where
   double : (c == 34) ≡ false
   single : (c == 39) ≡ false
   less : (c == 60) ≡ false
 
-none_attr : (c : ℕ) → (c == 34 || (c == 39 || c == 60)) ≡ false → IsNone4 c
+none_attr : (c : ℕ) → (c == 34 || (c == 39 || c == 60)) ≡ false → IsAttrPlain c
 none_attr c h =
     let b = second_false (c == 34) _ h in
     record { double = first_false (c == 34) _ h; single = first_false (c == 39) _ b; less = second_false (c == 39) (c == 60) b }
@@ -363,31 +363,37 @@ quiet_value c place h =
       | inr q ↦ rw (q, a, first_false (c == 34) (c == 39) q, second_false (c == 34) (c == 39) q, d, f, g) refl
     ]
 
--- a code point that may tell no error
-pub quiet_char : (part : Part) (c : ℕ) (after : Option ℕ) (place : ℕ) → may_tell part c ≡ false → ¬ (c ≡ 47) → tag_char_errors part c after place ≡ []
-quiet_char parts.Name c after place h s = rw (differs c 47 s) refl
-quiet_char parts.Attributes c after place h s =
+quiet_part : (part : Part) (c : ℕ) (after : Option ℕ) (place : ℕ) → may_tell_in part c ≡ false → ¬ (c ≡ 47) → part_char_errors part c after place ≡ []
+quiet_part parts.Name c after place h s = rw (differs c 47 s) refl
+quiet_part parts.Attributes c after place h s =
     let n = none_attr c (second_false (c == 61) _ h) in
     rw (differs c 47 s, first_false (c == 61) _ h, n.double, n.single, n.less) refl
-quiet_char parts.AttrName c after place h s = let n = none_attr c h in rw (differs c 47 s, n.double, n.single, n.less) refl
-quiet_char parts.AfterName c after place h s = let n = none_attr c h in rw (differs c 47 s, n.double, n.single, n.less) refl
-quiet_char parts.Value c after place h s = quiet_value c place h
-quiet_char (parts.Inside ends.DoubleQuote) c after place h s = rw h refl
-quiet_char (parts.Inside ends.SingleQuote) c after place h s = rw h refl
-quiet_char (parts.Inside ends.Space) c after place h s = rw h refl
-quiet_char (parts.Number end base v) c after place h s = absurd (false≢true (sym h))
+quiet_part parts.AttrName c after place h s = let n = none_attr c h in rw (differs c 47 s, n.double, n.single, n.less) refl
+quiet_part parts.AfterName c after place h s = let n = none_attr c h in rw (differs c 47 s, n.double, n.single, n.less) refl
+quiet_part parts.Value c after place h s = quiet_value c place h
+quiet_part (parts.Inside ends.DoubleQuote) c after place h s = rw h refl
+quiet_part (parts.Inside ends.SingleQuote) c after place h s = rw h refl
+quiet_part (parts.Inside ends.Space) c after place h s = rw h refl
+quiet_part (parts.Number end base v) c after place h s = absurd (false≢true (sym h))
+
+-- a code point that may tell no error
+pub quiet_char : (part : Part) (c : ℕ) (after : Option ℕ) (place : ℕ) → may_tell part c ≡ false → ¬ (c ≡ 47) → tag_char_errors part c after place ≡ []
+quiet_char part c after place h s = rw (first_false (c == 0) _ h, quiet_part part c after place (second_false (c == 0) _ h) s) refl
+
+quiet_looks_in : (part : Part) (c : ℕ) → may_tell_in part c ≡ false → ¬ (c ≡ 47) → looks_on part c ≡ false
+quiet_looks_in parts.Name c h s = differs c 47 s
+quiet_looks_in parts.Attributes c h s = differs c 47 s
+quiet_looks_in parts.AttrName c h s = differs c 47 s
+quiet_looks_in parts.AfterName c h s = differs c 47 s
+quiet_looks_in parts.Value c h s = differs c 47 s
+quiet_looks_in (parts.Inside ends.DoubleQuote) c h s = rw (differs c 47 s, h) refl
+quiet_looks_in (parts.Inside ends.SingleQuote) c h s = rw (differs c 47 s, h) refl
+quiet_looks_in (parts.Inside ends.Space) c h s = differs c 47 s
+quiet_looks_in (parts.Number end base v) c h s = absurd (false≢true (sym h))
 
 -- nor is it judged by the one after it
 pub quiet_looks : (part : Part) (c : ℕ) → may_tell part c ≡ false → ¬ (c ≡ 47) → looks_on part c ≡ false
-quiet_looks parts.Name c h s = differs c 47 s
-quiet_looks parts.Attributes c h s = differs c 47 s
-quiet_looks parts.AttrName c h s = differs c 47 s
-quiet_looks parts.AfterName c h s = differs c 47 s
-quiet_looks parts.Value c h s = differs c 47 s
-quiet_looks (parts.Inside ends.DoubleQuote) c h s = rw (differs c 47 s, h) refl
-quiet_looks (parts.Inside ends.SingleQuote) c h s = rw (differs c 47 s, h) refl
-quiet_looks (parts.Inside ends.Space) c h s = differs c 47 s
-quiet_looks (parts.Number end base v) c h s = absurd (false≢true (sym h))
+quiet_looks part c h s = quiet_looks_in part c (second_false (c == 0) _ h) s
 
 -- FRONTS
 
@@ -425,6 +431,7 @@ pub record IsNamePart (c : ℕ) : Type 0 where
   pub double : (c == 34) ≡ false
   pub single : (c == 39) ≡ false
   pub less : (c == 60) ≡ false
+  pub null : (c == 0) ≡ false
 
 pub name_part : (c : ℕ) → is_copied copied.Name c ≡ true → IsNamePart c
 name_part c h =
@@ -444,30 +451,33 @@ name_part c h =
       double = d.0;
       single = e.0;
       less = f.0;
+      null = b.0;
     }
 
 name_one : (c : ℕ) → is_copied copied.Name c ≡ true → (rows : List Row) (place : ℕ) (rest : List ℕ) → part_errors rows parts.Name place (c ∷ rest) ≡ part_errors rows parts.Name (place + 1) rest
 name_one c h rows place rest =
     let n = name_part c h in
-    passes_quietly rows parts.Name parts.Name place c rest refl (λ r. absurd (false≢true r)) (rw (n.greater, n.slash) refl) (rw n.slash refl) (rw n.ends refl)
+    passes_quietly rows parts.Name parts.Name place c rest refl (λ r. absurd (false≢true r)) (rw (n.greater, n.slash) refl) (rw (n.slash, n.null) refl) (rw n.ends refl)
 
 attr_name_one : (c : ℕ) → is_copied copied.Name c ≡ true → (rows : List Row) (place : ℕ) (rest : List ℕ) → part_errors rows parts.AttrName place (c ∷ rest) ≡ part_errors rows parts.AttrName (place + 1) rest
 attr_name_one c h rows place rest =
     let n = name_part c h in
-    passes_quietly rows parts.AttrName parts.AttrName place c rest refl (λ r. absurd (false≢true r)) (rw (n.greater, n.slash) refl) (rw (n.slash, n.double, n.single, n.less) refl) (rw (n.ends, n.space, n.equals) refl)
+    passes_quietly rows parts.AttrName parts.AttrName place c rest refl (λ r. absurd (false≢true r)) (rw (n.greater, n.slash) refl) (rw (n.slash, n.double, n.single, n.less, n.null) refl) (rw (n.ends, n.space, n.equals) refl)
 
 not_and : (c : ℕ) → (c == 38) ≡ false → c ≡ 38 → ⊥
 not_and c h e = absurd (false≢true (sym h ∙ rw e refl))
 
 double_one : (c : ℕ) → is_copied copied.DoubleQuoted c ≡ true → (rows : List Row) (place : ℕ) (rest : List ℕ) → part_errors rows (parts.Inside ends.DoubleQuote) place (c ∷ rest) ≡ part_errors rows (parts.Inside ends.DoubleQuote) (place + 1) rest
 double_one c h rows place rest =
-    let b = neither (c == 34) _ (neither (c == 0) _ h).1 in
-    passes_quietly rows (parts.Inside ends.DoubleQuote) (parts.Inside ends.DoubleQuote) place c rest refl (λ r e. not_and c (is_not (c == 38) b.1) e) refl (rw b.0 refl) (rw b.0 refl)
+    let z = neither (c == 0) _ h in
+    let b = neither (c == 34) _ z.1 in
+    passes_quietly rows (parts.Inside ends.DoubleQuote) (parts.Inside ends.DoubleQuote) place c rest refl (λ r e. not_and c (is_not (c == 38) b.1) e) refl (rw (b.0, z.0) refl) (rw b.0 refl)
 
 single_one : (c : ℕ) → is_copied copied.SingleQuoted c ≡ true → (rows : List Row) (place : ℕ) (rest : List ℕ) → part_errors rows (parts.Inside ends.SingleQuote) place (c ∷ rest) ≡ part_errors rows (parts.Inside ends.SingleQuote) (place + 1) rest
 single_one c h rows place rest =
-    let b = neither (c == 39) _ (neither (c == 0) _ h).1 in
-    passes_quietly rows (parts.Inside ends.SingleQuote) (parts.Inside ends.SingleQuote) place c rest refl (λ r e. not_and c (is_not (c == 38) b.1) e) refl (rw b.0 refl) (rw b.0 refl)
+    let z = neither (c == 0) _ h in
+    let b = neither (c == 39) _ z.1 in
+    passes_quietly rows (parts.Inside ends.SingleQuote) (parts.Inside ends.SingleQuote) place c rest refl (λ r e. not_and c (is_not (c == 38) b.1) e) refl (rw (b.0, z.0) refl) (rw b.0 refl)
 
 pub record IsUnquotedPart (c : ℕ) : Type 0 where
   pub ends : ends_unquoted c ≡ false
@@ -479,6 +489,7 @@ pub record IsUnquotedPart (c : ℕ) : Type 0 where
   pub less : (c == 60) ≡ false
   pub equals : (c == 61) ≡ false
   pub grave : (c == 96) ≡ false
+  pub null : (c == 0) ≡ false
 
 pub unquoted_part : (c : ℕ) → is_copied copied.Unquoted c ≡ true → IsUnquotedPart c
 unquoted_part c h =
@@ -499,18 +510,19 @@ unquoted_part c h =
       less = g.0;
       equals = i.0;
       grave = is_not (c == 96) i.1;
+      null = b.0;
     }
 
 unquoted_one : (c : ℕ) → is_copied copied.Unquoted c ≡ true → (rows : List Row) (place : ℕ) (rest : List ℕ) → part_errors rows (parts.Inside ends.Space) place (c ∷ rest) ≡ part_errors rows (parts.Inside ends.Space) (place + 1) rest
 unquoted_one c h rows place rest =
     let u = unquoted_part c h in
-    passes_quietly rows (parts.Inside ends.Space) (parts.Inside ends.Space) place c rest refl (λ r e. not_and c u.reference e) u.greater (rw (u.double, u.single, u.less, u.equals, u.grave) refl) (rw u.ends refl)
+    passes_quietly rows (parts.Inside ends.Space) (parts.Inside ends.Space) place c rest refl (λ r e. not_and c u.reference e) u.greater (rw (u.double, u.single, u.less, u.equals, u.grave, u.null) refl) (rw u.ends refl)
 
 -- a value without quotes begins, and ends
 pub value_opens_told : (rows : List Row) (place c : ℕ) (rest : List ℕ) → is_copied copied.Unquoted c ≡ true → part_errors rows parts.Value place (c ∷ rest) ≡ part_errors rows (parts.Inside ends.Space) place (c ∷ rest)
 value_opens_told rows place c rest h =
     let u = unquoted_part c h in
-    passes_quietly rows parts.Value (parts.Inside ends.Space) place c rest refl (λ r e. not_and c u.reference e) u.greater (rw (u.double, u.single, u.greater, u.less, u.equals, u.grave) refl) (rw (u.ends, u.space, u.double, u.single) refl)
+    passes_quietly rows parts.Value (parts.Inside ends.Space) place c rest refl (λ r e. not_and c u.reference e) u.greater (rw (u.double, u.single, u.greater, u.less, u.equals, u.grave, u.null) refl) (rw (u.ends, u.space, u.double, u.single) refl)
     ∙ sym (unquoted_one c h rows place rest)
 
 space_ends : (c : ℕ) → ends_unquoted c ≡ true → (c ≡ 9) ⊎ (c ≡ 10) ⊎ (c ≡ 12) ⊎ (c ≡ 32) ⊎ (c ≡ 62)
@@ -538,7 +550,7 @@ name_ends_told rows place c rest h = elim (name_ends c h) [
   | inr (inl e) ↦ rw e (turned rows parts.Name place 10 rest refl refl refl refl)
   | inr (inr (inl e)) ↦ rw e (turned rows parts.Name place 12 rest refl refl refl refl)
   | inr (inr (inr (inl e))) ↦ rw e (turned rows parts.Name place 32 rest refl refl refl refl)
-  | inr (inr (inr (inr (inl e)))) ↦ rw e (turned rows parts.Name place 47 rest (sym (append-nil _)) refl refl refl)
+  | inr (inr (inr (inr (inl e)))) ↦ rw e (turned rows parts.Name place 47 rest (ap (λ (es : List Fault). es ++ []) (sym (append-nil _))) refl refl refl)
   | inr (inr (inr (inr (inr e)))) ↦ rw e (turned rows parts.Name place 62 rest refl refl refl refl)
 ]
 

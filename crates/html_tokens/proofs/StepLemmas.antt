@@ -16,7 +16,7 @@ use Rattle.std.proofs.lemmas.List.{drop-append-le}
 use Rattle.html_tokens.specs.Copied.{CopiesComment, cut_by}
 use Rattle.html_tokens.specs.Errors.{errors_after, inside_errors, piece_errors, told_in}
 use Rattle.html_tokens.specs.declared.faults.Fault.{Fault}
-use Rattle.html_tokens.proofs.ErrorLemmas.{errors_at_end, errors_begun, errors_past, errors_past_all, errors_past_one, errors_text, region_quiet, told_at_end}
+use Rattle.html_tokens.proofs.ErrorLemmas.{errors_at_end, errors_begun, errors_past, errors_past_all, errors_past_one, errors_text, region_quiet, stop_told, told_at_end}
 use Rattle.html_tokens.specs.Fed.{Skips, coming, errors_coming, to_come, IsDrained, IsEnded, Passes, SameCount, Steps, switch_to, slack, GivesChars}
 use Rattle.html_tokens.specs.Input.{Decided, IsShort}
 use Rattle.html_tokens.specs.Inside.{MovesComment, comment_errors, comment_told}
@@ -90,7 +90,7 @@ pub errors_opened : (rows : List Row) (b : Begin) (region : Region) (mode : Text
     ++ (inside ++ errors_after rows j (mode_after first.tokens switches mode) (name_after first.tokens name) (place + opened) (drop opened items ++ more) (drop (length first.tokens) switches))
 errors_opened rows b region mode name place opened j items more switches first inside e s p l h k i =
     errors_begun rows b mode region name place (items ++ more) switches first e s p (omega arith) (there items more (omega arith))
-    ∙ rw (e, l, i, region_quiet region place (items ++ more) (there items more (omega arith))) (ap (λ (es : List Fault). piece_errors b place (items ++ more) ++ (inside ++ es)) (errors_past rows opened j _ _ place items more _ k))
+    ∙ rw (e, l, i, region_quiet region place (items ++ more) (there items more (omega arith)), stop_told b place (items ++ more) s) (ap (λ (es : List Fault). piece_errors b place (items ++ more) ++ (inside ++ es)) (errors_past rows opened j _ _ place items more _ k))
 
 -- the errors of what begins and is passed whole
 pub errors_passed : (rows : List Row) (b : Begin) (region : Region) (mode : TextMode) (name : Option (List ℕ)) (place len : ℕ) (items more : List ℕ) (switches : List (Option TextMode)) (first : Piece) →

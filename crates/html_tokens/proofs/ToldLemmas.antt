@@ -1,6 +1,6 @@
 -- What steps and runs tell.
 use Rattle.std.proofs.Common.{◌≡◌, ℕ, List, [], ◌∷◌, ◌++◌, length, Option, Some, None, true, false, refl, ap, subst, sym, ◌∙◌, append_assoc, append-nil}
-use Rattle.html_tokens.specs.Errors.{all_told, IsQuiet, Opens, defined, piece_errors, region_end_errors, told_in, with_told}
+use Rattle.html_tokens.specs.Errors.{all_told, begin_told, IsQuiet, Opens, defined, piece_errors, region_end_errors, told_in, with_told}
 use Rattle.html_tokens.specs.Fed.{IsSilent, Skips, Steps, Tells, TellsAt, told_at, errors_to_come, errors_to_come_after}
 use Rattle.html_tokens.specs.Input.{Decided, MayFollow}
 use Rattle.html_tokens.specs.Marks.{begin_at}
@@ -38,7 +38,7 @@ use Rattle.std.proofs.Common.{ap₂, ◌+◌, ◌<◌, arith}
 use Rattle.std.specs.List.{slice_get}
 use Rattle.html_tokens.specs.Cut.{is}
 use Rattle.html_tokens.specs.Errors.{bogus_error, is_cdata}
-use Rattle.html_tokens.specs.Inside.{fault}
+use Rattle.html_tokens.specs.Inside.{fault, null_errors}
 use Rattle.html_tokens.specs.declared.fault_name.FaultName.TheVariants as names
 use Rattle.html_tokens.specs.declared.token.Opener.TheVariants as opens
 
@@ -106,8 +106,15 @@ pub silent_in : (t : Machine) (s : State) → t.state ≡ s → ((rows : List Ro
 silent_in t s e h = λ more f. rw e (h t.table.now t.mode t.last_name t.place (t.input.queue.items ++ more))
 
 -- what begins tells nothing
-pub silent_begun : (t : Machine) (region : Region) (b : Begin) → t.state ≡ Text region → Decided t.input (begin_at t.mode region t.last_name) b → 0 < length t.input.queue.items → ((place : ℕ) (text : List ℕ) → piece_errors b place text ≡ []) → IsSilent t
+pub silent_begun : (t : Machine) (region : Region) (b : Begin) → t.state ≡ Text region → Decided t.input (begin_at t.mode region t.last_name) b → 0 < length t.input.queue.items → ((place : ℕ) (text : List ℕ) → begin_told b place text ≡ []) → IsSilent t
 silent_begun t region b s begun some h = λ more f. rw (s, begun more f, region_quiet region t.place (t.input.queue.items ++ more) (not_empty t.input.queue.items more some)) (h t.place (t.input.queue.items ++ more))
+
+-- a code point of text tells whether it is U+0000
+pub tells_char : (t : Machine) (region : Region) (c : ℕ) (old new : Faults) → t.state ≡ Text region → Decided t.input (begin_at t.mode region t.last_name) begins.Char → Decided t.input (λ rest. slice_get rest 0) (Some c) → 0 < length t.input.queue.items →
+    Opens (null_errors (Some c) t.place) old new → TellsAt t old new
+tells_char t region c old new s begun first some opens =
+    tells_decided t (null_errors (Some c) t.place) old new
+    (λ more f. rw (s, begun more f, region_quiet region t.place (t.input.queue.items ++ more) (not_empty t.input.queue.items more some)) (ap (λ (x : Option ℕ). null_errors x t.place) (first more f))) opens
 
 -- what the end tells is told
 pub tells_end : (t : Machine) (region : Region) (old new : Faults) → t.state ≡ Text region → ((more : List ℕ) → MayFollow t.input.finished more → t.input.queue.items ++ more ≡ []) → Opens (region_end_errors region t.place) old new → TellsAt t old new

@@ -103,7 +103,7 @@ takes_first d c p h =
     record {
       same = λ rows rest. rw (p, g, j, i, s.1) refl;
       quiet = λ rows place rest _.
-          rw p (passes_quietly rows parts.Attributes parts.AttrName place c rest refl (λ r. absurd (false≢true r)) (rw (m.greater, m.slash) refl) (rw (m.slash, m.equals, m.double, m.single, m.less) refl) (rw m.ends refl));
+          rw p (passes_quietly rows parts.Attributes parts.AttrName place c rest refl (λ r. absurd (false≢true r)) (rw (m.greater, m.slash) refl) (rw (m.slash, m.equals, m.double, m.single, m.less, m.null) refl) (rw m.ends refl));
       start = refl;
       is_end = refl;
     }

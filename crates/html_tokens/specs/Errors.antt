@@ -1,9 +1,9 @@
--- Claimed, but for this crate's own functions: end_told, region_told, told_in, Opens, IsQuiet.
+-- Claimed, but for this crate's own functions: end_told, region_told, begin_told, told_in, Opens, IsQuiet.
 -- The parse errors of a text (HTML 13.2.2): those told of what a `<` begins (HTML 13.2.5.6, 13.2.5.7, 13.2.5.42, 13.2.5.43), those of fronts of text, and those inside of pieces.
-use Rattle.std.specs.Prelude.{◌≡◌, ℕ, zero, suc, ◌+◌, ◌-◌, List, [], ◌∷◌, ◌++◌, length, drop, Bool, true, false, cond, Option, nat_le, slice_get, is_none}
+use Rattle.std.specs.Prelude.{◌≡◌, ℕ, zero, suc, ◌+◌, ◌-◌, List, [], ◌∷◌, ◌++◌, length, drop, Bool, true, false, cond, Option, Some, nat_le, slice_get, is_none}
 use Rattle.std.specs.List.{filter}
 use Rattle.html_tokens.specs.Cut.{is}
-use Rattle.html_tokens.specs.Inside.{comment_errors, comment_told, doctype_errors, doctype_told, fault, section_errors, section_told, tag_told}
+use Rattle.html_tokens.specs.Inside.{comment_errors, comment_told, doctype_errors, doctype_told, fault, null_errors, section_errors, section_told, tag_told}
 use Rattle.html_tokens.specs.InsideTags.{begun_tag_errors, part_told}
 use Rattle.html_tokens.specs.Tag.{draft_tag}
 use Rattle.html_tokens.specs.Marks.{begin_at, is_stop, region_in, stands}
@@ -27,6 +27,7 @@ use Rattle.html_tokens.specs.declared.token.TextMode.{TextMode}
 
 -- the names of the errors that are defined here and in Inside
 abbrev pub is_defined : FaultName → Bool
+is_defined names.UnexpectedNullCharacter = true
 is_defined names.EofBeforeTagName = true
 is_defined names.EofInScriptHtmlCommentLikeText = true
 is_defined names.InvalidFirstCharacterOfTagName = true
@@ -143,10 +144,10 @@ region_end_errors Plain place = []
 region_end_errors Escaped place = fault names.EofInScriptHtmlCommentLikeText place ∷ []
 region_end_errors Double place = fault names.EofInScriptHtmlCommentLikeText place ∷ []
 
--- The errors of the longest front that is text, by the regions: those of the end, where it is all of the rest.
+-- The errors of the longest front that is text, by the regions: those of its code points, and of the end, where it is all of the rest.
 unfoldable pub front_errors : TextMode → Region → Option (List ℕ) → ℕ → List ℕ → List Fault
 front_errors mode region name place [] = region_end_errors region place
-front_errors mode region name place (c ∷ rest) = cond (is_stop (begin_at mode region name (c ∷ rest))) [] (front_errors mode (region_in mode region (c ∷ rest)) name (place + 1) rest)
+front_errors mode region name place (c ∷ rest) = cond (is_stop (begin_at mode region name (c ∷ rest))) [] (null_errors (Some c) place ++ front_errors mode (region_in mode region (c ∷ rest)) name (place + 1) rest)
 
 -- The errors of the rest of a text at a place, after so many code points that belong to the piece before: those of its pieces.
 unfoldable pub errors_after : List Row → ℕ → TextMode → Option (List ℕ) → ℕ → List ℕ → List (Option TextMode) → List Fault
@@ -170,9 +171,17 @@ region_told Plain place text = []
 region_told Escaped place text = end_told place text
 region_told Double place text = end_told place text
 
+-- what a step tells of what begins
+abbrev pub begin_told : Begin → ℕ → List ℕ → List Fault
+begin_told begins.Char place text = null_errors (slice_get text 0) place
+begin_told begins.Markup place text = piece_errors begins.Markup place text
+begin_told begins.EndMark place text = []
+begin_told begins.Reference place text = []
+begin_told begins.Section place text = []
+
 -- what a step tells in a state
 abbrev pub told_in : List Row → State → TextMode → Option (List ℕ) → ℕ → List ℕ → List Fault
-told_in rows (Text region) mode name place rest = region_told region place rest ++ piece_errors (begin_at mode region name rest) place rest
+told_in rows (Text region) mode name place rest = region_told region place rest ++ begin_told (begin_at mode region name rest) place rest
 told_in rows (Number draft) mode name place rest = []
 told_in rows (Second c start) mode name place rest = []
 told_in rows (Comment draft) mode name place rest = comment_told draft.kind place rest

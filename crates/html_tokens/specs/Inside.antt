@@ -43,11 +43,16 @@ unfoldable pub unless_closed : FaultName → (List ℕ → Option ℕ) → ℕ �
 unless_closed name mark place [] = fault name place ∷ []
 unless_closed name mark place (c ∷ rest) = unless_after (mark (c ∷ rest)) (unless_closed name mark (place + 1) rest)
 
--- TAGS
-
 -- an error, where this is so
 abbrev pub fault_when : Bool → FaultName → ℕ → List Fault
 fault_when is name place = cond is (fault name place ∷ []) []
+
+-- U+0000 in text, in names and values, in comments and in doctypes: unexpected-null-character (HTML 13.2.5.1 to 13.2.5.5, 13.2.5.8, 13.2.5.33, 13.2.5.36 to 13.2.5.38, 13.2.5.41,
+-- 13.2.5.45, 13.2.5.54 to 13.2.5.68)
+abbrev pub null_errors : Option ℕ → ℕ → List Fault
+null_errors found place = fault_when (is 0 found) names.UnexpectedNullCharacter place
+
+-- TAGS
 
 -- A tag that ends before a place: eof-in-tag where the text ends in it (HTML 13.2.5.8, 13.2.5.32 to 13.2.5.40); and at the `>` of an end tag end-tag-with-attributes and
 -- end-tag-with-trailing-solidus (HTML 13.2.2, 13.2.5).
@@ -85,9 +90,9 @@ abbrev pub nests_in : CommentKind → List ℕ → Bool
 nests_in comments.Declared text = nests text
 nests_in comments.Bogus text = false
 
--- what a code point tells that belongs to a comment: nested-comment, after the `<!--` that it begins
+-- what a code point tells that belongs to a comment: nested-comment, after the `<!--` that it begins, and whether it is U+0000
 abbrev pub comment_char_errors : CommentKind → ℕ → List ℕ → List Fault
-comment_char_errors kind place text = fault_when (nests_in kind text) names.NestedComment (place + 4)
+comment_char_errors kind place text = fault_when (nests_in kind text) names.NestedComment (place + 4) ++ null_errors (slice_get text 0) place
 
 -- the end of the text: eof-in-comment (HTML 13.2.5.43 to 13.2.5.52), and nothing in a bogus comment (HTML 13.2.5.41)
 abbrev pub comment_end_errors : CommentKind → ℕ → List Fault
@@ -206,9 +211,13 @@ begins_keyword (parts.System quote) keyword = false
 begins_keyword parts.AfterSystem keyword = false
 begins_keyword (parts.BadRest force_quirks) keyword = false
 
+-- and whether that is U+0000
+abbrev pub doctype_front_errors : DoctypePart → Bool → Option ℕ → ℕ → List Fault
+doctype_front_errors part spaced found place = fault_if (doctype_error part spaced found) place ++ null_errors found place
+
 -- the errors at the front of the rest, in a part of a doctype
 abbrev pub doctype_told : DoctypePart → Bool → ℕ → List ℕ → List Fault
-doctype_told part spaced place text = cond (begins_keyword part (keyword_at text)) [] (fault_if (doctype_error part spaced (slice_get text 0)) place)
+doctype_told part spaced place text = cond (begins_keyword part (keyword_at text)) [] (doctype_front_errors part spaced (slice_get text 0) place)
 
 -- `>` closes a doctype in each part (and is no quote)
 abbrev pub closes_part : DoctypePart → ℕ → Bool
@@ -272,12 +281,12 @@ PassesErrors old input n new = (place : ℕ) (more : List ℕ) → MayFollow inp
 -- what the front of the rest tells, and what it leaves to be told
 abbrev pub MovesDoctype : DoctypeDraft → Input → DoctypeReading → DoctypeDraft → Type 0
 MovesDoctype old input More new =
-    PassesErrors old input 1 new × ((place : ℕ) (more : List ℕ) → MayFollow input.finished more → doctype_told old.part old.spaced place (input.queue.items ++ more) ≡ fault_if (doctype_error old.part old.spaced (slice_get (input.queue.items ++ more) 0)) place)
+    PassesErrors old input 1 new × ((place : ℕ) (more : List ℕ) → MayFollow input.finished more → doctype_told old.part old.spaced place (input.queue.items ++ more) ≡ doctype_front_errors old.part old.spaced (slice_get (input.queue.items ++ more) 0) place)
 MovesDoctype old input (Word n) new =
     PassesErrors old input n new × ((place : ℕ) (more : List ℕ) → MayFollow input.finished more → doctype_told old.part old.spaced place (input.queue.items ++ more) ≡ [])
 MovesDoctype old input (Closed force_quirks n) new =
     ((place : ℕ) (more : List ℕ) → MayFollow input.finished more → draft_errors old place (input.queue.items ++ more) ≡ doctype_told old.part old.spaced place (input.queue.items ++ more))
-    × ((place : ℕ) (more : List ℕ) → MayFollow input.finished more → doctype_told old.part old.spaced place (input.queue.items ++ more) ≡ fault_if (doctype_error old.part old.spaced (slice_get (input.queue.items ++ more) 0)) place)
+    × ((place : ℕ) (more : List ℕ) → MayFollow input.finished more → doctype_told old.part old.spaced place (input.queue.items ++ more) ≡ doctype_front_errors old.part old.spaced (slice_get (input.queue.items ++ more) 0) place)
 MovesDoctype old input Wait new = Unit {0}
 
 -- The part after one code point, outside of keywords; or the doctype closes there.

@@ -1,10 +1,10 @@
--- Claimed, but for this crate's own functions: looks_on_in, looks_on, may_tell, part_told, TurnsTo, MovesTag, SettlesPart, OpensPart, MovesRef.
+-- Claimed, but for this crate's own functions: looks_on_in, looks_on, may_tell_in, may_tell, part_told, TurnsTo, MovesTag, SettlesPart, OpensPart, MovesRef.
 -- The parse errors inside of a tag, told of its code points (HTML 13.2.5.8, 13.2.5.32 to 13.2.5.40).
-use Rattle.std.specs.Prelude.{◌≡◌, ℕ, zero, suc, ◌+◌, ◌-◌, ◌<◌, ◌≤◌, List, [], ◌∷◌, ◌++◌, length, drop, Bool, true, false, not, ◌&&◌, ◌||◌, ◌==◌, cond, Option, slice_get}
+use Rattle.std.specs.Prelude.{◌≡◌, ℕ, zero, suc, ◌+◌, ◌-◌, ◌<◌, ◌≤◌, List, [], ◌∷◌, ◌++◌, length, drop, Bool, true, false, not, ◌&&◌, ◌||◌, ◌==◌, cond, Option, Some, slice_get}
 use Rattle.html_charref.specs.declared.table.Row.{Row}
 use Rattle.html_tokens.specs.Cut.{ends_unquoted, is, is_space, passes}
 use Rattle.html_tokens.specs.Doctype.{is_quote}
-use Rattle.html_tokens.specs.Inside.{fault_when, tag_end_errors}
+use Rattle.html_tokens.specs.Inside.{fault_when, null_errors, tag_end_errors}
 use Rattle.html_tokens.specs.Reference.{numbered}
 use Rattle.html_tokens.specs.Tag.{ends_name, reads_refs, tag_of}
 use Rattle.html_tokens.specs.Value.{Begins, ref_len, value_reference}
@@ -42,14 +42,18 @@ value_errors ends.Space c after place = unquoted_errors c place
 
 -- What a code point tells in a part of a tag, by the one after it: in its name (HTML 13.2.5.8), where an attribute may begin (HTML 13.2.5.32), in the name of one (HTML 13.2.5.33) and
 -- after it (HTML 13.2.5.34), where a value may begin (HTML 13.2.5.35), and in a value.
+abbrev pub part_char_errors : Part → ℕ → Option ℕ → ℕ → List Fault
+part_char_errors parts.Name c after place = solidus_errors c after place
+part_char_errors parts.Attributes c after place = solidus_errors c after place ++ (fault_when (c == 61) names.UnexpectedEqualsSignBeforeAttributeName place ++ attr_char_errors c place)
+part_char_errors parts.AttrName c after place = solidus_errors c after place ++ attr_char_errors c place
+part_char_errors parts.AfterName c after place = solidus_errors c after place ++ attr_char_errors c place
+part_char_errors parts.Value c after place = cond (is_quote c) [] (fault_when (c == 62) names.MissingAttributeValue place ++ unquoted_errors c place)
+part_char_errors (parts.Inside end) c after place = value_errors end c after place
+part_char_errors (parts.Number end base value) c after place = value_errors end c after place
+
+-- and whether it is U+0000
 abbrev pub tag_char_errors : Part → ℕ → Option ℕ → ℕ → List Fault
-tag_char_errors parts.Name c after place = solidus_errors c after place
-tag_char_errors parts.Attributes c after place = solidus_errors c after place ++ (fault_when (c == 61) names.UnexpectedEqualsSignBeforeAttributeName place ++ attr_char_errors c place)
-tag_char_errors parts.AttrName c after place = solidus_errors c after place ++ attr_char_errors c place
-tag_char_errors parts.AfterName c after place = solidus_errors c after place ++ attr_char_errors c place
-tag_char_errors parts.Value c after place = cond (is_quote c) [] (fault_when (c == 62) names.MissingAttributeValue place ++ unquoted_errors c place)
-tag_char_errors (parts.Inside end) c after place = value_errors end c after place
-tag_char_errors (parts.Number end base value) c after place = value_errors end c after place
+tag_char_errors part c after place = part_char_errors part c after place ++ null_errors (Some c) place
 
 -- the part after a code point of a value
 abbrev pub after_value : ValueEnd → ℕ → Part
@@ -148,17 +152,20 @@ looks_on parts.Value c = c == 47
 looks_on (parts.Inside end) c = looks_on_in end c
 looks_on (parts.Number end base value) c = looks_on_in end c
 
--- a code point that may tell an error, but for `/`
+-- a code point that may tell an error, but for `/` and U+0000
+abbrev pub may_tell_in : Part → ℕ → Bool
+may_tell_in parts.Name c = false
+may_tell_in parts.Attributes c = c == 61 || (c == 34 || (c == 39 || c == 60))
+may_tell_in parts.AttrName c = c == 34 || (c == 39 || c == 60)
+may_tell_in parts.AfterName c = c == 34 || (c == 39 || c == 60)
+may_tell_in parts.Value c = c == 62 || (c == 60 || (c == 61 || c == 96))
+may_tell_in (parts.Inside ends.DoubleQuote) c = c == 34
+may_tell_in (parts.Inside ends.SingleQuote) c = c == 39
+may_tell_in (parts.Inside ends.Space) c = c == 34 || (c == 39 || (c == 60 || (c == 61 || c == 96)))
+may_tell_in (parts.Number end base value) c = true
+
 abbrev pub may_tell : Part → ℕ → Bool
-may_tell parts.Name c = false
-may_tell parts.Attributes c = c == 61 || (c == 34 || (c == 39 || c == 60))
-may_tell parts.AttrName c = c == 34 || (c == 39 || c == 60)
-may_tell parts.AfterName c = c == 34 || (c == 39 || c == 60)
-may_tell parts.Value c = c == 62 || (c == 60 || (c == 61 || c == 96))
-may_tell (parts.Inside ends.DoubleQuote) c = c == 34
-may_tell (parts.Inside ends.SingleQuote) c = c == 39
-may_tell (parts.Inside ends.Space) c = c == 34 || (c == 39 || (c == 60 || (c == 61 || c == 96)))
-may_tell (parts.Number end base value) c = true
+may_tell part c = c == 0 || may_tell_in part c
 
 -- the part after a code point, or the tag ends there
 abbrev pub TurnsTo : Part → ℕ → Option ℕ → TagReading → Part → Type 0

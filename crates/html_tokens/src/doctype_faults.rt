@@ -3,7 +3,7 @@ ghost use Rattle.std.specs.Prelude.{◌≡◌, ℕ, ◌≤◌, ◌+◌, true, co
 ghost use Rattle.html_tokens.specs.Cut.{is_space};
 ghost use Rattle.html_tokens.specs.Bounds.{Told};
 ghost use Rattle.html_tokens.specs.Errors.{is_defined, Opens};
-ghost use Rattle.html_tokens.specs.Inside.{doctype_char_error, doctype_close_error, doctype_end_error, doctype_error, fault_if, id_error};
+ghost use Rattle.html_tokens.specs.Inside.{doctype_char_error, doctype_close_error, doctype_end_error, doctype_front_errors, fault_if, id_error};
 
 use crate::doctype::DoctypePart;
 use crate::fault_name::FaultName;
@@ -102,7 +102,7 @@ impl Faults {
         place: u64,
     )
         ensures told { Told 2 0 self.old self.new }
-        ensures opens { Opens (fault_if (doctype_error part spaced found) place) self.old self.new }
+        ensures opens { Opens (doctype_front_errors part spaced found place) self.old self.new }
     {
         match found {
             None => self.doctype_end(part, place),

@@ -3,7 +3,7 @@ ghost use Rattle.std.specs.Prelude.{◌≡◌, ◌+◌, ◌<◌, ◌≤◌, ◌^
 ghost use Rattle.html_tokens.specs.Order.{IsAdded};
 ghost use Rattle.html_tokens.specs.Bounds.{Told};
 ghost use Rattle.html_tokens.specs.Errors.{bogus_error, is_cdata, is_defined, IsQuiet, literal_error, Opens, opening_errors, region_end_errors};
-ghost use Rattle.html_tokens.specs.Inside.{fault};
+ghost use Rattle.html_tokens.specs.Inside.{fault, null_errors};
 ghost use Rattle.html_tokens.specs.Input.{Decided, IsShort};
 ghost use Rattle.html_tokens.specs.Tokens.{opened_len, opener};
 
@@ -213,7 +213,7 @@ impl Faults {
     /// What a U+0000 tells.
     pub(crate) fn null(&mut self, c: char, place: u64)
         ensures told { Told 1 0 self.old self.new }
-        ensures quiet { IsQuiet self.old self.new }
+        ensures opens { Opens (null_errors (Some c) place) self.old self.new }
     {
         if c == '\0' {
             self.tell(FaultName::UnexpectedNullCharacter, place);
@@ -223,7 +223,7 @@ impl Faults {
     /// What a code point of text tells.
     pub(crate) fn text_char(&mut self, c: char, place: u64)
         ensures told { Told 2 0 self.old self.new }
-        ensures quiet { IsQuiet self.old self.new }
+        ensures opens { Opens (null_errors (Some c) place) self.old self.new }
     {
         self.letter(c, place);
         self.null(c, place);

@@ -3,7 +3,7 @@ ghost use Rattle.std.specs.Prelude.{length, ◌≡◌, ℕ, ◌≤◌, ◌+◌, 
 ghost use Rattle.html_tokens.specs.Copied.{copied_in, CopiesTag};
 ghost use Rattle.html_tokens.specs.Cut.{is_space, ends_unquoted};
 ghost use Rattle.html_tokens.specs.Tag.{name_char, ReadsTag, ends_name, ends_attr, AddsAttr, reads_refs, is_number, Settles, OpensRef, ReadsRef, IsInside, GoesOn, ClosesAt};
-ghost use Rattle.html_tokens.specs.InsideTags.{looks_on, may_tell, MovesRef, MovesTag, SettlesPart, TurnsTo};
+ghost use Rattle.html_tokens.specs.InsideTags.{looks_on, may_tell, may_tell_in, MovesRef, MovesTag, SettlesPart, TurnsTo};
 ghost use Rattle.html_tokens.specs.Reference.{is_digit};
 ghost use Rattle.html_charref.specs.Number.{char_of};
 ghost use Rattle.html_charref.specs.Entities.{codes_with};
@@ -64,6 +64,13 @@ impl Part {
     /// Whether a code point may tell an error here, but for `/`.
     pub(crate) fn may_tell(self, c: char) -> bool
         ensures { result ≡ may_tell self c }
+    {
+        c == '\0' || self.may_tell_in(c)
+    }
+
+    /// The same, but for U+0000.
+    fn may_tell_in(self, c: char) -> bool
+        ensures { result ≡ may_tell_in self c }
     {
         match self {
             Part::Name => false,

@@ -2,8 +2,8 @@
 ghost use Rattle.html_tokens.specs.Bounds.{Told};
 ghost use Rattle.html_tokens.specs.Errors.{Opens};
 ghost use Rattle.html_tokens.specs.Input.{Decided};
-ghost use Rattle.html_tokens.specs.Inside.{closing_errors, fault_when, is_closed, kind_errors};
-ghost use Rattle.std.specs.Prelude.{◌≡◌, ◌+◌, ◌<◌, ◌≤◌, ◌^◌, Bool, length, true};
+ghost use Rattle.html_tokens.specs.Inside.{closing_errors, fault_when, is_closed, kind_errors, null_errors};
+ghost use Rattle.std.specs.Prelude.{◌≡◌, ◌++◌, ◌+◌, ◌<◌, ◌≤◌, ◌^◌, Bool, length, true};
 
 use super::Faults;
 use crate::comment::CommentKind;
@@ -26,13 +26,21 @@ fn is_closed(input: &Input, len: usize) -> bool
 
 impl Faults {
     /// What a code point of a comment tells, and whether a `<!--` begins with it that is an error.
-    pub(crate) fn comment_char(&mut self, nests: bool, found: Peek, place: u64)
+    pub(crate) fn comment_char(&mut self, nests: bool, found: Option<char>, place: u64)
         requires room { nests ≡ true → place + 4 < 2 ^ 64 }
         ensures told { Told 2 0 self.old self.new }
-        ensures opens { Opens (fault_when nests FaultName.NestedComment (place + 4)) self.old self.new }
+        ensures opens { Opens (fault_when nests FaultName.NestedComment (place + 4) ++ null_errors found place) self.old self.new }
     {
         self.nested(nests, place);
-        if let Peek::Is(Some(c)) = found {
+        self.null_at(found, place);
+    }
+
+    /// What a U+0000 tells, where there is one.
+    fn null_at(&mut self, found: Option<char>, place: u64)
+        ensures told { Told 1 0 self.old self.new }
+        ensures opens { Opens (null_errors found place) self.old self.new }
+    {
+        if let Some(c) = found {
             self.null(c, place);
         }
     }

@@ -4,7 +4,7 @@ ghost use Rattle.html_tokens.specs.Bounds.{Told};
 ghost use Rattle.html_tokens.specs.Cut.{passes};
 ghost use Rattle.html_tokens.specs.Errors.{IsQuiet, Opens, is_defined};
 ghost use Rattle.html_tokens.specs.Inside.{fault, fault_when, tag_end_errors};
-ghost use Rattle.html_tokens.specs.InsideTags.{attr_char_errors, quote_errors, solidus_errors, tag_char_errors, unquoted_errors, value_errors};
+ghost use Rattle.html_tokens.specs.InsideTags.{attr_char_errors, part_char_errors, quote_errors, solidus_errors, tag_char_errors, unquoted_errors, value_errors};
 ghost use Rattle.html_tokens.specs.Places.{comparisons};
 ghost use Rattle.html_tokens.specs.Tag.{ends_name};
 ghost use Rattle.html_tokens.specs.declared.tag.Part.{Part};
@@ -68,7 +68,7 @@ impl Faults {
     fn part_char(&mut self, draft: &TagDraft, c: char, after: Option<char>, place: u64)
         requires room { place + 1 < 2 ^ 64 }
         ensures told { Told 4 (length draft.now.attrs) self.old self.new }
-        ensures opens { Opens (tag_char_errors draft.now.part c after place) self.old self.new }
+        ensures opens { Opens (part_char_errors draft.now.part c after place) self.old self.new }
     {
         match draft.part {
             Part::Name => self.solidus(c, after, place),
@@ -170,7 +170,7 @@ impl Faults {
     /// What a code point tells where a value may begin.
     fn value_start(&mut self, c: char, place: u64)
         ensures told { Told 3 0 self.old self.new }
-        ensures opens { Opens (tag_char_errors Part.Value c Option.None place) self.old self.new }
+        ensures opens { Opens (part_char_errors Part.Value c Option.None place) self.old self.new }
     {
         if is_quote(c) {
             return;

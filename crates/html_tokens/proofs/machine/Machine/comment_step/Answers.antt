@@ -1,8 +1,8 @@
-use Rattle.std.proofs.Common.{◌+◌, ◌++◌, ◌∙◌, Bool, ap, refl}
+use Rattle.std.proofs.Common.{◌+◌, ◌++◌, ◌∙◌, ℕ, Bool, Option, ap₂, refl}
 use Rattle.html_tokens.specs.declared.machine.Progress.TheVariants.{More}
 use Rattle.html_tokens.proofs.CommentLemmas.{comment_goes}
 use Rattle.html_tokens.proofs.InsideLemmas.{closed_fed, comment_tells}
-use Rattle.html_tokens.specs.Inside.{fault_when, is_closed}
+use Rattle.html_tokens.specs.Inside.{fault_when, is_closed, null_errors}
 use Rattle.html_tokens.specs.declared.fault_name.FaultName.TheVariants as names
 use Rattle.html_tokens.proofs.Cuts.{not_empty}
 use Rattle.html_tokens.proofs.ToldLemmas.{tells_decided}
@@ -28,7 +28,7 @@ returns-in-More-clause-tells c =
     let moves = rw c.in-More.is at c.in_ok-read.ensures.moves in
     tells_decided old _ c.args.faults.now c.comment_char.new.self
     (λ more f. rw c.in-Comment.is ((comment_goes c.in-Comment.draft.kind old.place (items ++ more) (moves.1 more f) (not_empty items more reads.2)).1
-    ∙ ap (λ (b : Bool). fault_when b names.NestedComment (old.place + 4)) (c.in-Some.ensures.0 more f))) c.comment_char.ensures.opens
+    ∙ ap₂ (λ (b : Bool) (x : Option ℕ). fault_when b names.NestedComment (old.place + 4) ++ null_errors x old.place) (c.in-Some.ensures.0 more f) (c.in-Is.ensures.0 more f))) c.comment_char.ensures.opens
 
 pub returns-in-Closed-clause-tells : goal.returns-in-Closed-clause-tells
 returns-in-Closed-clause-tells c =

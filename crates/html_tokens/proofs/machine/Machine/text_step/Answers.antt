@@ -28,12 +28,6 @@ returns-in-Is-None-clause-tells c =
     let at_end = rw c.in-Is-None.field-0-is at c.in-Is-None.ensures in
     tells_end c.args.self.now c.args.region c.args.faults.now c.text_end.new.self c.requires.state (λ more h. empty_rest _ (at_end.0 more h)) c.text_end.ensures.opens
 
-pub returns-in-Some-Char-clause-tells : goal.returns-in-Some-Char-clause-tells
-returns-in-Some-Char-clause-tells c =
-    let found = rw c.in-Some-Char.field-0-is at c.in-Some-Char.ensures in
-    let first = rw c.in-Is-Some.field-0-is at c.in-Is-Some.ensures in
-    tells_quiet c.args.self.now c.char_step.result c.args.faults.now c.char_step.new.faults (silent_begun c.args.self.now c.args.region begins.Char c.requires.state found.0 first.1 (λ place text. refl)) c.char_step.ensures.quiet
-
 pub returns-in-Some-EndMark-clause-tells : goal.returns-in-Some-EndMark-clause-tells
 returns-in-Some-EndMark-clause-tells c =
     let found = rw c.in-Some-EndMark.field-0-is at c.in-Some-EndMark.ensures in
