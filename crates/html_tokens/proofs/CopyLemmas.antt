@@ -1,6 +1,6 @@
 -- Fronts that are copied as they stand.
-use Rattle.std.proofs.Common.{◌≡◌, ℕ, suc, ◌+◌, ◌≤◌, List, [], ◌∷◌, ◌++◌, length, take, drop, Bool, true, false, not, ◌&&◌, ◌||◌, ◌==◌, None, refl, ap, sym, ◌∙◌, arith, append_assoc, append-nil, zero-add, add-zero}
-use Rattle.std.proofs.lemmas.List.{take-append-drop, length-take-le}
+use Rattle.std.proofs.Common.{◌≡◌, ℕ, suc, ◌+◌, ◌≤◌, List, [], ◌∷◌, ◌++◌, length, take, drop, Bool, true, false, not, ◌&&◌, ◌==◌, None, refl, ap, sym, ◌∙◌, arith, append_assoc, append-nil, zero-add, add-zero}
+use Rattle.std.proofs.lemmas.List.{length-take-le}
 use Rattle.std.proofs.lemmas.Bool.{false≢true}
 use Rattle.html_charref.specs.declared.table.Row.{Row}
 use Rattle.html_tokens.specs.Copied.{AllPass, is_copied, is_without, copied_in, copied_by, CopiesTag, CopiesComment, cut_by}

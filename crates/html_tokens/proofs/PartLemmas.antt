@@ -1,24 +1,21 @@
 -- What the code points of a tag tell, part by part.
-use Rattle.std.proofs.Common.{◌≡◌, ◌⊎◌, ℕ, zero, suc, ◌+◌, ◌-◌, ◌*◌, ◌<◌, ◌≤◌, List, [], ◌∷◌, ◌++◌, length, take, drop, Bool, true, false, not, ◌&&◌, ◌||◌, ◌==◌, cond, Option, Some, None, Result, Ok, Err, refl, ap, sym, ◌∙◌, inl, inr, arith, append-nil, append_assoc, add-zero, zero-add, length-append, length-drop}
+use Rattle.std.proofs.Common.{◌≡◌, ◌⊎◌, ℕ, zero, suc, ◌+◌, ◌-◌, ◌≤◌, List, [], ◌∷◌, ◌++◌, length, take, drop, Bool, true, false, not, ◌&&◌, ◌||◌, ◌==◌, cond, Option, Some, None, Result, Ok, Err, refl, ap, sym, ◌∙◌, inl, inr, arith, append-nil, append_assoc, add-zero, zero-add}
 use Rattle.std.specs.List.{slice_get}
 use Rattle.std.specs.Result.{IfOk, OnOk}
-use Rattle.std.specs.Char.{digit_value}
-use Rattle.std.proofs.lemmas.Bool.{false≢true}
+use Rattle.std.proofs.lemmas.Bool.{cases_eq, false≢true}
 use Rattle.std.proofs.lemmas.Bool.Decides.{nat_tests}
 use Rattle.std.proofs.lemmas.List.{take-append-drop, length-take-le}
-use Rattle.html_charref.specs.Entities.{codes_with}
-use Rattle.html_charref.specs.Number.{radix}
 use Rattle.html_charref.specs.declared.number.Base.{Base}
 use Rattle.html_charref.specs.declared.number.Base.TheVariants.{Decimal, Hex}
 use Rattle.html_charref.specs.declared.table.Row.{Row}
 use Rattle.html_tokens.specs.Copied.{AllPass, copied_in, is_copied}
-use Rattle.html_tokens.specs.Cut.{ends_unquoted, is, is_space, passes}
+use Rattle.html_tokens.specs.Cut.{ends_unquoted, is_space}
 use Rattle.html_tokens.specs.Doctype.{is_quote}
-use Rattle.html_tokens.specs.Inside.{fault_when}
-use Rattle.html_tokens.specs.InsideTags.{MovesRef, MovesTag, SettlesPart, TurnsTo, after_value, ends_in, ends_outside, ends_tag, looks_on, looks_on_in, may_tell, may_tell_in, next_part, number_len, part_char_errors, part_errors, part_told, quote_errors, ref_rest, settled, tag_char_errors, tag_part_errors, unquoted_errors, value_errors}
-use Rattle.html_tokens.specs.Reference.{is_digit, literal, numbered, Numbered, ref_opener, Reference}
+use Rattle.html_tokens.specs.Inside.{fault_when, null_errors}
+use Rattle.html_tokens.specs.InsideTags.{closes_before, MovesRef, MovesTag, SettlesPart, TurnsTo, after_value, ends_tag, looks_on, looks_on_in, may_tell, may_tell_in, next_part, part_char_errors, part_errors, part_told, quote_errors, ref_rest, tag_char_errors, tag_part_errors, unquoted_errors, value_errors}
+use Rattle.html_tokens.specs.Reference.{is_digit, numbered, Numbered, Reference}
 use Rattle.html_tokens.specs.Tag.{ends_attr, ends_name, is_number, IsInside, reads_refs}
-use Rattle.html_tokens.specs.Value.{Begins, ref_len, value_reference}
+use Rattle.html_tokens.specs.Value.{value_reference}
 use Rattle.html_tokens.specs.declared.copied.Copied.TheVariants as copied
 use Rattle.html_tokens.specs.declared.fault_name.FaultName.TheVariants as names
 use Rattle.html_tokens.specs.declared.faults.Fault.{Fault}
@@ -31,7 +28,6 @@ use Rattle.html_tokens.specs.declared.tag.TagReading.{TagReading}
 use Rattle.html_tokens.specs.declared.tag.TagReading.TheVariants.{More, Closed}
 use Rattle.html_tokens.specs.declared.tag.ValueEnd.{ValueEnd}
 use Rattle.html_tokens.specs.declared.tag.ValueEnd.TheVariants as ends
-use Rattle.html_tokens.specs.declared.token.RefOpener.TheVariants.{Numeric}
 use Rattle.html_tokens.proofs.EndLemmas.{differs}
 use Rattle.html_tokens.proofs.StepLemmas.{digit_first, digits_stop, not_semicolon}
 
@@ -394,6 +390,32 @@ quiet_looks_in (parts.Number end base v) c h s = absurd (false≢true (sym h))
 -- nor is it judged by the one after it
 pub quiet_looks : (part : Part) (c : ℕ) → may_tell part c ≡ false → ¬ (c ≡ 47) → looks_on part c ≡ false
 quiet_looks part c h s = quiet_looks_in part c (second_false (c == 0) _ h) s
+
+-- a quote that closes a value before what ends a name
+both_true : (a b : Bool) → (a && b) ≡ true → (a ≡ true) × (b ≡ true)
+both_true true b h = (refl, h)
+both_true false b h = absurd (false≢true h)
+
+none_either : (b : Bool) (place : ℕ) → fault_when (b && false) names.MissingWhitespaceBetweenAttributes (place + 1) ++ [] ≡ []
+none_either true place = refl
+none_either false place = refl
+
+quote_quiet : (quote c next place : ℕ) → (quote == 0) ≡ false → (c == quote && ends_name next) ≡ true → quote_errors quote c (Some next) place ++ null_errors (Some c) place ≡ []
+quote_quiet quote c next place z h = elim (cases_eq c quote) [
+  | inl e ↦ rw (e, z, (both_true (c == quote) (ends_name next) h).1) (none_either (quote == quote) place)
+  | inr e ↦ absurd (false≢true (sym (differs c quote e) ∙ (both_true (c == quote) (ends_name next) h).0))
+]
+
+pub close_quiet : (part : Part) (c next place : ℕ) → closes_before part c next ≡ true → tag_char_errors part c (Some next) place ≡ []
+close_quiet parts.Name c next place h = absurd (false≢true h)
+close_quiet parts.Attributes c next place h = absurd (false≢true h)
+close_quiet parts.AttrName c next place h = absurd (false≢true h)
+close_quiet parts.AfterName c next place h = absurd (false≢true h)
+close_quiet parts.Value c next place h = absurd (false≢true h)
+close_quiet (parts.Inside ends.DoubleQuote) c next place h = quote_quiet 34 c next place refl h
+close_quiet (parts.Inside ends.SingleQuote) c next place h = quote_quiet 39 c next place refl h
+close_quiet (parts.Inside ends.Space) c next place h = absurd (false≢true h)
+close_quiet (parts.Number end base v) c next place h = absurd (false≢true h)
 
 -- FRONTS
 

@@ -27,7 +27,7 @@ use Rattle.html_tokens.specs.declared.token.Token.{Token}
 use Rattle.html_tokens.proofs.CopyLemmas.{name_front}
 use Rattle.html_tokens.proofs.Cuts.{first_of}
 use Rattle.html_tokens.proofs.EndLemmas.{bare_told}
-use Rattle.html_tokens.specs.InsideTags.{MovesTag, begun_tag_errors, part_told}
+use Rattle.html_tokens.specs.InsideTags.{begun_tag_errors, part_told}
 use Rattle.html_tokens.proofs.PartLemmas.{closes_by}
 use Rattle.html_tokens.specs.Tag.{draft_tag}
 use Rattle.html_tokens.proofs.TagLemmas.{tag_given_at, tag_opens, tag_skips}

@@ -1,6 +1,6 @@
 -- What steps and runs tell.
 use Rattle.std.proofs.Common.{◌≡◌, ℕ, List, [], ◌∷◌, ◌++◌, length, Option, Some, None, true, false, refl, ap, subst, sym, ◌∙◌, append_assoc, append-nil}
-use Rattle.html_tokens.specs.Errors.{all_told, begin_told, IsQuiet, Opens, defined, piece_errors, region_end_errors, told_in, with_told}
+use Rattle.html_tokens.specs.Errors.{all_told, begin_told, IsQuiet, Opens, defined, region_end_errors, told_in, with_told}
 use Rattle.html_tokens.specs.Fed.{IsSilent, Skips, Steps, Tells, TellsAt, told_at, errors_to_come, errors_to_come_after}
 use Rattle.html_tokens.specs.Input.{Decided, MayFollow}
 use Rattle.html_tokens.specs.Marks.{begin_at}

@@ -1,4 +1,4 @@
--- Claimed, but for this crate's own functions: looks_on_in, looks_on, may_tell_in, may_tell, part_told, TurnsTo, MovesTag, SettlesPart, OpensPart, MovesRef.
+-- Claimed, but for this crate's own functions: looks_on_in, looks_on, may_tell_in, may_tell, closes_before, part_told, TurnsTo, MovesTag, SettlesPart, OpensPart, MovesRef.
 -- The parse errors inside of a tag, told of its code points (HTML 13.2.5.8, 13.2.5.32 to 13.2.5.40).
 use Rattle.std.specs.Prelude.{◌≡◌, ℕ, zero, suc, ◌+◌, ◌-◌, ◌<◌, ◌≤◌, List, [], ◌∷◌, ◌++◌, length, drop, Bool, true, false, not, ◌&&◌, ◌||◌, ◌==◌, cond, Option, Some, slice_get}
 use Rattle.html_charref.specs.declared.table.Row.{Row}
@@ -166,6 +166,18 @@ may_tell_in (parts.Number end base value) c = true
 
 abbrev pub may_tell : Part → ℕ → Bool
 may_tell part c = c == 0 || may_tell_in part c
+
+-- a quote that closes a value before what ends a name
+abbrev pub closes_before : Part → ℕ → ℕ → Bool
+closes_before parts.Name c next = false
+closes_before parts.Attributes c next = false
+closes_before parts.AttrName c next = false
+closes_before parts.AfterName c next = false
+closes_before parts.Value c next = false
+closes_before (parts.Inside ends.DoubleQuote) c next = c == 34 && ends_name next
+closes_before (parts.Inside ends.SingleQuote) c next = c == 39 && ends_name next
+closes_before (parts.Inside ends.Space) c next = false
+closes_before (parts.Number end base value) c next = false
 
 -- the part after a code point, or the tag ends there
 abbrev pub TurnsTo : Part → ℕ → Option ℕ → TagReading → Part → Type 0

@@ -3,7 +3,7 @@ ghost use Rattle.std.specs.Prelude.{length, ◌≡◌, ℕ, ◌≤◌, ◌+◌, 
 ghost use Rattle.html_tokens.specs.Copied.{copied_in, CopiesTag};
 ghost use Rattle.html_tokens.specs.Cut.{is_space, ends_unquoted};
 ghost use Rattle.html_tokens.specs.Tag.{name_char, ReadsTag, ends_name, ends_attr, AddsAttr, reads_refs, is_number, Settles, OpensRef, ReadsRef, IsInside, GoesOn, ClosesAt};
-ghost use Rattle.html_tokens.specs.InsideTags.{looks_on, may_tell, may_tell_in, MovesRef, MovesTag, SettlesPart, TurnsTo};
+ghost use Rattle.html_tokens.specs.InsideTags.{closes_before, looks_on, may_tell, may_tell_in, MovesRef, MovesTag, SettlesPart, TurnsTo};
 ghost use Rattle.html_tokens.specs.Reference.{is_digit};
 ghost use Rattle.html_charref.specs.Number.{char_of};
 ghost use Rattle.html_charref.specs.Entities.{codes_with};
@@ -58,6 +58,17 @@ impl Part {
             | Part::Value
             | Part::Inside(ValueEnd::Space)
             | Part::Number(ValueEnd::Space, ..) => c == '/',
+        }
+    }
+
+    /// Whether a quote closes a value here, before white space, `/` or `>`.
+    pub(crate) fn closes_before(self, c: char, next: char) -> bool
+        ensures { result ≡ true → closes_before self c next ≡ true }
+    {
+        match self {
+            Part::Inside(ValueEnd::DoubleQuote) => c == '"' && ends_name(next),
+            Part::Inside(ValueEnd::SingleQuote) => c == '\'' && ends_name(next),
+            _ => false,
         }
     }
 

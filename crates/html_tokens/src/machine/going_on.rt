@@ -1,14 +1,34 @@
 // Reading on as long as no token can come of it.
-ghost use Rattle.std.specs.Prelude.{◌≡◌, ◌≤◌, ◌+◌, ◌^◌, ◌<◌, length, IfOk, OnErr, OnOk, true};
+ghost use Rattle.std.specs.Prelude.{◌≡◌, ℕ, ◌≤◌, ◌+◌, ◌^◌, ◌<◌, [], length, option_to_list, slice_get, IfOk, IfSome, OnErr, OnOk, true};
 ghost use Rattle.html_tokens.specs.Errors.{IsQuiet};
 ghost use Rattle.html_tokens.specs.Fed.{Skips};
+ghost use Rattle.html_tokens.specs.Input.{Decided};
+ghost use Rattle.html_tokens.specs.InsideTags.{looks_on, tag_char_errors};
 ghost use Rattle.html_tokens.specs.Bounds.{IsBounded, IsWithin};
 
 use super::{Machine, State};
 use crate::faults::Faults;
-use crate::input::Peek;
-use crate::tag::TagReading;
+use crate::input::{Input, Peek};
+use crate::tag::{Part, TagReading};
 use std::alloc::AllocError;
+
+/// What is known of the code point after this one, where this one tells nothing in a part of a tag: where it is a quote that closes a value, what follows it.
+#[inline(always)]
+fn quiet_after(part: Part, input: &Input, c: char) -> Option<Option<char>>
+    requires some { 0 < length input.now.queue.items }
+    requires slash { c ≡ 47 → ⊥ }
+    ensures quiet { IfSome result (λ after. (place : ℕ) → tag_char_errors part c after place ≡ []) }
+    ensures looks { IfSome result (λ after. looks_on part c ≡ true → Decided input.now (λ rest. slice_get rest 1) after) }
+    ensures fit { IfSome result (λ after. 1 + length (option_to_list after) ≤ length input.now.queue.items) }
+{
+    if !part.may_tell(c) {
+        return Some(None);
+    }
+    match input.peek(1) {
+        Peek::Is(Some(next)) if part.closes_before(c, next) => Some(Some(next)),
+        _ => None,
+    }
+}
 
 impl<'a> Machine<'a> {
     /// Copies the longest front of the rest that the tag being read takes as it stands.
@@ -93,11 +113,14 @@ impl<'a> Machine<'a> {
             Peek::Is(None) => return Ok(false),
             Peek::Is(Some(c)) => c,
         };
-        if c == '>' || c == '/' || c == '&' || draft.part.may_tell(c) {
+        if c == '>' || c == '/' || c == '&' {
             return Ok(false);
         }
-        faults.tag_char(draft, c, None, self.place);
-        match draft.read(c, None)? {
+        let Some(after) = quiet_after(draft.part, &self.input, c) else {
+            return Ok(false);
+        };
+        faults.tag_char(draft, c, after, self.place);
+        match draft.read(c, after)? {
             TagReading::More => {
                 self.pass(1);
                 Ok(true)

@@ -1,5 +1,4 @@
 use Rattle.std.proofs.Common.{◌+◌, ◌++◌, ◌∙◌, ℕ, Bool, Option, ap₂, refl}
-use Rattle.html_tokens.specs.declared.machine.Progress.TheVariants.{More}
 use Rattle.html_tokens.proofs.CommentLemmas.{comment_goes}
 use Rattle.html_tokens.proofs.InsideLemmas.{closed_fed, comment_tells}
 use Rattle.html_tokens.specs.Inside.{fault_when, is_closed, null_errors}
