@@ -1,4 +1,4 @@
--- Claimed, but for this crate's own functions: ends_here, tag_told, nests_in, comment_told, kind_errors, ClosesComment, MovesComment, section_told, PassesErrors, MovesDoctype, MovesPart.
+-- Claimed, but for this crate's own functions: ends_here, tag_told, comment_told, ClosesComment, MovesComment, section_told, PassesErrors, MovesDoctype, MovesPart.
 -- The parse errors inside of a piece of the text, after what opens it (HTML 13.2.2).
 use Rattle.std.specs.Prelude.{◌≡◌, ◌⊎◌, ◌<◌, ℕ, zero, suc, ◌+◌, ◌-◌, List, [], ◌∷◌, ◌++◌, length, drop, Bool, true, false, cond, Option, Some, None, slice_get, ◌==◌, ◌&&◌, ◌||◌, not}
 use Rattle.html_tokens.specs.Cut.{is, is_space, passes, section_mark}

@@ -1,4 +1,4 @@
--- Claimed, but for this crate's own functions: looks_on_in, looks_on, may_tell_in, may_tell, closes_before, part_told, TurnsTo, MovesTag, SettlesPart, OpensPart, MovesRef.
+-- Claimed, but for this crate's own functions: part_told, looks_on_in, looks_on, may_tell_in, may_tell, closes_before, TurnsTo, MovesTag, SettlesPart, MovesRef.
 -- The parse errors inside of a tag, told of its code points (HTML 13.2.5.8, 13.2.5.32 to 13.2.5.40).
 use Rattle.std.specs.Prelude.{◌≡◌, ℕ, zero, suc, ◌+◌, ◌-◌, ◌<◌, ◌≤◌, List, [], ◌∷◌, ◌++◌, length, drop, Bool, true, false, not, ◌&&◌, ◌||◌, ◌==◌, cond, Option, Some, slice_get}
 use Rattle.html_charref.specs.declared.table.Row.{Row}

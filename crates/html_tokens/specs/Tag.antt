@@ -1,4 +1,4 @@
--- Claimed, but for this crate's own functions: longer_tag, reads_refs, is_number, ReadsTag, ClosesAt, GoesOn, Settles, tail_by, tag_by, IsInside, OpensRef, ReadsRef, AddsAttr.
+-- Claimed, but for this crate's own functions: longer_tag, is_number, ReadsTag, ClosesAt, GoesOn, Settles, tail_by, tag_by, IsInside, OpensRef, ReadsRef, AddsAttr.
 -- A tag: its name, its attributes, and how it closes.
 use Rattle.std.specs.Prelude.{◌≡◌, ℕ, zero, suc, ◌+◌, ◌≤◌, ◌<◌, List, [], ◌∷◌, ◌++◌, length, map, drop, Bool, true, false, ◌&&◌, ◌||◌, ◌==◌, cond, nat_le, Option, IsTrue, slice_get, option_to_list}
 use Rattle.std.specs.List.{list_any}
