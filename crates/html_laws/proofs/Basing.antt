@@ -67,13 +67,13 @@ any-append p (x ∷ xs) ys h = elim (cases_bool (p x)) [
   | inr e ↦ (let k = any-append p xs ys (rw e at h) in (rw e k.0, k.1))
 ]
 
-pub any-has : (p : ℕ → Bool) (x : ℕ) (xs : List ℕ) → list_any p xs ≡ false → has x xs ≡ true → p x ≡ false
-any-has p x [] h k = absurd (false≢true k)
-any-has p x (y ∷ ys) h k = elim (cases_bool (p y)) [
+pub not-passing : (p : ℕ → Bool) (x : ℕ) (xs : List ℕ) → list_any p xs ≡ false → has x xs ≡ true → p x ≡ false
+not-passing p x [] h k = absurd (false≢true k)
+not-passing p x (y ∷ ys) h k = elim (cases_bool (p y)) [
   | inl e ↦ absurd (let m = rw e at h in cc)
   | inr e ↦ elim (cases_eqb x y) [
     | inl f ↦ subst (λ (v : ℕ). p v ≡ false) (sym f.1) e
-    | inr f ↦ any-has p x ys (rw e at h) (rw f.0 at k)
+    | inr f ↦ not-passing p x ys (rw e at h) (rw f.0 at k)
   ]
 ]
 

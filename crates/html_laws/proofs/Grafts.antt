@@ -41,7 +41,7 @@ use Rattle.html_open.proofs.SafePlaces.{none-of, same-tag}
 use Rattle.html_open.proofs.Upwards.{above-closed, has-first, has-more}
 use Rattle.html_laws.specs.Contents.{IsOver, above as upward, itself}
 use Rattle.html_laws.proofs.Hosts.{AreBased, IsLaid, IsTied, base}
-use Rattle.html_laws.proofs.Basing.{host-tag, over-root, place-based}
+use Rattle.html_laws.proofs.Basing.{based-both, based-join, host-tag, not-passing, over-root, place-based, root-one}
 use Rattle.html_laws.proofs.Laying.{AreSimple}
 use Rattle.html_laws.proofs.Planting.{alike-tied}
 use Rattle.html_laws.proofs.Replanting.{alike-simple, front-tied, is_any, part-simple, same-alike}
@@ -139,14 +139,7 @@ root-or-above : (t : Nodes) (a x : ℕ) → IsOver t a x → (x ≡ a) ⊎ ((p :
 root-or-above t a _ itself = inl refl
 root-or-above t a _ (upward x p e o) = inr (p, e, o)
 
--- a node has one root
-one-root : (t : Nodes) (a b x : ℕ) → parent_of t a ≡ None → parent_of t b ≡ None → IsOver t a x → IsOver t b x → a ≡ b
-one-root t a b _ m n itself o = elim (root-or-above t b a o) [ inl e ↦ e | inr e ↦ absurd (some-none (parent_of t a) e.0 e.1 m) ]
-one-root t a b _ m n (upward x p e o) k = elim (root-or-above t b x k) [
-  | inl f ↦ absurd (some-none (parent_of t b) p (ap (parent_of t) (sym f) ∙ e) n)
-  | inr f ↦ (let g : p ≡ f.0 = some-same p f.0 (sym e ∙ f.1) in one-root t a b p m n o (subst (IsOver t b) (sym g) f.2))
-]
-
+-- a climb leads to a root
 top-of : (t : Nodes) (x : ℕ) (us : List ℕ) → Climbs t x us → (s : ℕ) × (parent_of t s ≡ None) × IsOver t s x
 top-of t x [] c = (x, c, itself)
 top-of t x (p ∷ us) c = (let r = top-of t p us c.1 in (r.0, r.1, upward x p c.0 r.2))
@@ -308,7 +301,7 @@ module _ (t u : Nodes) (k b : ℕ) (at : Place) (laid : IsLaid t) (formed : Well
         by (at_place g s) i = go s
           where
             same : c ≡ r
-            same = elim i [ inl j ↦ one-root t c r q e root (subst (IsOver t c) g j) over_place | inr j ↦ j.0 ]
+            same = elim i [ inl j ↦ root-one t c r q (subst (IsOver t c) g j) over_place e root | inr j ↦ j.0 ]
 
             go : (x ≡ b) ⊎ (n ≤ x) → (IsOver t c x ⊎ ((c ≡ r) × (n ≤ x)))
             go (inl j) = inl (subst (λ v. IsOver t v x) (sym same) (subst (IsOver t r) (sym j) over_block))
@@ -317,7 +310,7 @@ module _ (t u : Nodes) (k b : ℕ) (at : Place) (laid : IsLaid t) (formed : Well
         by (below_first g s) (inr i) = inl (subst (λ v. IsOver t v x) (sym i.0) (subst (IsOver t r) (sym g) over_block))
         by (in_chain g s) (inl i) = absurd (not-over c p l s i)
         by (in_chain g s) (inr i) = inr (i.0, g)
-        by (new_one g s) (inl i) = inr (one-root t c r b e root (subst (IsOver t c) s i) over_block, omega arith)
+        by (new_one g s) (inl i) = inr (root-one t c r b (subst (IsOver t c) s i) over_block e root, omega arith)
         by (new_one g s) (inr i) = inr (i.0, omega arith)
         by (given g s) (inl i) = absurd (not-over c p l (omega arith) i)
         by (given g s) (inr i) = inl (subst (λ v. IsOver t v x) (sym i.0) (upward x b g over_block))
@@ -327,7 +320,7 @@ module _ (t u : Nodes) (k b : ℕ) (at : Place) (laid : IsLaid t) (formed : Well
     over-stays x s l e o =
         let z = rooted x (omega (arith, count_is)) in
         elim (over-was z.0 x z.1 z.2 z.4) [
-          | inl i ↦ subst (λ v. IsOver u v x) (one-root t z.0 s x z.2 e i o) z.4
+          | inl i ↦ subst (λ v. IsOver u v x) (root-one t z.0 s x i o z.2 e) z.4
           | inr i ↦ absurd (let j : n ≤ x = i.1 in omega arith)
         ]
 
@@ -349,18 +342,6 @@ base-root t r (x ∷ s) l e = base-root t (get (contents_at t x) r) s l (by (con
     by : (o : Option ℕ) → contents_at t x ≡ o → parent_of t (get o r) ≡ None
     by None f = e
     by (Some c) f = l.alone c x (l.contents_is x c f).1
-
-based-left : (t : Nodes) (r : ℕ) (xs ys : List ℕ) → AreBased t r (xs ++ ys) → AreBased t r xs
-based-left t r [] ys a = tt
-based-left t r (x ∷ xs) ys a = (a.0, based-left t (get (contents_at t x) r) xs ys a.1)
-
-based-right : (t : Nodes) (r : ℕ) (xs ys : List ℕ) → AreBased t r (xs ++ ys) → AreBased t (base t r xs) ys
-based-right t r [] ys a = a
-based-right t r (x ∷ xs) ys a = based-right t (get (contents_at t x) r) xs ys a.1
-
-based-join : (t : Nodes) (r : ℕ) (xs ys : List ℕ) → AreBased t r xs → AreBased t (base t r xs) ys → AreBased t r (xs ++ ys)
-based-join t r [] ys a c = c
-based-join t r (x ∷ xs) ys a c = (a.0, based-join t (get (contents_at t x) r) xs ys a.1 c)
 
 -- where no element is a template, all stand below the root
 over-plain : (t : Nodes) (r : ℕ) (s : List ℕ) → ((x : ℕ) → has x s ≡ true → contents_at t x ≡ None) → AreBased t r s → (x : ℕ) → has x s ≡ true → IsOver t r x
@@ -399,13 +380,6 @@ module _ (t u : Nodes) (laid : IsLaid t) where
 above-here : (f : ℕ) (xs ys : List ℕ) → has f ys ≡ false → above (eqb f) (xs ++ (f ∷ ys)) ≡ ys
 above-here f [] ys h = (let a : list_any (eqb f) ys ≡ false = any-has f ys ∙ h in rw (a, eqb-self f) refl)
 above-here f (x ∷ xs) ys h = (let a : list_any (eqb f) (xs ++ (f ∷ ys)) ≡ true = any-has f (xs ++ (f ∷ ys)) ∙ has-right f xs (f ∷ ys) (has-first f ys) in rw a (above-here f xs ys h))
-
-not-any : (p : ℕ → Bool) (xs : List ℕ) (x : ℕ) → list_any p xs ≡ false → has x xs ≡ true → p x ≡ false
-not-any p [] x n h = absurd (let k = h in cc)
-not-any p (y ∷ ys) x n h = elim (cases_bool (p y)) [
-  | inl e ↦ absurd (let k : true ≡ false = rw e at n in cc)
-  | inr e ↦ elim (has-head x y ys h) [ inl i ↦ subst (λ v. p v ≡ false) (sym i) e | inr i ↦ not-any p ys x (rw e at n) i ]
-]
 
 no-end : (t : Nodes) (f : ℕ) (xs ys : List ℕ) → Distinct (xs ++ (f ∷ ys)) → element_in_scope t f (xs ++ (f ∷ ys)) ≡ true → list_any (ends t scope.Default) ys ≡ false
 no-end t f xs ys d h = by (list_any (eqb f) (xs ++ (f ∷ ys))) (list_any (ends t scope.Default) (above (eqb f) (xs ++ (f ∷ ys)))) h (ap (list_any (ends t scope.Default)) (above-here f xs ys (distinct-right xs (f ∷ ys) d).0))
@@ -571,7 +545,7 @@ module _ (g : Tag) (foster : Bool) (o p : Open) (r : Round g foster o p) where
     neither : (x : ℕ) → has x high ≡ true → (template t x || table t x) ≡ false
     neither x h = elim (has-head x f rest h) [
       | inl i ↦ neither-tag is_formatting true refl refl (tag_at t x) (ap (λ v. is_formatting (tag_at t v)) i ∙ f-formatting)
-      | inr i ↦ neither-tag ends_default_scope false refl refl (tag_at t x) (not-any (ends t scope.Default) rest x no-ends i)
+      | inr i ↦ neither-tag ends_default_scope false refl refl (tag_at t x) (not-passing (ends t scope.Default) x rest no-ends i)
     ]
 
     block-rest : has block rest ≡ true
@@ -589,7 +563,7 @@ module _ (g : Tag) (foster : Bool) (o p : Open) (r : Round g foster o p) where
         let a : is_special (tag_at t 0) ≡ true = ap (λ v. is_special (tag_at t v)) e ∙ r.block_special in
         let c : tag_at t 0 ≡ tag.Html = was.laid.root_tag a in
         let d : ends_default_scope (tag_at t block) ≡ true = ap (λ v. ends_default_scope (tag_at t v)) (sym e) ∙ ap ends_default_scope c in
-        let i : ends_default_scope (tag_at t block) ≡ false = not-any (ends t scope.Default) rest block no-ends block-rest in
+        let i : ends_default_scope (tag_at t block) ≡ false = not-passing (ends t scope.Default) block rest no-ends block-rest in
         cc
 
     high-plain : (x : ℕ) → has x high ≡ true → contents_at t x ≡ None
@@ -606,7 +580,7 @@ module _ (g : Tag) (foster : Bool) (o p : Open) (r : Round g foster o p) where
     root-is = base-root t 0 low was.laid was.laid.root_alone
 
     over-high : (x : ℕ) → has x high ≡ true → IsOver t (base t 0 low) x
-    over-high x h = over-plain t (base t 0 low) high high-plain (based-right t 0 low high was.based) x h
+    over-high x h = over-plain t (base t 0 low) high high-plain (based-both t 0 low high was.based).1 x h
 
     in-size : (x : ℕ) → has x (low ++ high) ≡ true → x < size
     in-size x h = was.inside x h
@@ -751,7 +725,7 @@ module _ (g : Tag) (foster : Bool) (o p : Open) (r : Round g foster o p) where
     low-contents x h = old-contents x (in-size x (has-left x low high h))
 
     low-based : AreBased u 0 low
-    low-based = based-as t u was.laid 0 low was.laid.root_alone low-contents (λ x a h e i. stays x a (in-size x (has-left x low high h)) e i) (based-left t 0 low high was.based)
+    low-based = based-as t u was.laid 0 low was.laid.root_alone low-contents (λ x a h e i. stays x a (in-size x (has-left x low high h)) e i) (based-both t 0 low high was.based).0
 
     first-same : (xs : List ℕ) (a : ℕ) (ys zs : List ℕ) → first_of ((xs ++ (a ∷ [])) ++ ys) ≡ first_of ((xs ++ (a ∷ [])) ++ zs)
     first-same [] a ys zs = refl
