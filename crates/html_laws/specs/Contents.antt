@@ -14,7 +14,7 @@ use Rattle.html_parser.specs.declared.page.Page.{Page}
 use Rattle.html_parser.specs.declared.page.Tree.{Tree}
 use Rattle.html_laws.specs.OnePage.{RefusesForeign}
 
--- r is x, or an ancestor of x
+-- r is an inclusive ancestor of x: x itself, its parent, or one above (DOM 1.1)
 pub data IsOver (t : Nodes) (r : ℕ) : ℕ → Type 0 where
   itself : IsOver t r r
   above : (x p : ℕ) → parent_of t x ≡ Some p → IsOver t r p → IsOver t r x
