@@ -1,7 +1,7 @@
--- Claimed, but for this crate's own functions: opened_by.
+-- Claimed, but for this crate's own functions: opened_by, MayCloseLetters.
 -- What a reference stands for, and its length.
-use Rattle.std.specs.Prelude.{ℕ, ◌+◌, List, [], ◌∷◌, map, drop, Bool, ◌||◌, cond, not, nat_lt, Option, Some, None, slice_get}
-use Rattle.std.specs.Char.{digit_value}
+use Rattle.std.specs.Prelude.{ℕ, ◌+◌, List, [], ◌∷◌, map, drop, Bool, false, true, ◌&&◌, ◌||◌, is_none, cond, not, nat_lt, Option, Some, None, slice_get}
+use Rattle.std.specs.Char.{digit_value, is_ascii_alphanumeric}
 use Rattle.std.specs.Int.Digits.{number_from_digits_after}
 use Rattle.html_charref.specs.Entities.{codes_of}
 use Rattle.html_charref.specs.Number.{radix, char_of}
@@ -11,6 +11,8 @@ use Rattle.html_charref.specs.declared.number.Base.TheVariants.{Decimal, Hex}
 use Rattle.html_charref.specs.declared.table.Row.{Row}
 use Rattle.html_charref.specs.declared.table.RefText.{RefText}
 use Rattle.html_tokens.specs.Cut.{cut, is, passes, stop_mark}
+use Rattle.html_tokens.specs.Input.{Decided}
+use Rattle.html_tokens.specs.declared.input.Input.{Input}
 use Rattle.html_tokens.specs.declared.token.RefOpener.{RefOpener}
 use Rattle.html_tokens.specs.declared.token.RefOpener.TheVariants.{Named, Numeric, Literal}
 
@@ -73,8 +75,29 @@ reference_by Literal rows text = literal
 abbrev pub reference : List Row → List ℕ → Reference
 reference rows text = reference_by (ref_opener text) rows text
 
+-- no letter or digit
+abbrev pub ends_letters : ℕ → Bool
+ends_letters c = not (is_ascii_alphanumeric c)
+
+-- a `;` comes after the letters and digits at the front
+abbrev pub are_letters_closed : List ℕ → Bool
+are_letters_closed text = is 59 (slice_get (drop (cut (stop_mark ends_letters) text).len text) 0)
+
+-- letters or digits come after the `&`, and a `;` after them
+abbrev pub closes_letters : List ℕ → Bool
+closes_letters text = passes is_ascii_alphanumeric (slice_get text 1) && are_letters_closed (drop 1 text)
+
+-- the same, and they begin no name (HTML 13.2.5.72 to 13.2.5.74)
+abbrev pub is_unknown : List Row → List ℕ → Bool
+is_unknown rows text = is_none (longest rows text) && closes_letters text
+
 -- how many code points are there, at least
 abbrev pub opened_by : RefOpener → ℕ
 opened_by Named = 1
 opened_by (Numeric base opened) = opened
 opened_by Literal = 1
+
+-- Letters or digits come after the `&` at the front, which a `;` may close; or none come, or no `;` closes them.
+abbrev pub MayCloseLetters : Input → Bool → Type 0
+MayCloseLetters input true = Decided input (λ rest. passes is_ascii_alphanumeric (slice_get rest 1)) true
+MayCloseLetters input false = Decided input closes_letters false

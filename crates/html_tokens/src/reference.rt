@@ -1,10 +1,10 @@
 // References in text.
-ghost use Rattle.std.specs.Prelude.{◌≡◌, ℕ, ◌≤◌, ◌+◌, ◌<◌, ◌∷◌, ◌++◌, [], length, MatchOption, IfSome, Some, slice_get, true};
+ghost use Rattle.std.specs.Prelude.{◌≡◌, ℕ, ◌≤◌, ◌+◌, ◌<◌, ◌∷◌, ◌++◌, [], length, MatchOption, IfSome, Some, slice_get, true, drop};
 ghost use Rattle.html_charref.specs.Table.{longest, longest_len};
 ghost use Rattle.html_tokens.specs.Input.{Decided, IsShort};
-ghost use Rattle.std.specs.Char.{digit_value};
+ghost use Rattle.std.specs.Char.{digit_value, is_ascii_alphanumeric};
 ghost use Rattle.std.specs.Prelude.{false};
-ghost use Rattle.html_tokens.specs.Reference.{ref_opener, is_digit, opened_by};
+ghost use Rattle.html_tokens.specs.Reference.{MayCloseLetters, are_letters_closed, ref_opener, is_digit, opened_by};
 ghost use Rattle.html_tokens.specs.Cut.{passes};
 ghost use Rattle.html_tokens.specs.Value.{is_taken, goes_on, IsValueRef, IsValueNamed, ref_len};
 ghost use Rattle.std.specs.Prelude.{Option};
@@ -22,12 +22,13 @@ pub struct NumberDraft {
     pub value: u32,
 }
 
-/// What a `&` in a value begins: a number, after what opens it; no name of the table; or so many code points that stand
-/// for one or two.
+/// What a `&` in a value begins: a number, after what opens it; letters that begin no name and that a `;` may close; a number
+/// without digits; or so many code points that stand for one or two.
 #[derive(Clone, Copy)]
 pub enum ValueRef {
     Numeric(Base, usize),
     Unknown,
+    Literal,
     Codes(usize, char, Option<char>),
 }
 
@@ -38,7 +39,7 @@ impl ValueRef {
     {
         match self {
             ValueRef::Numeric(_, opened) => opened,
-            ValueRef::Unknown => 1,
+            ValueRef::Unknown | ValueRef::Literal => 1,
             ValueRef::Codes(len, _, _) => len,
         }
     }
@@ -144,16 +145,60 @@ fn value_named(input: &Input, len: usize, text: RefText) -> Option<ValueRef>
     })
 }
 
+/// Whether a letter or digit comes after the `&` at the front of the rest; nothing where more input is wanted.
+fn is_letter_next(input: &Input) -> Option<bool>
+    ensures { MatchOption result (IsShort input.now 1) (λ found. Decided input.now (λ rest. passes is_ascii_alphanumeric (slice_get rest 1)) found) }
+{
+    match input.peek(1) {
+        Peek::Wait => None,
+        Peek::Is(Some(c)) => Some(c.is_ascii_alphanumeric()),
+        Peek::Is(None) => Some(false),
+    }
+}
+
+/// Whether a `;` comes after the letters and digits after the first code point of the rest; nothing where what was fed ends in them.
+fn are_letters_closed(input: &Input) -> Option<bool>
+    requires { 0 < length input.now.queue.items }
+    ensures { MatchOption result (input.now.finished ≡ false) (λ found. Decided input.now (λ rest. are_letters_closed (drop 1 rest)) found) }
+{
+    let rest = input.queue.unread();
+    for at in 1..rest.len() {
+        let c = rest[at];
+        if !c.is_ascii_alphanumeric() {
+            return Some(c == ';');
+        }
+    }
+    if input.finished { Some(false) } else { None }
+}
+
+/// Whether letters or digits come after the `&` at the front of the rest, and a `;` after them, or what was fed ends in them; nothing where more input is wanted.
+pub(crate) fn may_close_letters(input: &Input) -> Option<bool>
+    requires { 0 < length input.now.queue.items }
+    ensures { MatchOption result (IsShort input.now 1) (λ may_close. MayCloseLetters input.now may_close) }
+{
+    if !is_letter_next(input)? {
+        return Some(false);
+    }
+    match are_letters_closed(input) {
+        None => Some(true),
+        Some(closed) => Some(closed),
+    }
+}
+
 /// What the `&` at the front of the rest of a value begins; nothing where more input is wanted.
 pub(crate) fn value_ref(table: &EntityTable, input: &Input) -> Option<ValueRef>
     requires { 0 < length input.now.queue.items }
     ensures { MatchOption result (IsShort input.now (longest_len table.now + 3)) (λ found. IsValueRef table.now input.now found) }
 {
     match ref_opener(input)? {
-        RefOpener::Literal => Some(ValueRef::Codes(1, '&', None)),
+        RefOpener::Literal => Some(ValueRef::Literal),
         RefOpener::Numeric(base, opened) => Some(ValueRef::Numeric(base, opened)),
         RefOpener::Named => match named(table, input)? {
-            None => Some(ValueRef::Unknown),
+            None => Some(if may_close_letters(input)? {
+                ValueRef::Unknown
+            } else {
+                ValueRef::Codes(1, '&', None)
+            }),
             Some((len, text)) => value_named(input, len as usize, text),
         },
     }

@@ -1,17 +1,20 @@
 // References in text.
-ghost use Rattle.std.specs.Prelude.{◌≡◌, ◌≤◌, ◌+◌, ◌^◌, ◌<◌, length};
-ghost use Rattle.html_tokens.specs.Errors.{IsQuiet};
-ghost use Rattle.html_tokens.specs.Fed.{Steps, Passes, GivesChars};
+ghost use Rattle.std.specs.Prelude.{◌≡◌, ◌≤◌, ◌+◌, ◌^◌, ◌<◌, length, true};
+ghost use Rattle.html_tokens.specs.Fed.{GivesAmpersand, Steps, Passes, GivesChars, Tells};
+ghost use Rattle.html_tokens.specs.InsideReferences.{are_no_letters};
 ghost use Rattle.html_tokens.specs.Input.{Decided};
 ghost use Rattle.html_tokens.specs.Tokens.{token};
 ghost use Rattle.html_tokens.specs.Bounds.{IsBounded};
 ghost use Rattle.html_tokens.specs.Marks.{begin_at};
 ghost use Rattle.html_charref.specs.Number.{char_of};
+ghost use Rattle.html_charref.specs.Table.{longest};
+ghost use Rattle.html_tokens.specs.Reference.{ref_opener};
+ghost use Rattle.std.specs.Prelude.{None};
 
 use super::{Machine, Progress, State, token};
-use crate::faults::Faults;
+use crate::faults::{Faults, lacks_semicolon};
 use crate::input::Peek;
-use crate::reference::{NumberDraft, digit, named, ref_opener};
+use crate::reference::{NumberDraft, digit, may_close_letters, named, ref_opener};
 use crate::token::{Begin, RefOpener, Region, TokenKind};
 use html_charref::{add_digit, numeric};
 
@@ -24,7 +27,7 @@ impl<'a> Machine<'a> {
         requires room { self.old.place + length self.old.input.queue.items < 2 ^ 64 }
         ensures steps { Steps self.old result self.new }
         ensures bounded { IsBounded self.old faults.old → IsBounded self.new faults.new }
-        ensures quiet { IsQuiet faults.old faults.new }
+        ensures tells { Tells self.old result faults.old faults.new }
     {
         match ref_opener(&self.input) {
             None => Progress::Wait,
@@ -42,17 +45,52 @@ impl<'a> Machine<'a> {
                 }));
                 Progress::More
             }
-            Some(RefOpener::Named) => match named(self.table, &self.input) {
-                None => Progress::Wait,
-                Some(None) => {
-                    faults.unknown(self.place);
+            Some(RefOpener::Named) => self.name_step(region, faults),
+        }
+    }
+
+    /// Reads on at a `&` that may begin a name.
+    fn name_step(&mut self, region: Region, faults: &mut Faults) -> Progress
+        requires state { self.old.state ≡ State.Text region }
+        requires reference { Decided self.old.input (begin_at self.old.mode region self.old.last_name) Begin.Reference }
+        requires opener { Decided self.old.input ref_opener RefOpener.Named }
+        requires some { 0 < length self.old.input.queue.items }
+        requires room { self.old.place + length self.old.input.queue.items < 2 ^ 64 }
+        ensures steps { Steps self.old result self.new }
+        ensures bounded { IsBounded self.old faults.old → IsBounded self.new faults.new }
+        ensures tells { Tells self.old result faults.old faults.new }
+    {
+        match named(self.table, &self.input) {
+            None => Progress::Wait,
+            Some(None) => self.unknown_step(region),
+            Some(Some((len, text))) => {
+                let lacking = lacks_semicolon(&self.input, len as usize);
+                faults.name(len as usize, lacking, self.place);
+                self.chars_given(len as usize, text.first, text.second)
+            }
+        }
+    }
+
+    /// Reads on at a `&` that begins no name.
+    fn unknown_step(&mut self, region: Region) -> Progress
+        requires state { self.old.state ≡ State.Text region }
+        requires reference { Decided self.old.input (begin_at self.old.mode region self.old.last_name) Begin.Reference }
+        requires opener { Decided self.old.input ref_opener RefOpener.Named }
+        requires none { Decided self.old.input (longest self.old.table.now) None }
+        requires some { 0 < length self.old.input.queue.items }
+        requires room { self.old.place + length self.old.input.queue.items < 2 ^ 64 }
+        ensures steps { Steps self.old result self.new }
+        ensures bounded { (faults : Faults) → IsBounded self.old faults → IsBounded self.new faults }
+    {
+        match may_close_letters(&self.input) {
+            None => Progress::Wait,
+            Some(may_close) => {
+                if may_close {
+                    self.ampersand_given()
+                } else {
                     self.chars_given(1, '&', None)
                 }
-                Some(Some((len, text))) => {
-                    faults.name(&self.input, len as usize, self.place);
-                    self.chars_given(len as usize, text.first, text.second)
-                }
-            },
+            }
         }
     }
 
@@ -77,6 +115,73 @@ impl<'a> Machine<'a> {
         }
     }
 
+    /// Gives the `&` before letters and digits that begin no name and that a `;` may close.
+    fn ampersand_given(&mut self) -> Progress
+        requires some { 0 < length self.old.input.queue.items }
+        requires room { self.old.place + length self.old.input.queue.items < 2 ^ 64 }
+        ensures { GivesAmpersand self.old result self.new }
+    {
+        let start = self.place;
+        self.pass(1);
+        self.enter(State::Ampersand(start));
+        Progress::Given(token(TokenKind::Char('&'), start, self.place))
+    }
+
+    /// Reads on after a `&` and letters or digits.
+    pub(super) fn ampersand_step(&mut self, start: u64, faults: &mut Faults) -> Progress
+        requires state { self.old.state ≡ State.Ampersand start }
+        requires room { self.old.place + length self.old.input.queue.items < 2 ^ 64 }
+        ensures steps { Steps self.old result self.new }
+        ensures bounded { IsBounded self.old faults.old → IsBounded self.new faults.new }
+        ensures tells { Tells self.old result faults.old faults.new }
+    {
+        match self.input.peek(0) {
+            Peek::Wait => Progress::Wait,
+            Peek::Is(None) => self.letters_end(start, faults),
+            Peek::Is(Some(c)) => {
+                if c.is_ascii_alphanumeric() {
+                    return self.letter_given(c, State::Ampersand(start));
+                }
+                if c == ';' {
+                    faults.ampersand(Some(c), start);
+                    return self.letter_given(c, State::Text(Region::Plain));
+                }
+                self.letters_end(start, faults)
+            }
+        }
+    }
+
+    /// Gives a letter or digit after a `&`, or the `;` after them.
+    fn letter_given(&mut self, c: char, after: State) -> Progress
+        requires some { 0 < length self.old.input.queue.items }
+        requires room { self.old.place + length self.old.input.queue.items < 2 ^ 64 }
+        ensures { (result ≡ Progress.Given (token (TokenKind.Char c) self.old.place (self.old.place + 1))) × Passes self.old 1 after self.new }
+    {
+        let start = self.place;
+        self.pass(1);
+        self.enter(after);
+        Progress::Given(token(TokenKind::Char(c), start, self.place))
+    }
+
+    /// Reads on where no letter or digit comes, nor `;`.
+    fn letters_end(&mut self, start: u64, faults: &mut Faults) -> Progress
+        requires state { self.old.state ≡ State.Ampersand start }
+        requires front { Decided self.old.input are_no_letters true }
+        requires room { self.old.place + length self.old.input.queue.items < 2 ^ 64 }
+        ensures steps { Steps self.old result self.new }
+        ensures bounded { IsBounded self.old faults.old → IsBounded self.new faults.new }
+        ensures tells { Tells self.old result faults.old faults.new }
+    {
+        self.enter(State::Text(Region::Plain));
+        match self.text_step(Region::Plain, faults) {
+            Progress::Wait => {
+                self.enter(State::Ampersand(start));
+                Progress::Wait
+            }
+            progress => progress,
+        }
+    }
+
     /// Gives the second code point of a reference.
     pub(super) fn second_step(&mut self, c: char, start: u64) -> Progress
         requires state { self.old.state ≡ State.Second c start }
@@ -93,7 +198,7 @@ impl<'a> Machine<'a> {
         requires room { self.old.place + length self.old.input.queue.items < 2 ^ 64 }
         ensures steps { Steps self.old result self.new }
         ensures bounded { IsBounded self.old faults.old → IsBounded self.new faults.new }
-        ensures quiet { IsQuiet faults.old faults.new }
+        ensures tells { Tells self.old result faults.old faults.new }
     {
         match self.input.peek(0) {
             Peek::Wait => Progress::Wait,

@@ -1,6 +1,5 @@
 // Text, code point by code point.
 ghost use Rattle.std.specs.Prelude.{◌≡◌, ◌≤◌, ◌+◌, ◌^◌, ◌<◌, Some, length, slice_get, MatchOption, cond};
-ghost use Rattle.html_tokens.specs.Errors.{IsQuiet};
 ghost use Rattle.html_tokens.specs.Fed.{Steps, Tells, slack};
 ghost use Rattle.html_tokens.specs.Input.{Decided, IsShort};
 ghost use Rattle.html_tokens.specs.Bounds.{IsBounded};
@@ -119,7 +118,7 @@ impl<'a> Machine<'a> {
         requires room { self.old.place + length self.old.input.queue.items < 2 ^ 64 }
         ensures steps { Steps self.old result self.new }
         ensures bounded { IsBounded self.old faults.old → IsBounded self.new faults.new }
-        ensures quiet { IsQuiet faults.old faults.new }
+        ensures tells { Tells self.old result faults.old faults.new }
     {
         let Some(after) = self.region_after(region) else {
             return Progress::Wait;

@@ -1,0 +1,148 @@
+-- The numbers of references, and what references tell.
+use Rattle.std.proofs.Common.{Some, ◌≡◌, ℕ, suc, ◌+◌, ◌*◌, ◌-◌, ◌<◌, List, [], ◌∷◌, ◌++◌, drop, get_or, length, map, Bool, true, false, not, ◌==◌, refl, ap, sym, ◌∙◌, arith, zero-add}
+use Rattle.std.specs.Char.{digit_value, is_ascii_alphanumeric}
+use Rattle.std.specs.Int.Digits.{number_from_digits_after}
+use Rattle.std.specs.List.{slice_get}
+use Rattle.std.proofs.lemmas.Bool.{false≢true, ne_eqb}
+use Rattle.std.proofs.lemmas.List.{drop_more}
+use Rattle.std.proofs.lemmas.Bool.Decides.{nat_tests}
+use Rattle.html_charref.specs.Number.{char_of, radix, capped}
+use Rattle.html_charref.specs.declared.number.Base.{Base}
+use Rattle.html_charref.specs.declared.number.Base.TheVariants.{Decimal, Hex}
+use Rattle.html_charref.specs.declared.table.Row.{Row}
+use Rattle.html_charref.proofs.NumberLemmas.{capped-step, char_of-capped, fault_of-capped}
+use Rattle.html_tokens.specs.Cut.{cut, is, passes, stop_mark}
+use Rattle.html_tokens.specs.Inside.{fault_when}
+use Rattle.html_tokens.specs.declared.fault_name.FaultName.TheVariants as names
+use Rattle.html_tokens.specs.InsideReferences.{ampersand_errors, ampersand_told, found_told, is_number_closed, number_end_errors, number_errors, number_told, value_told}
+use Rattle.html_tokens.specs.Reference.{are_letters_closed, ends_digits, is_digit, Numbered, numbered, semicolon}
+use Rattle.html_tokens.specs.Value.{Begins, ref_len}
+use Rattle.html_tokens.specs.declared.reference.ValueRef.{ValueRef}
+use Rattle.html_tokens.specs.declared.reference.ValueRef.TheVariants as refs
+
+capped-capped : (v : ℕ) → capped (capped v) ≡ capped v
+capped-capped v = omega arith
+
+-- the number so far counts only up to the first number past the code points
+number_capped : (b v : ℕ) (ds : List ℕ) → 0 < b → capped (number_from_digits_after b (capped v) ds) ≡ capped (number_from_digits_after b v ds)
+number_capped b v [] h = capped-capped v
+number_capped b v (d ∷ ds) h =
+    sym (number_capped b (capped v * b + d) ds h)
+    ∙ ap (λ x. capped (number_from_digits_after b x ds)) (capped-step v b d h)
+    ∙ number_capped b (v * b + d) ds h
+
+pub char_capped : (b v w : ℕ) (ds : List ℕ) → 0 < b → w ≡ capped v → char_of (number_from_digits_after b w ds) ≡ char_of (number_from_digits_after b v ds)
+char_capped b v w ds h e =
+    rw e (sym (char_of-capped (number_from_digits_after b (capped v) ds)) ∙ ap char_of (number_capped b v ds h) ∙ char_of-capped (number_from_digits_after b v ds))
+
+pub some_radix : (base : Base) → 0 < radix base
+some_radix Decimal = omega arith
+some_radix Hex = omega arith
+
+suc-plus : (a b : ℕ) → suc a + b ≡ suc (a + b)
+suc-plus a b = omega arith
+
+pub not_semicolon : (c : ℕ) → ¬ (c ≡ 59) → semicolon (c ∷ []) ≡ 0
+not_semicolon c h = grind (arith, nat_tests)
+
+pub digit_first : (base : Base) (v c : ℕ) (rest : List ℕ) → is_digit base c ≡ true →
+    numbered base v (c ∷ rest) ≡ record { value = (numbered base (v * radix base + digit_value c) rest).value; len = suc (numbered base (v * radix base + digit_value c) rest).len }
+unfolding cut
+digit_first base v c rest e = rw (e, suc-plus) refl
+
+pub digits_stop : (base : Base) (v c : ℕ) (rest : List ℕ) → is_digit base c ≡ false → numbered base v (c ∷ rest) ≡ record { value = v; len = semicolon (c ∷ rest) }
+unfolding cut
+digits_stop base v c rest e = rw (e, zero-add) refl
+
+pub digits_end : (base : Base) (v : ℕ) → numbered base v [] ≡ record { value = v; len = 0 }
+unfolding cut
+digits_end base v = refl
+
+-- WHAT NUMBERS TELL
+
+end_capped : (closed : Bool) (n place : ℕ) → number_end_errors closed (capped n) place ≡ number_end_errors closed n place
+unfolding number_end_errors
+end_capped closed n place = rw (fault_of-capped n) refl
+
+errors_capped : (closed : Bool) (b v w place : ℕ) (ds : List ℕ) → 0 < b → w ≡ capped v → number_end_errors closed (number_from_digits_after b w ds) place ≡ number_end_errors closed (number_from_digits_after b v ds) place
+errors_capped closed b v w place ds h e =
+    rw e (sym (end_capped closed (number_from_digits_after b (capped v) ds) place) ∙ ap (λ (n : ℕ). number_end_errors closed n place) (number_capped b v ds h) ∙ end_capped closed (number_from_digits_after b v ds) place)
+
+closed_on : (base : Base) (c : ℕ) (rest : List ℕ) → is_digit base c ≡ true → is_number_closed base (c ∷ rest) ≡ is_number_closed base rest
+unfolding cut
+closed_on base c rest d = rw d refl
+
+closed_here : (base : Base) (c : ℕ) (rest : List ℕ) → is_digit base c ≡ false → is_number_closed base (c ∷ rest) ≡ (c == 59)
+unfolding cut
+closed_here base c rest d = rw d refl
+
+closed_nowhere : (base : Base) → is_number_closed base [] ≡ false
+unfolding cut
+closed_nowhere base = refl
+
+-- a digit more
+pub errors_digit : (base : Base) (v w place c : ℕ) (rest : List ℕ) → is_digit base c ≡ true → w ≡ capped (v * radix base + digit_value c) → number_errors base v place (c ∷ rest) ≡ number_errors base w place rest
+errors_digit base v w place c rest d e =
+    ap (λ (n : ℕ). number_end_errors (is_number_closed base (c ∷ rest)) n place) (ap (λ (n : Numbered). n.value) (digit_first base v c rest d))
+    ∙ ap (λ (b : Bool). number_end_errors b (numbered base (v * radix base + digit_value c) rest).value place) (closed_on base c rest d)
+    ∙ sym (errors_capped (is_number_closed base rest) (radix base) (v * radix base + digit_value c) w place (map digit_value (cut (stop_mark (ends_digits base)) rest).before) (some_radix base) e)
+
+-- no digit more
+pub errors_stop : (base : Base) (v place c : ℕ) (rest : List ℕ) → is_digit base c ≡ false → number_errors base v place (c ∷ rest) ≡ number_end_errors (c == 59) v place
+errors_stop base v place c rest d =
+    ap (λ (n : ℕ). number_end_errors (is_number_closed base (c ∷ rest)) n place) (ap (λ (n : Numbered). n.value) (digits_stop base v c rest d))
+    ∙ ap (λ (b : Bool). number_end_errors b v place) (closed_here base c rest d)
+
+pub errors_end : (base : Base) (v place : ℕ) → number_errors base v place [] ≡ number_end_errors false v place
+errors_end base v place =
+    ap (λ (n : ℕ). number_end_errors (is_number_closed base []) n place) (ap (λ (n : Numbered). n.value) (digits_end base v))
+    ∙ ap (λ (b : Bool). number_end_errors b v place) (closed_nowhere base)
+
+-- where no digit comes, all is told
+pub number_whole : (base : Base) (v place : ℕ) (text : List ℕ) → passes (is_digit base) (slice_get text 0) ≡ false → number_errors base v place text ≡ number_told base v place (slice_get text 0)
+number_whole base v place [] d = errors_end base v place
+number_whole base v place (c ∷ rest) d = rw d (errors_stop base v place c rest d)
+
+-- WHAT LETTERS AND DIGITS TELL
+
+closed_letters : (c : ℕ) (rest : List ℕ) → is_ascii_alphanumeric c ≡ true → are_letters_closed (c ∷ rest) ≡ are_letters_closed rest
+unfolding cut
+closed_letters c rest l = rw l refl
+
+closed_off : (c : ℕ) (rest : List ℕ) → is_ascii_alphanumeric c ≡ false → are_letters_closed (c ∷ rest) ≡ (c == 59)
+unfolding cut
+closed_off c rest l = rw l refl
+
+closed_none : are_letters_closed [] ≡ false
+unfolding cut
+closed_none = refl
+
+-- the same in a rest
+pub closed_past : (items more : List ℕ) (at c : ℕ) → at < length items → c ≡ get_or items at c → is_ascii_alphanumeric c ≡ true → are_letters_closed (drop at items ++ more) ≡ are_letters_closed (drop (at + 1) items ++ more)
+closed_past items more at c h e l =
+    ap (λ (xs : List ℕ). are_letters_closed (xs ++ more)) (drop_more items at c h ∙ ap (λ (d : ℕ). d ∷ drop (at + 1) items) (sym e)) ∙ closed_letters c (drop (at + 1) items ++ more) l
+
+pub closed_at : (items more : List ℕ) (at c : ℕ) → at < length items → c ≡ get_or items at c → is_ascii_alphanumeric c ≡ false → are_letters_closed (drop at items ++ more) ≡ (c == 59)
+closed_at items more at c h e l =
+    ap (λ (xs : List ℕ). are_letters_closed (xs ++ more)) (drop_more items at c h ∙ ap (λ (d : ℕ). d ∷ drop (at + 1) items) (sym e)) ∙ closed_off c (drop (at + 1) items ++ more) l
+
+-- a letter or digit more
+pub letters_on : (place c : ℕ) (rest : List ℕ) → is_ascii_alphanumeric c ≡ true → ampersand_errors place (c ∷ rest) ≡ ampersand_errors place rest
+letters_on place c rest l = ap (λ (b : Bool). fault_when b names.UnknownNamedCharacterReference place) (closed_letters c rest l)
+
+-- none more
+pub letters_stop : (place c : ℕ) (rest : List ℕ) → is_ascii_alphanumeric c ≡ false → ampersand_errors place (c ∷ rest) ≡ ampersand_told place (Some c)
+letters_stop place c rest l = ap (λ (b : Bool). fault_when b names.UnknownNamedCharacterReference place) (closed_off c rest l)
+
+pub letters_end : (place : ℕ) → ampersand_errors place [] ≡ []
+letters_end place = ap (λ (b : Bool). fault_when b names.UnknownNamedCharacterReference place) closed_none
+
+pub letter_apart : (c k : ℕ) → is_ascii_alphanumeric c ≡ true → is_ascii_alphanumeric k ≡ false → (c == k) ≡ false
+letter_apart c k l n = ne_eqb c k (λ e. absurd (false≢true (sym n ∙ ap (λ (x : ℕ). is_ascii_alphanumeric x) (sym e) ∙ l)))
+
+-- what was found to begin tells what the text has
+pub found_tells : (rows : List Row) (text : List ℕ) (place : ℕ) (found : ValueRef) (lacking : Bool) → Begins rows found text → not (is 59 (slice_get text (ref_len found - 1))) ≡ lacking → value_told rows place text ≡ found_told found lacking place
+found_tells rows text place (refs.Numeric base n) lacking b l = rw b refl
+found_tells rows text place refs.Unknown lacking b l = rw (b.0, b.1) refl
+found_tells rows text place refs.Literal lacking b l = rw b refl
+found_tells rows text place (refs.Codes n first second) lacking b l = rw (b.1, b.0, l) refl
