@@ -2,7 +2,7 @@
 import re
 
 from rules.evaluating import Value, made
-from rules.running import DISPATCHING, FOREIGN, RECORDS, TABLES
+from rules.running import DISPATCHING, FOREIGN, FOREIGN_TABLE, RECORDS, TABLES
 from rules.words import READ, RESETTING
 
 # code points that the tables tell apart
@@ -16,7 +16,7 @@ class Arms:
         self.rules, self.labels, self.called = rules, {}, {}
         starts = [it for module, record, _ in RECORDS for it in self.add_clauses(module, record)]
         starts += [(TABLES, "plan"), (RESETTING, "reset_mode"), (DISPATCHING, "settled")]
-        starts += [(FOREIGN, it) for it in ("stack_after", "Stayed", "frameset_ok_after")] + [*READ]
+        starts += [(FOREIGN, "stack_after"), *READ]
         self.reached = reached_from(rules, starts)
         for it in self.reached:
             self.add_definition(*it)
@@ -55,7 +55,9 @@ class Arms:
         yield from (made(it) for it in ("Comment", "Doctype", "Eof"))
 
     def add_questions(self):
-        """Adds the answers to the questions of the plan of each mode for each token."""
+        """Adds the answers to the questions of the plan of each mode for each token, and of those for tokens that stay in foreign content."""
+        for symbol in self.symbols():
+            self.add_plan(self.rules.remembered(FOREIGN_TABLE, "in_foreign", made("Svg"), symbol), "InForeign", symbol)
         for mode in self.modes():
             for symbol in self.symbols():
                 self.add_plan(self.rules.remembered(TABLES, "plan", made(mode), symbol), mode, symbol)

@@ -3,11 +3,9 @@ from rules.evaluating import NONE, Record, Rules, made, some
 from rules.words import MARKER, NAMES, attributes, codes
 
 WORDS, REOPENING, ADOPTING = "html_construction.specs.Words", "html_open.specs.Reopening", "html_open.specs.Adopting"
-FOREIGN = "html_modes.specs.Foreign"
 SEARCHING, CLOSING = "html_tree.specs.Searching", "html_tree.specs.Closing"
 # the statements that are compared, beside the words and questions
 STATED = [(REOPENING, "Reopened")] + [(ADOPTING, it) for it in ("Popped", "NoEntry", "Forgotten", "OutOfScope", "Closed", "Round")]
-STATED += [(FOREIGN, it) for it in ("IsEmbedded", "IsInserted", "IsCommented", "IsIgnored")]
 # what is counted is not compared
 UNCOUNTED = {("html_arena.specs.Tree", "more"): (2, lambda n, k: 0), ("html_arena.specs.Make", "made_weight"): (2, lambda tree, new: 0)}
 UNCOUNTED |= {("html_arena.specs.Weight", "capped"): (1, lambda n: 0), ("html_construction.specs.Calls", "counting"): (2, lambda n, tree: tree)}
@@ -96,12 +94,6 @@ class Defined:
         """Compares the reconstruction of the active formatting elements with its definition."""
         self.words.add("Reopened")
         self.told += self.rules.unheld(REOPENING, "Reopened", (fostering, before.tree, after.tree))
-
-    def stayed(self, clause, before, after):
-        """Compares what was made of a token that stays in foreign content with the definition of that."""
-        name, *words, _, _ = clause
-        self.words.add(name)
-        self.told += self.rules.unheld(FOREIGN, name, (*words, before, after))
 
     def adopted(self, name, nodes, subject, fostering, before, after):
         """Compares a step of the adoption agency algorithm with its definition."""

@@ -45,7 +45,7 @@ PLAIN = {
 
 # the files of which all is of tags, modes and other small values alone, so that its answers are kept; the tables among them
 KEPT = ("html_names.specs.Sets", "html_names.specs.Groups", "html_names.specs.Tags", "html_ledger.specs.Flags", "html_ledger.specs.Spaces")
-KEPT += ("html_construction.specs.Modes", "html_modes.specs.Fitting", "html_modes.specs.Guards", "html_modes.specs.Rules")
+KEPT += ("html_construction.specs.Modes", "html_modes.specs.Fitting", "html_modes.specs.Guards", "html_modes.specs.Rules", "html_modes.specs.RulesForeign")
 
 
 # statements of trees that are not run

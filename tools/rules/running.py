@@ -5,6 +5,7 @@ from rules.nodes import written
 from rules.words import GIVEN, NAMES, SETS, State, Token, Wrong, codes, text_of
 
 DISPATCHING, FOREIGN, TABLES = "html_modes.specs.Dispatching", "html_modes.specs.Foreign", "html_modes.specs.Rules"
+FOREIGN_TABLE = "html_modes.specs.RulesForeign"
 # the records of the dispatcher, with the names of their parameters
 RECORDS = ((DISPATCHING, "IsEntry", "oytaz"), (DISPATCHING, "IsDispatched", "oytaz"))
 # a token that enters the rules of modes more often goes round for ever
@@ -84,8 +85,6 @@ class Run:
         head, arguments, frame = self.only(self.entry, given)
         if head == ("IsDispatched", DISPATCHING):
             head, arguments, frame = self.only(self.dispatch, given)
-        if head == ("Follows", FOREIGN):
-            return self.stay(token, arguments[0](frame))
         if head == ("FollowsOn", DISPATCHING):
             stack = self.rules.value(FOREIGN, "stack_after", self.state.tree, token.symbol, token.whole)
             self.state.tree.stack[:] = stack
@@ -100,32 +99,6 @@ class Run:
         if len(found) != 1:
             raise Wrong(f"{len(found)} clauses of the dispatcher hold")
         return found[0]
-
-    # FOREIGN CONTENT
-
-    def stay(self, token, around):
-        """The token stays in foreign content (13.2.6.5), where the adjusted current node has this tag."""
-        state, rules = self.state, self.rules
-        stayed = rules.value(FOREIGN, "Stayed", around, token.symbol, token.whole, state, None)
-        frameset_ok = rules.value(FOREIGN, "frameset_ok_after", token.symbol, state.frameset_ok)
-        name, before = stayed[0], self.defined and whole(state)
-        if name == "IsEmbedded":
-            state.insert_foreign(stayed[1], not token.closes_itself)
-        elif name == "IsInserted":
-            state.do_insert_character("\ufffd" if token.data == "\0" else None)
-        elif name == "IsCommented":
-            state.do_insert_comment()
-        elif name == "IsIgnored":
-            state.do_drop(made("Misplaced"))
-        elif name == "IsTree":
-            state.tree.stack[:] = stayed[1].stack
-            state.do_end()
-        else:
-            raise Wrong(f"these tools do not know {name}")
-        if self.defined and name != "IsTree":
-            self.defined.stayed(stayed, before, whole(state))
-        state.frameset_ok = frameset_ok
-        return OVER
 
     # PLANS
 

@@ -376,6 +376,9 @@ class State:
         node.data += character or self.token.data
         self.give("Text", node.number)
 
+    def do_insert_replacement(self):
+        self.do_insert_character("\ufffd")
+
     def merge_into(self, node):
         for name, value in self.token.attributes.items():
             node.attributes.setdefault(name, value)

@@ -30,7 +30,7 @@ use Rattle.html_construction.specs.Calls.{HasEnded, HasFate, IsLinkClosed, IsTre
 use Rattle.html_construction.specs.Plans.{Adopt, Ask, Asks, Chooses, CloseLink, Do, Does, DoesAny, Passes, Reconstruct, Runs, adopts, asks, closes_link, closing, does, popping, reconstructs}
 use Rattle.html_construction.specs.States.{State}
 use Rattle.html_construction.specs.Tokens.{char_of, tag_name}
-use Rattle.html_construction.specs.Words.{Becomes, BeginOwnPart, CanPop, CloseNamed, CloseThrough, End, Finds, Insert, InsertAt, InsertCharacter, InsertVoid, InsertVoidAt, Keep, Pop, Query, Word, after, answer, current_or_other, has_body, is_option_in_group, with_kept}
+use Rattle.html_construction.specs.Words.{Becomes, BeginOwnPart, CanPop, CloseNamed, CloseThrough, End, Finds, Insert, InsertAt, InsertCharacter, InsertReplacement, InsertVoid, InsertVoidAt, Keep, Pop, Query, Word, after, answer, current_or_other, has_body, is_option_in_group, with_kept}
 
 -- a state that is this one but for its tree and its tags, with this tree
 pub becomes : (m b : State) → b ≡ record m { tree = b.tree; stack = b.stack } → IsTree m.tree b → Becomes m b
@@ -100,6 +100,9 @@ char-is t c k = char-code t ∙ ap code_of k
 pub typing_by : (c : ℕ) (t : TokenKind) (a b : State) → symbol_of t ≡ Char c → b ≡ record a { tree = b.tree; ledger = b.ledger; stack = b.stack } → HasFate (Char c) (Text (text_node a.tree a.fostering)) a b → IsTree (record a.tree { tree = with_text a.tree a.fostering (c ∷ []) }) b → Does InsertCharacter t a b
 typing_by c t a b k r h i = doing InsertCharacter t a b (fated_any (Char c) t (Text (text_node a.tree a.fostering)) a b k r h)
     (record { tree_is = i.tree_is ∙ ap (λ (s : List ℕ). record a.tree { tree = with_text a.tree a.fostering s; steps = b.tree.steps }) (sym (char-is t c k)) })
+
+pub replacing_by : (c : ℕ) (t : TokenKind) (a b : State) → symbol_of t ≡ Char c → b ≡ record a { tree = b.tree; ledger = b.ledger; stack = b.stack } → HasFate (Char c) (Text (text_node a.tree a.fostering)) a b → IsTree (record a.tree { tree = with_text a.tree a.fostering (65533 ∷ []) }) b → Does InsertReplacement t a b
+replacing_by c t a b k r h i = doing InsertReplacement t a b (fated_any (Char c) t (Text (text_node a.tree a.fostering)) a b k r h) (record { tree_is = i.tree_is })
 
 -- any other end tag
 pub closing_named : (name : List ℕ) (a b : State) → b ≡ record a { tree = b.tree; stack = b.stack } → IsTree (record a.tree { stack = before_index (found_name a.tree name) a.tree.stack }) b → (t : TokenKind) → tag_name t ≡ name → Does CloseNamed t a b
@@ -215,4 +218,4 @@ option-some n i j g h a b c e l d m r q k o f =
 
 pub ruleset option_rules = (option-none, option-other, option-some)
 
-pub ruleset doing_rules = (inserting_here, voiding_here, closing_named, reconstructing, adopting, closing_link, doing, doing_any, fated, fated_any, asking, closing_by, popping_by, ending_by, typing_by)
+pub ruleset doing_rules = (inserting_here, voiding_here, closing_named, reconstructing, adopting, closing_link, doing, doing_any, fated, fated_any, asking, closing_by, popping_by, ending_by, typing_by, replacing_by)

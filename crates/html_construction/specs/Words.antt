@@ -94,8 +94,9 @@ pub data Word : Type 0 where
   InsertCommentAt : Target → Word
   -- append a DocumentType node to the Document node
   InsertDoctype : Word
-  -- insert the token's character
+  -- insert the token's character; insert a U+FFFD REPLACEMENT CHARACTER
   InsertCharacter : Word
+  InsertReplacement : Word
   -- add the attributes that are not there yet to the top element, or to the second
   MergeIntoRoot : Word
   MergeIntoBody : Word
@@ -189,6 +190,7 @@ after InsertComment t a = making (placed_at (comment_of a t) (target.Current a.f
 after (InsertCommentAt g) t a = making (placed_at (comment_of a t) g (next_tree a)) t a
 after InsertDoctype t a = making (placed_at (doctype_of a t) target.Document (next_tree a)) t a
 after InsertCharacter t a = record a { tree = record a.tree { tree = with_text a.tree a.fostering (char_of t) }; ledger = given a.ledger (symbol_of t) (Text (text_node a.tree a.fostering)) }
+after InsertReplacement t a = record a { tree = record a.tree { tree = with_text a.tree a.fostering (65533 ∷ []) }; ledger = given a.ledger (symbol_of t) (Text (text_node a.tree a.fostering)) }
 after MergeIntoRoot t a = merging 0 t a
 after MergeIntoBody t a = merging 1 t a
 after (Drop cause) t a = record a { ledger = given a.ledger (symbol_of t) (Dropped cause) }

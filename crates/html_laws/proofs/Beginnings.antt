@@ -15,10 +15,11 @@ use Rattle.html_construction.specs.Beginning.{IsFirst, first_state, first_tree}
 use Rattle.html_construction.specs.States.{State}
 use Rattle.html_modes.specs.Dispatching.{begun}
 use Rattle.html_laws.specs.Likeness.{core, uncounted}
-use Rattle.html_laws.specs.Outcomes.{BeginAlike, IsReady, IsOnce, PagesHaveOneTree}
+use Rattle.html_laws.specs.Outcomes.{BeginAlike, IsOnce, PagesHaveOneTree}
 use Rattle.html_laws.proofs.Counting.{total}
 use Rattle.html_laws.proofs.Entering.{constructs-one}
 use Rattle.html_laws.proofs.Fating.{IsWaiting}
+use Rattle.html_laws.proofs.Natives.{IsNative}
 use Rattle.html_laws.proofs.Nodes.{made-longer}
 
 steps-core : (s : Setting) (l : Option Limits) (q f : Bool) (k : ℕ) → core (begun (first_state s l q f k)) ≡ core (begun (first_state s l q f 0))
@@ -42,16 +43,14 @@ tree-once (Fragment context in_form) l = record {
   in_tree = λ x h. (let m = made-longer (empty_tree l) (Element (name_of tag.Html) [] Implied) in elim (has-head x 0 [] h) [ inl e ↦ omega (arith, e, m) | inr e ↦ absurd (false≢true e) ]);
 }
 
-pub first-good : (s : Setting) (l : Option Limits) (a : State) → is_foreign_context s ≡ false → IsFirst s l a → a.parses_foreign ≡ false → IsReady a
-first-good s l a c k f =
-    let e = first-core s l a k in
-    record {
-      once = by e (tree-once s l);
-      is_native = record { refused = f; none = ap (λ (v : State). v.ledger.history.foreign) e ∙ c };
-    }
+pub first-once : (s : Setting) (l : Option Limits) (a : State) → IsFirst s l a → IsOnce a.tree
+first-once s l a k = by (first-core s l a k) (tree-once s l)
   where
     by : core (begun a) ≡ core (begun (first_state s l a.quirks a.parses_foreign 0)) → IsOnce (first_tree s l 0) → IsOnce a.tree
     by e o = subst (λ (v : State). IsOnce v.tree) (sym e) o
+
+pub first-native : (s : Setting) (l : Option Limits) (a : State) → is_foreign_context s ≡ false → IsFirst s l a → a.parses_foreign ≡ false → IsNative a
+first-native s l a c k f = record { refused = f; none = ap (λ (v : State). v.ledger.history.foreign) (first-core s l a k) ∙ c }
 
 pub first-total : (s : Setting) (l : Option Limits) (a : State) → IsFirst s l a → total a ≡ 0
 first-total s l a k = ap (λ (v : State). total v) (first-core s l a k)
@@ -64,10 +63,9 @@ quirks-one s l a b k m (inl e) = k.quirks_are e ∙ sym (m.quirks_are e)
 quirks-one s l a b k m (inr e) = e
 
 pub pages-one : PagesHaveOneTree
-pages-one s l tokens fates fates' t t' c b b' q =
-    let g = first-good s l b.first c b.begins b.foreign_is in
-    let g' = first-good s l b'.first c b'.begins b'.foreign_is in
-    let e = constructs-one tokens b.first b.last b'.first b'.last g g' (first-one s l b.first b'.first b.begins b'.begins (quirks-one s l b.first b'.first b.begins b'.begins q) (b.foreign_is ∙ sym b'.foreign_is)) b.constructs b'.constructs in
+pages-one s l foreign tokens fates fates' t t' b b' q =
+    let o = first-once s l b.first b.begins in
+    let e = constructs-one tokens b.first b.last b'.first b'.last o (first-one s l b.first b'.first b.begins b'.begins (quirks-one s l b.first b'.first b.begins b'.begins q) (b.foreign_is ∙ sym b'.foreign_is)) b.constructs b'.constructs in
     record {
       same_fates = b.fates_are ∙ ap (λ (v : State). v.ledger.fates) e ∙ sym b'.fates_are;
       same_nodes = ap uncounted b.tree_is ∙ ap (λ (v : State). v.tree.tree) e ∙ sym (ap uncounted b'.tree_is);

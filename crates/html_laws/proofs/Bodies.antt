@@ -37,11 +37,10 @@ use Rattle.html_modes.specs.Guards.{is_droppable, is_table_text}
 use Rattle.html_modes.specs.RuleForms.{again, ending, ignored}
 use Rattle.html_modes.specs.Rules.{plan}
 use Rattle.html_laws.specs.Likeness.{core}
-use Rattle.html_laws.specs.Outcomes.{IsReady}
 use Rattle.html_laws.specs.Reads.{ReadsNoTag, is_start}
-use Rattle.html_laws.proofs.Beginnings.{first-core, first-good}
+use Rattle.html_laws.proofs.Beginnings.{first-core, first-native}
 use Rattle.html_laws.proofs.Chains.{both, cases, join, not-true}
-use Rattle.html_laws.proofs.Entering.{entries-good, entry-follows, entry-good, entry_plan, good-becomes, good-begun, of-entry, unless}
+use Rattle.html_laws.proofs.Entering.{unless}
 use Rattle.html_laws.proofs.Faces.{Adds, Face, blank-good, element_face, faces, is_tagged, longer, made-adds, new-face, rest_faces, tally, tally-labels}
 use Rattle.html_laws.proofs.Framing.{framed, is_over, runs-framed}
 use Rattle.html_laws.proofs.Grounds.{Ground, bodies, is_inner, name-bodies, name-tagged, of_name}
@@ -50,9 +49,11 @@ use Rattle.html_laws.proofs.Insides.{Anything, Need, Rows, Sections, Tables, Tem
 use Rattle.html_laws.proofs.Judged.{char-steady, frame-framed, frame-text-framed, inner-sound, kept-sound, kept_view, outer-exact, outer-text-exact, text-sound, text_view}
 use Rattle.html_laws.proofs.Judging.{Know, Nothing, Plain, View, is_plainly, is_text_mode, may_rest, need_of, serves, sound, suffices, waits}
 use Rattle.html_laws.proofs.Models.{Knows, Models, implied-name, inside-enough}
+use Rattle.html_laws.proofs.Natives.{IsNative, native-becomes}
 use Rattle.html_laws.proofs.Nesting.{apart-body, is_apart}
 use Rattle.html_laws.proofs.Outers.{exact, runs-outer}
 use Rattle.html_laws.proofs.Phases.{IsEnd, IsFramed, IsInner, IsOuter, Phase, Placed, holds_text, inner-waits, is_outer, plainly_placed, shape, text_placed}
+use Rattle.html_laws.proofs.Refusing.{entries-native, entry-follows, entry-native, native-begun, native_plan, of-entry}
 use Rattle.html_laws.proofs.Words.{becomes-core}
 
 -- BETWEEN CALLS
@@ -92,7 +93,7 @@ called-becomes y m b i (inr (inr k)) = inr (inr (inner-core m b (becomes-core m 
 -- PLANS OF ENTRIES
 
 -- a token that is not astray
-entry-by : (f : Plan → Bool) (a : State) (y : Symbol) → ((c : Cause) → f (ignored c) ≡ true) → is_astray a y ≡ false → f (plan a.mode y) ≡ true → f (entry_plan a y) ≡ true
+entry-by : (f : Plan → Bool) (a : State) (y : Symbol) → ((c : Cause) → f (ignored c) ≡ true) → is_astray a y ≡ false → f (plan a.mode y) ≡ true → f (native_plan a y) ≡ true
 entry-by f a y i s k = by (is_table_text a.mode) (must_drop a.ledger.history y) (is_astray a y) s
   where
     by : (b : Bool) (d : Option Cause) (x : Bool) → x ≡ false → f (cond b (plan a.mode y) (unless d (cond x (Do (Switch mode.InBody) again) (plan a.mode y)))) ≡ true
@@ -264,11 +265,11 @@ module _ (t : TokenKind) where
 
   entry-ended : (o : _) (a z : State) → a.ledger.history.foreign ≡ false → IsCalled y a → IsEntry o y t a z → IsEnded y (ending o) z
   entry-ended o a z n (inl k) e = elim (k.0).mode_is [
-    | inl h ↦ (let f = runs-framed plan 4 a.mode mode.InBody (entry_plan a y) t a (ending o) z
+    | inl h ↦ (let f = runs-framed plan 4 a.mode mode.InBody (native_plan a y) t a (ending o) z
         (entry-by (framed plan 4 y a.mode mode.InBody) a y (λ c. frame-ignored y a.mode c h) (frames-astray a y h (k.0).framed ((k.1).began h)) (frame-framed a.mode y h))
         (record { ground = (k.0).ground; few = (k.0).few; framed = (k.0).framed; mode_is = refl; original_is = λ w. absurd (false≢true (sym (frames-waits a.mode h) ∙ w)) })
         (entry-follows o y t a z n e) in inl (f.state, f.done))
-    | inr h ↦ (let f = runs-framed plan 4 mode.Text a.original (entry_plan a y) t a (ending o) z
+    | inr h ↦ (let f = runs-framed plan 4 mode.Text a.original (native_plan a y) t a (ending o) z
         (entry-by (framed plan 4 y mode.Text a.original) a y (λ c. frame-text-ignored y a.original c h.1)
         (never-astray a y (ap is_of_selects h.0) (ap is_of_frames h.0))
         (subst (λ v. framed plan 4 y mode.Text a.original (plan v y) ≡ true) (sym h.0) (frame-text-framed a.original y h.1 ((k.1).no_tag h.0))))
@@ -280,19 +281,19 @@ module _ (t : TokenKind) where
       by : (m p : Mode) (gs : List Tag) → a.mode ≡ m → a.original ≡ p → open_tags a.tree ≡ gs → Placed m p gs → IsEnd (ending o) z
       by _ _ _ i j d (plainly_placed m p gs h c) =
           let w = outer-select m h in
-          runs-outer plan char-steady 4 m mode.InBody (shape m) (entry_plan a y) t a (ending o) z
+          runs-outer plan char-steady 4 m mode.InBody (shape m) (native_plan a y) t a (ending o) z
           (entry-by (exact plan 4 y m mode.InBody (shape m)) a y (λ x. outer-ignored y m x h) (never-astray a y (ap is_of_selects i ∙ w.0) (ap is_of_frames i ∙ w.1)) (subst (λ v. exact plan 4 y m mode.InBody (shape m) (plan v y) ≡ true) (sym i) (outer-exact m y h)))
           (record { ground = k.ground; none = k.none; mode_is = i; original_is = λ x. absurd (false≢true (sym w.2 ∙ x)); tags_are = d ∙ c })
           (entry-follows o y t a z n e)
       by _ _ _ i j d (text_placed p g gs h c) =
-          runs-outer plan char-steady 4 mode.Text p (g ∷ shape p) (entry_plan a y) t a (ending o) z
+          runs-outer plan char-steady 4 mode.Text p (g ∷ shape p) (native_plan a y) t a (ending o) z
           (entry-by (exact plan 4 y mode.Text p (g ∷ shape p)) a y (λ x. outer-text-ignored y p g x h) (never-astray a y (ap is_of_selects i) (ap is_of_frames i)) (subst (λ v. exact plan 4 y mode.Text p (g ∷ shape p) (plan v y) ≡ true) (sym i) (outer-text-exact p g y h)))
           (record { ground = k.ground; none = k.none; mode_is = i; original_is = λ x. j; tags_are = d ∙ c })
           (entry-follows o y t a z n e)
   entry-ended o a z n (inr (inr k)) e = of-end y (ending o) z (by (normal a k))
     where
       run : (s : View) → Models s a → ((c : Cause) → sound plan 4 y s (ignored c) ≡ true) → sound plan 4 y s (plan a.mode y) ≡ true → IsEnd (ending o) z
-      run s m i h = runs-inner plan char-steady 4 s (entry_plan a y) t a (ending o) z (of-entry (sound plan 4 y s) a y i (switch-sound y s) h) m (entry-follows o y t a z n e)
+      run s m i h = runs-inner plan char-steady 4 s (native_plan a y) t a (ending o) z (of-entry (sound plan 4 y s) a y i (switch-sound y s) h) m (entry-follows o y t a z n e)
 
       by : IsNormal a → IsEnd (ending o) z
       by (resting m h k) = run (rest_view m) k (λ c. rest-settles m h) (subst (λ v. sound plan 4 y (rest_view m) (plan v y) ≡ true) (sym k.mode_is) (inner-sound m y h))
@@ -374,26 +375,26 @@ settled-phase c k = by (is_unfounded c) refl k
     by false e (inr (inr k)) = inr (inr (record { view = k.view; models = as-it-was k.view k.models; settled = k.settled }))
 
 module _ (t : TokenKind) where
-  entries-phase : (a z : State) → Entries (symbol_of t) t a z → IsReady a → IsCalled (symbol_of t) a → Phase z
+  entries-phase : (a z : State) → Entries (symbol_of t) t a z → IsNative a → IsCalled (symbol_of t) a → Phase z
   entries-phase _ _ (next a b c z i j r) g k =
-      let h = good-becomes a b i g in
+      let h = native-becomes a b i g in
       let n = called-becomes (symbol_of t) a b i k in
-      entries-phase c z r (entry-good (symbol_of t) t _ b c h j) (entry-called t c (entry-ended t _ b c h.is_native.none n j))
+      entries-phase c z r (entry-native (symbol_of t) t _ b c h j) (entry-called t c (entry-ended t _ b c h.none n j))
   entries-phase _ _ (last a b c z i j e) g k =
-      let h = good-becomes a b i g in
+      let h = native-becomes a b i g in
       let n = called-becomes (symbol_of t) a b i k in
-      subst Phase (sym e) (settled-phase c (entry-phase t c (entry-ended t _ b c h.is_native.none n j)))
+      subst Phase (sym e) (settled-phase c (entry-phase t c (entry-ended t _ b c h.none n j)))
 
 -- where a call begins
 called-begun : (y : Symbol) (a : State) → (a.mode ≡ mode.Text → is_start y ≡ false) → Phase (begun a) → IsCalled y (begun a)
 called-begun y a h (inl k) = inl (k, record { no_tag = h; began = λ x. inl x })
 called-begun y a h (inr k) = inr k
 
-pub constructs-phase : (ts : List TokenKind) (a z : State) (c : Constructs ts a z) → ReadsNoTag ts a z c → IsReady a → Phase (begun a) → Phase (begun z)
+pub constructs-phase : (ts : List TokenKind) (a z : State) (c : Constructs ts a z) → ReadsNoTag ts a z c → IsNative a → Phase (begun a) → Phase (begun z)
 constructs-phase [] a z c r g k = subst Phase c k
 constructs-phase (t ∷ ts) a z c r g k =
-    let h = good-begun a g in
-    constructs-phase ts c.0 z c.2 r.1 (entries-good (symbol_of t) t (begun a) c.0 c.1 h) (phase-begun c.0 (entries-phase t (begun a) c.0 c.1 h (called-begun (symbol_of t) a r.0 k)))
+    let h = native-begun a g in
+    constructs-phase ts c.0 z c.2 r.1 (entries-native (symbol_of t) t (begun a) c.0 c.1 h) (phase-begun c.0 (entries-phase t (begun a) c.0 c.1 h (called-begun (symbol_of t) a r.0 k)))
 
 -- A PAGE
 
@@ -462,7 +463,7 @@ first-phase s l a h k f =
 whole-body : (s : Setting) (l : Option Limits) (tokens : List TokenKind) (fates : List Fate) (t : Nodes) → is_whole s ≡ true → is_foreign_context s ≡ false → (b : IsBuiltByRules s l false tokens fates t) → ReadsNoTag tokens b.first b.last b.constructs
     → count_by (λ d. not (is_clone_in d) && is_same (tag_in d) tag.Body) t.labels ≤ 1
 whole-body s l tokens fates t h c b r =
-    let k = first-good s l b.first c b.begins b.foreign_is in
+    let k = first-native s l b.first c b.begins b.foreign_is in
     let p = constructs-phase tokens b.first b.last b.constructs r k (first-phase s l b.first h b.begins b.foreign_is) in
     let m = most-one (begun b.last) p in
     let e = ap (λ (v : Nodes). tally tag.Body (faces v)) b.tree_is in

@@ -10,7 +10,7 @@ use Rattle.html_construction.specs.declared.mode.Mode.{Mode}
 use Rattle.html_construction.specs.Plans.{Adopt, Again, Ask, By, CloseLink, Do, Each, Ending, Foster, IsMoved, Over, Plan, Reconstruct, Refused, Rules, Runs, Settle, Stop, adopts, asks, closes_link, does, does_each, ends_each, fosters, goes_by, reconstructs, settles, stops}
 use Rattle.html_construction.specs.States.{State}
 use Rattle.html_construction.specs.Tokens.{char_of}
-use Rattle.html_construction.specs.Words.{AddMarker, Becomes, BeginOwnPart, ClearTo, ClearToMarker, CloseForm, CloseNamed, CloseThrough, Drop, End, Enter, FramesetOff, Implied, Imply, ImplyHead, ImplyPart, ImplyRoot, ImplyVoid, Insert, InsertAt, InsertCharacter, InsertClosedForm, InsertComment, InsertCommentAt, InsertDoctype, InsertForeign, InsertForeignVoid, InsertForm, InsertHead, InsertListed, InsertPart, InsertRoot, InsertVoid, InsertVoidAt, Keep, Leave, MergeIntoBody, MergeIntoRoot, Pop, PopTemplate, PushTemplate, Quirks, ReplaceBody, Reset, Switch, Word, after, answer, with_kept}
+use Rattle.html_construction.specs.Words.{AddMarker, Becomes, BeginOwnPart, ClearTo, ClearToMarker, CloseForm, CloseNamed, CloseThrough, Drop, End, Enter, FramesetOff, Implied, Imply, ImplyHead, ImplyPart, ImplyRoot, ImplyVoid, Insert, InsertAt, InsertCharacter, InsertClosedForm, InsertComment, InsertCommentAt, InsertDoctype, InsertForeign, InsertForeignVoid, InsertForm, InsertHead, InsertListed, InsertPart, InsertReplacement, InsertRoot, InsertVoid, InsertVoidAt, Keep, Leave, MergeIntoBody, MergeIntoRoot, Pop, PopTemplate, PushTemplate, Quirks, ReplaceBody, Reset, Switch, Word, after, answer, with_kept}
 use Rattle.html_construction.proofs.Planned.{halves as both}
 use Rattle.html_laws.proofs.Words.{becomes-core}
 
@@ -39,6 +39,7 @@ gives c InsertComment = true
 gives c (InsertCommentAt g) = true
 gives c InsertDoctype = true
 gives c InsertCharacter = true
+gives c InsertReplacement = true
 gives c MergeIntoRoot = true
 gives c MergeIntoBody = true
 gives c (Drop cause) = true
@@ -159,6 +160,7 @@ word-given InsertComment t a h = one-more a.ledger.fates _ (length a.ledger.kept
 word-given (InsertCommentAt g) t a h = one-more a.ledger.fates _ (length a.ledger.kept)
 word-given InsertDoctype t a h = one-more a.ledger.fates _ (length a.ledger.kept)
 word-given InsertCharacter t a h = one-more a.ledger.fates _ (length a.ledger.kept)
+word-given InsertReplacement t a h = one-more a.ledger.fates _ (length a.ledger.kept)
 word-given MergeIntoRoot t a h = one-more a.ledger.fates _ (length a.ledger.kept)
 word-given MergeIntoBody t a h = one-more a.ledger.fates _ (length a.ledger.kept)
 word-given (Drop cause) t a h = one-more a.ledger.fates _ (length a.ledger.kept)
@@ -205,6 +207,7 @@ word-none InsertComment t a h = absurd (false≢true (sym h))
 word-none (InsertCommentAt g) t a h = absurd (false≢true (sym h))
 word-none InsertDoctype t a h = absurd (false≢true (sym h))
 word-none InsertCharacter t a h = absurd (false≢true (sym h))
+word-none InsertReplacement t a h = absurd (false≢true (sym h))
 word-none MergeIntoRoot t a h = absurd (false≢true (sym h))
 word-none MergeIntoBody t a h = absurd (false≢true (sym h))
 word-none (Drop cause) t a h = absurd (false≢true (sym h))

@@ -20,11 +20,13 @@ use Rattle.html_modes.specs.RuleForms.{ending, over}
 use Rattle.html_modes.specs.Rules.{plan}
 use Rattle.html_modes.specs.RulesInTableText.{in_table_text}
 use Rattle.html_laws.specs.Likeness.{core}
-use Rattle.html_laws.specs.Outcomes.{IsReady}
+use Rattle.html_laws.specs.Outcomes.{IsOnce}
 use Rattle.html_laws.proofs.Counting.{IsGiven, due, extra, flat-extra, is_char, is_flat, runs-due, total}
-use Rattle.html_laws.proofs.Entering.{entries-good, entries-one, entry-follows, entry-good, entry_plan, good-becomes, good-begun, of-entry}
+use Rattle.html_laws.proofs.Entering.{entries-once, entries-one}
 use Rattle.html_laws.proofs.Growing.{Grows, becomes-fates, fates, grows-same, grows-then, runs-fates}
 use Rattle.html_laws.proofs.Keeping.{keepless, runs-empty, runs-keepless}
+use Rattle.html_laws.proofs.Natives.{IsNative, native-becomes}
+use Rattle.html_laws.proofs.Refusing.{entries-native, entry-follows, entry-native, native-begun, native_plan, of-entry}
 use Rattle.html_construction.proofs.Planned.{followed}
 use Rattle.html_laws.proofs.Tables.{in-table-text, plans-due, plans-keepless, table-text-empties}
 use Rattle.html_laws.proofs.Words.{becomes-core}
@@ -76,16 +78,16 @@ module _ (t : TokenKind) where
 
   -- ONE ENTRY
 
-  entry-given : (o : _) (a z : State) → IsReady a → IsEntry o y t a z → IsGiven true 0 (ending o) a z
+  entry-given : (o : _) (a z : State) → IsNative a → IsEntry o y t a z → IsGiven true 0 (ending o) a z
   entry-given o a z k e =
       let f = of-entry is_flat a y (λ c. refl) refl (plans-due a.mode y).1 in
       let d = of-entry (due (is_char y) true) a y (λ c. refl) refl (plans-due a.mode y).0 in
-      subst (λ n. IsGiven true n (ending o) a z) (no-extra (entry_plan a y) f) (runs-due plan plans-due (is_char y) true (entry_plan a y) t a (ending o) z refl d (entry-follows o y t a z k.is_native.none e))
+      subst (λ n. IsGiven true n (ending o) a z) (no-extra (native_plan a y) f) (runs-due plan plans-due (is_char y) true (native_plan a y) t a (ending o) z refl d (entry-follows o y t a z k.none e))
     where
       no-extra : (p : Plan) → is_flat p ≡ true → extra p ≡ 0
       no-extra p h = flat-extra p h
 
-  entry-left : (o : _) (a z : State) → IsReady a → IsWaiting a → IsEntry o y t a z → IsLeft y z
+  entry-left : (o : _) (a z : State) → IsNative a → IsWaiting a → IsEntry o y t a z → IsLeft y z
   entry-left o a z g k e = by (is_table_text a.mode) refl
     where
       kept-on : (s : Symbol) → Runs plan (in_table_text s) t a (ending o) z → is_table_text a.mode ≡ true → is_char s ≡ true → IsWaiting z
@@ -106,24 +108,24 @@ module _ (t : TokenKind) where
       by true h = in-text h (is_char y) refl
       by false h =
           let p = of-entry keepless a y (λ c. refl) refl (plans-keepless a.mode y h) in
-          let n = runs-keepless plan plans-keepless (entry_plan a y) t a (ending o) z p (k.none h) (entry-follows o y t a z g.is_native.none e) in
+          let n = runs-keepless plan plans-keepless (native_plan a y) t a (ending o) z p (k.none h) (entry-follows o y t a z g.none e) in
           record { waiting = no-kept z n; none = λ j. n }
 
-  entry-grows : (o : _) (a z : State) → IsReady a → IsEntry o y t a z → Grows (fates a) (fates z)
-  entry-grows o a z g e = runs-fates plan (entry_plan a y) t a (ending o) z (entry-follows o y t a z g.is_native.none e)
+  entry-grows : (o : _) (a z : State) → IsNative a → IsEntry o y t a z → Grows (fates a) (fates z)
+  entry-grows o a z g e = runs-fates plan (native_plan a y) t a (ending o) z (entry-follows o y t a z g.none e)
 
   -- ALL ENTRIES OF A CALL
 
   total-becomes : (m b : State) → Becomes m b → total b ≡ total m
   total-becomes m b k = ap (λ (v : State). total v) (becomes-core m b k)
 
-  pub entries-taken : (a z : State) → Entries y t a z → IsReady a → IsWaiting a → IsTaken y a z
+  pub entries-taken : (a z : State) → Entries y t a z → IsNative a → IsWaiting a → IsTaken y a z
   entries-taken _ _ (next a b c z i j r) g k =
-      let h = good-becomes a b i g in
+      let h = native-becomes a b i g in
       let w = waiting-becomes a b i k in
       let n = ((entry-given _ b c h j).again refl).1 in
       let m = total-becomes a b i in
-      let f = entries-taken c z r (entry-good y t _ b c h j) (entry-left _ b c h w j).waiting in
+      let f = entries-taken c z r (entry-native y t _ b c h j) (entry-left _ b c h w j).waiting in
       record {
         waiting = f.waiting;
         none = f.none;
@@ -131,7 +133,7 @@ module _ (t : TokenKind) where
         grows = grows-then (fates a) (fates c) (fates z) (subst (λ v. Grows v (fates c)) (becomes-fates a b i) (entry-grows _ b c h j)) f.grows;
       }
   entries-taken _ _ (last a b c z i j e) g k =
-      let h = good-becomes a b i g in
+      let h = native-becomes a b i g in
       let l = entry-left _ b c h (waiting-becomes a b i k) j in
       let n = (entry-given _ b c h j).over refl in
       let m = total-becomes a b i in
@@ -147,12 +149,12 @@ module _ (t : TokenKind) where
 waiting-begun : (a : State) → IsWaiting a → IsWaiting (begun a)
 waiting-begun a k = record { none = k.none }
 
-pub constructs-grows : (ts : List TokenKind) (a z : State) → IsReady a → IsWaiting a → Constructs ts a z → Grows (fates a) (fates z)
+pub constructs-grows : (ts : List TokenKind) (a z : State) → IsNative a → IsWaiting a → Constructs ts a z → Grows (fates a) (fates z)
 constructs-grows [] a z g k c = grows-same (fates a) (fates z) (sym (ap (λ (v : State). fates v) c))
 constructs-grows (t ∷ ts) a z g k c =
-    let h = good-begun a g in
+    let h = native-begun a g in
     let f = entries-taken t (begun a) c.0 c.1 h (waiting-begun a k) in
-    grows-then (fates a) (fates c.0) (fates z) f.grows (constructs-grows ts c.0 z (entries-good (symbol_of t) t (begun a) c.0 c.1 h) f.waiting c.2)
+    grows-then (fates a) (fates c.0) (fates z) f.grows (constructs-grows ts c.0 z (entries-native (symbol_of t) t (begun a) c.0 c.1 h) f.waiting c.2)
 
 get-left : (xs ys : List Fate) (i : ℕ) → i < length xs → slice_get (xs ++ ys) i ≡ slice_get xs i
 get-left [] ys i h = absurd (omega (arith, h))
@@ -160,17 +162,17 @@ get-left (x ∷ xs) ys zero h = refl
 get-left (x ∷ xs) ys (suc i) h = get-left xs ys i (omega (arith, h))
 
 -- The fate of a token that is no code point is given in its call, and so is decided by the tokens up to it.
-pub fate-one : (xs : List TokenKind) (t : TokenKind) (ys ys' : List TokenKind) (a z a' z' : State) (n : ℕ) → IsReady a → IsReady a' → IsWaiting a → IsWaiting a' → core (begun a) ≡ core (begun a') → total a ≡ n
+pub fate-one : (xs : List TokenKind) (t : TokenKind) (ys ys' : List TokenKind) (a z a' z' : State) (n : ℕ) → IsOnce a.tree → IsNative a → IsNative a' → IsWaiting a → IsWaiting a' → core (begun a) ≡ core (begun a') → total a ≡ n
     → is_char (symbol_of t) ≡ false → Constructs (xs ++ t ∷ ys) a z → Constructs (xs ++ t ∷ ys') a' z' → slice_get (fates z) (n + length xs) ≡ slice_get (fates z') (n + length xs)
-fate-one [] t ys ys' a z a' z' n g g' k k' l m h c c' =
-    let b = good-begun a g in
-    let b' = good-begun a' g' in
+fate-one [] t ys ys' a z a' z' n o g g' k k' l m h c c' =
+    let b = native-begun a g in
+    let b' = native-begun a' g' in
     let f = entries-taken t (begun a) c.0 c.1 b (waiting-begun a k) in
     let f' = entries-taken t (begun a') c'.0 c'.1 b' (waiting-begun a' k') in
-    let e = entries-one (symbol_of t) t (begun a) c.0 c.1 b (begun a') c'.0 b' l c'.1 in
+    let e = entries-one (symbol_of t) t (begun a) c.0 c.1 o (begun a') c'.0 l c'.1 in
     let s : fates c.0 ≡ fates c'.0 = ap (λ (v : State). fates v) e in
-    let r = constructs-grows ys c.0 z (entries-good (symbol_of t) t (begun a) c.0 c.1 b) f.waiting c.2 in
-    let r' = constructs-grows ys' c'.0 z' (entries-good (symbol_of t) t (begun a') c'.0 c'.1 b') f'.waiting c'.2 in
+    let r = constructs-grows ys c.0 z (entries-native (symbol_of t) t (begun a) c.0 c.1 b) f.waiting c.2 in
+    let r' = constructs-grows ys' c'.0 z' (entries-native (symbol_of t) t (begun a') c'.0 c'.1 b') f'.waiting c'.2 in
     let q : n + 0 < length (fates c.0) = (let u = f.count in let v = ap length (f.none h) in omega (arith, u, v, m)) in
     let q' : n + 0 < length (fates c'.0) = subst (λ v. n + 0 < length v) s q in
     ap (λ v. slice_get v (n + 0)) r.1
@@ -178,13 +180,13 @@ fate-one [] t ys ys' a z a' z' n g g' k k' l m h c c' =
     ∙ ap (λ v. slice_get v (n + 0)) s
     ∙ sym (get-left (fates c'.0) r'.0 (n + 0) q')
     ∙ sym (ap (λ v. slice_get v (n + 0)) r'.1)
-fate-one (x ∷ xs) t ys ys' a z a' z' n g g' k k' l m h c c' =
-    let b = good-begun a g in
-    let b' = good-begun a' g' in
+fate-one (x ∷ xs) t ys ys' a z a' z' n o g g' k k' l m h c c' =
+    let b = native-begun a g in
+    let b' = native-begun a' g' in
     let f = entries-taken x (begun a) c.0 c.1 b (waiting-begun a k) in
     let f' = entries-taken x (begun a') c'.0 c'.1 b' (waiting-begun a' k') in
-    let e = entries-one (symbol_of x) x (begun a) c.0 c.1 b (begun a') c'.0 b' l c'.1 in
+    let e = entries-one (symbol_of x) x (begun a) c.0 c.1 o (begun a') c'.0 l c'.1 in
     let i : (n + 1) + length xs ≡ n + suc (length xs) = omega arith in
     subst (λ v. slice_get (fates z) v ≡ slice_get (fates z') v) i
-    (fate-one xs t ys ys' c.0 z c'.0 z' (n + 1) (entries-good (symbol_of x) x (begun a) c.0 c.1 b) (entries-good (symbol_of x) x (begun a') c'.0 c'.1 b') f.waiting f'.waiting
+    (fate-one xs t ys ys' c.0 z c'.0 z' (n + 1) (entries-once (symbol_of x) x (begun a) c.0 c.1 o) (entries-native (symbol_of x) x (begun a) c.0 c.1 b) (entries-native (symbol_of x) x (begun a') c'.0 c'.1 b') f.waiting f'.waiting
     (ap (λ v. core (begun v)) e) (let u = f.count in omega (arith, u, m)) h c.2 c'.2)

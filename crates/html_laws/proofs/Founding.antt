@@ -61,10 +61,10 @@ use Rattle.html_ledger.specs.declared.setting.Setting.TheVariants.{Document, Fra
 use Rattle.html_construction.specs.Beginning.{IsFirst, first_state, first_templates}
 use Rattle.html_laws.specs.Elements.{PagesHaveOneRoot}
 use Rattle.html_laws.specs.Likeness.{core}
-use Rattle.html_laws.specs.Outcomes.{IsReady}
-use Rattle.html_laws.proofs.Beginnings.{first-core, first-good}
-use Rattle.html_laws.proofs.Entering.{entries-good, entry-follows, entry-good, entry_plan, good-becomes, good-begun, of-entry}
+use Rattle.html_laws.proofs.Beginnings.{first-core, first-native}
+use Rattle.html_laws.proofs.Natives.{IsNative, native-becomes}
 use Rattle.html_laws.proofs.Owned.{founded, htmls, own, own-most, rest-own}
+use Rattle.html_laws.proofs.Refusing.{entries-native, entry-follows, entry-native, native-begun, native_plan, of-entry}
 use Rattle.html_laws.proofs.Rooting.{AreSound, IsPast, IsSame, becomes-same, html_symbol, is_early, is_late, late-not-early, late-not-waits, names_html, past-same, quiet, reset-late, runs-past, same-then, sound, symbol-names, waits, word-same}
 use Rattle.html_laws.proofs.Tables.{if-same}
 
@@ -482,33 +482,33 @@ module _ (t : TokenKind) where
   abbrev y : Symbol
   y = symbol_of t
 
-  pub entry-past : (o : _) (a z : State) → IsReady a → IsPast a → IsEntry o y t a z → IsPast z
+  pub entry-past : (o : _) (a z : State) → IsNative a → IsPast a → IsEntry o y t a z → IsPast z
   entry-past o a z k g e =
-      (runs-past plan plans-sound (html_symbol y) (waits a.mode) (entry_plan a y) t a (ending o) z
+      (runs-past plan plans-sound (html_symbol y) (waits a.mode) (native_plan a y) t a (ending o) z
       (of-entry (sound (html_symbol y) (waits a.mode)) a y (λ c. refl) refl (plan-sound a.mode y g.late)) (symbol-names t) g g.back
-      (entry-follows o y t a z k.is_native.none e)).past
+      (entry-follows o y t a z k.none e)).past
 
-  pub entry-founded : (o : _) (a z : State) → IsReady a → IsFounded a → IsEntry o y t a z → IsFounded z
+  pub entry-founded : (o : _) (a z : State) → IsNative a → IsFounded a → IsEntry o y t a z → IsFounded z
   entry-founded o a z k (inl g) e =
-      runs-founded plan (html_symbol y) (entry_plan a y) t a (ending o) z
+      runs-founded plan (html_symbol y) (native_plan a y) t a (ending o) z
       (of-entry (begins (html_symbol y)) a y (λ c. refl) refl (plan-begins (html_symbol y) a.mode y g.early)) (symbol-names t) g
-      (entry-follows o y t a z k.is_native.none e)
+      (entry-follows o y t a z k.none e)
   entry-founded o a z k (inr g) e = inr (entry-past o a z k g e)
 
-  pub entries-founded : (a z : State) → Entries y t a z → IsReady a → IsFounded a → IsFounded z
+  pub entries-founded : (a z : State) → Entries y t a z → IsNative a → IsFounded a → IsFounded z
   entries-founded _ _ (next a b c z i j r) k g =
-      let k' = good-becomes a b i k in
-      entries-founded c z r (entry-good y t _ b c k' j) (entry-founded _ b c k' (founded-same a b (becomes-same a b i) g) j)
+      let k' = native-becomes a b i k in
+      entries-founded c z r (entry-native y t _ b c k' j) (entry-founded _ b c k' (founded-same a b (becomes-same a b i) g) j)
   entries-founded _ _ (last a b c z i j e) k g =
-      subst IsFounded (sym e) (settled-founded c (entry-founded _ b c (good-becomes a b i k) (founded-same a b (becomes-same a b i) g) j))
+      subst IsFounded (sym e) (settled-founded c (entry-founded _ b c (native-becomes a b i k) (founded-same a b (becomes-same a b i) g) j))
 
 -- TOKENS AND PAGES
 
-pub constructs-founded : (ts : List TokenKind) (a z : State) → IsReady a → IsFounded a → Constructs ts a z → IsFounded (begun z)
+pub constructs-founded : (ts : List TokenKind) (a z : State) → IsNative a → IsFounded a → Constructs ts a z → IsFounded (begun z)
 constructs-founded [] a z k g c = subst IsFounded c (founded-same a (begun a) (begun-state a) g)
 constructs-founded (t ∷ ts) a z k g c =
-    let k' = good-begun a k in
-    constructs-founded ts c.0 z (entries-good (symbol_of t) t (begun a) c.0 c.1 k') (entries-founded t (begun a) c.0 c.1 k' (founded-same a (begun a) (begun-state a) g)) c.2
+    let k' = native-begun a k in
+    constructs-founded ts c.0 z (entries-native (symbol_of t) t (begun a) c.0 c.1 k') (entries-founded t (begun a) c.0 c.1 k' (founded-same a (begun a) (begun-state a) g)) c.2
 
 fragment-one : (l : Option Limits) → htmls (fragment_state l 0).tree ≤ 1
 fragment-one l =
@@ -560,7 +560,7 @@ most-one a (inr g) = g.roots
 
 pub pages-root : PagesHaveOneRoot
 pages-root s l tokens fates t c b =
-    let k = first-good s l b.first c b.begins b.foreign_is in
+    let k = first-native s l b.first c b.begins b.foreign_is in
     let g = constructs-founded tokens b.first b.last k (first-founded s l b.first b.begins b.foreign_is) b.constructs in
     let m = most-one (begun b.last) g in
     let e = ap (λ (v : Nodes). htmls v) b.tree_is in

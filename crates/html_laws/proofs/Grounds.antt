@@ -42,7 +42,7 @@ use Rattle.html_construction.specs.declared.mode.Mode.TheVariants as mode
 use Rattle.html_construction.specs.Calls.{element_of, form_closed, formless}
 use Rattle.html_construction.specs.States.{State}
 use Rattle.html_construction.specs.Tokens.{attrs_of, char_of, data_of, element_name, name_id, public_id, system_id, tag_name}
-use Rattle.html_construction.specs.Words.{AddMarker, ClearTo, ClearToMarker, CloseForm, CloseNamed, CloseThrough, Drop, End, Implied, Imply, ImplyHead, ImplyPart, ImplyRoot, ImplyVoid, Insert, InsertAt, InsertCharacter, InsertClosedForm, InsertComment, InsertCommentAt, InsertDoctype, InsertForeign, InsertForeignVoid, InsertForm, InsertHead, InsertListed, InsertPart, InsertRoot, InsertVoid, InsertVoidAt, MergeIntoBody, MergeIntoRoot, Pop, PopTemplate, PushTemplate, ReplaceBody, Word, after}
+use Rattle.html_construction.specs.Words.{AddMarker, ClearTo, ClearToMarker, CloseForm, CloseNamed, CloseThrough, Drop, End, Implied, Imply, ImplyHead, ImplyPart, ImplyRoot, ImplyVoid, Insert, InsertAt, InsertCharacter, InsertClosedForm, InsertComment, InsertCommentAt, InsertDoctype, InsertForeign, InsertForeignVoid, InsertForm, InsertHead, InsertListed, InsertPart, InsertReplacement, InsertRoot, InsertVoid, InsertVoidAt, MergeIntoBody, MergeIntoRoot, Pop, PopTemplate, PushTemplate, ReplaceBody, Word, after}
 use Rattle.html_laws.proofs.Stacks.{IsPart, part-before, part-few, part-remaining, part-self, part-then, part-up_to}
 use Rattle.html_construction.proofs.Weighing.{same-tag}
 use Rattle.html_laws.proofs.Chains.{both, join, left, not-true}
@@ -455,6 +455,12 @@ module _ (t : TokenKind) (a : State) where
   word-step InsertCharacter g =
       let o = text_before a.tree.tree (place_here a.tree a.fostering) in
       quiet-step t a (after InsertCharacter t a) (text_faces o) (given-rest t a (after InsertCharacter t a) refl refl refl (λ k. left _ _ k) (λ k. left _ _ k) refl) (text-adds-bare a.tree.tree (place_here a.tree a.fostering) o (text_node a.tree a.fostering) (char_of t)) (text-tagged t a o) (text-none t a o) refl refl refl
+    where
+      text-adds-bare : (v : Nodes) (at : Place) (o : Option ℕ) (x : ℕ) (run : List ℕ) → Adds v (bare (texted_run (tree_or_new v at o) x run)) (text_faces o)
+      text-adds-bare v at o x run = record { are = (text-adds v at o x run).are }
+  word-step InsertReplacement g =
+      let o = text_before a.tree.tree (place_here a.tree a.fostering) in
+      quiet-step t a (after InsertReplacement t a) (text_faces o) (given-rest t a (after InsertReplacement t a) refl refl refl (λ k. left _ _ k) (λ k. left _ _ k) refl) (text-adds-bare a.tree.tree (place_here a.tree a.fostering) o (text_node a.tree a.fostering) (65533 ∷ [])) (text-tagged t a o) (text-none t a o) refl refl refl
     where
       text-adds-bare : (v : Nodes) (at : Place) (o : Option ℕ) (x : ℕ) (run : List ℕ) → Adds v (bare (texted_run (tree_or_new v at o) x run)) (text_faces o)
       text-adds-bare v at o x run = record { are = (text-adds v at o x run).are }

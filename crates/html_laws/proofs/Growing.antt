@@ -6,7 +6,7 @@ use Rattle.html_ledger.specs.declared.fate.Fate.{Fate}
 use Rattle.html_ledger.specs.Symbols.{symbol_of}
 use Rattle.html_construction.specs.Plans.{Each, Ending, IsMoved, Over, Plan, Rules, Runs, adopts, asks, closes_link, does, does_each, ends_each, fosters, goes_by, reconstructs, settles, stops}
 use Rattle.html_construction.specs.States.{State}
-use Rattle.html_construction.specs.Words.{AddMarker, Becomes, BeginOwnPart, ClearTo, ClearToMarker, CloseForm, CloseNamed, CloseThrough, Drop, End, Enter, FramesetOff, Implied, Imply, ImplyHead, ImplyPart, ImplyRoot, ImplyVoid, Insert, InsertAt, InsertCharacter, InsertClosedForm, InsertComment, InsertCommentAt, InsertDoctype, InsertForeign, InsertForeignVoid, InsertForm, InsertHead, InsertListed, InsertPart, InsertRoot, InsertVoid, InsertVoidAt, Keep, Leave, MergeIntoBody, MergeIntoRoot, Pop, PopTemplate, PushTemplate, Quirks, ReplaceBody, Reset, Switch, Word, after, answer, with_kept}
+use Rattle.html_construction.specs.Words.{AddMarker, Becomes, BeginOwnPart, ClearTo, ClearToMarker, CloseForm, CloseNamed, CloseThrough, Drop, End, Enter, FramesetOff, Implied, Imply, ImplyHead, ImplyPart, ImplyRoot, ImplyVoid, Insert, InsertAt, InsertCharacter, InsertClosedForm, InsertComment, InsertCommentAt, InsertDoctype, InsertForeign, InsertForeignVoid, InsertForm, InsertHead, InsertListed, InsertPart, InsertReplacement, InsertRoot, InsertVoid, InsertVoidAt, Keep, Leave, MergeIntoBody, MergeIntoRoot, Pop, PopTemplate, PushTemplate, Quirks, ReplaceBody, Reset, Switch, Word, after, answer, with_kept}
 use Rattle.html_laws.proofs.Words.{becomes-core}
 
 -- the first of the later fates
@@ -57,6 +57,7 @@ word-fates InsertComment t a = (_ ∷ [], refl)
 word-fates (InsertCommentAt g) t a = (_ ∷ [], refl)
 word-fates InsertDoctype t a = (_ ∷ [], refl)
 word-fates InsertCharacter t a = (_ ∷ [], refl)
+word-fates InsertReplacement t a = (_ ∷ [], refl)
 word-fates MergeIntoRoot t a = (_ ∷ [], refl)
 word-fates MergeIntoBody t a = (_ ∷ [], refl)
 word-fates (Drop cause) t a = (_ ∷ [], refl)

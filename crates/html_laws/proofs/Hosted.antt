@@ -1,9 +1,10 @@
 -- What the words of the rules, reopening and adoption make of what the open elements stand below.
-use Rattle.std.proofs.Common.{◌≡◌, ◌<◌, ◌≤◌, ◌⊎◌, is_some, length-append, ℕ, zero, suc, ◌+◌, ◌-◌, Bool, true, false, cond, eqb, not, ◌≢◌, List, [], ◌∷◌, ◌++◌, append-nil, get_or, length, set, take, drop, Option, Some, None, slice_index, inl, inr, refl, sym, ◌∙◌, ap, subst, arith}
+use Rattle.std.proofs.Common.{◌≡◌, ◌==◌, ◌<◌, ◌≤◌, ◌⊎◌, is_some, length-append, ℕ, zero, suc, ◌+◌, ◌-◌, Bool, true, false, cond, eqb, not, ◌≢◌, List, [], ◌∷◌, ◌++◌, append-nil, get_or, length, set, take, drop, Option, Some, None, slice_index, inl, inr, refl, sym, ◌∙◌, ap, subst, arith}
 use Rattle.std.specs.List.{list_any}
 use Rattle.std.proofs.lemmas.Bool.{cases_lt, false≢true}
 use Rattle.std.proofs.lemmas.List.{get_or_past, length-set, take-append-drop}
 use Rattle.std.proofs.Math.Seq.{take-append_seam}
+use Rattle.html_names.specs.declared.foreign.Space.{Space}
 use Rattle.html_names.specs.declared.tag.Tag.{Tag}
 use Rattle.html_names.specs.declared.tag.Tag.TheVariants as tag
 use Rattle.html_names.specs.Names.{name_of, tag_of}
@@ -44,6 +45,7 @@ use Rattle.html_open.proofs.SafePlaces.{same-tag}
 use Rattle.html_tree.specs.declared.groups.Target.{Target}
 use Rattle.html_tree.specs.declared.groups.Target.TheVariants as target
 use Rattle.html_tree.specs.Closing.{before_index, bodiless, first_few, kept_to, popped, remaining}
+use Rattle.html_tree.specs.Foreign.{found_foreign, home_end, left_foreign}
 use Rattle.html_tree.specs.Inserting.{with_new, with_open}
 use Rattle.html_tree.specs.Listing.{IsAdopted, IsReopened}
 use Rattle.html_tree.specs.Searching.{found_name}
@@ -54,12 +56,14 @@ use Rattle.html_tree.proofs.Closings.{first-few-up, without-first}
 use Rattle.html_tree.proofs.Kept.{first-few}
 use Rattle.html_ledger.specs.Entries.{number_of}
 use Rattle.html_ledger.specs.declared.setting.Setting.TheVariants.{Document, Fragment}
+use Rattle.html_ledger.specs.declared.symbol.Symbol.{Symbol}
 use Rattle.html_construction.specs.Beginning.{first_state}
-use Rattle.html_construction.specs.Calls.{HasEnded, IsLinkClosed, comment_of, doctype_of, element_of, form_closed, formless, implied_of, void_of}
+use Rattle.html_construction.specs.Calls.{HasEnded, IsLinkClosed, comment_of, doctype_of, element_of, foreign_of, form_closed, formless, implied_of, void_of}
 use Rattle.html_construction.specs.Plans.{IsMoved}
 use Rattle.html_construction.specs.States.{State}
-use Rattle.html_construction.specs.Tokens.{attrs_of, char_of, data_of, element_name, name_id, public_id, system_id, tag_name}
-use Rattle.html_construction.specs.Words.{AddMarker, Becomes, ClearTo, ClearToMarker, CloseForm, CloseNamed, CloseThrough, Drop, End, Implied, Imply, ImplyHead, ImplyPart, ImplyRoot, ImplyVoid, Insert, InsertAt, InsertCharacter, InsertClosedForm, InsertComment, InsertCommentAt, InsertDoctype, InsertForeign, InsertForeignVoid, InsertForm, InsertHead, InsertListed, InsertPart, InsertRoot, InsertVoid, InsertVoidAt, MergeIntoBody, MergeIntoRoot, Pop, Quirks, ReplaceBody, Switch, Word, after}
+use Rattle.html_construction.specs.Tokens.{attrs_of, char_of, data_of, element_name, foreign_attrs, foreign_name, name_id, public_id, system_id, tag_name}
+use Rattle.html_construction.specs.Words.{AddMarker, Becomes, ClearTo, ClearToMarker, CloseForm, CloseNamed, CloseThrough, Drop, End, Implied, Imply, ImplyHead, ImplyPart, ImplyRoot, ImplyVoid, Insert, InsertAt, InsertCharacter, InsertClosedForm, InsertComment, InsertCommentAt, InsertDoctype, InsertForeign, InsertForeignVoid, InsertForm, InsertHead, InsertListed, InsertPart, InsertReplacement, InsertRoot, InsertVoid, InsertVoidAt, MergeIntoBody, MergeIntoRoot, Pop, Quirks, ReplaceBody, Switch, Word, after, with_stack}
+use Rattle.html_modes.specs.Foreign.{ends_any, leaves_foreign, stack_after}
 use Rattle.html_laws.specs.Contents.{NoTemplateHoldsItself, IsOver, StandsIn, deeper, inside as within, itself}
 use Rattle.html_laws.specs.Likeness.{core}
 use Rattle.html_laws.proofs.Hosts.{IsLaid, IsTied, base}
@@ -427,8 +431,6 @@ calm b InsertForm = not b
 calm b InsertClosedForm = not b
 calm b InsertRoot = false
 calm b ImplyRoot = false
-calm b (InsertForeign s) = false
-calm b (InsertForeignVoid s) = false
 calm b w = true
 
 no-template : (b : Bool) (t : TokenKind) → names_template t ≡ b → not b ≡ true → is_template (tag_of (tag_name t)) ≡ false
@@ -508,6 +510,9 @@ replaced v d f k =
     subst (λ (s : List ℕ). IsHostedAt (with_new (bodiless v).tree (Last (get (first_of s) 0)) d) (s ++ length (bodiless v).tree.labels ∷ []) v.list v.head v.form) (sym c.1)
     (first-opened (bodiless v).tree c.0 d v.list v.head v.form (f (bodiless v).tree) c.2)
 
+foreign-fresh : (v : Nodes) (s : Space) (t : TokenKind) (a : State) → IsFresh v (foreign_of a s t)
+foreign-fresh v s t a = element-fresh v (foreign_name s (tag_name t)) (foreign_attrs s (attrs_of t)) (Token (number_of a.ledger))
+
 module _ (b : Bool) (t : TokenKind) (a : State) (n : names_template t ≡ b) (k : IsHosted a) where
   abbrev own : NewNode
   own = element_of a t
@@ -585,10 +590,11 @@ module _ (b : Bool) (t : TokenKind) (a : State) (n : names_template t ≡ b) (k 
   kept-word (InsertCommentAt g) h = leaf v (comment_of a t) g (comment-fresh v.tree (data_of t) (number_of a.ledger)) k
   kept-word InsertDoctype h = leaf v (doctype_of a t) target.Document (doctype-fresh v.tree (name_id t) (public_id t) (system_id t) (number_of a.ledger)) k
   kept-word InsertCharacter h = texted v a.fostering (char_of t) k
+  kept-word InsertReplacement h = texted v a.fostering (65533 ∷ []) k
   kept-word MergeIntoRoot h = alike-hosted v.tree (bare (with_merged v.tree (slice_index v.stack 0) (attrs_of t))) v.stack v.list v.head v.form (merged-alike v.tree (slice_index v.stack 0) (attrs_of t)) k
   kept-word MergeIntoBody h = alike-hosted v.tree (bare (with_merged v.tree (slice_index v.stack 1) (attrs_of t))) v.stack v.list v.head v.form (merged-alike v.tree (slice_index v.stack 1) (attrs_of t)) k
-  kept-word (InsertForeign s) h = absurd (false≢true h)
-  kept-word (InsertForeignVoid s) h = absurd (false≢true h)
+  kept-word (InsertForeign s) h = opened v (foreign_of a s t) a.fostering (foreign-fresh v.tree s t a) k
+  kept-word (InsertForeignVoid s) h = leaf v (foreign_of a s t) (target.Current a.fostering) (foreign-fresh v.tree s t a) k
   kept-word w h = k
 
 pub word-hosted : (b : Bool) (w : Word) (t : TokenKind) (a : State) → names_template t ≡ b → calm b w ≡ true → IsHosted a → IsHosted (after w t a)
@@ -716,6 +722,21 @@ link-at foster u z r k = by (last_named u.tree tag.A u.list) refl
 
 pub link-hosted : (a b : State) → IsMoved a b → IsLinkClosed a.fostering a.tree b.tree → IsHosted a → IsHosted b
 link-hosted a b i m k = moved-hosted a b i (link-at a.fostering a.tree b.tree m k)
+
+-- FOREIGN CONTENT
+
+-- what the rules for it close
+pub closed-hosted : (y : Symbol) (t : TokenKind) (a : State) → IsHosted a → IsHosted (with_stack (stack_after a.tree y t) a)
+closed-hosted y t a k = by (leaves_foreign y t) (ends_any y) (length a.tree.stack == 1)
+  where
+    v : Tree
+    v = a.tree
+
+    by : (x e r : Bool) → IsHostedAt v.tree (cond x (left_foreign v) (cond e (cond r v.stack (before_index (found_foreign v (tag_name t)) v.stack)) v.stack)) v.list v.head v.form
+    by true e r = few-hosted v.tree (home_end v) v.stack v.list v.head v.form k
+    by false true true = k
+    by false true false = before-hosted v.tree (found_foreign v (tag_name t)) v.stack v.list v.head v.form k
+    by false false r = k
 
 -- AN ELEMENT OF THE HEAD, MADE AFTER IT
 

@@ -8,7 +8,7 @@ use Rattle.html_ledger.specs.Symbols.{symbol_of}
 use Rattle.html_construction.specs.declared.mode.Mode.{Mode}
 use Rattle.html_construction.specs.Plans.{Adopt, Ask, By, CloseLink, Do, Each, Ending, Foster, IsMoved, Over, Plan, Reconstruct, Rules, Runs, Settle, Stop, adopts, asks, closes_link, does, does_each, ends_each, fosters, goes_by, reconstructs, settles, stops}
 use Rattle.html_construction.specs.States.{State}
-use Rattle.html_construction.specs.Words.{AddMarker, Becomes, BeginOwnPart, ClearTo, ClearToMarker, CloseForm, CloseNamed, CloseThrough, Drop, End, Enter, FramesetOff, Implied, Imply, ImplyHead, ImplyPart, ImplyRoot, ImplyVoid, Insert, InsertAt, InsertCharacter, InsertClosedForm, InsertComment, InsertCommentAt, InsertDoctype, InsertForeign, InsertForeignVoid, InsertForm, InsertHead, InsertListed, InsertPart, InsertRoot, InsertVoid, InsertVoidAt, Keep, Leave, MergeIntoBody, MergeIntoRoot, Pop, PopTemplate, PushTemplate, Quirks, ReplaceBody, Reset, Switch, Word, after, answer, with_kept}
+use Rattle.html_construction.specs.Words.{AddMarker, Becomes, BeginOwnPart, ClearTo, ClearToMarker, CloseForm, CloseNamed, CloseThrough, Drop, End, Enter, FramesetOff, Implied, Imply, ImplyHead, ImplyPart, ImplyRoot, ImplyVoid, Insert, InsertAt, InsertCharacter, InsertClosedForm, InsertComment, InsertCommentAt, InsertDoctype, InsertForeign, InsertForeignVoid, InsertForm, InsertHead, InsertListed, InsertPart, InsertReplacement, InsertRoot, InsertVoid, InsertVoidAt, Keep, Leave, MergeIntoBody, MergeIntoRoot, Pop, PopTemplate, PushTemplate, Quirks, ReplaceBody, Reset, Switch, Word, after, answer, with_kept}
 use Rattle.html_modes.specs.Guards.{is_table_text}
 use Rattle.html_construction.proofs.Planned.{halves as both}
 use Rattle.html_laws.proofs.Words.{becomes-core}
@@ -90,6 +90,7 @@ word-kept InsertComment t a h = refl
 word-kept (InsertCommentAt g) t a h = refl
 word-kept InsertDoctype t a h = refl
 word-kept InsertCharacter t a h = refl
+word-kept InsertReplacement t a h = refl
 word-kept MergeIntoRoot t a h = refl
 word-kept MergeIntoBody t a h = refl
 word-kept (Drop cause) t a h = refl

@@ -9,6 +9,7 @@ pub mod Counting
 pub mod Keeping
 pub mod Tables
 pub mod Entering
+pub mod Refusing
 pub mod Growing
 pub mod Fating
 pub mod Beginnings
@@ -44,5 +45,6 @@ pub mod Planting
 pub mod Replanting
 pub mod Grafts
 pub mod Hosted
+pub mod Modes
 pub mod Hosting
 pub mod Pages

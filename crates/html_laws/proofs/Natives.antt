@@ -12,11 +12,15 @@ use Rattle.html_ledger.specs.Symbols.{symbol_of}
 use Rattle.html_construction.specs.declared.mode.Mode.{Mode}
 use Rattle.html_construction.specs.Plans.{Adopt, Ask, By, CloseLink, Do, Each, Ending, Foster, IsMoved, Over, Plan, Reconstruct, Rules, Runs, Settle, Stop, adopts, asks, closes_link, does, does_each, ends_each, fosters, goes_by, reconstructs, settles, stops}
 use Rattle.html_construction.specs.States.{State}
-use Rattle.html_construction.specs.Words.{AddMarker, Becomes, BeginOwnPart, ClearTo, ClearToMarker, CloseForm, CloseNamed, CloseThrough, Drop, End, Enter, FramesetOff, Implied, Imply, ImplyHead, ImplyPart, ImplyRoot, ImplyVoid, Insert, InsertAt, InsertCharacter, InsertClosedForm, InsertComment, InsertCommentAt, InsertDoctype, InsertForeign, InsertForeignVoid, InsertForm, InsertHead, InsertListed, InsertPart, InsertRoot, InsertVoid, InsertVoidAt, Keep, Leave, MergeIntoBody, MergeIntoRoot, ParsesForeign, Pop, PopTemplate, PushTemplate, Query, Quirks, ReplaceBody, Reset, Switch, Word, after, answer, with_kept}
+use Rattle.html_construction.specs.Words.{AddMarker, Becomes, BeginOwnPart, ClearTo, ClearToMarker, CloseForm, CloseNamed, CloseThrough, Drop, End, Enter, FramesetOff, Implied, Imply, ImplyHead, ImplyPart, ImplyRoot, ImplyVoid, Insert, InsertAt, InsertCharacter, InsertClosedForm, InsertComment, InsertCommentAt, InsertDoctype, InsertForeign, InsertForeignVoid, InsertForm, InsertHead, InsertListed, InsertPart, InsertReplacement, InsertRoot, InsertVoid, InsertVoidAt, Keep, Leave, MergeIntoBody, MergeIntoRoot, ParsesForeign, Pop, PopTemplate, PushTemplate, Query, Quirks, ReplaceBody, Reset, Switch, Word, after, answer, with_kept}
 use Rattle.html_construction.proofs.Planned.{halves as both}
 use Rattle.html_laws.specs.Likeness.{core}
-use Rattle.html_laws.specs.Outcomes.{IsNative}
 use Rattle.html_laws.proofs.Words.{becomes-core}
+
+-- foreign content is refused, and none was made: so no token goes by the rules for it
+pub record IsNative (a : State) : Type 0 where
+  pub refused : a.parses_foreign ≡ false
+  pub none : a.ledger.history.foreign ≡ false
 
 -- the words that make one, and the question before them
 abbrev pub is_native_word : Word → Bool
@@ -97,6 +101,7 @@ word-native InsertComment t a h k = given-native a (after InsertComment t a) (sy
 word-native (InsertCommentAt g) t a h k = given-native a (after (InsertCommentAt g) t a) (symbol_of t) _ refl refl refl k
 word-native InsertDoctype t a h k = given-native a (after InsertDoctype t a) (symbol_of t) _ refl refl refl k
 word-native InsertCharacter t a h k = given-native a (after InsertCharacter t a) (symbol_of t) _ refl refl refl k
+word-native InsertReplacement t a h k = given-native a (after InsertReplacement t a) (symbol_of t) _ refl refl refl k
 word-native MergeIntoRoot t a h k = given-native a (after MergeIntoRoot t a) (symbol_of t) _ refl refl refl k
 word-native MergeIntoBody t a h k = given-native a (after MergeIntoBody t a) (symbol_of t) _ refl refl refl k
 word-native (Drop cause) t a h k = given-native a (after (Drop cause) t a) (symbol_of t) _ refl refl refl k

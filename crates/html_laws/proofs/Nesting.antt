@@ -50,9 +50,9 @@ use Rattle.html_ledger.specs.declared.setting.Setting.{Setting}
 use Rattle.html_ledger.specs.declared.setting.Setting.TheVariants.{Document, Fragment}
 use Rattle.html_ledger.specs.Settings.{is_foreign_context}
 use Rattle.html_laws.specs.Likeness.{core}
-use Rattle.html_laws.specs.Outcomes.{IsReady}
-use Rattle.html_laws.proofs.Beginnings.{first-core, first-good}
-use Rattle.html_laws.proofs.Entering.{entries-good, entry-follows, entry-good, entry_plan, good-becomes, good-begun, of-entry}
+use Rattle.html_laws.proofs.Beginnings.{first-core, first-native}
+use Rattle.html_laws.proofs.Natives.{IsNative, native-becomes}
+use Rattle.html_laws.proofs.Refusing.{entries-native, entry-follows, entry-native, native-begun, native_plan, of-entry}
 use Rattle.html_laws.proofs.Judged.{char-steady}
 use Rattle.html_laws.proofs.Chains.{both, either, join, neither, not-true}
 use Rattle.html_laws.proofs.Cuts.{any-tags}
@@ -807,7 +807,7 @@ nests-plan m o y h = absurd (false≢true h)
 
 module _ (t : TokenKind) where
   entry-nested : (o : _) (a z : State) → a.ledger.history.foreign ≡ false → IsNestedIn a → IsEntry o (symbol_of t) t a z → IsNestedIn z
-  entry-nested o a z n k e = runs-nested plan char-steady 4 a.mode (cond (waits a.mode) a.original mode.InBody) (entry_plan a (symbol_of t)) t a (ending o) z
+  entry-nested o a z n k e = runs-nested plan char-steady 4 a.mode (cond (waits a.mode) a.original mode.InBody) (native_plan a (symbol_of t)) t a (ending o) z
       (of-entry (nested plan 4 (symbol_of t) a.mode (cond (waits a.mode) a.original mode.InBody)) a (symbol_of t) (λ c. ignored-nested (waits a.mode) k.mode_is) refl (nests-plan a.mode a.original (symbol_of t) k.mode_is))
       (record { state = k.state; mode_is = refl; original_is = λ w. sym (ap (λ b. cond b a.original mode.InBody) w) }) (entry-follows o (symbol_of t) t a z n e)
     where
@@ -825,13 +825,13 @@ module _ (t : TokenKind) where
       by true = record { state = same true k.state; mode_is = refl }
       by false = record { state = same false k.state; mode_is = k.mode_is }
 
-  entries-nested : (a z : State) → Entries (symbol_of t) t a z → IsReady a → IsNestedIn a → IsNestedIn z
+  entries-nested : (a z : State) → Entries (symbol_of t) t a z → IsNative a → IsNestedIn a → IsNestedIn z
   entries-nested _ _ (next a b c z i j r) g k =
-      let h = good-becomes a b i g in
-      entries-nested c z r (entry-good (symbol_of t) t _ b c h j) (entry-nested _ b c h.is_native.none (in-core a b (becomes-core a b i) k) j)
+      let h = native-becomes a b i g in
+      entries-nested c z r (entry-native (symbol_of t) t _ b c h j) (entry-nested _ b c h.none (in-core a b (becomes-core a b i) k) j)
   entries-nested _ _ (last a b c z i j e) g k =
-      let h = good-becomes a b i g in
-      subst IsNestedIn (sym e) (settled-nested c (entry-nested _ b c h.is_native.none (in-core a b (becomes-core a b i) k) j))
+      let h = native-becomes a b i g in
+      subst IsNestedIn (sym e) (settled-nested c (entry-nested _ b c h.none (in-core a b (becomes-core a b i) k) j))
 
 nested-begun : (a : State) → IsNestedIn a → IsNestedIn (begun a)
 nested-begun a k = record { state = same k.state; mode_is = k.mode_is }
@@ -839,11 +839,11 @@ nested-begun a k = record { state = same k.state; mode_is = k.mode_is }
     same : IsFragment a → IsFragment (begun a)
     same s = record { held = s.held; formed = s.formed; templates = s.templates; context = s.context; refused = s.refused; fragment = s.fragment; none = s.none; low = s.low }
 
-constructs-nested : (ts : List TokenKind) (a z : State) → Constructs ts a z → IsReady a → IsNestedIn (begun a) → IsNestedIn (begun z)
+constructs-nested : (ts : List TokenKind) (a z : State) → Constructs ts a z → IsNative a → IsNestedIn (begun a) → IsNestedIn (begun z)
 constructs-nested [] a z c g k = subst IsNestedIn c k
 constructs-nested (t ∷ ts) a z c g k =
-    let h = good-begun a g in
-    constructs-nested ts c.0 z c.2 (entries-good (symbol_of t) t (begun a) c.0 c.1 h) (nested-begun c.0 (entries-nested t (begun a) c.0 c.1 h k))
+    let h = native-begun a g in
+    constructs-nested ts c.0 z c.2 (entries-native (symbol_of t) t (begun a) c.0 c.1 h) (nested-begun c.0 (entries-nested t (begun a) c.0 c.1 h k))
 
 -- A FRAGMENT
 
@@ -903,7 +903,7 @@ first-nested s l a h k f =
 pub apart-body : (s : Setting) (l : Option Limits) (tokens : List TokenKind) (fates : List Fate) (t : Nodes) → is_apart s ≡ true → is_foreign_context s ≡ false → IsBuiltByRules s l false tokens fates t
     → count_by (λ d. not (is_clone_in d) && is_same (tag_in d) tag.Body) t.labels ≤ 1
 apart-body s l tokens fates t h c b =
-    let k = first-good s l b.first c b.begins b.foreign_is in
+    let k = first-native s l b.first c b.begins b.foreign_is in
     let p = constructs-nested tokens b.first b.last b.constructs k (first-nested s l b.first h b.begins b.foreign_is) in
     let m = p.state.none in
     let e = ap (λ (v : Nodes). tally tag.Body (faces v)) b.tree_is in

@@ -83,12 +83,10 @@ trees-root start bytes tree r p =
     pages-root start.setting start.limits (kinds p.tokens) p.fates tree.arena r.no_context (built start bytes r p.tokens p.fates tree.arena p.is.built)
 
 pub inputs-hosts : InputsHaveNoTemplateInItself
-inputs-hosts start bytes page r p =
-    pages-hosts start.setting start.limits (kinds page.tokens) page.fates page.arena r.no_context (built start bytes r page.tokens page.fates page.arena p.built)
+inputs-hosts start bytes page p = pages-hosts start.setting start.limits (parses start.foreign) (kinds page.tokens) page.fates page.arena p.built
 
 pub trees-hosts : TreesHaveNoTemplateInItself
-trees-hosts start bytes tree r p =
-    pages-hosts start.setting start.limits (kinds p.tokens) p.fates tree.arena r.no_context (built start bytes r p.tokens p.fates tree.arena p.is.built)
+trees-hosts start bytes tree p = pages-hosts start.setting start.limits (parses start.foreign) (kinds p.tokens) p.fates tree.arena p.is.built
 
 -- the bodies of what was built of an input
 headline-body : (start : Start) (bytes : List ℕ) (ts : List Token) (fs : List Fate) (t : Nodes) (root n steps : ℕ) (errors : List PageFault) → RefusesForeign start → Headline start bytes ts fs t root errors n steps → count_of tag.Body t.labels ≤ 1

@@ -41,19 +41,20 @@ use Rattle.html_modes.specs.Rules.{plan}
 use Rattle.html_builder.specs.Switches.{switch_of, switches_by}
 use Rattle.html_parser.specs.Kinds.{kinds}
 use Rattle.html_laws.specs.Likeness.{core}
-use Rattle.html_laws.specs.Outcomes.{IsReady}
 use Rattle.html_laws.specs.Reads.{ReadsNoTag, is_start}
-use Rattle.html_laws.proofs.Beginnings.{first-core, first-good, first-total, first-waiting}
+use Rattle.html_laws.proofs.Beginnings.{first-core, first-native, first-total, first-waiting}
 use Rattle.html_laws.proofs.Chains.{both, either, join, not-true, right}
 use Rattle.html_laws.proofs.Counting.{is_char, total}
-use Rattle.html_laws.proofs.Entering.{entries-good, entry-follows, entry-good, entry_plan, good-becomes, good-begun, unless}
+use Rattle.html_laws.proofs.Entering.{unless}
 use Rattle.html_laws.proofs.Fating.{IsWaiting, constructs-grows, entries-taken}
 use Rattle.html_laws.proofs.Framing.{is_over}
 use Rattle.html_laws.proofs.Grounds.{is_inner, push-inner, take-inner}
 use Rattle.html_laws.proofs.Growing.{Grows, fates}
 use Rattle.html_laws.proofs.Judged.{char-steady}
 use Rattle.html_laws.proofs.Judging.{is_calm, is_in_body, is_steady_word, is_text_mode, resets, steady, waits}
+use Rattle.html_laws.proofs.Natives.{IsNative, native-becomes}
 use Rattle.html_laws.proofs.Outers.{outer_mode, outer_original}
+use Rattle.html_laws.proofs.Refusing.{entries-native, entry-follows, entry-native, native-begun, native_plan}
 use Rattle.html_laws.proofs.Rooting.{is_late, reset-late}
 use Rattle.html_laws.proofs.Tagless.{Said, is_start_kind, is_tagless, tokens-tagless}
 use Rattle.html_laws.proofs.Tags.{of-all}
@@ -796,7 +797,7 @@ module _ (t : TokenKind) where
   abbrev y : Symbol
   y = symbol_of t
 
-  entry-reads : (a : State) → IsRead a → reading plan (is_text_mode a.mode && is_char y) 4 y a.mode (cond (waits a.mode) a.original mode.InBody) (entry_plan a y) ≡ true
+  entry-reads : (a : State) → IsRead a → reading plan (is_text_mode a.mode && is_char y) 4 y a.mode (cond (waits a.mode) a.original mode.InBody) (native_plan a y) ≡ true
   entry-reads a k = by (is_table_text a.mode) (must_drop a.ledger.history y) (is_astray a y) refl
     where
       by : (b : Bool) (d : Option Cause) (x : Bool) → must_drop a.ledger.history y ≡ d → reading plan (is_text_mode a.mode && is_char y) 4 y a.mode (cond (waits a.mode) a.original mode.InBody) (cond b (plan a.mode y) (unless d (cond x (Do (Switch mode.InBody) again) (plan a.mode y)))) ≡ true
@@ -806,7 +807,7 @@ module _ (t : TokenKind) where
       by false None false e = reads-plan a.mode a.original y k.original
 
   entry-read : (o : _) (a z : State) → a.ledger.history.foreign ≡ false → IsRead a → IsEntry o y t a z → IsReadEnd (is_text_mode a.mode && is_char y) y (ending o) z
-  entry-read o a z n k e = runs-read plan char-steady (is_text_mode a.mode && is_char y) 4 a.mode (cond (waits a.mode) a.original mode.InBody) (entry_plan a y) t a (ending o) z (entry-reads a k)
+  entry-read o a z n k e = runs-read plan char-steady (is_text_mode a.mode && is_char y) 4 a.mode (cond (waits a.mode) a.original mode.InBody) (native_plan a y) t a (ending o) z (entry-reads a k)
       (record { mode_is = refl; original_is = λ w. sym (ap (λ b. cond b a.original mode.InBody) w); templates = k.templates }) (entry-follows o y t a z n e)
 
   -- after all entries of a call: in text where it began there, with a code point, or by the element of a start tag
@@ -828,18 +829,18 @@ module _ (t : TokenKind) where
       by true e = absurd (false≢true (ap is_text_mode e))
       by false e = e
 
-  entries-read : (a z : State) → Entries y t a z → IsReady a → IsRead a → IsReadOn a z
+  entries-read : (a z : State) → Entries y t a z → IsNative a → IsRead a → IsReadOn a z
   entries-read _ _ (next a b c z i j r) g k =
-      let h = good-becomes a b i g in
-      let e = entry-read _ b c h.is_native.none (read-as a b (becomes-core a b i) k) j in
-      let f = entries-read c z r (entry-good y t _ b c h j) (record { original = e.original; templates = e.templates }) in
+      let h = native-becomes a b i g in
+      let e = entry-read _ b c h.none (read-as a b (becomes-core a b i) k) j in
+      let f = entries-read c z r (entry-native y t _ b c h j) (record { original = e.original; templates = e.templates }) in
       record {
         read = f.read;
         text = λ x. elim (f.text x) [ inl u ↦ absurd (false≢true (ap is_over (e.text u.0).0)) | inr u ↦ inr u ];
       }
   entries-read _ _ (last a b c z i j q) g k =
-      let h = good-becomes a b i g in
-      let e = entry-read _ b c h.is_native.none (read-as a b (becomes-core a b i) k) j in
+      let h = native-becomes a b i g in
+      let e = entry-read _ b c h.none (read-as a b (becomes-core a b i) k) j in
       subst (IsReadOn a) (sym q) (record {
         read = settled-read c (record { original = e.original; templates = e.templates });
         text = λ x. elim (e.text (settled-text c x)).1 [
@@ -912,21 +913,21 @@ start-no-char : (y : Symbol) → starts reads_text y ≡ true → is_char y ≡ 
 start-no-char (Start g) h = refl
 start-no-char y h = absurd (false≢true h)
 
-pub reads-no-tag : (ts : List Token) (m : TextMode) (i : ℕ) (a z : State) (c : Constructs (kinds ts) a z) → is_tagless m ts (switches_by (kinds ts) (drop i (fates z))) ≡ true → total a ≡ i → IsReady a → IsWaiting a → IsRead a → (a.mode ≡ mode.Text → is_data m ≡ false)
+pub reads-no-tag : (ts : List Token) (m : TextMode) (i : ℕ) (a z : State) (c : Constructs (kinds ts) a z) → is_tagless m ts (switches_by (kinds ts) (drop i (fates z))) ≡ true → total a ≡ i → IsNative a → IsWaiting a → IsRead a → (a.mode ≡ mode.Text → is_data m ≡ false)
     → ReadsNoTag (kinds ts) a z c
 reads-no-tag [] m i a z c h n g w k d = tt
 reads-no-tag (t ∷ ts) m i a z c h n g w k d =
     let x = both (is_data m || not (is_start_kind t.kind)) (is_tagless (mode_after_kind t.kind (first_of said) m) ts (drop 1 said)) h in
-    let b = good-begun a g in
+    let b = native-begun a g in
     let f = entries-taken t.kind (begun a) c.0 c.1 b (record { none = w.none }) in
     let r = entries-read t.kind (begun a) c.0 c.1 b (record { original = k.original; templates = k.templates }) in (
       (λ e. tag-start t.kind ∙ not-true (is_start_kind t.kind) (data-or (is_data m) (d e) x.0)),
       reads-no-tag ts (mode_after_kind t.kind (first_of said) m) (suc i) c.0 z c.2
           (subst (λ v. is_tagless (mode_after_kind t.kind (first_of said) m) ts v ≡ true) (said-next t.kind (kinds ts) (drop i (fates z)) ∙ ap (switches_by (kinds ts)) (drop-next i (fates z))) x.1)
-          (let u = f.count in omega (arith, u, n)) (entries-good (symbol_of t.kind) t.kind (begun a) c.0 c.1 b) f.waiting r.read
+          (let u = f.count in omega (arith, u, n)) (entries-native (symbol_of t.kind) t.kind (begun a) c.0 c.1 b) f.waiting r.read
           (λ e. elim (r.text e) [
             | inl u ↦ char-data t.kind (first_of said) m u.1 (d u.0)
-            | inr u ↦ made-data f.count f.none (constructs-grows (kinds ts) c.0 z (entries-good (symbol_of t.kind) t.kind (begun a) c.0 c.1 b) f.waiting c.2) u.0 u.1
+            | inr u ↦ made-data f.count f.none (constructs-grows (kinds ts) c.0 z (entries-native (symbol_of t.kind) t.kind (begun a) c.0 c.1 b) f.waiting c.2) u.0 u.1
           ]),
     )
   where
@@ -972,7 +973,7 @@ first-no-text s l a k = ap (λ (v : State). is_text_mode v.mode) (first-core s l
 pub built-reads : (s : Setting) (l : Option Limits) (text : List ℕ) (start : TextStart) (ts : List Token) (said : Said) (fs : List Fate) (t : Nodes) → is_foreign_context s ≡ false → ts ≡ tokens_of text said start → said ≡ switches_by (kinds ts) fs
     → (b : IsBuiltByRules s l false (kinds ts) fs t) → ReadsNoTag (kinds ts) b.first b.last b.constructs
 built-reads s l text start ts said fs t c e k b =
-    let g = first-good s l b.first c b.begins b.foreign_is in
+    let g = first-native s l b.first c b.begins b.foreign_is in
     let n = first-total s l b.first b.begins in
     let h : is_tagless start.mode ts (switches_by (kinds ts) (drop 0 (fates b.last))) ≡ true =
     subst (λ v. is_tagless start.mode ts v ≡ true) (k ∙ ap (switches_by (kinds ts)) b.fates_are) (subst (λ v. is_tagless start.mode v said ≡ true) (sym e) (tokens-tagless start.rows 0 start.mode start.name 0 text said)) in

@@ -33,7 +33,7 @@ use Rattle.html_construction.specs.Plans.{Adopt, Ask, By, CloseLink, Do, Each, E
 use Rattle.html_construction.specs.Resetting.{element_mode, mode_of, or_mode, outermost_mode, reset_mode, root_mode, select_mode, template_mode, is_none_left}
 use Rattle.html_construction.specs.States.{State}
 use Rattle.html_construction.specs.Tokens.{attrs_of, char_of, element_name, tag_name}
-use Rattle.html_construction.specs.Words.{Becomes, CloseForm, Enter, Imply, ImplyHead, ImplyPart, ImplyRoot, ImplyVoid, Insert, InsertAt, InsertCharacter, InsertClosedForm, InsertComment, InsertCommentAt, InsertDoctype, InsertForeign, InsertForeignVoid, InsertForm, InsertHead, InsertListed, InsertPart, InsertRoot, InsertVoid, InsertVoidAt, Leave, MergeIntoBody, MergeIntoRoot, PopTemplate, PushTemplate, ReplaceBody, Reset, Switch, Word, after, answer, with_kept}
+use Rattle.html_construction.specs.Words.{Becomes, CloseForm, Enter, Imply, ImplyHead, ImplyPart, ImplyRoot, ImplyVoid, Insert, InsertAt, InsertCharacter, InsertClosedForm, InsertComment, InsertCommentAt, InsertDoctype, InsertForeign, InsertForeignVoid, InsertForm, InsertHead, InsertListed, InsertPart, InsertReplacement, InsertRoot, InsertVoid, InsertVoidAt, Leave, MergeIntoBody, MergeIntoRoot, PopTemplate, PushTemplate, ReplaceBody, Reset, Switch, Word, after, answer, with_kept}
 use Rattle.html_construction.proofs.Planned.{halves as both}
 use Rattle.html_laws.proofs.Keeping.{not-true}
 use Rattle.html_laws.proofs.Natives.{asked-none, asks_foreign}
@@ -143,12 +143,12 @@ reset-late context head ms (g ∷ below) h = by (is_none_left below) (reset-late
     by true k = outermost-late head ms (unwrap_or context tag.Html) h
     by false k = or-late (element_mode head ms g below) (reset_mode context head ms below) (element-late head ms g below h) k
 
-take-late : (n : ℕ) (ms : List Mode) → list_all is_late ms ≡ true → list_all is_late (take n ms) ≡ true
+pub take-late : (n : ℕ) (ms : List Mode) → list_all is_late ms ≡ true → list_all is_late (take n ms) ≡ true
 take-late zero ms h = refl
 take-late (suc n) [] h = refl
 take-late (suc n) (m ∷ ms) h = (let c = both (is_late m) (list_all is_late ms) h in join (is_late m) (list_all is_late (take n ms)) c.0 (take-late n ms c.1))
 
-push-late : (ms : List Mode) (m : Mode) → list_all is_late ms ≡ true → is_late m ≡ true → list_all is_late (ms ++ m ∷ []) ≡ true
+pub push-late : (ms : List Mode) (m : Mode) → list_all is_late ms ≡ true → is_late m ≡ true → list_all is_late (ms ++ m ∷ []) ≡ true
 push-late [] m h k = join (is_late m) true k refl
 push-late (n ∷ ms) m h k = (let c = both (is_late n) (list_all is_late ms) h in join (is_late n) (list_all is_late (ms ++ m ∷ [])) c.0 (push-late ms m c.1 k))
 
@@ -271,6 +271,8 @@ module _ (h : Bool) (t : TokenKind) (a : State) (e : names_html t ≡ h) where
   word-same InsertDoctype q = same a (after InsertDoctype t a) (added a.tree.tree (after InsertDoctype t a).tree.tree (place_for a.tree target.Document) (doctype_of a t) refl refl) refl refl refl refl
   word-same InsertCharacter q =
       same a (after InsertCharacter t a) (text-own a.tree.tree (place_here a.tree a.fostering) (text_before a.tree.tree (place_here a.tree a.fostering)) (text_node a.tree a.fostering) (char_of t)) refl refl refl refl
+  word-same InsertReplacement q =
+      same a (after InsertReplacement t a) (text-own a.tree.tree (place_here a.tree a.fostering) (text_before a.tree.tree (place_here a.tree a.fostering)) (text_node a.tree a.fostering) (65533 ∷ [])) refl refl refl refl
   word-same MergeIntoRoot q = same a (after MergeIntoRoot t a) (merged-own a.tree.tree (slice_index a.tree.stack 0) (attrs_of t)) refl refl refl refl
   word-same MergeIntoBody q = same a (after MergeIntoBody t a) (merged-own a.tree.tree (slice_index a.tree.stack 1) (attrs_of t)) refl refl refl refl
   word-same InsertRoot q = absurd (false≢true q)

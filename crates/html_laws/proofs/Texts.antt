@@ -19,7 +19,7 @@ use Rattle.html_builder.specs.Built.{IsBuiltByRules}
 use Rattle.html_builder.specs.Switches.{switch_after, switches_by}
 use Rattle.html_parser.specs.Kinds.{kinds}
 use Rattle.html_laws.specs.Outcomes.{BeginAlike, IsOneOutcome}
-use Rattle.html_laws.proofs.Beginnings.{first-good, first-one, first-total, first-waiting, pages-one, quirks-one}
+use Rattle.html_laws.proofs.Beginnings.{first-native, first-once, first-one, first-total, first-waiting, pages-one, quirks-one}
 use Rattle.html_laws.proofs.Counting.{is_char}
 use Rattle.html_laws.proofs.Fating.{fate-one}
 use Rattle.html_laws.proofs.Streams.{tokens-one}
@@ -116,18 +116,18 @@ module _ (s : Setting) (limits : Option Limits) (foreign : is_foreign_context s 
       let p = split-at ts i x j in
       let q = split-at us i x k in
       let v : us ≡ take i ts ++ x ∷ drop (suc i) us = q.0 ∙ ap (λ w. w ++ x ∷ drop (suc i) us) (sym e) in
-      let r = fate-one (take i ts) x (drop (suc i) ts) (drop (suc i) us) b.first b.last c.first c.last 0 (first-good s limits b.first foreign b.begins b.foreign_is) (first-good s limits c.first foreign c.begins c.foreign_is)
-      (first-waiting s limits b.first b.begins) (first-waiting s limits c.first c.begins)
+      let r = fate-one (take i ts) x (drop (suc i) ts) (drop (suc i) us) b.first b.last c.first c.last 0 (first-once s limits b.first b.begins) (first-native s limits b.first foreign b.begins b.foreign_is)
+      (first-native s limits c.first foreign c.begins c.foreign_is) (first-waiting s limits b.first b.begins) (first-waiting s limits c.first c.begins)
       (first-one s limits b.first c.first b.begins c.begins (quirks-one s limits b.first c.first b.begins c.begins quirks) (b.foreign_is ∙ sym c.foreign_is)) (first-total s limits b.first b.begins) h
       (subst (λ w. Constructs w b.first b.last) p.0 b.constructs) (subst (λ w. Constructs w c.first c.last) v c.constructs) in
       let n : 0 + length (take i ts) ≡ i = (let m = p.1 in omega (arith, m)) in
       ap (λ w. slice_get w i) b.fates_are ∙ subst (λ m. slice_get b.last.ledger.fates m ≡ slice_get c.last.ledger.fates m) n r ∙ sym (ap (λ w. slice_get w i) c.fates_are)
 
 -- the outcome, where all are the same
-outcomes-one : (s : Setting) (limits : Option Limits) → is_foreign_context s ≡ false → (ts us : List TokenKind) (fs gs : List Fate) (t u : Nodes)
+outcomes-one : (s : Setting) (limits : Option Limits) (ts us : List TokenKind) (fs gs : List Fate) (t u : Nodes)
     → (b : IsBuiltByRules s limits false ts fs t) → (c : IsBuiltByRules s limits false us gs u) → BeginAlike s b.first c.first → ts ≡ us → IsOneOutcome fs gs t u
-outcomes-one s limits foreign ts us fs gs t u b c q e =
-    pages-one s limits us fs gs t u foreign
+outcomes-one s limits ts us fs gs t u b c q e =
+    pages-one s limits false us fs gs t u
     (record { first = b.first; begins = b.begins; foreign_is = b.foreign_is; last = b.last; constructs = subst (λ v. Constructs v b.first b.last) e b.constructs; tree_is = b.tree_is; fates_are = b.fates_are }) c q
 
 -- The tokens of a text, their fates and nodes, where each token says what its fate says.
@@ -138,7 +138,7 @@ texts-one s limits text start ts us said said' fs gs t u foreign e f k m b c q =
     let n = length said + length said' in
     let same : said ≡ said' = sym (take-all said n (omega arith)) ∙ fronts n ∙ take-all said' n (omega arith) in
     let whole : ts ≡ us = e ∙ ap (λ v. tokens_of text v start) same ∙ sym f in
-    (whole, outcomes-one s limits foreign (kinds ts) (kinds us) fs gs t u b c q (ap kinds whole))
+    (whole, outcomes-one s limits (kinds ts) (kinds us) fs gs t u b c q (ap kinds whole))
   where
     tokens : (i : ℕ) → take i said ≡ take i said' → take (suc i) ts ≡ take (suc i) us
     tokens i l = ap (take (suc i)) e ∙ tokens-one start.rows 0 start.mode start.name 0 text said said' i l ∙ sym (ap (take (suc i)) f)

@@ -1,5 +1,5 @@
 -- What a word makes of a state, and what a question is answered, does not hang on what is counted.
-use Rattle.std.proofs.Common.{◌≡◌, ℕ, ◌+◌, ◌-◌, ◌≤◌, Bool, true, false, cond, List, [], length, slice_index, Option, Some, None, refl, sym, ◌∙◌, ap, le_of_eq, le_refl, arith}
+use Rattle.std.proofs.Common.{◌≡◌, ℕ, ◌+◌, ◌-◌, ◌≤◌, Bool, true, false, cond, List, [], ◌∷◌, length, slice_index, Option, Some, None, refl, sym, ◌∙◌, ap, le_of_eq, le_refl, arith}
 use Rattle.html_names.specs.declared.tag.Tag.TheVariants as tag
 use Rattle.html_arena.specs.declared.data.NewNode.{NewNode}
 use Rattle.html_arena.specs.Siblings.{first_of}
@@ -26,7 +26,7 @@ use Rattle.html_tree.specs.Texts.{node_or_next, place_here, text_before, text_no
 use Rattle.html_construction.specs.Calls.{comment_of, counting, doctype_of, element_of, foreign_of, form_closed, formless, implied_of, opened_at, root_of, void_of}
 use Rattle.html_construction.specs.States.{State}
 use Rattle.html_construction.specs.Tokens.{attrs_of, char_of, tag_name}
-use Rattle.html_construction.specs.Words.{AddMarker, AreSpacesKept, AwaitsDoctype, Becomes, BeginOwnPart, CanPop, CanReplaceBody, ClearTo, ClearToMarker, CloseForm, CloseNamed, CloseThrough, ClosesItself, CollectsText, Drop, End, Enter, Finds, FramesetOff, HasBody, HasForm, HasSeat, HasTemplate, HasTemplateMode, Implied, Imply, ImplyHead, ImplyPart, ImplyRoot, ImplyVoid, Insert, InsertAt, InsertCharacter, InsertClosedForm, InsertComment, InsertCommentAt, InsertDoctype, InsertForeign, InsertForeignVoid, InsertForm, InsertHead, InsertListed, InsertPart, InsertRoot, InsertVoid, InsertVoidAt, IsCurrent, IsFragment, IsFramesetOk, IsHidden, IsInTable, IsLeadingNewline, IsNull, IsOptionInGroup, IsOutsideColumnGroup, IsPrologSpace, IsQuirks, IsRootAlone, Keep, Leave, MayMisplace, MergeIntoBody, MergeIntoRoot, ParsesForeign, Pop, PopTemplate, PushTemplate, Query, Quirks, ReplaceBody, Reset, SetsQuirks, Switch, Word, after, answer, making, merging}
+use Rattle.html_construction.specs.Words.{AddMarker, AreSpacesKept, AwaitsDoctype, Becomes, BeginOwnPart, CanPop, CanReplaceBody, ClearTo, ClearToMarker, CloseForm, CloseNamed, CloseThrough, ClosesItself, CollectsText, Drop, End, Enter, Finds, FramesetOff, HasBody, HasForm, HasSeat, HasTemplate, HasTemplateMode, Implied, Imply, ImplyHead, ImplyPart, ImplyRoot, ImplyVoid, Insert, InsertAt, InsertCharacter, InsertClosedForm, InsertComment, InsertCommentAt, InsertDoctype, InsertForeign, InsertForeignVoid, InsertForm, InsertHead, InsertListed, InsertPart, InsertReplacement, InsertRoot, InsertVoid, InsertVoidAt, IsCurrent, IsFragment, IsFramesetOk, IsHidden, IsInTable, IsLeadingNewline, IsNull, IsOptionInGroup, IsOutsideColumnGroup, IsPrologSpace, IsQuirks, IsRootAlone, Keep, Leave, MayMisplace, MergeIntoBody, MergeIntoRoot, ParsesForeign, Pop, PopTemplate, PushTemplate, Query, Quirks, ReplaceBody, Reset, SetsQuirks, Switch, Word, after, answer, making, merging}
 use Rattle.html_laws.specs.Outcomes.{AreOnce, IsOnce}
 use Rattle.html_laws.specs.Likeness.{core, uncounted, uncounted_tree}
 use Rattle.html_laws.proofs.Nodes.{detached-core, detached-long, merged-long, new-core, new-longer, text-before-core, text-core, text-longer}
@@ -71,17 +71,20 @@ module _ (t : TokenKind) (a : State) where
   abbrev here : Place
   here = place_here a.tree a.fostering
 
-  abbrev with_chars : Option ℕ → Nodes → State
-  with_chars o v = record (core a) {
-    tree = record (core a).tree { tree = uncounted (texted_run (tree_or_new v here o) (node_or_next a.tree.tree o) (char_of t)) };
+  abbrev with_run : List ℕ → Option ℕ → Nodes → State
+  with_run run o v = record (core a) {
+    tree = record (core a).tree { tree = uncounted (texted_run (tree_or_new v here o) (node_or_next a.tree.tree o) run) };
     ledger = record (given a.ledger (symbol_of t) (Text (node_or_next a.tree.tree o))) { errors = [] };
   }
 
-  chars-core : core (after InsertCharacter t (core a)) ≡ core (after InsertCharacter t a)
-  chars-core =
+  abbrev with_text_in : List ℕ → State → State
+  with_text_in run b = record b { tree = record b.tree { tree = with_text b.tree b.fostering run }; ledger = given b.ledger (symbol_of t) (Text (text_node b.tree b.fostering)) }
+
+  run-core : (run : List ℕ) → core (with_text_in run (core a)) ≡ core (with_text_in run a)
+  run-core run =
       let o = text_before a.tree.tree here in
-      ap (λ v. with_chars v (uncounted a.tree.tree)) (text-before-core a.tree.tree here)
-      ∙ ap (λ u. record (with_chars o a.tree.tree) { tree = record (core a).tree { tree = u } }) (text-core a.tree.tree here o (node_or_next a.tree.tree o) (char_of t))
+      ap (λ v. with_run run v (uncounted a.tree.tree)) (text-before-core a.tree.tree here)
+      ∙ ap (λ u. record (with_run run o a.tree.tree) { tree = record (core a).tree { tree = u } }) (text-core a.tree.tree here o (node_or_next a.tree.tree o) run)
 
 form-by : (b : Bool) (s : List ℕ) (u : Tree) → uncounted_tree (cond b (record (formless (uncounted_tree u)) { stack = s }) (formless (uncounted_tree u))) ≡ uncounted_tree (cond b (record (formless u) { stack = s }) (formless u))
 form-by true s u = refl
@@ -119,7 +122,8 @@ word-core ImplyRoot t a = placed (core (after ImplyRoot t a)) a.tree.tree (place
 word-core InsertComment t a = placed (core (after InsertComment t a)) a.tree.tree (place_for a.tree (target.Current a.fostering)) (comment_of a t)
 word-core (InsertCommentAt g) t a = placed (core (after (InsertCommentAt g) t a)) a.tree.tree (place_for a.tree g) (comment_of a t)
 word-core InsertDoctype t a = placed (core (after InsertDoctype t a)) a.tree.tree (place_for a.tree target.Document) (doctype_of a t)
-word-core InsertCharacter t a = chars-core t a
+word-core InsertCharacter t a = run-core t a (char_of t)
+word-core InsertReplacement t a = run-core t a (65533 ∷ [])
 word-core MergeIntoRoot t a = refl
 word-core MergeIntoBody t a = refl
 word-core (Drop cause) t a = refl
@@ -234,6 +238,7 @@ word-once InsertComment t a o = placed-once a.tree (place_for a.tree (target.Cur
 word-once (InsertCommentAt g) t a o = placed-once a.tree (place_for a.tree g) (comment_of a t) o
 word-once InsertDoctype t a o = placed-once a.tree (place_for a.tree target.Document) (doctype_of a t) o
 word-once InsertCharacter t a o = longer-once a.tree (with_text a.tree a.fostering (char_of t)) (text-longer a.tree.tree (place_here a.tree a.fostering) (text_before a.tree.tree (place_here a.tree a.fostering)) (text_node a.tree a.fostering) (char_of t)) o
+word-once InsertReplacement t a o = longer-once a.tree (with_text a.tree a.fostering (65533 ∷ [])) (text-longer a.tree.tree (place_here a.tree a.fostering) (text_before a.tree.tree (place_here a.tree a.fostering)) (text_node a.tree a.fostering) (65533 ∷ [])) o
 word-once MergeIntoRoot t a o = merged-once 0 t a o
 word-once MergeIntoBody t a o = merged-once 1 t a o
 word-once (Drop cause) t a o = o

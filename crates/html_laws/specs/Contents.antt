@@ -1,18 +1,16 @@
 -- Claimed.
 -- What stands in the contents of a template (4.12.3).
-use Rattle.std.specs.Prelude.{◌≡◌, ℕ, false, List, Option, Some}
+use Rattle.std.specs.Prelude.{◌≡◌, ℕ, Bool, List, Option, Some}
 use Rattle.html_arena.specs.declared.arena.Limits.{Limits}
 use Rattle.html_arena.specs.Tree.{Tree as Nodes, host_at, parent_of}
 use Rattle.html_tokens.specs.declared.token.TokenKind.{TokenKind}
 use Rattle.html_ledger.specs.declared.fate.Fate.{Fate}
 use Rattle.html_ledger.specs.declared.setting.Setting.{Setting}
-use Rattle.html_ledger.specs.Settings.{is_foreign_context}
 use Rattle.html_builder.specs.Built.{IsBuiltByRules}
 use Rattle.html_parser.specs.Parsed.{IsPageOf, IsTreeOf}
 use Rattle.html_parser.specs.Start.{Start}
 use Rattle.html_parser.specs.declared.page.Page.{Page}
 use Rattle.html_parser.specs.declared.page.Tree.{Tree}
-use Rattle.html_laws.specs.OnePage.{RefusesForeign}
 
 -- r is an inclusive ancestor of x: x itself, its parent, or one above (DOM 1.1)
 pub data IsOver (t : Nodes) (r : ℕ) : ℕ → Type 0 where
@@ -30,15 +28,15 @@ NoTemplateHoldsItself t = (h : ℕ) → StandsIn t h h → ⊥
 
 -- THE LAWS
 
--- So it is in what the rules build of tokens, where foreign content is refused and is not the context.
+-- So it is in what the rules build of tokens.
 abbrev pub PagesHaveNoTemplateInItself : Type 0
-PagesHaveNoTemplateInItself = (s : Setting) (limits : Option Limits) (tokens : List TokenKind) (fates : List Fate) (t : Nodes) → is_foreign_context s ≡ false
-    → IsBuiltByRules s limits false tokens fates t → NoTemplateHoldsItself t
+PagesHaveNoTemplateInItself = (s : Setting) (limits : Option Limits) (foreign : Bool) (tokens : List TokenKind) (fates : List Fate) (t : Nodes)
+    → IsBuiltByRules s limits foreign tokens fates t → NoTemplateHoldsItself t
 
--- So it is in a page of an input, likewise.
+-- So it is in a page of an input.
 abbrev pub InputsHaveNoTemplateInItself : Type 0
-InputsHaveNoTemplateInItself = (start : Start) (bytes : List ℕ) (page : Page) → RefusesForeign start → IsPageOf start bytes page → NoTemplateHoldsItself page.arena
+InputsHaveNoTemplateInItself = (start : Start) (bytes : List ℕ) (page : Page) → IsPageOf start bytes page → NoTemplateHoldsItself page.arena
 
 -- And in a tree of one.
 abbrev pub TreesHaveNoTemplateInItself : Type 0
-TreesHaveNoTemplateInItself = (start : Start) (bytes : List ℕ) (tree : Tree) → RefusesForeign start → IsTreeOf start bytes tree → NoTemplateHoldsItself tree.arena
+TreesHaveNoTemplateInItself = (start : Start) (bytes : List ℕ) (tree : Tree) → IsTreeOf start bytes tree → NoTemplateHoldsItself tree.arena

@@ -1,6 +1,6 @@
 -- Claimed.
 -- That the rules of tree construction have one outcome (13.2.6): what two runs of them have in common.
-use Rattle.std.specs.Prelude.{◌≡◌, ℕ, ◌<◌, ◌⊎◌, true, false, List, length, Option}
+use Rattle.std.specs.Prelude.{◌≡◌, ℕ, ◌<◌, ◌⊎◌, Bool, true, List, length, Option}
 use Rattle.html_arena.specs.declared.arena.Limits.{Limits}
 use Rattle.html_arena.specs.Siblings.{Distinct, has}
 use Rattle.html_arena.specs.Tree.{Tree as Nodes}
@@ -8,7 +8,6 @@ use Rattle.html_tokens.specs.declared.token.TokenKind.{TokenKind}
 use Rattle.html_ledger.specs.declared.fate.Fate.{Fate}
 use Rattle.html_ledger.specs.declared.setting.Setting.{Setting}
 use Rattle.html_ledger.specs.declared.setting.Setting.TheVariants.{Document}
-use Rattle.html_ledger.specs.Settings.{is_foreign_context}
 use Rattle.html_tree.specs.States.{State as Tree}
 use Rattle.html_construction.specs.Plans.{Ending, Plan, Rules, Runs}
 use Rattle.html_construction.specs.States.{State}
@@ -30,16 +29,6 @@ pub record AreOnce (n : ℕ) (xs : List ℕ) : Type 0 where
 -- no node stands twice on the stack of open elements
 abbrev pub IsOnce : Tree → Type 0
 IsOnce u = AreOnce (length u.tree.labels) u.stack
-
--- foreign content is refused, and none was made
-pub record IsNative (a : State) : Type 0 where
-  pub refused : a.parses_foreign ≡ false
-  pub none : a.ledger.history.foreign ≡ false
-
--- So no token goes by the rules for foreign content, and adoption has one outcome.
-pub record IsReady (a : State) : Type 0 where
-  pub once : IsOnce a.tree
-  pub is_native : IsNative a
 
 -- Both begin in quirks mode, or neither does: a document does not, and a fragment where the document of its context is in that mode.
 abbrev pub BeginAlike : Setting → State → State → Type 0
@@ -63,11 +52,11 @@ pub record IsOneOutcome (fates fates' : List Fate) (t t' : Nodes) : Type 0 where
 abbrev pub PlansHaveOneEnd : Type 0
 PlansHaveOneEnd = (r : Rules) (p : Plan) (t : TokenKind) (a z a' z' : State) (e e' : Ending) → IsOnce a.tree → AreAlike a a' → Runs r p t a e z → Runs r p t a' e' z' → IsOneEnd e e' z z'
 
--- Two runs of the rules over the same tokens, from states that are alike, where foreign content is refused and none was made.
+-- Two runs of the rules over the same tokens, from states that are alike, whether foreign content is parsed or refused.
 abbrev pub TokensHaveOneEnd : Type 0
-TokensHaveOneEnd = (tokens : List TokenKind) (a z a' z' : State) → IsReady a → AreAlikeBetween a a' → Constructs tokens a z → Constructs tokens a' z' → AreAlikeBetween z z'
+TokensHaveOneEnd = (tokens : List TokenKind) (a z a' z' : State) → IsOnce a.tree → AreAlikeBetween a a' → Constructs tokens a z → Constructs tokens a' z' → AreAlikeBetween z z'
 
--- Two runs of the rules over the tokens of a page from the beginning, where foreign content is refused and is not the context.
+-- Two runs of the rules over the tokens of a page from the beginning, where foreign content is parsed in both or refused in both, whatever the context.
 abbrev pub PagesHaveOneTree : Type 0
-PagesHaveOneTree = (s : Setting) (limits : Option Limits) (tokens : List TokenKind) (fates fates' : List Fate) (t t' : Nodes) → is_foreign_context s ≡ false
-    → (b : IsBuiltByRules s limits false tokens fates t) → (b' : IsBuiltByRules s limits false tokens fates' t') → BeginAlike s b.first b'.first → IsOneOutcome fates fates' t t'
+PagesHaveOneTree = (s : Setting) (limits : Option Limits) (foreign : Bool) (tokens : List TokenKind) (fates fates' : List Fate) (t t' : Nodes)
+    → (b : IsBuiltByRules s limits foreign tokens fates t) → (b' : IsBuiltByRules s limits foreign tokens fates' t') → BeginAlike s b.first b'.first → IsOneOutcome fates fates' t t'

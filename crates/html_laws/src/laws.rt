@@ -15,14 +15,14 @@ ghost use Rattle.html_laws.specs.Elements.{
 ghost use Rattle.html_laws.specs.OnePage.{InputsHaveOnePage, InputsHaveOneTree};
 ghost use Rattle.html_laws.specs.Outcomes.{PagesHaveOneTree, PlansHaveOneEnd, TokensHaveOneEnd};
 
-/// A law: two runs of one plan for one token, and two runs of the rules over the same tokens where foreign content is refused, end alike, from states that
-/// differ in nothing but marks, counts and what tells errors of end tags.
+/// A law: two runs of one plan for one token, and two runs of the rules over the same tokens, end alike, from states that differ in nothing but marks, counts
+/// and what tells errors of end tags.
 pub fn rules_have_one_outcome()
     ensures plans { PlansHaveOneEnd }
     ensures tokens { TokensHaveOneEnd }
 {}
 
-/// A law: the tokens of a page have one list of fates and one tree, marks and counts apart, where foreign content is refused and is not the context.
+/// A law: the tokens of a page have one list of fates and one tree, marks and counts apart, whether foreign content is parsed or refused, in any context.
 pub fn construction_has_one_outcome()
     ensures { PagesHaveOneTree }
 {}
@@ -49,8 +49,7 @@ pub fn pages_have_one_body()
     ensures tree { TreesHaveOneBody }
 {}
 
-/// A law: no template stands in its own contents, where foreign content is refused and is not the context: neither in what the rules build of tokens, nor in
-/// the page of an input.
+/// A law: no template stands in its own contents: neither in what the rules build of tokens, nor in the page of an input.
 pub fn pages_have_no_template_in_itself()
     ensures tokens { PagesHaveNoTemplateInItself }
     ensures page { InputsHaveNoTemplateInItself }

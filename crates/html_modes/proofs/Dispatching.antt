@@ -14,12 +14,12 @@ use Rattle.html_construction.specs.declared.mode.Mode.TheVariants as mode
 use Rattle.html_construction.specs.Calls.{IsTree}
 use Rattle.html_construction.specs.Foreign.{adjusted_tag, if_foreign}
 use Rattle.html_construction.specs.Modes.{is_of_frames, is_of_selects}
-use Rattle.html_construction.specs.Plans.{Do, Ending, Runs}
+use Rattle.html_construction.specs.Plans.{Do, Ending, Plan, Runs}
 use Rattle.html_construction.specs.States.{State}
 use Rattle.html_construction.specs.Words.{Becomes, Switch, with_stack}
 use Rattle.html_construction.proofs.Doing.{becomes}
 use Rattle.html_modes.specs.Dispatching.{FollowsOn, IsDispatched, IsEntry, is_astray, is_unfounded, settled}
-use Rattle.html_modes.specs.Foreign.{Follows as FollowsForeignRules, around_foreign, goes_on, stack_after}
+use Rattle.html_modes.specs.Foreign.{around_foreign, goes_on, stack_after}
 use Rattle.html_modes.specs.Guards.{is_droppable, is_table_text}
 use Rattle.html_modes.specs.RuleForms.{again, ignored}
 use Rattle.html_modes.specs.Rules.{Follows, plan}
@@ -30,6 +30,7 @@ use Rattle.html_modes.specs.RulesAfterFrameset.{after_frameset}
 use Rattle.html_modes.specs.RulesAfterHead.{after_head}
 use Rattle.html_modes.specs.RulesBeforeHead.{before_head}
 use Rattle.html_modes.specs.RulesBeforeHtml.{before_html}
+use Rattle.html_modes.specs.RulesForeign.{in_foreign}
 use Rattle.html_modes.specs.RulesInBody.{in_body}
 use Rattle.html_modes.specs.RulesInCaption.{in_caption}
 use Rattle.html_modes.specs.RulesInCell.{in_cell}
@@ -219,19 +220,18 @@ some-tag-is : (g x : Tag) → Some g ≡ Some x → g ≡ x
 some-tag-is g x e = let q : Some g ≡ Some x = e in cc
 
 pub dispatched-around : (g : Tag) (o : Outcome) (y : Symbol) (t : TokenKind) (a z : State) → around_foreign a y t ≡ Some g → (goes_on a.tree y t ≡ true → FollowsOn (plan a.mode y) o y t a z)
-    → (goes_on a.tree y t ≡ false → FollowsForeignRules g o y t a z) → IsDispatched o y t a z
+    → (goes_on a.tree y t ≡ false → FollowsOn (in_foreign g y) o y t a z) → IsDispatched o y t a z
 dispatched-around g o y t a z s h f = record {
   by_mode = λ e. absurd (none-tag (around_foreign a y t) g e s);
   handed_on = λ x e k. h k;
-  stays = λ x e k. subst (λ (v : Tag). FollowsForeignRules v o y t a z) (some-tag-is g x (sym s ∙ e)) (f k);
+  stays = λ x e k. subst (λ (v : Tag). FollowsOn (in_foreign v y) o y t a z) (some-tag-is g x (sym s ∙ e)) (f k);
 }
 
+pub closed-then : (p : Plan) (o : Outcome) (y : Symbol) (t : TokenKind) (a m z : State) → m ≡ record a { tree = m.tree; stack = m.stack } → IsTree (record a.tree { stack = stack_after a.tree y t }) m → Follows p t o m z → FollowsOn p o y t a z
+closed-then p o y t a m z r i h = record { middle = m; left = becomes (with_stack (stack_after a.tree y t) a) m r i; follows = h }
+
 pub left-on : (o : Outcome) (y : Symbol) (t : TokenKind) (a m z : State) → m ≡ record a { tree = m.tree; stack = m.stack } → IsTree (record a.tree { stack = stack_after a.tree y t }) m → Follows (plan m.mode y) t o m z → FollowsOn (plan a.mode y) o y t a z
-left-on o y t a m z r i h = record {
-  middle = m;
-  left = becomes (with_stack (stack_after a.tree y t) a) m r i;
-  follows = subst (λ (x : Mode). Follows (plan x y) t o m z) (ap (λ (x : State). x.mode) r) h;
-}
+left-on o y t a m z r i h = closed-then (plan a.mode y) o y t a m z r i (subst (λ (x : Mode). Follows (plan x y) t o m z) (ap (λ (x : State). x.mode) r) h)
 
 pub ruleset entries = (entry-kept, entry-ignored, entry-astray, entry-dispatched, dispatched-outside, dispatched-native, dispatched-around)
 
@@ -242,7 +242,7 @@ pub data Way (o : Outcome) (y : Symbol) (t : TokenKind) (a z : State) : Type 0 w
   handed : (g : Tag) → around_foreign a y t ≡ Some g → FollowsOn (plan a.mode y) o y t a z → Way o y t a z
   dropped : (c : Cause) → must_drop a.ledger.history y ≡ Some c → Follows (ignored c) t o a z → Way o y t a z
   strayed : is_astray a y ≡ true → Follows (Do (Switch mode.InBody) again) t o a z → Way o y t a z
-  stayed : (g : Tag) → around_foreign a y t ≡ Some g → FollowsForeignRules g o y t a z → Way o y t a z
+  stayed : (g : Tag) → around_foreign a y t ≡ Some g → FollowsOn (in_foreign g y) o y t a z → Way o y t a z
 
 pub way : (o : Outcome) (y : Symbol) (t : TokenKind) (a z : State) → IsEntry o y t a z → Way o y t a z
 way o y t a z i = elim (cases_bool (is_table_text a.mode)) [ inl k ↦ planned (i.kept k) | inr k ↦ by (must_drop a.ledger.history y) refl k ]

@@ -9,30 +9,21 @@ use Rattle.html_names.specs.Foreign.{adjusted_name, is_foreign, is_html_space, i
 use Rattle.html_names.specs.Names.{tag_of}
 use Rattle.html_names.specs.Tags.{is_same}
 use Rattle.html_names.proofs.Spaces.{space-of_prefixed}
-use Rattle.html_tokens.specs.Cut.{null_replaced}
 use Rattle.html_tokens.specs.declared.token.TokenKind.{TokenKind}
-use Rattle.html_ledger.specs.declared.fate.Cause.TheVariants.{Misplaced}
-use Rattle.html_ledger.specs.declared.fate.Fate.TheVariants.{Dropped, Foreign as Embedded, Made, Text}
+use Rattle.html_ledger.specs.declared.fate.Fate.TheVariants.{Foreign as Embedded, Made}
 use Rattle.html_ledger.specs.declared.symbol.Symbol.{Symbol}
-use Rattle.html_ledger.specs.declared.symbol.Symbol.TheVariants.{Start, End, Char, Comment, Doctype, Eof}
-use Rattle.html_ledger.specs.Entries.{Entries, number_of}
+use Rattle.html_ledger.specs.declared.symbol.Symbol.TheVariants.{Start, End}
+use Rattle.html_ledger.specs.Entries.{Entries}
 use Rattle.html_ledger.specs.Flags.{may_embed}
 use Rattle.html_ledger.specs.MayDrop.{is_foreign_root}
-use Rattle.html_ledger.specs.Spaces.{is_space}
-use Rattle.html_tree.specs.declared.groups.Target.TheVariants.{Current}
 use Rattle.html_tree.specs.Foreign.{found_foreign, left_foreign}
-use Rattle.html_tree.specs.Listing.{IsReopened}
-use Rattle.html_tree.specs.OpenTags.{open_tags}
 use Rattle.html_tree.specs.States.{State as Tree}
-use Rattle.html_tree.specs.Texts.{text_node, with_text}
-use Rattle.html_construction.specs.declared.mode.Mode.{Mode}
-use Rattle.html_construction.specs.declared.mode.Mode.TheVariants as mode
 use Rattle.html_construction.specs.Built.{Keeps}
-use Rattle.html_construction.specs.Calls.{HasFate, IsTree, comment_of, counting, foreign_of, opened_at, placed_at}
+use Rattle.html_construction.specs.Calls.{HasFate, IsTree}
 use Rattle.html_construction.specs.Foreign.{adjusted_tag, foreign_tag, if_foreign}
 use Rattle.html_construction.specs.Grown.{Grown}
 use Rattle.html_construction.specs.States.{State}
-use Rattle.html_construction.specs.Tokens.{closes_itself, foreign_name, tag_name}
+use Rattle.html_construction.specs.Tokens.{foreign_name, tag_name}
 use Rattle.html_construction.specs.Weights.{weight, weight_of}
 use Rattle.html_construction.specs.Works.{Works}
 use Rattle.html_construction.proofs.Telling.{any-refused, char-refused}
@@ -41,7 +32,7 @@ use Rattle.html_modes.specs.declared.outcome.Outcome.TheVariants.{Done, Reproces
 use Rattle.html_modes.specs.declared.outcome.Foreign.{Foreign as Root}
 use Rattle.html_modes.specs.declared.outcome.Foreign.TheVariants as root
 use Rattle.html_modes.specs.Fitting.{is_loose}
-use Rattle.html_modes.specs.Foreign.{Follows, IsCommented, IsEmbedded, IsIgnored, IsInserted, IsRootMade, Stayed, Stays, around_foreign, breaks_out, closed_foreign, ends_any, ends_foreign, frameset_ok_after, goes_by_foreign, goes_on, if_goes, leaves_foreign, stack_after}
+use Rattle.html_modes.specs.Foreign.{around_foreign, breaks_out, closed_foreign, ends_any, ends_foreign, goes_by_foreign, goes_on, if_goes, leaves_foreign, stack_after}
 use Rattle.html_modes.specs.Ranks.{rank, top_rank}
 use Rattle.html_modes.specs.Plain.{IsNextInBody, TurnsInBody, is_plain_tag}
 use Rattle.html_modes.specs.RawText.{HasOpened}
@@ -83,55 +74,6 @@ pub opened-foreign : (t : Tag) (n : ℕ) (a b : State) → HasFate (Start t) (Em
 opened-foreign t n a b h = record {
   opened = λ r fs x e. absurd (let k : Embedded n ≡ Made x = push-last a.ledger.fates fs (Embedded n) (Made x) (sym (ap (λ (l : Entries). l.fates) h.ledger_is) ∙ e) in cc);
 }
-
-pub embedded-closed : (s : Space) (y : Symbol) (k : TokenKind) (a b : State) → closes_itself k ≡ true → HasFate y (Embedded (length a.tree.tree.labels)) a b
-    → IsTree (placed_at (foreign_of a s k) (Current a.fostering) (counting (number_of a.ledger + 1) a.tree)) b → IsEmbedded s y k a b
-embedded-closed s y k a b e f t = record { fate_is = f; tree_is = rw e t }
-
-pub embedded-opened : (s : Space) (y : Symbol) (k : TokenKind) (a b : State) → closes_itself k ≡ false → HasFate y (Embedded (length a.tree.tree.labels)) a b
-    → IsTree (opened_at (foreign_of a s k) (Current a.fostering) (counting (number_of a.ledger + 1) a.tree)) b → IsEmbedded s y k a b
-embedded-opened s y k a b e f t = record { fate_is = f; tree_is = rw e t }
-
--- after the reconstruction
-pub root-made : (s : Space) (y : Symbol) (k : TokenKind) (a m b : State) → m ≡ record a { tree = m.tree; stack = m.stack } → m.stack ≡ open_tags m.tree → IsReopened a.fostering a.tree m.tree → IsEmbedded s y k m b
-    → IsRootMade s y k a b
-root-made s y k a m b r t o i = record {
-  middle = m.tree;
-  reopened = o;
-  made = subst (λ (x : State). IsEmbedded s y k x b) (r ∙ ap (λ z. record a { tree = m.tree; stack = z }) t) i;
-}
-
--- U+0000 as U+FFFD
-pub inserted-null : (a b : State) → HasFate (Char 0) (Text (text_node a.tree a.fostering)) a b → IsTree (record a.tree { tree = with_text a.tree a.fostering (65533 ∷ []) }) b → IsInserted 0 a b
-inserted-null a b f t = record { fate_is = f; tree_is = t }
-
-pub inserted-char : (c : ℕ) (a b : State) → (c == 0) ≡ false → HasFate (Char c) (Text (text_node a.tree a.fostering)) a b → IsTree (record a.tree { tree = with_text a.tree a.fostering (c ∷ []) }) b → IsInserted c a b
-inserted-char c a b e f t = record { fate_is = f; tree_is = rw e t }
-
-pub inserted-flag : (c : ℕ) (f : Bool) (a m b : State) → b ≡ record m { frameset_ok = f } → IsInserted c a m → IsInserted c a b
-inserted-flag c f a m b r i = record { fate_is = record { ledger_is = ap (λ (x : State). x.ledger) r ∙ i.fate_is.ledger_is }; tree_is = record { tree_is = subst (λ (x : State). x.tree ≡ record (record a.tree { tree = with_text a.tree a.fostering (null_replaced c ∷ []) }) { steps = x.tree.steps }) (sym r) i.tree_is.tree_is } }
-
--- the flag frameset-ok after a code point
-pub kept-null : (a b : State) → b.frameset_ok ≡ a.frameset_ok → b.frameset_ok ≡ frameset_ok_after (Char 0) a.frameset_ok
-kept-null a b e = e
-
-pub kept-space : (c : ℕ) (a b : State) → (c == 0) ≡ false → is_space c ≡ true → b.frameset_ok ≡ a.frameset_ok → b.frameset_ok ≡ frameset_ok_after (Char c) a.frameset_ok
-kept-space c a b n s e = rw (n, s) e
-
-pub turned-off : (c : ℕ) (a b : State) → (c == 0) ≡ false → is_space c ≡ false → b.frameset_ok ≡ false → b.frameset_ok ≡ frameset_ok_after (Char c) a.frameset_ok
-turned-off c a b n s e = rw (n, s) e
-
--- a comment, and a DOCTYPE
-pub commented : (k : TokenKind) (a b : State) → HasFate Comment (Made (length a.tree.tree.labels)) a b → IsTree (placed_at (comment_of a k) (Current a.fostering) (counting (number_of a.ledger + 1) a.tree)) b → IsCommented k a b
-commented k a b f t = record { fate_is = f; tree_is = t }
-
-pub ignored-doctype : (a b : State) → HasFate Doctype (Dropped Misplaced) a b → b.tree ≡ a.tree → IsIgnored a b
-ignored-doctype a b f e = record { fate_is = λ w. f; tree_is = λ w. record { tree_is = e ∙ ap (λ n. record a.tree { steps = n }) (sym (ap (λ (x : Tree). x.steps) e)) } }
-
-pub awaited-doctype : (a b : State) → a.ledger.history.awaits_doctype ≡ true → IsIgnored a b
-awaited-doctype a b w = record { fate_is = λ n. absurd (false≢true (sym n ∙ w)); tree_is = λ n. absurd (false≢true (sym n ∙ w)) }
-
-pub ruleset doctype_rules = (ignored-doctype, awaited-doctype)
 
 -- WHERE THE ADJUSTED CURRENT NODE IS FOREIGN
 
@@ -228,11 +170,11 @@ closed-root name z e = rw e (record { tree_is = refl })
 
 pub ruleset closing_rules = (goes-start, goes-ended, goes-any, stack-left, stack-closed, stack-same, closed-root)
 
-pub ruleset embed_rules = (heavier-foreign, embedded-closed, embedded-opened, any-refused)
+pub ruleset embed_rules = (heavier-foreign, any-refused)
 
-pub ruleset root_rules = (root-made, outside-root, may-root)
+pub ruleset root_rules = (outside-root, may-root)
 
-pub ruleset char_rules = (inserted-null, inserted-char, inserted-flag, kept-null, kept-space, turned-off, history-foreign, any-refused, char-refused)
+pub ruleset char_rules = (history-foreign, any-refused, char-refused)
 
 -- the roots are no elements of a plain page
 root-plain : (name : Root) (t : Tag) → Start t ≡ root_of name → is_plain_tag t ≡ false
@@ -252,7 +194,7 @@ turns-root o name t k a b e = by o
 
 pub ruleset body_roots = (turns-root, outside-root, may-root, asked-parsed)
 
-pub ruleset stay_rules = (commented, history-foreign, around-outside, may-around, asked-around, any-refused)
+pub ruleset stay_rules = (history-foreign, around-outside, may-around, asked-around, any-refused)
 
 pub ruleset around_rules = (around-none, around-some, around-strict, around-not)
 
@@ -291,30 +233,6 @@ module _ (o : Outcome) (y : Symbol) (t : TokenKind) (a m b : State) (r : m ≡ r
       (rw (sym e) (omega (arith, g.1.0, v.0)), (omega (arith, e, g.1.1.1.1.0, v.1.0), omega (arith, g.1.1.1.1.1, v.1.1)))
 
 -- the token stays
-or-first : (a b : Bool) → (a || b) ≡ false → a ≡ false
-or-first true b e = e
-or-first false b e = refl
-
-stayed-end : (t : Tag) (k : TokenKind) (a m b : State) → IsTree (record a.tree { stack = stack_after a.tree (End t) k }) m → b.tree ≡ m.tree → IsTree (record a.tree { stack = stack_after a.tree (End t) k }) b
-stayed-end t k a m b h e = record { tree_is = e ∙ h.tree_is ∙ ap (λ n. record (record a.tree { stack = stack_after a.tree (End t) k }) { steps = n }) (sym (ap (λ (x : Tree). x.steps) e)) }
-
-stayed-after : (g : Tag) (y : Symbol) (k : TokenKind) (a m b : State) → (ends_any y ≡ false → m ≡ a) → IsTree (record a.tree { stack = stack_after a.tree y k }) m → Stays g y k m b → (ends_any y ≡ true → b.tree ≡ m.tree) → leaves_foreign y k ≡ false
-    → Stayed g y k a b
-stayed-after g (End t) k a m b same h s w l = stayed-end t k a m b h (w (rw l refl))
-stayed-after g Eof k a m b same h s w l = tt
-stayed-after g y k a m b same h s w l = subst (λ (x : State). Stays g y k x b) (same refl) s
-
-pub follows-done : (g : Tag) (y : Symbol) (k : TokenKind) (a m b : State) (r : Bool) → r ≡ goes_on a.tree y k → r ≡ false → (ends_any y ≡ false → r ≡ false → m ≡ a) → IsTree (record a.tree { stack = stack_after a.tree y k }) m → Stays g y k m b
-    → (ends_any y ≡ true → b.tree ≡ m.tree) → m ≡ record a { tree = m.tree; stack = m.stack } → b.frameset_ok ≡ frameset_ok_after y m.frameset_ok
-    → b ≡ record m { tree = b.tree; ledger = b.ledger; stack = b.stack; frameset_ok = b.frameset_ok } → Follows g Done y k a b
-follows-done g y k a m b r q n same h s w e f p = record {
-  done = refl;
-  stayed = stayed-after g y k a m b (λ e. same e n) h s w (or-first (leaves_foreign y k) _ (sym q ∙ n));
-  frameset_ok_is = f ∙ ap (λ (x : State). frameset_ok_after y x.frameset_ok) e;
-  mode_is = ap (λ (x : State). x.mode) p ∙ ap (λ (x : State). x.mode) e;
-  parses_is = ap (λ (x : State). x.parses_foreign) p ∙ ap (λ (x : State). x.parses_foreign) e;
-}
-
 Grows-stayed : (a m b : State) → Grown 0 0 0 0 0 a m → Grown 1 2 0 0 0 m b → Grows Done a b
 Grows-stayed a m b g h = (
   omega (arith, g.0, h.0),

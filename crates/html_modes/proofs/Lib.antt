@@ -13,10 +13,10 @@ pub mod TextRuns
 pub mod RawText
 pub mod Embedding
 pub mod Words
-pub mod Following
 pub mod TextAlone
 pub mod Outside
 pub mod Ruled
+pub mod RulesForeign
 pub mod RulesInBody
 pub mod RulesInHead
 pub mod RulesInBodyStart

@@ -2,8 +2,10 @@
 -- inside a select, and in those of a page of frames; and whether foreign content is parsed stays as it is.
 use Rattle.std.proofs.Common.{◌≡◌, ◌&&◌, ◌==◌, ℕ, List, [], ◌∷◌, Bool, true, false, cond, if◌then◌else◌, refl, sym, ap, subst, ◌∙◌}
 use Rattle.std.proofs.lemmas.Bool.{false≢true}
+use Rattle.html_names.specs.declared.foreign.Space.{Space}
 use Rattle.html_names.specs.declared.tag.Tag.{Tag}
 use Rattle.html_names.specs.declared.tag.Tag.TheVariants as tag
+use Rattle.html_names.specs.Foreign.{space_of}
 use Rattle.html_tokens.specs.declared.token.TokenKind.{TokenKind}
 use Rattle.html_tokens.specs.declared.token.TokenKind.TheVariants as kind
 use Rattle.html_ledger.specs.declared.fate.Cause.{Cause}
@@ -18,12 +20,14 @@ use Rattle.html_construction.specs.Plans.{Adopt, Again, Ask, By, CloseLink, Do, 
 use Rattle.html_construction.specs.Begun.{IsFounded}
 use Rattle.html_construction.specs.Built.{chars_of}
 use Rattle.html_construction.specs.States.{State}
-use Rattle.html_construction.specs.Words.{Becomes, Enter, Leave, Reset, Switch, Word, after, answer, with_kept, with_stack}
+use Rattle.html_construction.specs.Tokens.{closes_itself}
+use Rattle.html_construction.specs.Words.{Becomes, Enter, InsertForeign, InsertForeignVoid, Leave, Reset, Switch, Word, after, answer, with_kept, with_stack}
 use Rattle.html_modes.specs.Begun.{StaysOut, begins_foreign, ignores_foreign}
 use Rattle.html_modes.specs.Dispatching.{Constructs, Entries, IsEntry, begun, is_unfounded, last, next}
 use Rattle.html_modes.specs.Foreign.{stack_after}
-use Rattle.html_modes.specs.RuleForms.{again, ending, ignored}
+use Rattle.html_modes.specs.RuleForms.{again, embedding, ending, ignored, over}
 use Rattle.html_modes.specs.Rules.{Follows, plan}
+use Rattle.html_modes.specs.RulesForeign.{in_foreign}
 use Rattle.html_modes.specs.Steps.{is_code_point, root_space}
 use Rattle.html_modes.specs.declared.outcome.Outcome.{Outcome}
 use Rattle.html_modes.specs.declared.outcome.Outcome.TheVariants.{Done, Reprocess, Foreign}
@@ -111,6 +115,10 @@ point-outside : (m : Mode) (y : Symbol) → is_code_point y ≡ true → stays_o
 point-outside m (Char c) e = plan-outside m c
 point-outside m _ e = absurd (false≢true e)
 
+foreign-outside : (g : Tag) (y : Symbol) → is_code_point y ≡ true → stays_outside (in_foreign g y) ≡ true
+foreign-outside g (Char c) e = either (c == 0) _ _ refl (either (is_space c) _ _ refl refl)
+foreign-outside g _ e = absurd (false≢true e)
+
 -- WHERE A CODE POINT LEADS
 
 runs-outside : (p : Plan) (t : TokenKind) (a : State) (e : Ending) (z : State) → is_code_point (symbol_of t) ≡ true → stays_outside p ≡ true → Runs plan p t a e z → StaysOut a.mode z.mode
@@ -142,7 +150,9 @@ entry-outside o y t a z s e (handed g k w) =
     (runs-outside (plan a.mode y) t w.middle (ending o) z (ap is_code_point s ∙ e) (point-outside a.mode y e) w.follows)
 entry-outside o y t a z s e (dropped c k f) = runs-outside (ignored c) t a (ending o) z (ap is_code_point s ∙ e) refl f
 entry-outside o y t a z s e (strayed k f) = runs-outside (Do (Switch mode.InBody) again) t a (ending o) z (ap is_code_point s ∙ e) refl f
-entry-outside o y t a z s e (stayed g k f) = out-same a.mode z.mode f.mode_is
+entry-outside o y t a z s e (stayed g k w) =
+    out-then a.mode w.middle.mode z.mode (becomes-outside a.mode (with_stack (stack_after a.tree y t) a) w.middle w.left (out-same a.mode a.mode refl))
+    (runs-outside (in_foreign g y) t w.middle (ending o) z (ap is_code_point s ∙ e) (foreign-outside g y e) w.follows)
 
 settled-outside : (m : Mode) (u : Bool) → StaysOut m (cond u mode.InBody m)
 settled-outside m true = out-body m mode.InBody refl
@@ -194,13 +204,27 @@ root-done mode.AfterFrameset y t o a z s k e h = by-root (λ v. Follows (plan mo
 root-done mode.AfterAfterFrameset y t o a z s k e h = by-root (λ v. Follows (plan mode.AfterAfterFrameset v) t o a z → o ≡ Done) y e (ignored-done _ t o a z) (ignored-done _ t o a z) h
 root-done _ y t o a z s k e h = absurd (false≢true k)
 
+-- an element of foreign content is made of it
+embedding-done : (p : Space) (t : TokenKind) (o : Outcome) (a z : State) → Follows (embedding p) t o a z → o ≡ Done
+embedding-done p t o a z h = let c = followed plan (embedding p) t a (ending o) z h in by (closes_itself t) c.0 c.2
+  where
+    made : (w : Word) (b : State) → Runs plan (Do w over) t b (ending o) z → o ≡ Done
+    made w b k = let d = followed plan (Do w over) t b (ending o) z k in over-done o (followed plan over t d.0 (ending o) z d.2).0
+
+    by : (x : Bool) (b : State) → Runs plan (if x then Do (InsertForeignVoid p) over else Do (InsertForeign p) over) t b (ending o) z → o ≡ Done
+    by true b k = made (InsertForeignVoid p) b k
+    by false b k = made (InsertForeign p) b k
+
+foreign-done : (g : Tag) (y : Symbol) (t : TokenKind) (o : Outcome) (a z : State) → begins_foreign y ≡ true → Follows (in_foreign g y) t o a z → o ≡ Done
+foreign-done g y t o a z e h = by-root (λ v. Follows (in_foreign g v) t o a z → o ≡ Done) y e (embedding-done (space_of g) t o a z) (embedding-done (space_of g) t o a z) h
+
 -- in a mode to which something leads, where the call begins
 entry-ignores : (o : Outcome) (y : Symbol) (t : TokenKind) (a z : State) → symbol_of t ≡ y → IsFounded a → a.began ≡ a.mode → ignores_foreign a.mode ≡ true → begins_foreign y ≡ true → Way o y t a z → o ≡ Done
 entry-ignores o y t a z s w b k e (planned f) = root-done a.mode y t o a z s k e f
 entry-ignores o y t a z s w b k e (handed g n f) = root-done a.mode y t o f.middle z s k e f.follows
 entry-ignores o y t a z s w b k e (dropped c n f) = ignored-done c t o a z f
 entry-ignores o y t a z s w b k e (strayed n f) = absurd (false≢true (sym (founded-astray a y w b) ∙ n))
-entry-ignores o y t a z s w b k e (stayed g n f) = f.done
+entry-ignores o y t a z s w b k e (stayed g n f) = foreign-done g y t o f.middle z e f.follows
 
 founded-tree : (a : State) (t : Tree) → IsFounded a → IsFounded (record a { tree = t })
 founded-tree a t w = record { select = w.select; frameset = w.frameset }
@@ -244,7 +268,7 @@ way-parses o y t a z (planned f) = runs-parses (plan a.mode y) t a (ending o) z 
 way-parses o y t a z (handed g k f) = runs-parses (plan a.mode y) t f.middle (ending o) z f.follows ∙ becomes-parses (with_stack (stack_after a.tree y t) a) f.middle f.left
 way-parses o y t a z (dropped c k f) = runs-parses (ignored c) t a (ending o) z f
 way-parses o y t a z (strayed k f) = runs-parses (Do (Switch mode.InBody) again) t a (ending o) z f
-way-parses o y t a z (stayed g k f) = f.parses_is
+way-parses o y t a z (stayed g k f) = runs-parses (in_foreign g y) t f.middle (ending o) z f.follows ∙ becomes-parses (with_stack (stack_after a.tree y t) a) f.middle f.left
 
 pub entry-parses : (o : Outcome) (y : Symbol) (t : TokenKind) (a z : State) → IsEntry o y t a z → z.parses_foreign ≡ a.parses_foreign
 entry-parses o y t a z i = way-parses o y t a z (way o y t a z i)

@@ -14,10 +14,10 @@ use Rattle.html_tree.specs.Proper.{is_foreign_root}
 use Rattle.html_construction.specs.Plans.{Ask, By, Do, Ending, Plan, Reconstruct, Refused, Runs}
 use Rattle.html_construction.specs.States.{State}
 use Rattle.html_construction.specs.Tokens.{attrs_of, closes_itself}
-use Rattle.html_construction.specs.Words.{AddMarker, ClosesItself, FramesetOff, Insert, InsertForeign, InsertForeignVoid, InsertVoid, IsHidden, IsInTable, MayMisplace, ParsesForeign, is_hidden, is_in_table}
+use Rattle.html_construction.specs.Words.{AddMarker, ClosesItself, FramesetOff, Insert, InsertVoid, IsHidden, IsInTable, MayMisplace, ParsesForeign, is_hidden, is_in_table}
 use Rattle.html_construction.proofs.Weighing.{same-tag}
 use Rattle.html_modes.specs.RawText.{is_body_text}
-use Rattle.html_modes.specs.RuleForms.{closing_p, ignored, over, popping_any}
+use Rattle.html_modes.specs.RuleForms.{closing_p, embedding, ignored, over, popping_any}
 use Rattle.html_modes.specs.Rules.{plan}
 use Rattle.html_modes.specs.RulesInBodyStart.{among_text, formatting, in_body_start, in_body_start_phrase, in_body_start_rest, void_among_text}
 use Rattle.html_modes.specs.RulesInHead.{holding_text}
@@ -443,9 +443,9 @@ pub root-refused : (n : Foreign) (g : Tag) (t : TokenKind) (a : State) → Start
 root-refused root.Svg g t a k r = subst (λ (x : Tag). Runs plan (in_body_start x) t a (Refused space.Svg) a) (sym (start-is g tag.Svg k)) (asked ParsesForeign false _ _ t a (Refused space.Svg) a (sym r) (stop_here (Refused space.Svg) t a))
 root-refused root.Math g t a k r = subst (λ (x : Tag). Runs plan (in_body_start x) t a (Refused space.Math) a) (sym (start-is g tag.Math k)) (asked ParsesForeign false _ _ t a (Refused space.Math) a (sym r) (stop_here (Refused space.Math) t a))
 
-pub root-parsed : (n : Foreign) (s : Space) (g : Tag) (t : TokenKind) (a : State) (e : Ending) (z : State) → Start g ≡ root_of n → s ≡ root_space n → a.parses_foreign ≡ true → Runs plan (Reconstruct (Ask ClosesItself (Do (InsertForeignVoid s) over) (Do (InsertForeign s) over))) t a e z → Runs plan (in_body_start g) t a e z
-root-parsed root.Svg s g t a e z k q r h = subst (λ (x : Tag). Runs plan (in_body_start x) t a e z) (sym (start-is g tag.Svg k)) (asked ParsesForeign true _ _ t a e z (sym r) (subst (λ (x : Space). Runs plan (Reconstruct (Ask ClosesItself (Do (InsertForeignVoid x) over) (Do (InsertForeign x) over))) t a e z) q h))
-root-parsed root.Math s g t a e z k q r h = subst (λ (x : Tag). Runs plan (in_body_start x) t a e z) (sym (start-is g tag.Math k)) (asked ParsesForeign true _ _ t a e z (sym r) (subst (λ (x : Space). Runs plan (Reconstruct (Ask ClosesItself (Do (InsertForeignVoid x) over) (Do (InsertForeign x) over))) t a e z) q h))
+pub root-parsed : (n : Foreign) (s : Space) (g : Tag) (t : TokenKind) (a : State) (e : Ending) (z : State) → Start g ≡ root_of n → s ≡ root_space n → a.parses_foreign ≡ true → Runs plan (Reconstruct (embedding s)) t a e z → Runs plan (in_body_start g) t a e z
+root-parsed root.Svg s g t a e z k q r h = subst (λ (x : Tag). Runs plan (in_body_start x) t a e z) (sym (start-is g tag.Svg k)) (asked ParsesForeign true _ _ t a e z (sym r) (subst (λ (x : Space). Runs plan (Reconstruct (embedding x)) t a e z) q h))
+root-parsed root.Math s g t a e z k q r h = subst (λ (x : Tag). Runs plan (in_body_start x) t a e z) (sym (start-is g tag.Math k)) (asked ParsesForeign true _ _ t a e z (sym r) (subst (λ (x : Space). Runs plan (Reconstruct (embedding x)) t a e z) q h))
 
 pub asked-closing : (x : Bool) (p n : Plan) (t : TokenKind) (a : State) (e : Ending) (z : State) → x ≡ closes_itself t → Runs plan (if x then p else n) t a e z → Runs plan (Ask ClosesItself p n) t a e z
 asked-closing x p n t a e z k h = asked ClosesItself x p n t a e z k h

@@ -11,17 +11,17 @@ use Rattle.html_construction.specs.Calls.{element_of, opened_at}
 use Rattle.html_construction.specs.Modes.{is_of_frames, is_of_selects}
 use Rattle.html_construction.specs.Plans.{Adopt, Again, Ask, By, CloseLink, Do, Each, Ending, Foster, Over, Plan, Reconstruct, Runs, Settle, Stop, adopts, asks, closes_link, does, does_each, ends_each, fosters, goes_by, reconstructs, settles, stops}
 use Rattle.html_construction.specs.States.{State}
-use Rattle.html_construction.specs.Tokens.{char_of}
-use Rattle.html_construction.specs.Words.{Becomes, Drop, Enter, Insert, InsertAt, Switch, Word, after, answer, making, next_tree, InsertCharacter}
+use Rattle.html_construction.specs.Tokens.{char_of, closes_itself}
+use Rattle.html_construction.specs.Words.{Becomes, Drop, Enter, Insert, InsertAt, InsertCharacter, InsertForeign, InsertForeignVoid, Switch, Word, after, answer, making, next_tree}
 use Rattle.html_construction.specs.declared.mode.Mode.TheVariants as mode
 use Rattle.html_construction.specs.declared.mode.Mode.{Mode}
 use Rattle.html_ledger.specs.Entries.{given}
 use Rattle.html_ledger.specs.Symbols.{symbol_of, chars_of}
 use Rattle.html_ledger.specs.declared.fate.Cause.TheVariants.{Null}
 use Rattle.html_ledger.specs.declared.fate.Cause.{Cause}
-use Rattle.html_ledger.specs.declared.fate.Fate.TheVariants.{Made, Dropped, Text}
+use Rattle.html_ledger.specs.declared.fate.Fate.TheVariants.{Dropped, Foreign as Embedded, Made, Text}
 use Rattle.html_ledger.specs.declared.fate.Fate.{Fate}
-use Rattle.html_ledger.specs.declared.symbol.Symbol.TheVariants.{Start, End, Char, Comment, Doctype, Eof}
+use Rattle.html_ledger.specs.declared.symbol.Symbol.TheVariants.{Start, Char}
 use Rattle.html_ledger.specs.declared.symbol.Symbol.{Symbol}
 use Rattle.html_modes.proofs.Current.{has-last}
 use Rattle.html_modes.proofs.Dispatching.{Way, dropped, handed, never-astray, planned, stayed, strayed, way}
@@ -32,15 +32,16 @@ use Rattle.html_modes.specs.Dispatching.{Constructs, Entries, begun, last, next,
 use Rattle.html_modes.specs.Fitting.{is_loose}
 use Rattle.html_modes.specs.Foreign.{around_foreign}
 use Rattle.html_modes.specs.RawText.{HasOpened, IsOpenText, OpensBy, holds_text_alone, AddsBy, AddsText, run_of, is_aside}
-use Rattle.html_modes.specs.RuleForms.{again, ending, ignored, over}
+use Rattle.html_modes.specs.RuleForms.{again, embedding, ending, ignored, over}
 use Rattle.html_modes.specs.Rules.{Follows, plan}
 use Rattle.html_modes.specs.declared.outcome.Outcome.TheVariants.{Done, Reprocess}
 use Rattle.html_modes.specs.declared.outcome.Outcome.{Outcome}
-use Rattle.html_names.specs.Names.{tag_of}
+use Rattle.html_names.specs.Foreign.{space_of}
 use Rattle.html_names.specs.Sets.{is_template}
+use Rattle.html_names.specs.declared.foreign.Space.{Space}
 use Rattle.html_names.specs.declared.tag.Tag.TheVariants as tag
 use Rattle.html_names.specs.declared.tag.Tag.{Tag}
-use Rattle.html_open.proofs.Keeps.{cases_bool, cases_eqb, eqb-self}
+use Rattle.html_open.proofs.Keeps.{cases_eqb, eqb-self}
 use Rattle.html_open.specs.Placing.{put}
 use Rattle.html_open.specs.declared.places.Place.TheVariants.{Before, Last}
 use Rattle.html_open.specs.declared.places.Place.{Place}
@@ -245,12 +246,26 @@ module _ (g : Tag) (alone : holds_text_alone g ≡ true) where
   plan-opened : (m : Mode) (t : TokenKind) (a z : State) → symbol_of t ≡ Start g → IsForest z.tree.tree → Follows (plan m (Start g)) t Done a z → HasOpened g z
   plan-opened m t a z s f h = runs-open (plan m (Start g)) t a Over z s refl (plan-opens g m alone) f h
 
+  -- an element of foreign content is no such element
+  embedding-opened : (p : Space) (t : TokenKind) (a z : State) → symbol_of t ≡ Start g → Follows (embedding p) t Done a z → HasOpened g z
+  embedding-opened p t a z s h = let c = followed plan (embedding p) t a Over z h in by (closes_itself t) c.0 c.2
+    where
+      made : (w : Word) (n : ℕ) (b : State) → (after w t b).ledger ≡ given b.ledger (symbol_of t) (Embedded n) → Runs plan (Do w over) t b Over z → HasOpened g z
+      made w n b e k =
+          let d = followed plan (Do w over) t b Over z k in
+          let l = (followed plan over t d.0 Over z d.2).1 in
+          opened-foreign g n b z (record { ledger_is = ap (λ (v : State). v.ledger) l.state_is ∙ ap (λ (v : State). v.ledger) (d.1).state_is ∙ e ∙ ap (λ y. given b.ledger y (Embedded n)) s })
+
+      by : (x : Bool) (b : State) → Runs plan (if x then Do (InsertForeignVoid p) over else Do (InsertForeign p) over) t b Over z → HasOpened g z
+      by true b k = made (InsertForeignVoid p) (length b.tree.tree.labels) b refl k
+      by false b k = made (InsertForeign p) (length b.tree.tree.labels) b refl k
+
   entry-opened : (t : TokenKind) (a z : State) → symbol_of t ≡ Start g → IsForest z.tree.tree → Way Done (Start g) t a z → HasOpened g z
   entry-opened t a z s f (planned h) = plan-opened a.mode t a z s f h
   entry-opened t a z s f (handed x k w) = plan-opened a.mode t w.middle z s f w.follows
   entry-opened t a z s f (dropped c k h) = absurd (let q : None ≡ Some c = k in cc)
   entry-opened t a z s f (strayed k h) = (let c = followed plan (Do (Switch mode.InBody) again) t a Over z h in absurd (let q : Again ≡ Over = (followed plan again t c.0 Over z c.2).0 in cc))
-  entry-opened t a z s f (stayed x k w) = opened-foreign g _ a z w.stayed.fate_is
+  entry-opened t a z s f (stayed x k w) = embedding-opened (space_of x) t w.middle z s w.follows
 
 -- the mode text is not left at the end of a call
 settled-text : (c z : State) → z ≡ settled c → c.mode ≡ mode.Text → z ≡ c

@@ -12,10 +12,11 @@ use Rattle.html_construction.specs.Modes.{is_of_frames, is_of_selects}
 use Rattle.html_construction.specs.Plans.{Do, Plan}
 use Rattle.html_construction.specs.States.{State}
 use Rattle.html_construction.specs.Words.{Becomes, Switch, with_stack}
-use Rattle.html_modes.specs.Foreign.{Follows as FollowsForeignRules, around_foreign, goes_on, stack_after}
+use Rattle.html_modes.specs.Foreign.{around_foreign, goes_on, stack_after}
 use Rattle.html_modes.specs.Guards.{is_droppable, is_table_text}
 use Rattle.html_modes.specs.RuleForms.{again, ignored}
 use Rattle.html_modes.specs.Rules.{Follows, plan}
+use Rattle.html_modes.specs.RulesForeign.{in_foreign}
 use Rattle.html_modes.specs.declared.outcome.Outcome.{Outcome}
 use Rattle.html_modes.specs.declared.outcome.Outcome.TheVariants.{Done, Reprocess}
 
@@ -45,11 +46,11 @@ pub record FollowsOn (p : Plan) (o : Outcome) (y : Symbol) (t : TokenKind) (a z 
   pub follows : Follows p t o middle z
 
 -- By the dispatcher: a token that does not go by the rules for foreign content goes by those of the insertion mode; and so does one that those rules hand
--- on, after what they close. Any other stays in foreign content.
+-- on, after what they close. Any other stays in foreign content, and goes by those rules after what they close.
 pub record IsDispatched (o : Outcome) (y : Symbol) (t : TokenKind) (a z : State) : Type 0 where
   pub by_mode : around_foreign a y t ≡ None → Follows (plan a.mode y) t o a z
   pub handed_on : (g : Tag) → around_foreign a y t ≡ Some g → goes_on a.tree y t ≡ true → FollowsOn (plan a.mode y) o y t a z
-  pub stays : (g : Tag) → around_foreign a y t ≡ Some g → goes_on a.tree y t ≡ false → FollowsForeignRules g o y t a z
+  pub stays : (g : Tag) → around_foreign a y t ≡ Some g → goes_on a.tree y t ≡ false → FollowsOn (in_foreign g y) o y t a z
 
 -- An entry: in the mode in table text a token goes by its rules; else one that is ignored in every mode is ignored, one that is astray goes on in the mode
 -- in body, and any other is dispatched.

@@ -1,5 +1,5 @@
--- Claimed, but for this crate's own functions: IsRootMade.
--- The tokens that go by the rules for foreign content: the tree construction dispatcher (13.2.6). And those rules (13.2.6.5).
+-- Claimed.
+-- The tokens that go by the rules for foreign content: the tree construction dispatcher (13.2.6). And what those rules close (13.2.6.5).
 use Rattle.std.specs.Prelude.{ℕ, ◌≡◌, ◌+◌, ◌==◌, ◌||◌, ◌&&◌, Bool, true, false, not, cond, List, [], ◌∷◌, length, is_some, Option, Some, None}
 use Rattle.html_names.specs.declared.foreign.Space.{Space}
 use Rattle.html_names.specs.declared.tag.Tag.{Tag}
@@ -16,14 +16,14 @@ use Rattle.html_ledger.specs.declared.symbol.Symbol.TheVariants.{Start, End, Cha
 use Rattle.html_ledger.specs.Entries.{number_of}
 use Rattle.html_ledger.specs.Flags.{must_drop}
 use Rattle.html_ledger.specs.Spaces.{is_space}
-use Rattle.html_tree.specs.declared.groups.Target.TheVariants.{Current}
+use Rattle.html_tree.specs.declared.groups.Target.TheVariants.{Current, Document as AtDocument}
 use Rattle.html_tree.specs.Closing.{before_index}
 use Rattle.html_tree.specs.Foreign.{found_foreign, is_at_html_point, left_foreign}
 use Rattle.html_tree.specs.Listing.{IsReopened}
 use Rattle.html_tree.specs.OpenTags.{open_tags}
 use Rattle.html_tree.specs.States.{State as Tree}
 use Rattle.html_tree.specs.Texts.{text_node, with_text}
-use Rattle.html_construction.specs.Calls.{HasFate, IsTree, comment_of, counting, foreign_of, opened_at, placed_at}
+use Rattle.html_construction.specs.Calls.{HasFate, IsTree, comment_of, counting, doctype_of, foreign_of, opened_at, placed_at}
 use Rattle.html_construction.specs.Foreign.{foreign_tag}
 use Rattle.html_construction.specs.Modes.{is_of_frames, is_of_selects}
 use Rattle.html_construction.specs.States.{State}
@@ -63,7 +63,7 @@ if_goes a y k (Some g) = cond (goes_by_foreign a g y k) (Some g) None
 abbrev pub around_foreign : State → Symbol → TokenKind → Option Tag
 around_foreign a y k = cond (is_loose a.mode) (if_goes a y k (foreign_tag a)) None
 
--- THE RULES FOR FOREIGN CONTENT
+-- WHAT THE RULES FOR FOREIGN CONTENT CLOSE
 
 -- an attribute color, face or size
 abbrev pub has_font_attr : List Attr → Bool
@@ -100,67 +100,3 @@ stack_after t y k = cond (leaves_foreign y k) (left_foreign t) (cond (ends_any y
 -- The token goes on by the rules of the insertion mode: after foreign content was left, or where an end tag meets an element of HTML.
 abbrev pub goes_on : Tree → Symbol → TokenKind → Bool
 goes_on t y k = leaves_foreign y k || (ends_any y && (not (length t.stack == 1) && not (is_some (found_foreign t (tag_name k)))))
-
--- the tree with an element of this namespace of a start tag, which is opened unless the tag closes itself
-abbrev pub embedded : State → Space → TokenKind → Tree
-embedded a space k = cond (closes_itself k)
-    (placed_at (foreign_of a space k) (Current a.fostering) (counting (number_of a.ledger + 1) a.tree))
-    (opened_at (foreign_of a space k) (Current a.fostering) (counting (number_of a.ledger + 1) a.tree))
-
--- An element of this namespace is made of the token.
-pub record IsEmbedded (space : Space) (y : Symbol) (k : TokenKind) (a b : State) : Type 0 where
-  pub fate_is : HasFate y (Foreign (length a.tree.tree.labels)) a b
-  pub tree_is : IsTree (embedded a space k) b
-
--- The same, after the active formatting elements were reconstructed: the root of foreign content, of a start tag svg or math in the body (13.2.6.4.7).
-pub record IsRootMade (space : Space) (y : Symbol) (k : TokenKind) (a b : State) : Type 0 where
-  pub middle : Tree
-  pub reopened : IsReopened a.fostering a.tree middle
-  pub made : IsEmbedded space y k (record a { tree = middle; stack = open_tags middle }) b
-
--- the code point is text, U+0000 as U+FFFD
-pub record IsInserted (c : ℕ) (a b : State) : Type 0 where
-  pub fate_is : HasFate (Char c) (Text (text_node a.tree a.fostering)) a b
-  pub tree_is : IsTree (record a.tree { tree = with_text a.tree a.fostering (null_replaced c ∷ []) }) b
-
--- a comment is made at the place for the current node
-pub record IsCommented (k : TokenKind) (a b : State) : Type 0 where
-  pub fate_is : HasFate Comment (Made (length a.tree.tree.labels)) a b
-  pub tree_is : IsTree (placed_at (comment_of a k) (Current a.fostering) (counting (number_of a.ledger + 1) a.tree)) b
-
--- a DOCTYPE is ignored, as one is wherever none is awaited
-pub record IsIgnored (a b : State) : Type 0 where
-  pub fate_is : a.ledger.history.awaits_doctype ≡ false → HasFate Doctype (Dropped Misplaced) a b
-  pub tree_is : a.ledger.history.awaits_doctype ≡ false → IsTree a.tree b
-
--- The flag frameset-ok after it: off after a code point that is neither U+0000 nor white space, and else as it was.
-abbrev pub frameset_ok_after : Symbol → Bool → Bool
-frameset_ok_after (Char c) ok = cond (c == 0) ok (cond (is_space c) ok false)
-frameset_ok_after _ ok = ok
-
--- What is made of a token that stays in foreign content, where the adjusted current node has this tag.
-abbrev pub Stays : Tag → Symbol → TokenKind → State → State → Type 0
-Stays g (Start t) k a b = IsEmbedded (space_of g) (Start t) k a b
-Stays g (Char c) k a b = IsInserted c a b
-Stays g Comment k a b = IsCommented k a b
-Stays g Doctype k a b = IsIgnored a b
-Stays g _ k a b = Unit {0}
-
--- the same with what an end tag closes
-abbrev pub Stayed : Tag → Symbol → TokenKind → State → State → Type 0
-Stayed g (End t) k a b = IsTree (record a.tree { stack = stack_after a.tree (End t) k }) b
-Stayed g y k a b = Stays g y k a b
-
--- The rules for foreign content are done with the token.
-pub record Follows (g : Tag) (o : Outcome) (y : Symbol) (k : TokenKind) (a b : State) : Type 0 where
-  pub done : o ≡ Done
-  pub stayed : Stayed g y k a b
-  pub frameset_ok_is : b.frameset_ok ≡ frameset_ok_after y a.frameset_ok
-  pub mode_is : b.mode ≡ a.mode
-  pub parses_is : b.parses_foreign ≡ a.parses_foreign
-
--- So is an entry of a token that goes by them and stays in foreign content, where the mode is none of selects or of frames and the token is not dropped in
--- every mode.
-pub record FollowsForeign (o : Outcome) (y : Symbol) (k : TokenKind) (a b : State) : Type 0 where
-  pub follows : (g : Tag) → around_foreign a y k ≡ Some g → goes_on a.tree y k ≡ false → must_drop a.ledger.history y ≡ None → is_of_selects a.mode ≡ false → is_of_frames a.mode ≡ false
-      → Follows g o y k a b

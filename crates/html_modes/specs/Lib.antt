@@ -17,6 +17,7 @@ pub mod RulesAfterFrameset
 pub mod RulesAfterHead
 pub mod RulesBeforeHead
 pub mod RulesBeforeHtml
+pub mod RulesForeign
 pub mod RulesInBody
 pub mod RulesInBodyEnd
 pub mod RulesInBodyStart

@@ -1,5 +1,6 @@
 -- Claimed.
 -- How the tables of the rules are written (13.2.6.4), and what it says of an entry that it followed one.
+use Rattle.html_names.specs.declared.foreign.Space.{Space}
 use Rattle.html_names.specs.declared.sets.Scope.TheVariants as scope
 use Rattle.html_names.specs.declared.tag.Tag.TheVariants as tag
 use Rattle.html_ledger.specs.declared.fate.Cause.{Cause}
@@ -10,7 +11,7 @@ use Rattle.html_tree.specs.declared.groups.Stop.{Stop as Ends}
 use Rattle.html_tree.specs.declared.groups.Stop.TheVariants as stop
 use Rattle.html_construction.specs.declared.mode.Mode.TheVariants as mode
 use Rattle.html_construction.specs.Plans.{Again, Ask, By, Do, Ending, Foster, Over, Plan, Refused, Stop, closing, popping}
-use Rattle.html_construction.specs.Words.{AwaitsDoctype, CloseThrough, Drop, End, InsertDoctype}
+use Rattle.html_construction.specs.Words.{AwaitsDoctype, CloseThrough, ClosesItself, Drop, End, InsertDoctype, InsertForeign, InsertForeignVoid}
 use Rattle.html_modes.specs.Steps.{root_space}
 use Rattle.html_modes.specs.declared.outcome.Outcome.{Outcome}
 use Rattle.html_modes.specs.declared.outcome.Outcome.TheVariants.{Done, Reprocess, Foreign}
@@ -44,6 +45,10 @@ inserting_doctype p = Ask AwaitsDoctype (Do InsertDoctype p) (Do (Drop Misplaced
 -- Ignore the doctype. (It is inserted where one is still awaited, as none is in these modes: own.)
 abbrev pub ignored_doctype : Plan
 ignored_doctype = inserting_doctype over
+
+-- Insert a foreign element for the token, in this namespace. If the token has its self-closing flag set, pop the current node off the stack of open elements.
+abbrev pub embedding : Space → Plan
+embedding space = Ask ClosesItself (Do (InsertForeignVoid space) over) (Do (InsertForeign space) over)
 
 -- pop the current node where it is of the group, and not the first element (own)
 abbrev pub popping_any : Group → Plan → Plan

@@ -15,8 +15,8 @@ use Rattle.html_tree.specs.declared.groups.Group.TheVariants as group
 use Rattle.html_tree.specs.declared.groups.Stop.TheVariants as stop
 use Rattle.html_construction.specs.declared.mode.Mode.TheVariants as mode
 use Rattle.html_construction.specs.Plans.{Adopt, Ask, By, CloseLink, Do, Plan, Reconstruct, Refused, Stop}
-use Rattle.html_construction.specs.Words.{AddMarker, CanReplaceBody, CloseThrough, ClosesItself, Finds, FramesetOff, HasBody, HasForm, HasTemplate, Implied, Insert, InsertForeign, InsertForeignVoid, InsertForm, InsertListed, InsertVoid, IsFramesetOk, IsHidden, IsInTable, IsQuirks, MayMisplace, MergeIntoBody, MergeIntoRoot, ParsesForeign, ReplaceBody, Switch}
-use Rattle.html_modes.specs.RuleForms.{closing_any, closing_p, ignored, over, popping_any}
+use Rattle.html_construction.specs.Words.{AddMarker, CanReplaceBody, CloseThrough, Finds, FramesetOff, HasBody, HasForm, HasTemplate, Implied, Insert, InsertForm, InsertListed, InsertVoid, IsFramesetOk, IsHidden, IsInTable, IsQuirks, MayMisplace, MergeIntoBody, MergeIntoRoot, ParsesForeign, ReplaceBody, Switch}
+use Rattle.html_modes.specs.RuleForms.{closing_any, closing_p, embedding, ignored, over, popping_any}
 use Rattle.html_modes.specs.RulesInHead.{holding_text}
 
 -- Reconstruct the active formatting elements, if any. Insert an HTML element for the token.
@@ -82,7 +82,7 @@ opening_select = Reconstruct (Do Insert (Do FramesetOff (Ask IsInTable (Do (Swit
 -- the token, in this namespace. If the token has its self-closing flag set, pop the current node off the stack of open elements. (Or the start tag is told,
 -- and nothing is done, where foreign content is refused: own.)
 abbrev pub opening_root : Space → Plan
-opening_root s = Ask ParsesForeign (Reconstruct (Ask ClosesItself (Do (InsertForeignVoid s) over) (Do (InsertForeign s) over))) (Stop (Refused s))
+opening_root s = Ask ParsesForeign (Reconstruct (embedding s)) (Stop (Refused s))
 
 abbrev pub in_body_start_rest : Tag → Plan
 in_body_start_rest g =

@@ -9,10 +9,11 @@ ghost use Rattle.html_modes.specs.Begun.{GivesIn, TextStays, ignores_foreign};
 ghost use Rattle.html_modes.specs.Entering.{Enters};
 ghost use Rattle.html_construction.specs.Foreign.{foreign_tag};
 ghost use Rattle.html_modes.specs.Fitting.{Fits, is_loose};
-ghost use Rattle.html_modes.specs.Foreign.{Follows, FollowsForeign, goes_on};
+ghost use Rattle.html_modes.specs.Foreign.{goes_on};
 ghost use Rattle.html_modes.specs.Dispatching.{Entries, FollowsOn, IsDispatched, IsEntry, begun, settled};
 ghost use Rattle.html_modes.specs.Plain.{GoesOn, Turns};
-ghost use Rattle.html_modes.specs.Rules.{Follows as FollowsPlan, plan};
+ghost use Rattle.html_modes.specs.Rules.{Follows, plan};
+ghost use Rattle.html_modes.specs.RulesForeign.{in_foreign};
 ghost use Rattle.html_modes.specs.declared.outcome.Outcome.TheVariants.{Done};
 ghost use Rattle.html_modes.specs.Steps.{Counted, Falls, Pays, Spends, Steps, Toils, compared, root_of};
 ghost use Rattle.html_modes.specs.Ranks.{top_rank};
@@ -70,7 +71,6 @@ pub fn take(
     ensures pays { IfOk result (λ f. f ≡ None → Pays page.old page.new) }
     ensures enters { IfOk result (λ f. f ≡ None → Enters 1 entries.old entries.new page.old page.new) }
     ensures toils { IfOk result (λ f. f ≡ None → Toils (compared token.now page.new) page.old page.new) }
-    ensures embeds { IfOk result (λ f. f ≡ None → FollowsForeign Done symbol token.now page.old page.new) }
     ensures plain { IfOk result (λ f. f ≡ None → GoesOn symbol token.now page.old page.new) }
     ensures opens { IfOk result (λ f. f ≡ None → OpensBy symbol page.new) }
     ensures adds { IfOk result (λ f. f ≡ None → AddsBy symbol page.old page.new) }
@@ -208,7 +208,7 @@ fn foreign_rules(
     ensures falls { IfOk result (λ o. Falls o symbol page.old page.new) }
     ensures spends { OnOk result (Spends 2 page.old page.new) }
     ensures counts { IfOk result (λ o. Counted 26 o token.now page.old page.new) }
-    ensures follows { IfOk result (λ o. goes_on page.old.tree symbol token.now ≡ false → Follows around o symbol token.now page.old page.new) }
+    ensures stays { IfOk result (λ o. goes_on page.old.tree symbol token.now ≡ false → FollowsOn (in_foreign around symbol) o symbol token.now page.old page.new) }
     ensures refuses { IfErr result (λ e. Refuses token.now e page.old page.new) }
     ensures on { IfOk result (λ o. goes_on page.old.tree symbol token.now ≡ true → FollowsOn (plan page.old.mode symbol) o symbol token.now page.old page.new) }
 {
@@ -241,7 +241,7 @@ fn rules(page: &mut Construction, token: &TokenKind, symbol: Symbol) -> Result<O
     ensures plain { IfOk result (λ o. Turns o symbol token.now page.old page.new) }
     ensures ends { IfOk result (λ o. Ends o symbol token.now page.old page.new) }
     ensures refuses { IfErr result (λ e. Refuses token.now e page.old page.new) }
-    ensures follows { IfOk result (λ o. FollowsPlan (plan page.old.mode symbol) token.now o page.old page.new) }
+    ensures follows { IfOk result (λ o. Follows (plan page.old.mode symbol) token.now o page.old page.new) }
 {
     let outcome = match page.mode() {
         Mode::Initial => initial(page, token, symbol),

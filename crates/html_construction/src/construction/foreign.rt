@@ -22,7 +22,7 @@ ghost use Rattle.html_construction.specs.Grown.{Grown};
 ghost use Rattle.html_construction.specs.Plans.{Does};
 ghost use Rattle.html_construction.specs.Tokens.{foreign_name, tag_name};
 ghost use Rattle.html_construction.specs.Weights.{weight};
-ghost use Rattle.html_construction.specs.Words.{InsertForeign, InsertForeignVoid};
+ghost use Rattle.html_construction.specs.Words.{InsertForeign, InsertForeignVoid, InsertReplacement};
 ghost use Rattle.html_construction.specs.Works.{Works};
 
 use super::Construction;
@@ -210,6 +210,7 @@ impl Construction {
     }
 
     /// Adds U+FFFD to the text at the place for the current node, which is the fate of the token U+0000.
+    #[tactic(auto, using(crate::proofs::Doing::doing_rules))]
     pub fn insert_null(&mut self, token: &TokenKind) -> Result<(), ArenaError>
         requires symbol { symbol_of token.now ≡ Char 0 }
         requires may { self.old.ledger.history.foreign ≡ true }
@@ -223,6 +224,7 @@ impl Construction {
         ensures exact { OnOk result (IsTree (record self.old.tree { tree = with_text self.old.tree self.old.fostering (65533 ∷ []) }) self.new) }
         ensures fate { OnOk result (HasFate (Char 0) (Text (text_node self.old.tree self.old.fostering)) self.old self.new) }
         ensures refuses { IfErr result (λ e. RefusesAny e self.old self.new) }
+        ensures follows { OnOk result (Does InsertReplacement token.now self.old self.new) }
     {
         self.tree.laws();
         let run = ['\u{fffd}'];

@@ -44,7 +44,6 @@ ghost use Rattle.html_modes.specs.Plain.{IsPlainState, IsRunTurn, Turns, TurnsIn
 ghost use Rattle.html_modes.specs.Runs.{CountsRun, IsTextRun};
 ghost use Rattle.html_modes.specs.Steps.{Falls, Grows, Steps, Worked, root_of, root_space};
 ghost use Rattle.html_tree.specs.Proper.{is_foreign_root};
-ghost use Rattle.html_modes.specs.Foreign.{IsRootMade};
 ghost use Rattle.html_modes.specs.declared.outcome.Outcome.TheVariants as outcome;
 ghost use Rattle.html_modes.specs.declared.outcome.Outcome.TheVariants.{Done};
 
@@ -183,7 +182,6 @@ fn any_root_start(
     ensures works { IfOk result (λ o. Worked o token.now page.old page.new) }
     ensures plain { IfOk result (λ o. TurnsInBody o (Symbol.Start tag) token.now page.old page.new) }
     ensures refused { IfOk result (λ o. page.old.parses_foreign ≡ false → o ≡ outcome.Foreign name) }
-    ensures parsed { IfOk result (λ o. page.old.parses_foreign ≡ true → IsRootMade (root_space name) (Symbol.Start tag) token.now page.old page.new) }
     ensures refuses { IfErr result (λ e. Refuses token.now e page.old page.new) }
     ensures follows { IfOk result (λ o. Follows (in_body_start tag) token.now o page.old page.new) }
 {

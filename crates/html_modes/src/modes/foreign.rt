@@ -10,15 +10,15 @@ ghost use Rattle.html_construction.specs.Built.{Keeps, Takes};
 ghost use Rattle.html_construction.specs.Calls.{IsTree};
 ghost use Rattle.html_construction.specs.Foreign.{foreign_tag};
 ghost use Rattle.html_construction.specs.Grown.{Grown};
-ghost use Rattle.html_construction.specs.Plans.{Ask, Do, Reconstruct};
-ghost use Rattle.html_construction.specs.Words.{ClosesItself, InsertForeign, InsertForeignVoid};
-ghost use Rattle.html_modes.specs.RuleForms.{over};
-ghost use Rattle.html_modes.specs.Rules.{Follows as FollowsPlan};
+ghost use Rattle.html_construction.specs.Plans.{Reconstruct};
+ghost use Rattle.html_modes.specs.Rules.{Follows};
+ghost use Rattle.html_modes.specs.RuleForms.{embedding};
+ghost use Rattle.html_modes.specs.RulesForeign.{foreign_char, in_foreign};
 ghost use Rattle.html_construction.specs.Tokens.{attrs_of, closes_itself, tag_name};
 ghost use Rattle.html_construction.specs.Weights.{weight};
 ghost use Rattle.html_construction.specs.Works.{Works};
 ghost use Rattle.html_modes.specs.Fitting.{Calls, Fits};
-ghost use Rattle.html_modes.specs.Foreign.{IsEmbedded, IsInserted, IsRootMade, Stays, around_foreign, breaks_out, closed_foreign, ends_any, ends_foreign, frameset_ok_after, goes_by_foreign, goes_on, has_font_attr, is_html_point_here, stack_after, takes_char, takes_start};
+ghost use Rattle.html_modes.specs.Foreign.{around_foreign, breaks_out, closed_foreign, ends_any, ends_foreign, goes_by_foreign, goes_on, has_font_attr, is_html_point_here, stack_after, takes_char, takes_start};
 ghost use Rattle.html_modes.specs.Steps.{Falls, Grows, Worked};
 ghost use Rattle.html_modes.specs.declared.outcome.Outcome.TheVariants.{Done};
 
@@ -172,7 +172,7 @@ fn any_end_goes_on(page: &mut Construction, token: &TokenKind) -> bool
 }
 
 /// Any other token stays in foreign content.
-#[tactic(auto, using(crate::proofs::Embedding::stay_rules))]
+#[tactic(auto, using(crate::proofs::Embedding::stay_rules, crate::proofs::RulesForeign::arms))]
 pub(crate) fn stay(
     page: &mut Construction,
     token: &TokenKind,
@@ -191,10 +191,8 @@ pub(crate) fn stay(
     ensures works { OnOk result (Works 6 0 6 page.old page.new) }
     ensures heavier { OnOk result (weight page.new.stack ≤ weight page.old.stack + 4) }
     ensures opened { OnOk result (0 < length page.new.stack) }
-    ensures ended { ends_any symbol ≡ true → OnOk result (page.new.tree ≡ page.old.tree) }
-    ensures stays { OnOk result (Stays around symbol token.now page.old page.new) }
-    ensures frameset { OnOk result (page.new.frameset_ok ≡ frameset_ok_after symbol page.old.frameset_ok) }
     ensures refuses { IfErr result (λ e. Refuses token.now e page.old page.new) }
+    ensures follows { OnOk result (Follows (in_foreign around symbol) token.now Done page.old page.new) }
 {
     match symbol {
         // Any other start tag: insert a foreign element in the namespace of the adjusted current node.
@@ -213,7 +211,7 @@ pub(crate) fn stay(
 }
 
 /// A code point: U+0000 becomes U+FFFD.
-#[tactic(auto, using(crate::proofs::Embedding::char_rules))]
+#[tactic(auto, using(crate::proofs::Embedding::char_rules, crate::proofs::RulesForeign::arms))]
 fn insert_foreign_char(
     page: &mut Construction,
     token: &TokenKind,
@@ -229,9 +227,8 @@ fn insert_foreign_char(
     ensures quiet { OnOk result (page.new.ledger.kept ≡ []) }
     ensures grown { OnOk result (Grown 1 1 0 0 0 page.old page.new) }
     ensures works { OnOk result (Works 1 0 1 page.old page.new) }
-    ensures inserted { OnOk result (IsInserted c page.old page.new) }
-    ensures frameset { OnOk result (page.new.frameset_ok ≡ frameset_ok_after (Symbol.Char c) page.old.frameset_ok) }
     ensures refuses { IfErr result (λ e. RefusesAny e page.old page.new) }
+    ensures follows { OnOk result (Follows (foreign_char c) token.now Done page.old page.new) }
 {
     if c == '\0' {
         page.insert_null(token)?;
@@ -262,9 +259,8 @@ pub(crate) fn root_start(
     ensures falls { OnOk result (Falls Done (Symbol.Start tag) page.old page.new) }
     ensures grows { OnOk result (Grows Done page.old page.new) }
     ensures works { OnOk result (Worked Done token.now page.old page.new) }
-    ensures made { OnOk result (IsRootMade space (Symbol.Start tag) token.now page.old page.new) }
     ensures refuses { IfErr result (λ e. Refuses token.now e page.old page.new) }
-    ensures follows { OnOk result (FollowsPlan (Reconstruct (Ask ClosesItself (Do (InsertForeignVoid space) over) (Do (InsertForeign space) over))) token.now Done page.old page.new) }
+    ensures follows { OnOk result (Follows (Reconstruct (embedding space)) token.now Done page.old page.new) }
 {
     page.reconstruct()?;
     embed(page, token, tag, space)?;
@@ -292,9 +288,8 @@ fn embed(
     ensures works { OnOk result (Works 1 0 0 page.old page.new) }
     ensures heavier { OnOk result (weight page.new.stack ≤ weight page.old.stack + 4) }
     ensures opened { OnOk result (0 < length page.new.stack) }
-    ensures embedded { OnOk result (IsEmbedded space (Symbol.Start tag) token.now page.old page.new) }
     ensures refuses { IfErr result (λ e. Refuses token.now e page.old page.new) }
-    ensures follows { OnOk result (FollowsPlan (Ask ClosesItself (Do (InsertForeignVoid space) over) (Do (InsertForeign space) over)) token.now Done page.old page.new) }
+    ensures follows { OnOk result (Follows (embedding space) token.now Done page.old page.new) }
 {
     if closes_itself(token) {
         page.insert_foreign_void(token, tag, space)?;

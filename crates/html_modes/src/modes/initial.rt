@@ -12,7 +12,6 @@ ghost use Rattle.html_construction.specs.Grown.{Grown};
 ghost use Rattle.html_construction.specs.Quirks.{sets_quirks};
 ghost use Rattle.html_construction.specs.Works.{Works};
 ghost use Rattle.html_modes.specs.Fitting.{Fits};
-ghost use Rattle.html_modes.specs.Foreign.{IsIgnored};
 ghost use Rattle.html_modes.specs.Plain.{Turns};
 ghost use Rattle.html_modes.specs.Steps.{Falls, Grows, Steps, Worked};
 ghost use Rattle.html_construction.specs.Plans.{PassesFor};
@@ -198,7 +197,7 @@ pub(crate) fn before_head(
 }
 
 /// A DOCTYPE token: made where one is awaited, which is in the mode initial, and else ignored.
-#[tactic(auto, using(crate::proofs::Embedding::doctype_rules, crate::proofs::Ruled::doctype_plans))]
+#[tactic(auto, using(crate::proofs::Ruled::doctype_plans))]
 pub(crate) fn doctype(page: &mut Construction, token: &TokenKind) -> Result<(), ArenaError>
     requires symbol { symbol_of token.now ≡ Symbol.Doctype }
     requires quiet { page.old.ledger.kept ≡ [] }
@@ -209,7 +208,6 @@ pub(crate) fn doctype(page: &mut Construction, token: &TokenKind) -> Result<(), 
     ensures works { OnOk result (Works 6 0 6 page.old page.new) }
     ensures exact { OnOk result (page.old.ledger.history.awaits_doctype ≡ true → IsTree (placed_at (doctype_of page.old token.now) Document (counting (number_of page.old.ledger + 1) page.old.tree)) page.new) }
     ensures fate { OnOk result (page.old.ledger.history.awaits_doctype ≡ true → HasFate Symbol.Doctype (Made (length page.old.tree.tree.labels)) page.old page.new) }
-    ensures ignored { OnOk result (IsIgnored page.old page.new) }
     ensures refuses { IfErr result (λ e. Refuses token.now e page.old page.new) }
     ensures follows { OnOk result (PassesFor inserting_doctype token.now page.old page.new) }
 {

@@ -1,4 +1,4 @@
-use Rattle.std.proofs.Common.{◌≡◌, ap, arith, false, inl, inr, length, refl, subst, sym, ◌∙◌}
+use Rattle.std.proofs.Common.{◌≡◌, ap, arith, false, inl, inr, length, subst, sym, ◌∙◌}
 use Rattle.html_open.proofs.Keeps.{cases_bool}
 use Rattle.html_construction.specs.States.{State}
 use Rattle.html_modes.specs.Dispatching.{Entries, IsEntry, begun, last, next}
@@ -7,7 +7,6 @@ use Rattle.html_modes.specs.Steps.{Steps, Toils, compared}
 use Rattle.html_modes.proofs.Dispatching.{counted-becomes}
 use Rattle.html_modes.proofs.Entering.{enters-done, enters-next}
 use Rattle.html_modes.proofs.Settled.{Entered, entered-next, toils-done}
-use Rattle.html_modes.proofs.Following.{entries-embed}
 use Rattle.html_modes.proofs.Outside.{entries-outside, entry-parses, first-entry}
 use Rattle.html_modes.proofs.Plain.{IsAlike, alike-begun, alike-counted, alike-then, goes-not, goes-on, next-alike}
 use Rattle.html_modes.proofs.RawText.{ends-done, leaving-on}
@@ -94,9 +93,6 @@ returns-in-Done-clause-adds c = λ n. entries-add c.args.symbol c.args.token.now
 
 pub returns-in-Done-clause-out : goal.returns-in-Done-clause-out
 returns-in-Done-clause-out c = λ n. record { out = λ p. entries-outside c.args.symbol c.args.token.now (begun c.args.page.now) c.settle.new.page c.requires.symbol p (returns-in-Done-clause-entries c n) }
-
-pub returns-in-Done-clause-embeds : goal.returns-in-Done-clause-embeds
-returns-in-Done-clause-embeds c = λ n. entries-embed c.args.symbol c.args.token.now c.args.page.now (begun c.args.page.now) c.settle.new.page refl (returns-in-Done-clause-entries c n)
 
 pub returns-in-Done-clause-ends : goal.returns-in-Done-clause-ends
 returns-in-Done-clause-ends c = λ n.

@@ -1,5 +1,5 @@
 use Rattle.html_ledger.specs.declared.symbol.Symbol.TheVariants.{Char}
-use Rattle.std.proofs.Common.{ap, ◌∙◌, arith, refl}
+use Rattle.std.proofs.Common.{ap, ◌∙◌, arith, refl, rules}
 use Rattle.html_ledger.specs.Entries.{Entries, given}
 use Rattle.html_construction.proofs.Kept.{adds, still, taken, told-char, gives-text}
 use Rattle.html_tree.proofs.Texted.{text-limits}
@@ -7,6 +7,7 @@ use Rattle.html_tree.specs.States.{State as Tree}
 use Rattle.html_construction.specs.States.{State}
 use Rattle.html_ledger.specs.declared.fate.Fate.TheVariants.{Text}
 use Rattle.html_construction.proofs.Copying.{copied-text, grown-given}
+use Rattle.html_construction.proofs.Doing.{replacing_by}
 use Rattle.html_construction.proofs.Working.{works-text}
 use Rattle.std.proofs.lemmas.Grind.{common_steps}
 use Rattle.html_construction.proofs.Telling.{handed-on-any, refused-text}
@@ -32,3 +33,6 @@ pub returns-in_err-node-clause-refuses : goal.returns-in_err-node-clause-refuses
 returns-in_err-node-clause-refuses c =
     handed-on-any c.from_residual.result c.args.self.now _ c.in_err-node.field-0.0 c.from_residual.ensures.1
     (refused-text c.args.self.now _ c.self.inside.tree c.in_err-node.field-0.0 (ap (λ (x : State). x.tree.tree.limits) c.self.view_is) c.in_err-node.ensures.told)
+
+pub returns-clause-follows : goal.returns-clause-follows
+returns-clause-follows c = replacing_by 0 c.args.token.now c.args.self.now _ c.requires.symbol (search rules) (record { ledger_is = search rules }) (record { tree_is = search rules })
