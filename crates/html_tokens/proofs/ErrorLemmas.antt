@@ -3,7 +3,7 @@ use Rattle.std.proofs.Common.{◌≡◌, ◌⊎◌, ℕ, zero, suc, ◌+◌, ◌
 use Rattle.std.proofs.lemmas.Bool.{false≢true}
 use Rattle.std.proofs.lemmas.List.{drop-append-le}
 use Rattle.html_tokens.specs.Inside.{null_errors}
-use Rattle.html_tokens.specs.Errors.{begin_told, errors_after, front_errors, inside_errors, piece_errors, region_end_errors, region_told, told_in}
+use Rattle.html_tokens.specs.Errors.{begin_told, errors_after, front_errors, inside_errors, piece_errors, region_end_errors, region_told, soon_errors, told_in}
 use Rattle.html_tokens.specs.Fed.{errors_coming, region_errors, text_errors}
 use Rattle.html_tokens.specs.Tokens.{begun_piece, chars_at, mode_after, name_after, next, Piece, stays}
 use Rattle.html_tokens.specs.Marks.{begin_at, is_end_mark, is_stop, front, opens_section, region_in}
@@ -182,9 +182,9 @@ errors_past_one rows len mode name place items items' more switches i h =
     rw (m, i) (errors_past rows 1 len mode name place items more switches h)
 
 -- of what is no text the same is told
-pub stop_told : (rows : List Row) (b : Begin) (place : ℕ) (text : List ℕ) → is_stop b ≡ true → begin_told rows b place text ≡ piece_errors rows b place text
+pub stop_told : (rows : List Row) (b : Begin) (place : ℕ) (text : List ℕ) → is_stop b ≡ true → begin_told rows b place text ≡ piece_errors rows b place text ++ soon_errors rows b place text
 stop_told rows begins.Char place text s = absurd (false≢true s)
-stop_told rows begins.Markup place text s = refl
+stop_told rows begins.Markup place text s = sym (append-nil (piece_errors rows begins.Markup place text))
 stop_told rows begins.EndMark place text s = refl
 stop_told rows begins.Reference place text s = refl
 stop_told rows begins.Section place text s = refl

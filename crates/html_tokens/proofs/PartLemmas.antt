@@ -14,10 +14,10 @@ use Rattle.html_tokens.specs.Cut.{ends_unquoted, is_space}
 use Rattle.html_tokens.specs.Doctype.{is_quote}
 use Rattle.html_tokens.specs.Inside.{fault_when, null_errors}
 use Rattle.html_tokens.specs.InsideTags.{closes_before, MovesRef, MovesTag, SettlesPart, TurnsTo, after_value, all_char_errors, ends_in, ends_tag, looks_on, looks_on_in, may_tell, may_tell_in, next_part, part_char_errors, part_end_told, part_errors, part_ref_errors, part_told, quote_errors, ref_rest, settle_told, tag_char_errors, tag_part_errors, unquoted_errors, value_errors}
-use Rattle.html_tokens.specs.InsideReferences.{ampersand_errors, ampersand_told, are_no_letters, later_ref_errors, number_end_errors, number_errors, value_ref_errors, value_told}
+use Rattle.html_tokens.specs.InsideReferences.{ampersand_errors, ampersand_told, are_no_letters, begun_ref_errors, later_ref_errors, number_end_errors, number_errors, soon_ref_errors, value_ref_errors, value_told}
 use Rattle.html_tokens.specs.Reference.{ends_letters, is_digit, literal, numbered, Numbered, Reference, ref_opener}
 use Rattle.html_tokens.specs.Tag.{between, ends_attr, ends_name, is_unsettled, IsInside, name_char, reads_refs}
-use Rattle.html_tokens.specs.Value.{ref_len, value_reference}
+use Rattle.html_tokens.specs.Value.{Begins, ref_len, value_reference}
 use Rattle.html_tokens.specs.declared.token.RefOpener.TheVariants.{Literal}
 use Rattle.html_tokens.specs.declared.copied.Copied.TheVariants as copied
 use Rattle.html_tokens.specs.declared.fault_name.FaultName.TheVariants as names
@@ -32,7 +32,7 @@ use Rattle.html_tokens.specs.declared.tag.TagReading.TheVariants.{More, Closed}
 use Rattle.html_tokens.specs.declared.tag.ValueEnd.{ValueEnd}
 use Rattle.html_tokens.specs.declared.tag.ValueEnd.TheVariants as ends
 use Rattle.html_tokens.proofs.EndLemmas.{differs}
-use Rattle.html_tokens.proofs.ReferenceLemmas.{digit_first, digits_stop, errors_digit, errors_end, errors_stop, letter_apart, letters_end, letters_on, letters_stop, not_semicolon}
+use Rattle.html_tokens.proofs.ReferenceLemmas.{digit_first, digits_stop, errors_digit, errors_end, errors_stop, letter_apart, letters_end, letters_few, letters_many, letters_on, letters_stop, not_semicolon}
 use Rattle.std.proofs.Common.{◌*◌}
 use Rattle.std.specs.Char.{digit_value, is_ascii_alphanumeric}
 use Rattle.html_charref.specs.Number.{capped, radix}
@@ -400,15 +400,15 @@ ref_passed rows seen end k j place rest e h =
     let f : place + suc k ≡ place + 1 + k = omega arith in
     rw f (and_passed rows seen end (k + j) place rest e ∙ ap (λ (es : List Fault). value_ref_errors rows place (38 ∷ rest) ++ es) (skipped rows seen (parts.Inside end) k j (place + 1) rest h))
 
-no_number : (rows : List Row) (place : ℕ) (text : List ℕ) → later_ref_errors (ref_opener text) rows place text ≡ [] → value_ref_errors rows place text ≡ value_told rows place text
-no_number rows place text e = ap (λ (es : List Fault). value_told rows place text ++ es) e ∙ append-nil (value_told rows place text)
+no_number : (rows : List Row) (place : ℕ) (text : List ℕ) → later_ref_errors (ref_opener text) rows place text ≡ soon_ref_errors (ref_opener text) rows place text → value_ref_errors rows place text ≡ value_told rows place text
+no_number rows place text e = ap (λ (es : List Fault). begun_ref_errors (ref_opener text) (value_reference rows text) place text ++ es) e
 
 codes_moved : (end : ValueEnd) (n first : ℕ) (second : Option ℕ) (place : ℕ) → MovesRef (parts.Inside end) (refs.Codes n first second) place (parts.Inside end)
 codes_moved end zero first second place = λ rows seen rest b some fit. absurd (omega arith)
 codes_moved end (suc k) first second place = λ rows seen rest b some fit.
     let e : suc k ≡ suc (k + 0) = omega arith in
     ref_passed rows seen end k 0 place rest (ap (λ (r : Reference). r.len) b.1 ∙ e) (omega arith)
-    ∙ ap (λ (es : List Fault). es ++ tag_part_errors rows seen (parts.Inside end) 0 (place + suc k) (drop k rest)) (no_number rows place (38 ∷ rest) (rw (b.0, b.2) refl))
+    ∙ ap (λ (es : List Fault). es ++ tag_part_errors rows seen (parts.Inside end) 0 (place + suc k) (drop k rest)) (no_number rows place (38 ∷ rest) (rw (b.0, b.2, b.3) refl))
 
 number_moved : (end : ValueEnd) (base : Base) (n place : ℕ) → MovesRef (parts.Inside end) (refs.Numeric base n) place (parts.Number end base 0 place)
 number_moved end base zero place = λ rows seen rest b some fit. absurd (omega arith)
@@ -428,7 +428,7 @@ inside_moved (parts.Number end base v start) found place n first second f i = ab
 inside_moved (parts.Ampersand end start) found place n first second f i = absurd i
 
 -- one code point is passed that is text
-literal_moved : (end : ValueEnd) (rows : List Row) (seen : AttrNames) (place : ℕ) (rest : List ℕ) → value_reference rows (38 ∷ rest) ≡ literal → later_ref_errors (ref_opener (38 ∷ rest)) rows place (38 ∷ rest) ≡ [] →
+literal_moved : (end : ValueEnd) (rows : List Row) (seen : AttrNames) (place : ℕ) (rest : List ℕ) → value_reference rows (38 ∷ rest) ≡ literal → later_ref_errors (ref_opener (38 ∷ rest)) rows place (38 ∷ rest) ≡ soon_ref_errors (ref_opener (38 ∷ rest)) rows place (38 ∷ rest) →
     part_errors rows seen (parts.Inside end) place (38 ∷ rest) ≡ value_told rows place (38 ∷ rest) ++ part_errors rows seen (parts.Inside end) (place + 1) rest
 literal_moved end rows seen place rest e n =
     ref_passed rows seen end 0 0 place rest (ap (λ (r : Reference). r.len) e) (omega arith) ∙ ap (λ (es : List Fault). es ++ tag_part_errors rows seen (parts.Inside end) 0 (place + 1) rest) (no_number rows place (38 ∷ rest) n)
@@ -436,16 +436,30 @@ literal_moved end rows seen place rest e n =
 no_digits : (rows : List Row) (text : List ℕ) → ref_opener text ≡ Literal → value_reference rows text ≡ literal
 no_digits rows text e = rw e refl
 
-letters_moved : (end : ValueEnd) (place : ℕ) → MovesRef (parts.Inside end) refs.Unknown place (parts.Ampersand end place)
+letters_moved : (end : ValueEnd) (place : ℕ) → MovesRef (parts.Inside end) refs.Letters place (parts.Ampersand end place)
 letters_moved end place = λ rows seen rest b some fit.
-    let later : later_ref_errors (ref_opener (38 ∷ rest)) rows place (38 ∷ rest) ≡ ampersand_errors place rest = rw (b.0, b.1, b.2) refl in
-    let told = value_told rows place (38 ∷ rest) in
+    let whole : value_ref_errors rows place (38 ∷ rest) ≡ ampersand_errors place rest = rw (b.0, b.1) (ap (λ (c : Bool). fault_when c names.UnknownNamedCharacterReference place) (letters_many rows (38 ∷ rest) b.2)) in
+    let told : value_told rows place (38 ∷ rest) ≡ [] = rw (b.0, b.1, b.2) refl in
     let after = tag_part_errors rows seen (parts.Inside end) 0 (place + 1) rest in
     ref_passed rows seen end 0 0 place rest (rw (b.0, b.1) refl) (omega arith)
-    ∙ ap (λ (es : List Fault). (told ++ es) ++ after) later
-    ∙ append_assoc told (ampersand_errors place rest) after
+    ∙ ap (λ (es : List Fault). es ++ after) whole
+    ∙ ap (λ (es : List Fault). es ++ (ampersand_errors place rest ++ after)) (sym told)
 
-unknown_moved : (part new : Part) (found : ValueRef) (place : ℕ) → found ≡ refs.Unknown → IsInside part → ((end : ValueEnd) → part ≡ parts.Inside end → new ≡ parts.Ampersand end place) → MovesRef part found place new
+-- a `;` closes the letters and digits, which are few
+few_soon : (rows : List Row) (place : ℕ) (rest : List ℕ) → Begins rows refs.Unknown (38 ∷ rest) → later_ref_errors (ref_opener (38 ∷ rest)) rows place (38 ∷ rest) ≡ soon_ref_errors (ref_opener (38 ∷ rest)) rows place (38 ∷ rest)
+few_soon rows place rest b = rw (b.0, b.1, b.2) (ap (λ (c : Bool). fault_when c names.UnknownNamedCharacterReference place) (letters_few rows (38 ∷ rest) true b.2))
+
+few_moved : (part : Part) (found : ValueRef) (place : ℕ) → found ≡ refs.Unknown → IsInside part → MovesRef part found place part
+few_moved parts.Name found place f i = absurd i
+few_moved parts.Attributes found place f i = absurd i
+few_moved parts.AttrName found place f i = absurd i
+few_moved parts.AfterName found place f i = absurd i
+few_moved parts.Value found place f i = absurd i
+few_moved (parts.Inside end) found place f i = rw f (λ rows seen rest b some fit. literal_moved end rows seen place rest (rw (b.0, b.1) refl) (few_soon rows place rest b))
+few_moved (parts.Number end base v start) found place f i = absurd i
+few_moved (parts.Ampersand end start) found place f i = absurd i
+
+unknown_moved : (part new : Part) (found : ValueRef) (place : ℕ) → found ≡ refs.Letters → IsInside part → ((end : ValueEnd) → part ≡ parts.Inside end → new ≡ parts.Ampersand end place) → MovesRef part found place new
 unknown_moved parts.Name new found place f i m = absurd i
 unknown_moved parts.Attributes new found place f i m = absurd i
 unknown_moved parts.AttrName new found place f i m = absurd i
@@ -479,7 +493,11 @@ pub codes_move : {X E : Type 0} (r : Result X E) (old new : TagDraft) (found : V
 codes_move (Ok x) old new found place v n first second f i e = rw e (inside_moved old.part found place n first second f i)
 codes_move (Err x) old new found place v n first second f i e = tt
 
-pub unknown_move : (old mid new : Part) (found : ValueRef) (place : ℕ) → found ≡ refs.Unknown → IsInside old → mid ≡ old → ((end : ValueEnd) → mid ≡ parts.Inside end → new ≡ parts.Ampersand end place) → MovesRef old found place new
+pub few_move : {X E : Type 0} (r : Result X E) (old new : TagDraft) (found : ValueRef) (place : ℕ) (v : List ℕ) → found ≡ refs.Unknown → IsInside old.part → OnOk r (new ≡ record old { attr_value = v }) → OnOk r (MovesRef old.part found place new.part)
+few_move (Ok x) old new found place v f i e = rw e (few_moved old.part found place f i)
+few_move (Err x) old new found place v f i e = tt
+
+pub unknown_move : (old mid new : Part) (found : ValueRef) (place : ℕ) → found ≡ refs.Letters → IsInside old → mid ≡ old → ((end : ValueEnd) → mid ≡ parts.Inside end → new ≡ parts.Ampersand end place) → MovesRef old found place new
 unknown_move old mid new found place f i e m = unknown_moved old new found place f i (λ end p. m end (e ∙ p))
 
 pub literal_move : {X E : Type 0} (r : Result X E) (old new : TagDraft) (found : ValueRef) (place : ℕ) (v : List ℕ) → found ≡ refs.Literal → IsInside old.part → OnOk r (new ≡ record old { attr_value = v }) → OnOk r (MovesRef old.part found place new.part)

@@ -1,5 +1,5 @@
 -- The numbers of references, and what references tell.
-use Rattle.std.proofs.Common.{Some, ◌≡◌, ℕ, suc, ◌+◌, ◌*◌, ◌-◌, ◌<◌, List, [], ◌∷◌, ◌++◌, drop, get_or, length, map, Bool, true, false, not, ◌==◌, refl, ap, sym, ◌∙◌, arith, zero-add}
+use Rattle.std.proofs.Common.{Some, ◌≡◌, ℕ, zero, suc, ◌+◌, ◌*◌, ◌-◌, ◌<◌, List, [], ◌∷◌, ◌++◌, drop, get_or, length, map, Bool, true, false, not, cond, ◌==◌, ◌&&◌, Option, None, refl, append-nil, ap, sym, ◌∙◌, arith, zero-add}
 use Rattle.std.specs.Char.{digit_value, is_ascii_alphanumeric}
 use Rattle.std.specs.Int.Digits.{number_from_digits_after}
 use Rattle.std.specs.List.{slice_get}
@@ -15,7 +15,9 @@ use Rattle.html_tokens.specs.Cut.{cut, is, passes, stop_mark}
 use Rattle.html_tokens.specs.Inside.{fault_when}
 use Rattle.html_tokens.specs.declared.fault_name.FaultName.TheVariants as names
 use Rattle.html_tokens.specs.InsideReferences.{ampersand_errors, ampersand_told, found_told, is_number_closed, number_end_errors, number_errors, number_told, value_told}
-use Rattle.html_tokens.specs.Reference.{are_letters_closed, ends_digits, is_digit, Numbered, numbered, semicolon}
+use Rattle.html_tokens.specs.Reference.{are_letters_closed, closed_within, closes_letters, ends_digits, is_digit, letters_after, letters_bound, Numbered, numbered, ref_opener, semicolon}
+use Rattle.html_charref.specs.Table.{longest}
+use Rattle.html_tokens.specs.declared.token.RefOpener.TheVariants.{Named}
 use Rattle.html_tokens.specs.Value.{Begins, ref_len}
 use Rattle.html_tokens.specs.declared.reference.ValueRef.{ValueRef}
 use Rattle.html_tokens.specs.declared.reference.ValueRef.TheVariants as refs
@@ -117,14 +119,62 @@ closed_none : are_letters_closed [] ≡ false
 unfolding cut
 closed_none = refl
 
--- the same in a rest
-pub closed_past : (items more : List ℕ) (at c : ℕ) → at < length items → c ≡ get_or items at c → is_ascii_alphanumeric c ≡ true → are_letters_closed (drop at items ++ more) ≡ are_letters_closed (drop (at + 1) items ++ more)
-closed_past items more at c h e l =
-    ap (λ (xs : List ℕ). are_letters_closed (xs ++ more)) (drop_more items at c h ∙ ap (λ (d : ℕ). d ∷ drop (at + 1) items) (sym e)) ∙ closed_letters c (drop (at + 1) items ++ more) l
+not_true : (b : Bool) → ¬ (b ≡ true) → b ≡ false
+not_true true n = absurd (n refl)
+not_true false n = refl
 
-pub closed_at : (items more : List ℕ) (at c : ℕ) → at < length items → c ≡ get_or items at c → is_ascii_alphanumeric c ≡ false → are_letters_closed (drop at items ++ more) ≡ (c == 59)
-closed_at items more at c h e l =
-    ap (λ (xs : List ℕ). are_letters_closed (xs ++ more)) (drop_more items at c h ∙ ap (λ (d : ℕ). d ∷ drop (at + 1) items) (sym e)) ∙ closed_off c (drop (at + 1) items ++ more) l
+some_same : {b c : Bool} → Some b ≡ Some c → b ≡ c
+some_same e = cc
+
+letters_by : (is_letter : Bool) (found : Option Bool) (closed b : Bool) → (found ≡ Some b → closed ≡ b) → cond is_letter found (Some false) ≡ Some b → (is_letter && closed) ≡ b
+letters_by true found closed b h e = h e
+letters_by false found closed b h e = some_same e
+
+many_by : (is_letter : Bool) (found : Option Bool) (closed : Bool) → cond is_letter found (Some false) ≡ None → (is_letter && closed) ≡ closed
+many_by true found closed e = refl
+many_by false found closed e = let h : Some false ≡ None = e in cc
+
+known_by : (c : ℕ) (rest : List ℕ) (found : Option Bool) (b is_letter : Bool) → is_ascii_alphanumeric c ≡ is_letter → (found ≡ Some b → are_letters_closed rest ≡ b) → cond is_letter found (Some (c == 59)) ≡ Some b → are_letters_closed (c ∷ rest) ≡ b
+known_by c rest found b true l h e = closed_letters c rest l ∙ h e
+known_by c rest found b false l h e = closed_off c rest l ∙ some_same e
+
+-- where the letters and digits are few, this is known of them
+letters_known : (k : ℕ) (text : List ℕ) (b : Bool) → closed_within k text ≡ Some b → are_letters_closed text ≡ b
+unfolding closed_within
+letters_known zero text b e = let h : None ≡ Some b = e in cc
+letters_known (suc k) [] b e = closed_none ∙ some_same e
+letters_known (suc k) (c ∷ rest) b e = known_by c rest (closed_within k rest) b (is_ascii_alphanumeric c) refl (λ h. letters_known k rest b h) e
+
+-- few come after a `&`, and it is known whether a `;` closes them
+pub letters_few : (rows : List Row) (text : List ℕ) (b : Bool) → letters_after rows text ≡ Some b → closes_letters text ≡ b
+letters_few rows text b e = letters_by (passes is_ascii_alphanumeric (slice_get text 1)) (closed_within (letters_bound rows) (drop 1 text)) (are_letters_closed (drop 1 text)) b (λ h. letters_known (letters_bound rows) (drop 1 text) b h) e
+
+-- so that the `&` is text
+pub few_codes : (rows : List Row) (text : List ℕ) → ref_opener text ≡ Named → longest rows text ≡ None → letters_after rows text ≡ Some false → Begins rows (refs.Codes 1 38 None) text
+few_codes rows text e n l = (e, rw (e, n) refl, rw n (letters_few rows text false l), rw (n, l) refl)
+
+-- more come
+pub letters_many : (rows : List Row) (text : List ℕ) → letters_after rows text ≡ None → closes_letters text ≡ are_letters_closed (drop 1 text)
+letters_many rows text e = many_by (passes is_ascii_alphanumeric (slice_get text 1)) (closed_within (letters_bound rows) (drop 1 text)) (are_letters_closed (drop 1 text)) e
+
+-- the same in a rest
+pub end_past : (k : ℕ) (items more : List ℕ) (at c : ℕ) → at < length items → c ≡ get_or items at c → is_ascii_alphanumeric c ≡ true → closed_within (suc k) (drop at items ++ more) ≡ closed_within k (drop (at + 1) items ++ more)
+unfolding closed_within
+end_past k items more at c h e l =
+    ap (λ (xs : List ℕ). closed_within (suc k) (xs ++ more)) (drop_more items at c h ∙ ap (λ (d : ℕ). d ∷ drop (at + 1) items) (sym e)) ∙ rw l refl
+
+pub end_at : (k : ℕ) (items more : List ℕ) (at c : ℕ) → at < length items → c ≡ get_or items at c → is_ascii_alphanumeric c ≡ false → closed_within (suc k) (drop at items ++ more) ≡ Some (c == 59)
+unfolding closed_within
+end_at k items more at c h e l =
+    ap (λ (xs : List ℕ). closed_within (suc k) (xs ++ more)) (drop_more items at c h ∙ ap (λ (d : ℕ). d ∷ drop (at + 1) items) (sym e)) ∙ rw l refl
+
+pub end_beyond : (text : List ℕ) → closed_within 0 text ≡ None
+unfolding closed_within
+end_beyond text = refl
+
+pub end_of_text : (k : ℕ) → closed_within (suc k) [] ≡ Some false
+unfolding closed_within
+end_of_text k = refl
 
 -- a letter or digit more
 pub letters_on : (place c : ℕ) (rest : List ℕ) → is_ascii_alphanumeric c ≡ true → ampersand_errors place (c ∷ rest) ≡ ampersand_errors place rest
@@ -143,6 +193,7 @@ letter_apart c k l n = ne_eqb c k (λ e. absurd (false≢true (sym n ∙ ap (λ 
 -- what was found to begin tells what the text has
 pub found_tells : (rows : List Row) (text : List ℕ) (place : ℕ) (found : ValueRef) (lacking : Bool) → Begins rows found text → not (is 59 (slice_get text (ref_len found - 1))) ≡ lacking → value_told rows place text ≡ found_told found lacking place
 found_tells rows text place (refs.Numeric base n) lacking b l = rw b refl
-found_tells rows text place refs.Unknown lacking b l = rw (b.0, b.1) refl
+found_tells rows text place refs.Letters lacking b l = rw (b.0, b.1, b.2) refl
+found_tells rows text place refs.Unknown lacking b l = rw (b.0, b.1, b.2) refl
 found_tells rows text place refs.Literal lacking b l = rw b refl
-found_tells rows text place (refs.Codes n first second) lacking b l = rw (b.1, b.0, l) refl
+found_tells rows text place (refs.Codes n first second) lacking b l = rw (b.1, b.0, l, b.3) (append-nil (found_told (refs.Codes n first second) lacking place))

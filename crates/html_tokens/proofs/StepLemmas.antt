@@ -4,10 +4,10 @@ use Rattle.html_tokens.specs.Cut.{Cut, null_replaced}
 use Rattle.html_tokens.specs.Draft.{draft_cut}
 use Rattle.html_tokens.specs.Tokens.{tokens_after, text_char, token, begun_piece, stays, switch_of}
 use Rattle.html_tokens.specs.Marks.{begin_at, is_stop, region_in}
-use Rattle.html_tokens.specs.Reference.{numbered, Numbered, reference, ref_opener, semicolon, is_digit, ends_digits}
+use Rattle.html_tokens.specs.Reference.{are_letters_closed, letters_after, numbered, Numbered, reference, ref_opener, semicolon, is_digit, ends_digits}
 use Rattle.html_charref.specs.Number.{char_of, radix, capped}
-use Rattle.html_tokens.proofs.ReferenceLemmas.{char_capped, digit_first, digits_end, digits_stop, errors_digit, number_whole, some_radix}
-use Rattle.html_tokens.specs.InsideReferences.{ampersand_errors, later_ref_errors, number_errors, number_told}
+use Rattle.html_tokens.proofs.ReferenceLemmas.{char_capped, digit_first, digits_end, digits_stop, errors_digit, letters_few, letters_many, number_whole, some_radix}
+use Rattle.html_tokens.specs.InsideReferences.{ampersand_errors, later_ref_errors, number_errors, number_told, soon_ref_errors}
 use Rattle.html_tokens.specs.Cut.{passes}
 use Rattle.html_charref.specs.declared.table.Row.{Row}
 use Rattle.html_tokens.specs.declared.token.Region.{Region}
@@ -17,12 +17,13 @@ use Rattle.html_tokens.specs.declared.token.Begin.TheVariants as begins
 use Rattle.std.proofs.Common.{add-zero, length-drop}
 use Rattle.std.proofs.lemmas.List.{drop-append-le}
 use Rattle.html_tokens.specs.Copied.{CopiesComment, cut_by}
-use Rattle.html_tokens.specs.Errors.{errors_after, inside_errors, piece_errors, told_in}
+use Rattle.html_tokens.specs.Errors.{errors_after, inside_errors, piece_errors, soon_errors, told_in}
 use Rattle.html_tokens.specs.declared.faults.Fault.{Fault}
 use Rattle.html_tokens.proofs.ErrorLemmas.{errors_at_end, errors_begun, errors_past, errors_past_all, errors_past_one, errors_text, region_quiet, stop_told, told_at_end}
 use Rattle.html_tokens.specs.Fed.{GivesAmpersand, Skips, coming, errors_coming, to_come, IsDrained, IsEnded, Passes, SameCount, Steps, switch_to, slack, GivesChars}
 use Rattle.html_tokens.specs.Input.{Decided, IsShort}
-use Rattle.html_tokens.specs.Inside.{MovesComment, comment_errors, comment_told}
+use Rattle.html_tokens.specs.Inside.{MovesComment, comment_errors, comment_told, fault_when}
+use Rattle.html_tokens.specs.declared.fault_name.FaultName.TheVariants as names
 use Rattle.html_tokens.proofs.CommentLemmas.{comment_ends, comment_goes}
 use Rattle.html_tokens.specs.Input.{MayFollow}
 use Rattle.html_tokens.specs.declared.machine.Machine.{Machine}
@@ -76,26 +77,31 @@ char_errors rows region after mode name place place' c items items' more switch 
 there : (items more : List ℕ) → 0 < length items → 0 < length (items ++ more)
 there items more h = omega (arith, length-append items more)
 
+four_apart : (a b c d : List Fault) → a ++ ((b ++ c) ++ d) ≡ (a ++ b) ++ (c ++ d)
+four_apart a b c d = rw (append_assoc b c d) (sym (append_assoc a b (c ++ d)))
+
 -- the errors of what begins, before so many code points of it
 pub errors_opened : (rows : List Row) (b : Begin) (region : Region) (mode : TextMode) (name : Option (List ℕ)) (place opened j : ℕ) (items more : List ℕ) (switches : List (Option TextMode)) (first : Piece) (inside : List Fault) →
     begin_at mode region name (items ++ more) ≡ b → is_stop b ≡ true → begun_piece rows b place (items ++ more) ≡ first → first.len ≡ opened + j → 0 < opened → opened ≤ length items →
-    inside_errors rows b place (items ++ more) ≡ inside →
+    inside_errors rows b place (items ++ more) ≡ soon_errors rows b place (items ++ more) ++ inside →
     errors_coming rows (Text region) mode name place (items ++ more) switches
     ≡ told_in rows (Text region) mode name place (items ++ more)
     ++ (inside ++ errors_after rows j (mode_after first.tokens switches mode) (name_after first.tokens name) (place + opened) (drop opened items ++ more) (drop (length first.tokens) switches))
 errors_opened rows b region mode name place opened j items more switches first inside e s p l h k i =
     errors_begun rows b mode region name place (items ++ more) switches first e s p (omega arith) (there items more (omega arith))
-    ∙ rw (e, l, i, region_quiet region place (items ++ more) (there items more (omega arith)), stop_told rows b place (items ++ more) s) (ap (λ (es : List Fault). piece_errors rows b place (items ++ more) ++ (inside ++ es)) (errors_past rows opened j _ _ place items more _ k))
+    ∙ rw (e, l, i, region_quiet region place (items ++ more) (there items more (omega arith)), stop_told rows b place (items ++ more) s)
+    (ap (λ (es : List Fault). piece_errors rows b place (items ++ more) ++ ((soon_errors rows b place (items ++ more) ++ inside) ++ es)) (errors_past rows opened j _ _ place items more _ k)
+    ∙ four_apart (piece_errors rows b place (items ++ more)) (soon_errors rows b place (items ++ more)) inside _)
 
 -- the errors of what begins and is passed whole
 pub errors_passed : (rows : List Row) (b : Begin) (region : Region) (mode : TextMode) (name : Option (List ℕ)) (place len : ℕ) (items more : List ℕ) (switches : List (Option TextMode)) (first : Piece) →
     begin_at mode region name (items ++ more) ≡ b → is_stop b ≡ true → begun_piece rows b place (items ++ more) ≡ first → first.len ≡ len → 0 < len → len ≤ length items →
-    inside_errors rows b place (items ++ more) ≡ [] →
+    inside_errors rows b place (items ++ more) ≡ soon_errors rows b place (items ++ more) →
     errors_coming rows (Text region) mode name place (items ++ more) switches
     ≡ told_in rows (Text region) mode name place (items ++ more)
     ++ errors_after rows 0 (mode_after first.tokens switches mode) (name_after first.tokens name) (place + len) (drop len items ++ more) (drop (length first.tokens) switches)
 errors_passed rows b region mode name place len items more switches first e s p l h k i =
-    errors_opened rows b region mode name place len 0 items more switches first [] e s p (l ∙ omega arith) h k i
+    errors_opened rows b region mode name place len 0 items more switches first [] e s p (l ∙ omega arith) h k (i ∙ sym (append-nil (soon_errors rows b place (items ++ more))))
 
 pub comment_opens : (rows : List Row) (region : Region) (mode : TextMode) (kind : CommentKind) (opened : ℕ) (name : Option (List ℕ)) (place : ℕ) (items more : List ℕ) (switches : List (Option TextMode)) →
     begin_at mode region name (items ++ more) ≡ begins.Markup →
@@ -194,7 +200,7 @@ pub open_gives : (old new : Machine) (region : Region) (b : Begin) (given : Toke
     ((switch : Option TextMode) (mode : TextMode) → mode_after_kind given.kind switch mode ≡ switch_to given.kind switch mode) → ((name : Option (List ℕ)) → name_after_kind given.kind name ≡ name) →
     is_stop b ≡ true → Decided old.input (begin_at old.mode region old.last_name) b →
     ((more : List ℕ) → MayFollow old.input.finished more → begun_piece old.table.now b old.place (old.input.queue.items ++ more) ≡ piece (given ∷ []) k) →
-    ((more : List ℕ) → MayFollow old.input.finished more → inside_errors old.table.now b old.place (old.input.queue.items ++ more) ≡ []) →
+    ((more : List ℕ) → MayFollow old.input.finished more → inside_errors old.table.now b old.place (old.input.queue.items ++ more) ≡ soon_errors old.table.now b old.place (old.input.queue.items ++ more)) →
     Steps old (Given given) new
 open_gives old new region b given k s p g h same named stop begun whole inside =
     open_given old new region given k (Text Plain) s p h (λ e. e) (named old.last_name)
@@ -312,7 +318,8 @@ pair_given rows region mode first second len name place items more switch switch
 pub chars_given : (old new : Machine) (region : Region) (len first : ℕ) (second : Option ℕ) (progress : Progress) → old.state ≡ Text region → Decided old.input (begin_at old.mode region old.last_name) begins.Reference →
     0 < len → len ≤ length old.input.queue.items →
     ((more : List ℕ) → MayFollow old.input.finished more → reference old.table.now (old.input.queue.items ++ more) ≡ record { codes = codes_with first second; len = len }) →
-    ((more : List ℕ) → MayFollow old.input.finished more → later_ref_errors (ref_opener (old.input.queue.items ++ more)) old.table.now old.place (old.input.queue.items ++ more) ≡ []) →
+    ((more : List ℕ) → MayFollow old.input.finished more →
+    later_ref_errors (ref_opener (old.input.queue.items ++ more)) old.table.now old.place (old.input.queue.items ++ more) ≡ soon_ref_errors (ref_opener (old.input.queue.items ++ more)) old.table.now old.place (old.input.queue.items ++ more)) →
     GivesChars old len first second progress new → Steps old progress new
 chars_given old new region len first None progress s begun h k found none (e, p) =
     rw e (open_gives old new region begins.Reference (token (kinds.Char first) old.place (old.place + len)) len s p h k (λ switch mode. refl) (λ name. refl) refl begun
@@ -324,16 +331,20 @@ chars_given old new region len first (Some second) progress s begun h k found no
     (λ more switch switches f. errors_passed old.table.now begins.Reference region old.mode old.last_name old.place len old.input.queue.items more (switch ∷ switches)
     (piece (token (kinds.Char first) old.place (old.place + 1) ∷ token (kinds.Char second) (old.place + 1) (old.place + len) ∷ []) len) (begun more f) refl (rw (found more f) refl) refl h k (none more f)))
 
--- the `&` is given, and letters and digits come that begin no name
+many_left : (rows : List Row) (text rest : List ℕ) (place : ℕ) → ref_opener text ≡ Named → longest rows text ≡ None → letters_after rows text ≡ None → drop 1 text ≡ rest →
+    later_ref_errors (ref_opener text) rows place text ≡ soon_ref_errors (ref_opener text) rows place text ++ ampersand_errors place rest
+many_left rows text rest place e n l d = rw (e, n, l) (ap (λ (b : Bool). fault_when b names.UnknownNamedCharacterReference place) (letters_many rows text l ∙ ap are_letters_closed d))
+
+-- the `&` is given, and letters and digits come that begin no name, and more than are looked over
 pub ampersand_given : (old new : Machine) (region : Region) (progress : Progress) → old.state ≡ Text region → Decided old.input (begin_at old.mode region old.last_name) begins.Reference → 0 < length old.input.queue.items →
-    Decided old.input ref_opener Named → Decided old.input (longest old.table.now) None → Decided old.input (λ rest. passes is_ascii_alphanumeric (slice_get rest 1)) true → GivesAmpersand old progress new → Steps old progress new
+    Decided old.input ref_opener Named → Decided old.input (longest old.table.now) None → Decided old.input (letters_after old.table.now) None → GivesAmpersand old progress new → Steps old progress new
 ampersand_given old new region progress s begun h opener none letter (e, p) =
     rw e (open_given old new region (token (kinds.Char 38) old.place (old.place + 1)) 1 (Ampersand old.place) s p h (λ e. e) refl
     (λ more switch switches f. piece_given old.table.now begins.Reference region old.mode (token (kinds.Char 38) old.place (old.place + 1)) 1 old.last_name old.place old.input.queue.items more switch switches (begun more f) refl
     (rw (opener more f, none more f) refl) (omega arith) h refl)
     (λ more switch switches f. errors_opened old.table.now begins.Reference region old.mode old.last_name old.place 1 0 old.input.queue.items more (switch ∷ switches) (piece (token (kinds.Char 38) old.place (old.place + 1) ∷ []) 1)
     (ampersand_errors old.place (drop 1 old.input.queue.items ++ more)) (begun more f) refl (rw (opener more f, none more f) refl) refl (omega arith) h
-    (rw (opener more f, none more f, letter more f, drop-append-le 1 old.input.queue.items more h) refl)))
+    (many_left old.table.now (old.input.queue.items ++ more) _ old.place (opener more f) (none more f) (letter more f) (drop-append-le 1 old.input.queue.items more h))))
 
 pub second_given : (old new : Machine) (c start : ℕ) → old.state ≡ Second c start → new ≡ record old { state = Text Plain } → Steps old (Given (token (kinds.Char c) start old.place)) new
 second_given old new c start s n = ((λ more switch switches f. rw (s, n) refl), rw n (record { count = refl; finished = refl; table = refl; drained = λ _ h. absurd h }), rw n refl, (λ more switch switches f. rw (s, n) refl))
@@ -432,6 +443,11 @@ named_some rows text len found e n = rw (e, n) refl
 
 pub named_none : (rows : List Row) (text : List ℕ) → ref_opener text ≡ Named → longest rows text ≡ None → reference rows text ≡ record { codes = codes_with 38 None; len = 1 }
 named_none rows text e n = rw (e, n) refl
+
+-- few letters and digits come after the `&`, and all of them is told there
+pub soon_few : (rows : List Row) (text : List ℕ) (place : ℕ) (closed : Bool) → ref_opener text ≡ Named → longest rows text ≡ None → letters_after rows text ≡ Some closed →
+    later_ref_errors (ref_opener text) rows place text ≡ soon_ref_errors (ref_opener text) rows place text
+soon_few rows text place closed e n few = rw (e, n, few) (ap (λ (b : Bool). fault_when b names.UnknownNamedCharacterReference place) (letters_few rows text closed few))
 
 -- the tokens from a comment on, which is this and began there
 abbrev comment_coming : List Row → ℕ → ℕ → Cut → TextMode → Option (List ℕ) → List ℕ → List (Option TextMode) → List Token

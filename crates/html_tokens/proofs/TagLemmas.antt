@@ -4,7 +4,7 @@ use Rattle.std.specs.List.{slice_get}
 use Rattle.std.specs.Option.{option_to_list}
 use Rattle.std.specs.Result.{IfOk}
 use Rattle.std.proofs.lemmas.List.{drop-append-le}
-use Rattle.html_tokens.specs.Errors.{errors_after, inside_errors, told_in}
+use Rattle.html_tokens.specs.Errors.{errors_after, inside_errors, soon_errors, told_in}
 use Rattle.html_tokens.specs.Fed.{IsSilent, Tells, TellsAt, errors_coming, told_at}
 use Rattle.html_tokens.specs.Errors.{Opens}
 use Rattle.html_tokens.specs.Inside.{fault, tag_end_errors, tag_told}
@@ -87,7 +87,8 @@ tag_begins rows b region mode is_end opened name place items more switches e s p
 pub tag_opens : (old new : Machine) (b : Begin) (region : Region) (is_end : Bool) (opened : ℕ) → old.state ≡ Text region → BeginsTag old is_end opened new → 0 < opened → opened ≤ length old.input.queue.items →
     Decided old.input (begin_at old.mode region old.last_name) b → is_stop b ≡ true →
     ((more : List ℕ) → MayFollow old.input.finished more → begun_piece old.table.now b old.place (old.input.queue.items ++ more) ≡ tag_piece old.table.now is_end opened old.place (old.input.queue.items ++ more)) →
-    ((more : List ℕ) → MayFollow old.input.finished more → inside_errors old.table.now b old.place (old.input.queue.items ++ more) ≡ begun_tag_errors old.table.now is_end opened old.place (old.input.queue.items ++ more)) →
+    ((more : List ℕ) → MayFollow old.input.finished more →
+    inside_errors old.table.now b old.place (old.input.queue.items ++ more) ≡ soon_errors old.table.now b old.place (old.input.queue.items ++ more) ++ begun_tag_errors old.table.now is_end opened old.place (old.input.queue.items ++ more)) →
     Steps old More new
 tag_opens old new b region is_end opened s (d, n, p) h k begun stop piece inside = (
   (λ more switches f. rw (s, p.state, p.mode, p.name, p.place, p.items, p.table, n.0, n.1)

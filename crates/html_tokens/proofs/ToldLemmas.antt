@@ -3,7 +3,7 @@ use Rattle.std.proofs.Common.{◌≡◌, ℕ, List, [], ◌∷◌, ◌++◌, len
 use Rattle.html_tokens.specs.Errors.{all_told, begin_told, IsQuiet, Opens, region_end_errors, told_in, with_told}
 use Rattle.html_tokens.specs.Fed.{GivesChars, IsSilent, Skips, Steps, Tells, TellsAt, told_at, errors_to_come, errors_to_come_after}
 use Rattle.html_tokens.specs.Input.{Decided, MayFollow}
-use Rattle.html_tokens.specs.InsideReferences.{begun_ref_errors, number_told}
+use Rattle.html_tokens.specs.InsideReferences.{begun_ref_errors, number_told, soon_ref_errors}
 use Rattle.html_tokens.specs.declared.reference.NumberDraft.{NumberDraft}
 use Rattle.html_tokens.specs.Reference.{ref_opener, reference}
 use Rattle.html_tokens.specs.Marks.{begin_at}
@@ -115,11 +115,20 @@ silent_in t s e h = λ more f. rw e (h t.table.now t.mode t.last_name t.place (t
 pub silent_begun : (t : Machine) (region : Region) (b : Begin) → t.state ≡ Text region → Decided t.input (begin_at t.mode region t.last_name) b → 0 < length t.input.queue.items → ((rows : List Row) (place : ℕ) (text : List ℕ) → begin_told rows b place text ≡ []) → IsSilent t
 silent_begun t region b s begun some h = λ more f. rw (s, begun more f, region_quiet region t.place (t.input.queue.items ++ more) (not_empty t.input.queue.items more some)) (h t.table.now t.place (t.input.queue.items ++ more))
 
--- what a `&` in text tells
+-- what a `&` in text tells, and of the letters and digits after it
+pub both_told : (t : Machine) (region : Region) (told soon : List Fault) → t.state ≡ Text region → Decided t.input (begin_at t.mode region t.last_name) begins.Reference → 0 < length t.input.queue.items →
+    ((more : List ℕ) → MayFollow t.input.finished more → begun_ref_errors (ref_opener (t.input.queue.items ++ more)) (reference t.table.now (t.input.queue.items ++ more)) t.place (t.input.queue.items ++ more) ≡ told) →
+    ((more : List ℕ) → MayFollow t.input.finished more → soon_ref_errors (ref_opener (t.input.queue.items ++ more)) t.table.now t.place (t.input.queue.items ++ more) ≡ soon) →
+    (more : List ℕ) → MayFollow t.input.finished more → told_at t more ≡ told ++ soon
+both_told t region told soon s begun some h g = λ more f.
+    rw (s, begun more f, region_quiet region t.place (t.input.queue.items ++ more) (not_empty t.input.queue.items more some)) (ap₂ (λ (es fs : List Fault). es ++ fs) (h more f) (g more f))
+
+-- where nothing is told of these
 pub ref_told : (t : Machine) (region : Region) (told : List Fault) → t.state ≡ Text region → Decided t.input (begin_at t.mode region t.last_name) begins.Reference → 0 < length t.input.queue.items →
     ((more : List ℕ) → MayFollow t.input.finished more → begun_ref_errors (ref_opener (t.input.queue.items ++ more)) (reference t.table.now (t.input.queue.items ++ more)) t.place (t.input.queue.items ++ more) ≡ told) →
+    ((more : List ℕ) → MayFollow t.input.finished more → soon_ref_errors (ref_opener (t.input.queue.items ++ more)) t.table.now t.place (t.input.queue.items ++ more) ≡ []) →
     (more : List ℕ) → MayFollow t.input.finished more → told_at t more ≡ told
-ref_told t region told s begun some h = λ more f. rw (s, begun more f, region_quiet region t.place (t.input.queue.items ++ more) (not_empty t.input.queue.items more some)) (h more f)
+ref_told t region told s begun some h none = λ more f. both_told t region told [] s begun some h none more f ∙ append-nil told
 
 -- what a reference gives is told
 pub ref_tells : (old new : Machine) (len first : ℕ) (second : Option ℕ) (progress : Progress) (f f' : Faults) → GivesChars old len first second progress new → TellsAt old f f' → Tells old progress f f'

@@ -255,7 +255,7 @@ literal_read_from (Ok x) d new found f i e = rw (e, f) (literal_read d refs.Lite
 literal_read_from (Err e) d new found f i h = tt
 
 -- letters and digits begin, after the `&`
-unknown_read : (d new : TagDraft) (found : ValueRef) (start : ℕ) (part : Part) → d.part ≡ part → found ≡ refs.Unknown → IsInside part →
+unknown_read : (d new : TagDraft) (found : ValueRef) (start : ℕ) (part : Part) → d.part ≡ part → found ≡ refs.Letters → IsInside part →
     ((end : ValueEnd) → d.part ≡ parts.Inside end → new ≡ record d { part = parts.Ampersand end start; attr_value = d.attr_value ++ codes_with 38 None }) → ReadsRef d found new
 unknown_read d new found start parts.Name p f i m = absurd i
 unknown_read d new found start parts.Attributes p f i m = absurd i
@@ -267,7 +267,12 @@ unknown_read d new found start (parts.Inside end) p f i m =
 unknown_read d new found start (parts.Number end base value place) p f i m = absurd i
 unknown_read d new found start (parts.Ampersand end place) p f i m = absurd i
 
-pub unknown_read_from : (d mid new : TagDraft) (found : ValueRef) (start : ℕ) → found ≡ refs.Unknown → IsInside d.part → mid ≡ record d { attr_value = d.attr_value ++ codes_with 38 None } →
+-- they are few, and a `;` comes after them
+pub few_read_from : {X E : Type 0} (r : Result X E) (d new : TagDraft) (found : ValueRef) → found ≡ refs.Unknown → IsInside d.part → OnOk r (new ≡ record d { attr_value = d.attr_value ++ codes_with 38 None }) → OnOk r (ReadsRef d found new)
+few_read_from (Ok x) d new found f i e = rw (e, f) (literal_read d refs.Unknown d.part refl i (λ rows text b. rw (b.0, b.1) refl) refl)
+few_read_from (Err e) d new found f i h = tt
+
+pub unknown_read_from : (d mid new : TagDraft) (found : ValueRef) (start : ℕ) → found ≡ refs.Letters → IsInside d.part → mid ≡ record d { attr_value = d.attr_value ++ codes_with 38 None } →
     ((end : ValueEnd) → mid.part ≡ parts.Inside end → new ≡ record mid { part = parts.Ampersand end start }) → ReadsRef d found new
 unknown_read_from d mid new found start f i e m = unknown_read d new found start d.part refl f i (λ end p. m end (rw e p) ∙ rw e refl)
 

@@ -1,10 +1,10 @@
--- Claimed, but for this crate's own functions: end_told, region_told, begin_told, told_in, Opens, IsQuiet.
+-- Claimed, but for this crate's own functions: end_told, region_told, soon_errors, begin_told, told_in, Opens, IsQuiet.
 -- The parse errors of a text (HTML 13.2.2): those told of what a `<` begins (HTML 13.2.5.6, 13.2.5.7, 13.2.5.42, 13.2.5.43), those of fronts of text, and those inside of pieces.
 use Rattle.std.specs.Prelude.{◌≡◌, ℕ, zero, suc, ◌+◌, ◌-◌, List, [], ◌∷◌, ◌++◌, length, drop, Bool, true, false, cond, Option, Some, nat_le, slice_get, is_none}
 use Rattle.html_tokens.specs.AttrNames.{names_in}
 use Rattle.html_tokens.specs.Cut.{is}
 use Rattle.html_tokens.specs.Inside.{comment_errors, comment_told, doctype_errors, doctype_told, fault, null_errors, section_errors, section_told, tag_told}
-use Rattle.html_tokens.specs.InsideReferences.{ampersand_told, begun_ref_errors, later_ref_errors, number_told}
+use Rattle.html_tokens.specs.InsideReferences.{ampersand_told, begun_ref_errors, later_ref_errors, number_told, soon_ref_errors}
 use Rattle.html_tokens.specs.InsideTags.{begun_tag_errors, part_told}
 use Rattle.html_tokens.specs.Reference.{ref_opener, reference}
 use Rattle.html_tokens.specs.Tag.{draft_tag}
@@ -128,12 +128,20 @@ region_told Plain place text = []
 region_told Escaped place text = end_told place text
 region_told Double place text = end_told place text
 
+-- what of a piece a step tells with what begins it
+abbrev pub soon_errors : List Row → Begin → ℕ → List ℕ → List Fault
+soon_errors rows begins.Char place text = []
+soon_errors rows begins.Markup place text = []
+soon_errors rows begins.EndMark place text = []
+soon_errors rows begins.Reference place text = soon_ref_errors (ref_opener text) rows place text
+soon_errors rows begins.Section place text = []
+
 -- what a step tells of what begins
 abbrev pub begin_told : List Row → Begin → ℕ → List ℕ → List Fault
 begin_told rows begins.Char place text = null_errors (slice_get text 0) place
 begin_told rows begins.Markup place text = piece_errors rows begins.Markup place text
 begin_told rows begins.EndMark place text = []
-begin_told rows begins.Reference place text = piece_errors rows begins.Reference place text
+begin_told rows begins.Reference place text = piece_errors rows begins.Reference place text ++ soon_ref_errors (ref_opener text) rows place text
 begin_told rows begins.Section place text = []
 
 -- what a step tells in a state

@@ -1,4 +1,4 @@
--- Claimed, but for this crate's own functions: are_no_letters, value_told, found_told.
+-- Claimed, but for this crate's own functions: are_no_letters, soon_ref_errors, value_told, found_told.
 -- The parse errors of references, which are told at the place of their `&` (HTML 13.2.5.72 to 13.2.5.80).
 use Rattle.std.specs.Prelude.{ℕ, ◌-◌, List, [], ◌∷◌, ◌++◌, drop, Bool, not, ◌&&◌, ◌||◌, ◌==◌, cond, nat_lt, Option, option_map, slice_get}
 use Rattle.html_charref.specs.Number.{fault_of}
@@ -8,7 +8,7 @@ use Rattle.html_charref.specs.declared.number.RefFault.TheVariants.{Null, Outsid
 use Rattle.html_charref.specs.declared.table.Row.{Row}
 use Rattle.html_tokens.specs.Cut.{cut, is, passes, stop_mark}
 use Rattle.html_tokens.specs.Inside.{fault, fault_if, fault_when}
-use Rattle.html_tokens.specs.Reference.{Reference, are_letters_closed, ends_digits, is_digit, is_unknown, numbered, ref_opener}
+use Rattle.html_tokens.specs.Reference.{Reference, are_letters_closed, ends_digits, is_digit, is_soon_unknown, is_unknown, numbered, ref_opener}
 use Rattle.std.specs.Char.{is_ascii_alphanumeric}
 use Rattle.html_tokens.specs.Value.{value_reference}
 use Rattle.html_tokens.specs.declared.fault_name.FaultName.{FaultName}
@@ -75,13 +75,20 @@ are_no_letters text = not (passes (λ c. is_ascii_alphanumeric c || c == 59) (sl
 abbrev pub ampersand_told : ℕ → Option ℕ → List Fault
 ampersand_told place found = fault_when (is 59 found) names.UnknownNamedCharacterReference place
 
+-- what of the letters and digits after it is told at the `&`, where they end soon
+abbrev pub soon_ref_errors : RefOpener → List Row → ℕ → List ℕ → List Fault
+soon_ref_errors Named rows place text = fault_when (is_soon_unknown rows text) names.UnknownNamedCharacterReference place
+soon_ref_errors (Numeric base opened) rows place text = []
+soon_ref_errors Literal rows place text = []
+
 -- what it tells at the `&` at the front of the rest of a value
 abbrev pub value_told : List Row → ℕ → List ℕ → List Fault
-value_told rows place text = begun_ref_errors (ref_opener text) (value_reference rows text) place text
+value_told rows place text = begun_ref_errors (ref_opener text) (value_reference rows text) place text ++ soon_ref_errors (ref_opener text) rows place text
 
 -- the same, by what was found to begin, and whether its last code point is no `;`
 abbrev pub found_told : ValueRef → Bool → ℕ → List Fault
 found_told (refs.Numeric base opened) lacking place = []
-found_told refs.Unknown lacking place = []
+found_told refs.Letters lacking place = []
+found_told refs.Unknown lacking place = fault names.UnknownNamedCharacterReference place ∷ []
 found_told refs.Literal lacking place = fault names.AbsenceOfDigitsInNumericCharacterReference place ∷ []
 found_told (refs.Codes len first second) lacking place = fault_when (nat_lt 1 len && lacking) names.MissingSemicolonAfterCharacterReference place

@@ -4,7 +4,7 @@ ghost use Rattle.html_charref.specs.Table.{longest, longest_len};
 ghost use Rattle.html_tokens.specs.Input.{Decided, IsShort};
 ghost use Rattle.std.specs.Char.{digit_value, is_ascii_alphanumeric};
 ghost use Rattle.std.specs.Prelude.{false};
-ghost use Rattle.html_tokens.specs.Reference.{MayCloseLetters, are_letters_closed, ref_opener, is_digit, opened_by};
+ghost use Rattle.html_tokens.specs.Reference.{letters_after, letters_bound, closed_within, ref_opener, is_digit, opened_by};
 ghost use Rattle.html_tokens.specs.Cut.{passes};
 ghost use Rattle.html_tokens.specs.Value.{is_taken, goes_on, IsValueRef, IsValueNamed, ref_len};
 ghost use Rattle.std.specs.Prelude.{Option};
@@ -22,11 +22,12 @@ pub struct NumberDraft {
     pub value: u32,
 }
 
-/// What a `&` in a value begins: a number, after what opens it; letters that begin no name and that a `;` may close; a number
-/// without digits; or so many code points that stand for one or two.
+/// What a `&` in a value begins: a number, after what opens it; letters that begin no name, and more than are looked over, or
+/// before a `;`; a number without digits; or so many code points that stand for one or two.
 #[derive(Clone, Copy)]
 pub enum ValueRef {
     Numeric(Base, usize),
+    Letters,
     Unknown,
     Literal,
     Codes(usize, char, Option<char>),
@@ -39,7 +40,7 @@ impl ValueRef {
     {
         match self {
             ValueRef::Numeric(_, opened) => opened,
-            ValueRef::Unknown | ValueRef::Literal => 1,
+            ValueRef::Letters | ValueRef::Unknown | ValueRef::Literal => 1,
             ValueRef::Codes(len, _, _) => len,
         }
     }
@@ -156,48 +157,55 @@ fn is_letter_next(input: &Input) -> Option<bool>
     }
 }
 
-/// Whether a `;` comes after the letters and digits after the first code point of the rest; nothing where what was fed ends in them.
-fn are_letters_closed(input: &Input) -> Option<bool>
+/// Whether a `;` comes after the letters and digits after the first code point of the rest, where they are fewer than this; nothing where more input is wanted.
+fn closed_within(input: &Input, bound: usize) -> Option<Option<bool>>
     requires { 0 < length input.now.queue.items }
-    ensures { MatchOption result (input.now.finished ≡ false) (λ found. Decided input.now (λ rest. are_letters_closed (drop 1 rest)) found) }
+    ensures { MatchOption result (IsShort input.now bound) (λ found. Decided input.now (λ rest. closed_within bound (drop 1 rest)) found) }
 {
     let rest = input.queue.unread();
     for at in 1..rest.len() {
+        if bound < at {
+            return Some(None);
+        }
         let c = rest[at];
         if !c.is_ascii_alphanumeric() {
-            return Some(c == ';');
+            return Some(Some(c == ';'));
         }
     }
-    if input.finished { Some(false) } else { None }
+    if bound < rest.len() {
+        return Some(None);
+    }
+    if input.finished {
+        Some(Some(false))
+    } else {
+        None
+    }
 }
 
-/// Whether letters or digits come after the `&` at the front of the rest, and a `;` after them, or what was fed ends in them; nothing where more input is wanted.
-pub(crate) fn may_close_letters(input: &Input) -> Option<bool>
+/// Whether letters or digits come after the `&` at the front of the rest, and a `;` after them, where they are few; nothing where more input is wanted.
+pub(crate) fn letters_after(table: &EntityTable, input: &Input) -> Option<Option<bool>>
     requires { 0 < length input.now.queue.items }
-    ensures { MatchOption result (IsShort input.now 1) (λ may_close. MayCloseLetters input.now may_close) }
+    ensures { MatchOption result (IsShort input.now (letters_bound table.now)) (λ found. Decided input.now (letters_after table.now) found) }
 {
     if !is_letter_next(input)? {
-        return Some(false);
+        return Some(Some(false));
     }
-    match are_letters_closed(input) {
-        None => Some(true),
-        Some(closed) => Some(closed),
-    }
+    closed_within(input, table.longest_name() as usize + 8)
 }
 
 /// What the `&` at the front of the rest of a value begins; nothing where more input is wanted.
 pub(crate) fn value_ref(table: &EntityTable, input: &Input) -> Option<ValueRef>
     requires { 0 < length input.now.queue.items }
-    ensures { MatchOption result (IsShort input.now (longest_len table.now + 3)) (λ found. IsValueRef table.now input.now found) }
+    ensures { MatchOption result (IsShort input.now (longest_len table.now + 8)) (λ found. IsValueRef table.now input.now found) }
 {
     match ref_opener(input)? {
         RefOpener::Literal => Some(ValueRef::Literal),
         RefOpener::Numeric(base, opened) => Some(ValueRef::Numeric(base, opened)),
         RefOpener::Named => match named(table, input)? {
-            None => Some(if may_close_letters(input)? {
-                ValueRef::Unknown
-            } else {
-                ValueRef::Codes(1, '&', None)
+            None => Some(match letters_after(table, input)? {
+                None => ValueRef::Letters,
+                Some(true) => ValueRef::Unknown,
+                Some(false) => ValueRef::Codes(1, '&', None),
             }),
             Some((len, text)) => value_named(input, len as usize, text),
         },

@@ -602,11 +602,12 @@ impl TagDraft {
                 self.begin_number(base, place);
                 Ok(())
             }
-            ValueRef::Unknown => {
+            ValueRef::Letters => {
                 self.push_codes('&', None)?;
                 self.begin_letters(place);
                 Ok(())
             }
+            ValueRef::Unknown => self.push_codes('&', None),
             ValueRef::Literal => self.push_codes('&', None),
             ValueRef::Codes(_, first, second) => self.push_codes(first, second),
         }

@@ -18,11 +18,15 @@ impl Faults {
         ensures told { Told 1 0 self.old self.new }
         ensures opens { Opens (ampersand_told place found) self.old self.new }
     {
-        self.tell_if(
-            found == Some(';'),
-            FaultName::UnknownNamedCharacterReference,
-            place,
-        );
+        self.unknown(found == Some(';'), place);
+    }
+
+    /// What a `&` at a place tells before letters and digits that begin no name, and that a `;` may close.
+    pub(crate) fn unknown(&mut self, closed: bool, place: u64)
+        ensures told { Told 1 0 self.old self.new }
+        ensures opens { Opens (fault_when closed FaultName.UnknownNamedCharacterReference place) self.old self.new }
+    {
+        self.tell_if(closed, FaultName::UnknownNamedCharacterReference, place);
     }
 
     /// What a `&` tells that begins no reference and after which a `#` stands.
@@ -102,7 +106,8 @@ impl Faults {
     {
         match found {
             ValueRef::Numeric(..) => {}
-            ValueRef::Unknown => {}
+            ValueRef::Letters => {}
+            ValueRef::Unknown => self.unknown(true, place),
             ValueRef::Literal => self.no_digits(place),
             ValueRef::Codes(len, _, _) => self.name(len, lacking, place),
         }

@@ -14,12 +14,13 @@ ghost use Rattle.std.specs.Prelude.{None};
 use super::{Machine, Progress, State, token};
 use crate::faults::{Faults, lacks_semicolon};
 use crate::input::Peek;
-use crate::reference::{NumberDraft, digit, may_close_letters, named, ref_opener};
+use crate::reference::{NumberDraft, digit, letters_after, named, ref_opener};
 use crate::token::{Begin, RefOpener, Region, TokenKind};
 use html_charref::{add_digit, numeric};
 
 impl<'a> Machine<'a> {
     /// Reads on at a `&`.
+    #[inline(always)]
     pub(super) fn ref_step(&mut self, region: Region, faults: &mut Faults) -> Progress
         requires state { self.old.state ≡ State.Text region }
         requires reference { Decided self.old.input (begin_at self.old.mode region self.old.last_name) Begin.Reference }
@@ -50,6 +51,7 @@ impl<'a> Machine<'a> {
     }
 
     /// Reads on at a `&` that may begin a name.
+    #[inline(always)]
     fn name_step(&mut self, region: Region, faults: &mut Faults) -> Progress
         requires state { self.old.state ≡ State.Text region }
         requires reference { Decided self.old.input (begin_at self.old.mode region self.old.last_name) Begin.Reference }
@@ -62,7 +64,7 @@ impl<'a> Machine<'a> {
     {
         match named(self.table, &self.input) {
             None => Progress::Wait,
-            Some(None) => self.unknown_step(region),
+            Some(None) => self.unknown_step(region, faults),
             Some(Some((len, text))) => {
                 let lacking = lacks_semicolon(&self.input, len as usize);
                 faults.name(len as usize, lacking, self.place);
@@ -72,7 +74,7 @@ impl<'a> Machine<'a> {
     }
 
     /// Reads on at a `&` that begins no name.
-    fn unknown_step(&mut self, region: Region) -> Progress
+    fn unknown_step(&mut self, region: Region, faults: &mut Faults) -> Progress
         requires state { self.old.state ≡ State.Text region }
         requires reference { Decided self.old.input (begin_at self.old.mode region self.old.last_name) Begin.Reference }
         requires opener { Decided self.old.input ref_opener RefOpener.Named }
@@ -80,16 +82,15 @@ impl<'a> Machine<'a> {
         requires some { 0 < length self.old.input.queue.items }
         requires room { self.old.place + length self.old.input.queue.items < 2 ^ 64 }
         ensures steps { Steps self.old result self.new }
-        ensures bounded { (faults : Faults) → IsBounded self.old faults → IsBounded self.new faults }
+        ensures bounded { IsBounded self.old faults.old → IsBounded self.new faults.new }
+        ensures tells { Tells self.old result faults.old faults.new }
     {
-        match may_close_letters(&self.input) {
+        match letters_after(self.table, &self.input) {
             None => Progress::Wait,
-            Some(may_close) => {
-                if may_close {
-                    self.ampersand_given()
-                } else {
-                    self.chars_given(1, '&', None)
-                }
+            Some(None) => self.ampersand_given(),
+            Some(Some(closed)) => {
+                faults.unknown(closed, self.place);
+                self.chars_given(1, '&', None)
             }
         }
     }
@@ -115,7 +116,7 @@ impl<'a> Machine<'a> {
         }
     }
 
-    /// Gives the `&` before letters and digits that begin no name and that a `;` may close.
+    /// Gives the `&` before letters and digits that begin no name, and more than are looked over.
     fn ampersand_given(&mut self) -> Progress
         requires some { 0 < length self.old.input.queue.items }
         requires room { self.old.place + length self.old.input.queue.items < 2 ^ 64 }
@@ -127,7 +128,9 @@ impl<'a> Machine<'a> {
         Progress::Given(token(TokenKind::Char('&'), start, self.place))
     }
 
-    /// Reads on after a `&` and letters or digits.
+    /// Reads on after a `&` and letters or digits, which are many.
+    #[cold]
+    #[inline(never)]
     pub(super) fn ampersand_step(&mut self, start: u64, faults: &mut Faults) -> Progress
         requires state { self.old.state ≡ State.Ampersand start }
         requires room { self.old.place + length self.old.input.queue.items < 2 ^ 64 }

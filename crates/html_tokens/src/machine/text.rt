@@ -13,6 +13,7 @@ use crate::token::{Begin, Region, TextMode, TokenKind};
 
 impl<'a> Machine<'a> {
     /// Reads on in text.
+    #[inline(always)]
     pub(super) fn text_step(&mut self, region: Region, faults: &mut Faults) -> Progress
         requires state { self.old.state ≡ State.Text region }
         requires room { self.old.place + length self.old.input.queue.items < 2 ^ 64 }
@@ -45,6 +46,7 @@ impl<'a> Machine<'a> {
     }
 
     /// What begins at the front of the rest; nothing where more input is wanted.
+    #[inline(always)]
     fn begin(&self, region: Region, first: char) -> Option<Begin>
         requires first { Decided self.now.input (λ rest. slice_get rest 0) (Some first) }
         ensures { MatchOption result (IsShort self.now.input (slack self.now.table.now self.now.last_name)) (λ found. Decided self.now.input (begin_at self.now.mode region self.now.last_name) found × (found ≡ Begin.EndMark → 2 ≤ length self.now.input.queue.items) × (found ≡ Begin.Section → 9 ≤ length self.now.input.queue.items)) }

@@ -1,7 +1,7 @@
 use Rattle.std.proofs.Common.{refl}
 use Rattle.html_tokens.proofs.BoundLemmas.{chars_bounded}
 use Rattle.html_tokens.proofs.StepLemmas.{chars_given, named_some}
-use Rattle.html_tokens.proofs.ToldLemmas.{quiet_same, ref_tells, ref_told, tells_decided, tells_quiet}
+use Rattle.html_tokens.proofs.ToldLemmas.{ref_tells, ref_told, tells_decided}
 use Rattle.html_tokens.proofs.machine.Machine.name_step.Goals as goal
 
 pub returns-in-Some-Some-clause-steps : goal.returns-in-Some-Some-clause-steps
@@ -15,15 +15,9 @@ returns-in-Some-Some-clause-bounded c =
     let found = rw c.in-Some-Some.field-0-is at c.in-Some-Some.ensures in
     chars_bounded c.args.self.now _ c.args.region c.in-Some-Some.len c.in-Some-Some.text.first c.in-Some-Some.text.second _ c.args.faults.now c.name.new.self c.requires.state c.chars_given.ensures c.name.ensures.told found.1.0
 
-pub returns-in-Some-None-clause-tells : goal.returns-in-Some-None-clause-tells
-returns-in-Some-None-clause-tells c =
-    let found = rw c.in-Some-None.field-0-is at c.in-Some-None.ensures in
-    tells_quiet c.args.self.now _ c.args.faults.now c.args.faults.now
-    (ref_told c.args.self.now c.args.region _ c.requires.state c.requires.reference c.requires.some (λ more h. rw (c.requires.opener more h, found.0 more h) refl)) (quiet_same c.args.faults.now)
-
 pub returns-in-Some-Some-clause-tells : goal.returns-in-Some-Some-clause-tells
 returns-in-Some-Some-clause-tells c =
     let found = rw c.in-Some-Some.field-0-is at c.in-Some-Some.ensures in
     ref_tells c.args.self.now _ c.in-Some-Some.len c.in-Some-Some.text.first c.in-Some-Some.text.second _ c.args.faults.now c.name.new.self c.chars_given.ensures
     (tells_decided c.args.self.now _ c.args.faults.now c.name.new.self
-    (ref_told c.args.self.now c.args.region _ c.requires.state c.requires.reference c.requires.some (λ more h. rw (c.requires.opener more h, found.0 more h, c.lacks_semicolon-lacking.ensures more h) refl)) c.name.ensures.opens)
+    (ref_told c.args.self.now c.args.region _ c.requires.state c.requires.reference c.requires.some (λ more h. rw (c.requires.opener more h, found.0 more h, c.lacks_semicolon-lacking.ensures more h) refl) (λ more h. rw (c.requires.opener more h, found.0 more h) refl)) c.name.ensures.opens)

@@ -22,10 +22,10 @@ returns-in-Some-Literal-clause-tells c =
     let found = rw c.in-Some-Literal.field-0-is at c.in-Some-Literal.ensures in
     ref_tells c.args.self.now _ 1 38 None _ c.args.faults.now c.no_digits.new.self c.chars_given.ensures
     (tells_decided c.args.self.now _ c.args.faults.now c.no_digits.new.self
-    (ref_told c.args.self.now c.args.region _ c.requires.state c.requires.reference c.requires.some (λ more h. rw (found.0 more h) refl)) c.no_digits.ensures.opens)
+    (ref_told c.args.self.now c.args.region _ c.requires.state c.requires.reference c.requires.some (λ more h. rw (found.0 more h) refl) (λ more h. rw (found.0 more h) refl)) c.no_digits.ensures.opens)
 
 pub returns-in-Some-Numeric-clause-tells : goal.returns-in-Some-Numeric-clause-tells
 returns-in-Some-Numeric-clause-tells c =
     let found = rw c.in-Some-Numeric.field-0-is at c.in-Some-Numeric.ensures in
     tells_quiet c.args.self.now More c.args.faults.now c.args.faults.now
-    (ref_told c.args.self.now c.args.region _ c.requires.state c.requires.reference c.requires.some (λ more h. rw (found.0 more h) refl)) (quiet_same c.args.faults.now)
+    (ref_told c.args.self.now c.args.region _ c.requires.state c.requires.reference c.requires.some (λ more h. rw (found.0 more h) refl) (λ more h. rw (found.0 more h) refl)) (quiet_same c.args.faults.now)
