@@ -15,7 +15,7 @@ use Rattle.html_tokens.specs.Doctype.{is_quote}
 use Rattle.html_tokens.specs.Inside.{fault_when, null_errors}
 use Rattle.html_tokens.specs.InsideTags.{closes_before, MovesRef, MovesTag, SettlesPart, TurnsTo, after_value, all_char_errors, ends_in, ends_tag, looks_on, looks_on_in, may_tell, may_tell_in, next_part, part_char_errors, part_end_told, part_errors, part_ref_errors, part_told, quote_errors, ref_rest, settle_told, tag_char_errors, tag_part_errors, unquoted_errors, value_errors}
 use Rattle.html_tokens.specs.InsideReferences.{ampersand_errors, ampersand_told, are_no_letters, begun_ref_errors, later_ref_errors, number_end_errors, number_errors, soon_ref_errors, value_ref_errors, value_told}
-use Rattle.html_tokens.specs.Reference.{ends_letters, is_digit, literal, numbered, Numbered, Reference, ref_opener}
+use Rattle.html_tokens.specs.Reference.{ends_digits, ends_letters, is_digit, literal, numbered, Numbered, Reference, ref_opener}
 use Rattle.html_tokens.specs.Tag.{between, ends_attr, ends_name, is_unsettled, IsInside, name_char, reads_refs}
 use Rattle.html_tokens.specs.Value.{Begins, ref_len, value_reference}
 use Rattle.html_tokens.specs.declared.token.RefOpener.TheVariants.{Literal}
@@ -313,6 +313,9 @@ letters_none place (c ∷ rest) h =
 a_letter : (c : ℕ) → ends_letters c ≡ false → is_ascii_alphanumeric c ≡ true
 a_letter c h = elim (bool_is (is_ascii_alphanumeric c)) [ inl e ↦ e | inr e ↦ absurd (false≢true (sym h ∙ rw e refl)) ]
 
+a_digit : (base : Base) (c : ℕ) → ends_digits base c ≡ false → is_digit base c ≡ true
+a_digit base c h = elim (bool_is (is_digit base c)) [ inl e ↦ e | inr e ↦ absurd (false≢true (sym h ∙ rw e refl)) ]
+
 -- a letter or digit tells nothing in a value
 letter_told : (end : ValueEnd) (c : ℕ) (after : Option ℕ) (place : ℕ) → is_ascii_alphanumeric c ≡ true → value_errors end c after place ≡ []
 letter_told ends.DoubleQuote c after place l = rw (letter_apart c 34 l refl) refl
@@ -581,7 +584,7 @@ quiet_part parts.Value c after place h s = quiet_value c place h
 quiet_part (parts.Inside ends.DoubleQuote) c after place h s = rw h refl
 quiet_part (parts.Inside ends.SingleQuote) c after place h s = rw h refl
 quiet_part (parts.Inside ends.Space) c after place h s = rw h refl
-quiet_part (parts.Number end base v start) c after place h s = absurd (false≢true (sym h))
+quiet_part (parts.Number end base v start) c after place h s = let d = a_digit base c h in rw (d, digit_told end base c after place d) refl
 quiet_part (parts.Ampersand end start) c after place h s = let l = a_letter c h in rw (letter_apart c 59 l refl, letter_told end c after place l) refl
 
 -- a code point that may tell no error
@@ -597,7 +600,9 @@ quiet_looks_in parts.Value c h s = differs c 47 s
 quiet_looks_in (parts.Inside ends.DoubleQuote) c h s = rw (differs c 47 s, h) refl
 quiet_looks_in (parts.Inside ends.SingleQuote) c h s = rw (differs c 47 s, h) refl
 quiet_looks_in (parts.Inside ends.Space) c h s = differs c 47 s
-quiet_looks_in (parts.Number end base v start) c h s = absurd (false≢true (sym h))
+quiet_looks_in (parts.Number ends.DoubleQuote base v start) c h s = rw (differs c 47 s, apart base c 34 (a_digit base c h) (no_digit base).0) refl
+quiet_looks_in (parts.Number ends.SingleQuote base v start) c h s = rw (differs c 47 s, apart base c 39 (a_digit base c h) (no_digit base).1) refl
+quiet_looks_in (parts.Number ends.Space base v start) c h s = differs c 47 s
 quiet_looks_in (parts.Ampersand ends.DoubleQuote start) c h s = rw (differs c 47 s, letter_apart c 34 (a_letter c h) refl) refl
 quiet_looks_in (parts.Ampersand ends.SingleQuote start) c h s = rw (differs c 47 s, letter_apart c 39 (a_letter c h) refl) refl
 quiet_looks_in (parts.Ampersand ends.Space start) c h s = differs c 47 s

@@ -1,5 +1,5 @@
 -- The numbers of references, and what references tell.
-use Rattle.std.proofs.Common.{Some, ◌≡◌, ℕ, zero, suc, ◌+◌, ◌*◌, ◌-◌, ◌<◌, List, [], ◌∷◌, ◌++◌, drop, get_or, length, map, Bool, true, false, not, cond, ◌==◌, ◌&&◌, Option, None, refl, append-nil, ap, sym, ◌∙◌, arith, zero-add}
+use Rattle.std.proofs.Common.{Some, ◌≡◌, ℕ, zero, suc, ◌+◌, ◌*◌, ◌-◌, ◌<◌, ◌≤◌, List, [], ◌∷◌, ◌++◌, drop, get_or, length, map, Bool, true, false, not, cond, ◌==◌, ◌&&◌, Option, None, refl, append-nil, ap, sym, ◌∙◌, arith, zero-add}
 use Rattle.std.specs.Char.{digit_value, is_ascii_alphanumeric}
 use Rattle.std.specs.Int.Digits.{number_from_digits_after}
 use Rattle.std.specs.List.{slice_get}
@@ -16,7 +16,10 @@ use Rattle.html_tokens.specs.Inside.{fault_when}
 use Rattle.html_tokens.specs.declared.fault_name.FaultName.TheVariants as names
 use Rattle.html_tokens.specs.InsideReferences.{ampersand_errors, ampersand_told, found_told, is_number_closed, number_end_errors, number_errors, number_told, value_told}
 use Rattle.html_tokens.specs.Reference.{are_letters_closed, closed_within, closes_letters, ends_digits, is_digit, letters_after, letters_bound, Numbered, numbered, ref_opener, semicolon}
-use Rattle.html_charref.specs.Table.{longest}
+use Rattle.html_charref.specs.Table.{longest, longest_len}
+use Rattle.std.specs.Option.{MatchOption}
+use Rattle.html_tokens.specs.Input.{Decided, IsShort}
+use Rattle.html_tokens.specs.declared.input.Input.{Input}
 use Rattle.html_tokens.specs.declared.token.RefOpener.TheVariants.{Named}
 use Rattle.html_tokens.specs.Value.{Begins, ref_len}
 use Rattle.html_tokens.specs.declared.reference.ValueRef.{ValueRef}
@@ -144,6 +147,24 @@ unfolding closed_within
 letters_known zero text b e = let h : None ≡ Some b = e in cc
 letters_known (suc k) [] b e = closed_none ∙ some_same e
 letters_known (suc k) (c ∷ rest) b e = known_by c rest (closed_within k rest) b (is_ascii_alphanumeric c) refl (λ h. letters_known k rest b h) e
+
+-- after a letter or digit, one fewer may come
+pub after_letter : (k : ℕ) (text : List ℕ) → passes is_ascii_alphanumeric (slice_get text 1) ≡ true → closed_within (suc k) (drop 1 text) ≡ closed_within k (drop 2 text)
+unfolding closed_within
+after_letter k [] l = absurd (false≢true l)
+after_letter k (c ∷ []) l = absurd (false≢true l)
+after_letter k (c ∷ d ∷ rest) l = rw l refl
+
+letters_two : (rows : List Row) (k : ℕ) (text : List ℕ) (found : Option Bool) → k ≡ longest_len rows + 7 → passes is_ascii_alphanumeric (slice_get text 1) ≡ true → closed_within k (drop 2 text) ≡ found → letters_after rows text ≡ found
+letters_two rows k text found e l h =
+    let bound : letters_bound rows ≡ suc k = omega arith in
+    rw l (ap (λ (n : ℕ). closed_within n (drop 1 text)) bound ∙ after_letter k text l ∙ h)
+
+-- what is known after the first of them
+pub letters_one : (input : Input) (rows : List Row) (k : ℕ) (r : Option (Option Bool)) → k ≡ longest_len rows + 7 → Decided input (λ rest. passes is_ascii_alphanumeric (slice_get rest 1)) true →
+    MatchOption r (IsShort input (k + 1)) (λ found. Decided input (λ rest. closed_within k (drop 2 rest)) found) → MatchOption r (IsShort input (letters_bound rows)) (λ found. Decided input (letters_after rows) found)
+letters_one input rows k None e l h = (h.0, (let fit : length input.queue.items ≤ k + 1 = h.1 in omega arith))
+letters_one input rows k (Some found) e l h = λ more f. letters_two rows k (input.queue.items ++ more) found e (l more f) (h more f)
 
 -- few come after a `&`, and it is known whether a `;` closes them
 pub letters_few : (rows : List Row) (text : List ℕ) (b : Bool) → letters_after rows text ≡ Some b → closes_letters text ≡ b

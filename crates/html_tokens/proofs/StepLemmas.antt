@@ -45,7 +45,7 @@ use Rattle.html_tokens.specs.declared.comment.CommentKind.{CommentKind}
 use Rattle.html_tokens.proofs.TokensLemmas.{tokens_text, tokens_begun, tokens_past, tokens_past_one}
 use Rattle.std.proofs.Common.{◌*◌, ap₂}
 use Rattle.std.proofs.lemmas.Bool.{false≢true}
-use Rattle.std.specs.Char.{digit_value, is_ascii_alphanumeric}
+use Rattle.std.specs.Char.{digit_value}
 use Rattle.html_charref.specs.Entities.{codes_with}
 use Rattle.html_charref.specs.declared.number.Base.{Base}
 use Rattle.html_tokens.specs.declared.token.RefOpener.TheVariants.{Numeric, Named}

@@ -7,7 +7,7 @@ use Rattle.html_tokens.specs.Cut.{ends_unquoted, is, is_space, passes}
 use Rattle.html_tokens.specs.Doctype.{is_quote}
 use Rattle.html_tokens.specs.Inside.{fault_when, null_errors, tag_end_errors}
 use Rattle.html_tokens.specs.InsideReferences.{ampersand_errors, ampersand_told, number_errors, number_end_errors, number_told, value_ref_errors, value_told}
-use Rattle.html_tokens.specs.Reference.{ends_letters, is_digit, numbered}
+use Rattle.html_tokens.specs.Reference.{ends_digits, ends_letters, is_digit, numbered}
 use Rattle.html_tokens.specs.Tag.{ends_name, reads_refs, tag_of}
 use Rattle.html_tokens.specs.Value.{Begins, ref_len, value_reference}
 use Rattle.html_tokens.specs.declared.fault_name.FaultName.TheVariants as names
@@ -212,7 +212,7 @@ may_tell_in parts.Value c = c == 62 || (c == 60 || (c == 61 || c == 96))
 may_tell_in (parts.Inside ends.DoubleQuote) c = c == 34
 may_tell_in (parts.Inside ends.SingleQuote) c = c == 39
 may_tell_in (parts.Inside ends.Space) c = c == 34 || (c == 39 || (c == 60 || (c == 61 || c == 96)))
-may_tell_in (parts.Number end base value start) c = true
+may_tell_in (parts.Number end base value start) c = ends_digits base c
 may_tell_in (parts.Ampersand end start) c = ends_letters c
 
 abbrev pub may_tell : Part → ℕ → Bool

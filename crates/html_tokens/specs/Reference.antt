@@ -1,6 +1,6 @@
 -- Claimed, but for this crate's own functions: opened_by, letters_bound, closed_within, letters_after, closes_some, is_soon_unknown.
 -- What a reference stands for, and its length.
-use Rattle.std.specs.Prelude.{ℕ, zero, suc, ◌+◌, ◌==◌, List, [], ◌∷◌, map, drop, Bool, false, true, ◌&&◌, ◌||◌, is_none, cond, not, nat_lt, Option, Some, None, slice_get}
+use Rattle.std.specs.Prelude.{ℕ, zero, suc, ◌+◌, ◌==◌, List, [], ◌∷◌, map, drop, Bool, false, ◌&&◌, ◌||◌, is_none, cond, not, nat_lt, Option, Some, None, slice_get}
 use Rattle.std.specs.Char.{digit_value, is_ascii_alphanumeric}
 use Rattle.std.specs.Int.Digits.{number_from_digits_after}
 use Rattle.html_charref.specs.Entities.{codes_of}

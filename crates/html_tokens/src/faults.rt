@@ -55,10 +55,7 @@ pub(crate) fn lacks_semicolon(input: &Input, len: usize) -> bool
     requires fit { len ≤ length input.now.queue.items }
     ensures { Decided input.now (λ rest. not (is 59 (slice_get rest (len - 1)))) result }
 {
-    match input.peek(len - 1) {
-        Peek::Is(found) => found != Some(';'),
-        Peek::Wait => true,
-    }
+    input.queue.unread()[len - 1] != ';'
 }
 
 /// Whether `[CDATA[` stands after `<!`.

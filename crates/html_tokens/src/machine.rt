@@ -196,7 +196,7 @@ impl<'a> Machine<'a> {
             }
             State::Ampersand(start) => {
                 let start = *start;
-                Ok(self.ampersand_step(start, faults))
+                self.letters_step(start, faults)
             }
             State::Comment(_) => self.comment_step(faults),
             State::Doctype(_) => self.doctype_step(faults),

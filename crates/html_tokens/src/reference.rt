@@ -63,6 +63,7 @@ fn is_digit(found: Option<char>, base: Base) -> bool
 }
 
 /// What the `&` at the front of the rest begins; nothing where more input is wanted.
+#[inline(always)]
 pub(crate) fn ref_opener(input: &Input) -> Option<RefOpener>
     requires { 0 < length input.now.queue.items }
     ensures { MatchOption result (IsShort input.now 3) (λ found. Decided input.now ref_opener found × (opened_by found ≤ length input.now.queue.items) × (0 < opened_by found)) }
@@ -147,8 +148,9 @@ fn value_named(input: &Input, len: usize, text: RefText) -> Option<ValueRef>
 }
 
 /// Whether a letter or digit comes after the `&` at the front of the rest; nothing where more input is wanted.
+#[inline(always)]
 fn is_letter_next(input: &Input) -> Option<bool>
-    ensures { MatchOption result (IsShort input.now 1) (λ found. Decided input.now (λ rest. passes is_ascii_alphanumeric (slice_get rest 1)) found) }
+    ensures { MatchOption result (IsShort input.now 1) (λ found. Decided input.now (λ rest. passes is_ascii_alphanumeric (slice_get rest 1)) found × (found ≡ true → 1 < length input.now.queue.items)) }
 {
     match input.peek(1) {
         Peek::Wait => None,
@@ -157,14 +159,14 @@ fn is_letter_next(input: &Input) -> Option<bool>
     }
 }
 
-/// Whether a `;` comes after the letters and digits after the first code point of the rest, where they are fewer than this; nothing where more input is wanted.
+/// Whether a `;` comes after the letters and digits after two code points of the rest, where they are fewer than this; nothing where more input is wanted.
 fn closed_within(input: &Input, bound: usize) -> Option<Option<bool>>
-    requires { 0 < length input.now.queue.items }
-    ensures { MatchOption result (IsShort input.now bound) (λ found. Decided input.now (λ rest. closed_within bound (drop 1 rest)) found) }
+    requires two { 1 < length input.now.queue.items }
+    ensures { MatchOption result (IsShort input.now (bound + 1)) (λ found. Decided input.now (λ rest. closed_within bound (drop 2 rest)) found) }
 {
     let rest = input.queue.unread();
-    for at in 1..rest.len() {
-        if bound < at {
+    for at in 2..rest.len() {
+        if bound < at - 1 {
             return Some(None);
         }
         let c = rest[at];
@@ -172,7 +174,7 @@ fn closed_within(input: &Input, bound: usize) -> Option<Option<bool>>
             return Some(Some(c == ';'));
         }
     }
-    if bound < rest.len() {
+    if bound < rest.len() - 1 {
         return Some(None);
     }
     if input.finished {
@@ -183,14 +185,14 @@ fn closed_within(input: &Input, bound: usize) -> Option<Option<bool>>
 }
 
 /// Whether letters or digits come after the `&` at the front of the rest, and a `;` after them, where they are few; nothing where more input is wanted.
+#[inline(always)]
 pub(crate) fn letters_after(table: &EntityTable, input: &Input) -> Option<Option<bool>>
-    requires { 0 < length input.now.queue.items }
     ensures { MatchOption result (IsShort input.now (letters_bound table.now)) (λ found. Decided input.now (letters_after table.now) found) }
 {
-    if !is_letter_next(input)? {
-        return Some(Some(false));
+    if is_letter_next(input)? {
+        return closed_within(input, table.longest_name() as usize + 7);
     }
-    closed_within(input, table.longest_name() as usize + 8)
+    Some(Some(false))
 }
 
 /// What the `&` at the front of the rest of a value begins; nothing where more input is wanted.

@@ -115,7 +115,7 @@ impl Part {
             Part::Inside(ValueEnd::DoubleQuote) => c == '"',
             Part::Inside(ValueEnd::SingleQuote) => c == '\'',
             Part::Inside(ValueEnd::Space) => matches!(c, '"' | '\'' | '<' | '=' | '`'),
-            Part::Number(..) => true,
+            Part::Number(_, base, ..) => digit(c, base).is_none(),
             Part::Ampersand(..) => !c.is_ascii_alphanumeric(),
         }
     }

@@ -1,5 +1,5 @@
 // References in text.
-ghost use Rattle.std.specs.Prelude.{◌≡◌, ◌≤◌, ◌+◌, ◌^◌, ◌<◌, length, true};
+ghost use Rattle.std.specs.Prelude.{◌≡◌, ◌≤◌, ◌+◌, ◌^◌, ◌<◌, length, true, IfOk, OnErr};
 ghost use Rattle.html_tokens.specs.Fed.{GivesAmpersand, Steps, Passes, GivesChars, Tells};
 ghost use Rattle.html_tokens.specs.InsideReferences.{are_no_letters};
 ghost use Rattle.html_tokens.specs.Input.{Decided};
@@ -7,9 +7,6 @@ ghost use Rattle.html_tokens.specs.Tokens.{token};
 ghost use Rattle.html_tokens.specs.Bounds.{IsBounded};
 ghost use Rattle.html_tokens.specs.Marks.{begin_at};
 ghost use Rattle.html_charref.specs.Number.{char_of};
-ghost use Rattle.html_charref.specs.Table.{longest};
-ghost use Rattle.html_tokens.specs.Reference.{ref_opener};
-ghost use Rattle.std.specs.Prelude.{None};
 
 use super::{Machine, Progress, State, token};
 use crate::faults::{Faults, lacks_semicolon};
@@ -17,6 +14,7 @@ use crate::input::Peek;
 use crate::reference::{NumberDraft, digit, letters_after, named, ref_opener};
 use crate::token::{Begin, RefOpener, Region, TokenKind};
 use html_charref::{add_digit, numeric};
+use std::alloc::AllocError;
 
 impl<'a> Machine<'a> {
     /// Reads on at a `&`.
@@ -46,52 +44,22 @@ impl<'a> Machine<'a> {
                 }));
                 Progress::More
             }
-            Some(RefOpener::Named) => self.name_step(region, faults),
-        }
-    }
-
-    /// Reads on at a `&` that may begin a name.
-    #[inline(always)]
-    fn name_step(&mut self, region: Region, faults: &mut Faults) -> Progress
-        requires state { self.old.state ≡ State.Text region }
-        requires reference { Decided self.old.input (begin_at self.old.mode region self.old.last_name) Begin.Reference }
-        requires opener { Decided self.old.input ref_opener RefOpener.Named }
-        requires some { 0 < length self.old.input.queue.items }
-        requires room { self.old.place + length self.old.input.queue.items < 2 ^ 64 }
-        ensures steps { Steps self.old result self.new }
-        ensures bounded { IsBounded self.old faults.old → IsBounded self.new faults.new }
-        ensures tells { Tells self.old result faults.old faults.new }
-    {
-        match named(self.table, &self.input) {
-            None => Progress::Wait,
-            Some(None) => self.unknown_step(region, faults),
-            Some(Some((len, text))) => {
-                let lacking = lacks_semicolon(&self.input, len as usize);
-                faults.name(len as usize, lacking, self.place);
-                self.chars_given(len as usize, text.first, text.second)
-            }
-        }
-    }
-
-    /// Reads on at a `&` that begins no name.
-    fn unknown_step(&mut self, region: Region, faults: &mut Faults) -> Progress
-        requires state { self.old.state ≡ State.Text region }
-        requires reference { Decided self.old.input (begin_at self.old.mode region self.old.last_name) Begin.Reference }
-        requires opener { Decided self.old.input ref_opener RefOpener.Named }
-        requires none { Decided self.old.input (longest self.old.table.now) None }
-        requires some { 0 < length self.old.input.queue.items }
-        requires room { self.old.place + length self.old.input.queue.items < 2 ^ 64 }
-        ensures steps { Steps self.old result self.new }
-        ensures bounded { IsBounded self.old faults.old → IsBounded self.new faults.new }
-        ensures tells { Tells self.old result faults.old faults.new }
-    {
-        match letters_after(self.table, &self.input) {
-            None => Progress::Wait,
-            Some(None) => self.ampersand_given(),
-            Some(Some(closed)) => {
-                faults.unknown(closed, self.place);
-                self.chars_given(1, '&', None)
-            }
+            Some(RefOpener::Named) => match named(self.table, &self.input) {
+                None => Progress::Wait,
+                Some(None) => match letters_after(self.table, &self.input) {
+                    None => Progress::Wait,
+                    Some(None) => self.ampersand_given(),
+                    Some(Some(closed)) => {
+                        faults.unknown(closed, self.place);
+                        self.chars_given(1, '&', None)
+                    }
+                },
+                Some(Some((len, text))) => {
+                    let lacking = lacks_semicolon(&self.input, len as usize);
+                    faults.name(len as usize, lacking, self.place);
+                    self.chars_given(len as usize, text.first, text.second)
+                }
+            },
         }
     }
 
@@ -131,7 +99,23 @@ impl<'a> Machine<'a> {
     /// Reads on after a `&` and letters or digits, which are many.
     #[cold]
     #[inline(never)]
-    pub(super) fn ampersand_step(&mut self, start: u64, faults: &mut Faults) -> Progress
+    pub(super) fn letters_step(
+        &mut self,
+        start: u64,
+        faults: &mut Faults,
+    ) -> Result<Progress, AllocError>
+        requires state { self.old.state ≡ State.Ampersand start }
+        requires room { self.old.place + length self.old.input.queue.items < 2 ^ 64 }
+        ensures steps { IfOk result (λ progress. Steps self.old progress self.new) }
+        ensures going { OnErr result ⊥ }
+        ensures bounded { IsBounded self.old faults.old → IsBounded self.new faults.new }
+        ensures tells { IfOk result (λ progress. Tells self.old progress faults.old faults.new) }
+    {
+        Ok(self.ampersand_step(start, faults))
+    }
+
+    /// The same.
+    fn ampersand_step(&mut self, start: u64, faults: &mut Faults) -> Progress
         requires state { self.old.state ≡ State.Ampersand start }
         requires room { self.old.place + length self.old.input.queue.items < 2 ^ 64 }
         ensures steps { Steps self.old result self.new }
