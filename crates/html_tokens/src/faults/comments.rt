@@ -26,6 +26,7 @@ fn is_closed(input: &Input, len: usize) -> bool
 
 impl Faults {
     /// What a code point of a comment tells, and whether a `<!--` begins with it that is an error.
+    #[inline(always)]
     pub(crate) fn comment_char(&mut self, nests: bool, found: Option<char>, place: u64)
         requires room { nests ≡ true → place + 4 < 2 ^ 64 }
         ensures told { Told 2 0 self.old self.new }
