@@ -1,4 +1,4 @@
-use Rattle.std.proofs.Common.{◌≡◌, ◌∙◌, length, rules, refl, ap, sym}
+use Rattle.std.proofs.Common.{◌≡◌, ◌∙◌, length, rules, refl, sym}
 use Rattle.html_page.proofs.TokenLists.{run_of, all_given}
 use Rattle.html_page.proofs.tokens.all_tokens.Goals as goal
 
