@@ -1,6 +1,6 @@
 -- What is said of the text after a token, and what is known of foreign content.
-use Rattle.std.proofs.Common.{ℕ, zero, suc, ◌≡◌, ◌≤◌, ◌+◌, ◌∙◌, ◌⊎◌, inl, inr, Bool, true, false, List, [], ◌∷◌, ◌++◌, length, refl, sym, ap, subst}
-use Rattle.std.specs.Prelude.{Option, Some, None, slice_get, IfSome}
+use Rattle.std.proofs.Common.{ℕ, zero, suc, ◌≡◌, ◌≤◌, ◌+◌, ◌∙◌, inl, inr, Bool, true, false, List, [], ◌∷◌, ◌++◌, length, refl, sym, ap, subst}
+use Rattle.std.specs.Prelude.{Option, Some, None, slice_get}
 use Rattle.html_arena.specs.declared.arena.Limits.{Limits}
 use Rattle.html_names.specs.declared.tag.Tag.{Tag}
 use Rattle.html_names.specs.declared.tag.Tag.TheVariants as tag
@@ -29,7 +29,7 @@ use Rattle.html_modes.specs.declared.outcome.Foreign.{Foreign}
 use Rattle.html_builder.specs.Builders.{BuilderState}
 use Rattle.html_builder.specs.Errors.{error_at}
 use Rattle.html_builder.specs.Handed.{Handed, IsForeignRefused, fates_of, parses_foreign}
-use Rattle.html_builder.specs.Saying.{or_said, said_in, said_of}
+use Rattle.html_builder.specs.Saying.{or_said, said_of}
 use Rattle.html_builder.specs.Switches.{said_after, switch_after}
 use Rattle.html_builder.specs.declared.error.BuildError.{BuildError}
 use Rattle.html_builder.specs.declared.error.BuildError.TheVariants as error

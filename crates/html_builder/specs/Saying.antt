@@ -1,7 +1,7 @@
 -- Claimed.
 -- What is said of the text after a token: what its fate says; and, where foreign content was made or is the context, whether it is read as that of
 -- foreign content (13.2.6.2, 13.2.6.4, and 13.2.5.42).
-use Rattle.std.specs.Prelude.{◌≡◌, ◌⊎◌, Bool, true, false, List, length, Option, Some, None, if◌then◌else◌}
+use Rattle.std.specs.Prelude.{Option, Some, None, if◌then◌else◌}
 use Rattle.html_names.specs.declared.tag.Tag.{Tag}
 use Rattle.html_tokens.specs.declared.token.TextMode.{TextMode}
 use Rattle.html_tokens.specs.declared.token.TextMode.TheVariants.{Data, Foreign}

@@ -149,8 +149,8 @@ merging i t a = record a {
 }
 
 -- an element of foreign content is made of it: its fate is Foreign, of that node
-abbrev pub embedding : Tree → TokenKind → State → State
-embedding u t a = record a { tree = u; ledger = given a.ledger (symbol_of t) (Foreign (length a.tree.tree.labels)) }
+abbrev pub with_foreign : Tree → TokenKind → State → State
+with_foreign u t a = record a { tree = u; ledger = given a.ledger (symbol_of t) (Foreign (length a.tree.tree.labels)) }
 
 -- these are the pending table character tokens
 abbrev pub with_kept : List ℕ → State → State
@@ -203,8 +203,8 @@ after (Quirks q) t a = record a { quirks = q }
 after Reset t a = record a { mode = reset_mode a.context a.tree.head a.templates (open_tags a.tree) }
 after (PushTemplate m) t a = record a { templates = a.templates ++ m ∷ [] }
 after PopTemplate t a = record a { templates = but_last a.templates }
-after (InsertForeign s) t a = embedding (opened_at (foreign_of a s t) (target.Current a.fostering) (next_tree a)) t a
-after (InsertForeignVoid s) t a = embedding (placed_at (foreign_of a s t) (target.Current a.fostering) (next_tree a)) t a
+after (InsertForeign s) t a = with_foreign (opened_at (foreign_of a s t) (target.Current a.fostering) (next_tree a)) t a
+after (InsertForeignVoid s) t a = with_foreign (placed_at (foreign_of a s t) (target.Current a.fostering) (next_tree a)) t a
 after Keep t a = with_kept (a.ledger.kept ++ char_of t) a
 after BeginOwnPart t a = record a { depth = length a.tree.stack; nodes = length a.tree.tree.labels }
 

@@ -1,5 +1,5 @@
 -- Elements that hold text alone: how they begin, and how their text goes on.
-use Rattle.std.proofs.Common.{◌≡◌, ℕ, zero, suc, ◌-◌, ◌<◌, ◌&&◌, ◌⊎◌, inl, inr, Bool, true, false, cond, List, [], ◌∷◌, ◌++◌, length, length-append, get_or, set, map, Some, None, refl, sym, ◌∙◌, ap, subst, arith}
+use Rattle.std.proofs.Common.{◌≡◌, ℕ, zero, suc, ◌-◌, ◌<◌, ◌&&◌, ◌⊎◌, inl, inr, Bool, true, false, cond, List, [], ◌∷◌, ◌++◌, length, length-append, get_or, set, Some, None, refl, sym, ◌∙◌, ap, subst, arith}
 use Rattle.std.proofs.lemmas.Bool.{false≢true}
 use Rattle.std.proofs.lemmas.List.{append-nil, get_or-set_other, get_or-set_same, get_or_append_left, length-set}
 use Rattle.std.proofs.Math.Seq.{get_or-append_seam}
@@ -25,12 +25,11 @@ use Rattle.html_tokens.specs.declared.attributes.Attr.{Attr}
 use Rattle.html_tokens.specs.declared.token.TokenKind.{TokenKind}
 use Rattle.html_tokens.specs.declared.token.TokenKind.TheVariants as kind
 use Rattle.html_ledger.specs.declared.fate.Cause.{Cause}
-use Rattle.html_ledger.specs.declared.fate.Cause.TheVariants.{LeadingNewline, Null, PrologSpace}
-use Rattle.html_ledger.specs.declared.fate.Fate.{Fate}
+use Rattle.html_ledger.specs.declared.fate.Cause.TheVariants.{LeadingNewline, PrologSpace}
 use Rattle.html_ledger.specs.declared.fate.Fate.TheVariants.{Dropped, Made, Text}
 use Rattle.html_ledger.specs.declared.history.History.{History}
 use Rattle.html_ledger.specs.declared.symbol.Symbol.{Symbol}
-use Rattle.html_ledger.specs.declared.symbol.Symbol.TheVariants.{Start, End, Char, Comment, Doctype, Eof}
+use Rattle.html_ledger.specs.declared.symbol.Symbol.TheVariants.{Start, Char}
 use Rattle.html_ledger.specs.Entries.{Entries, given}
 use Rattle.html_ledger.specs.Flags.{must_drop}
 use Rattle.html_ledger.specs.Spaces.{is_space}
@@ -43,7 +42,7 @@ use Rattle.html_tree.proofs.Inserted.{element-tag}
 use Rattle.html_tree.proofs.Kept.{has-take}
 use Rattle.html_construction.specs.declared.mode.Mode.{Mode}
 use Rattle.html_construction.specs.declared.mode.Mode.TheVariants as mode
-use Rattle.html_construction.specs.Calls.{HasFate, IsTree, element_of}
+use Rattle.html_construction.specs.Calls.{HasFate, element_of}
 use Rattle.html_construction.specs.Built.{Begins, Keeps, Takes, in_call, since_tree, with_tokens}
 use Rattle.html_construction.specs.States.{State}
 use Rattle.html_construction.specs.Tokens.{tag_name}
@@ -58,7 +57,7 @@ use Rattle.html_modes.specs.Steps.{Steps, is_code_point}
 use Rattle.html_modes.specs.declared.outcome.Outcome.{Outcome}
 use Rattle.html_modes.specs.declared.outcome.Outcome.TheVariants.{Done, Reprocess, Foreign}
 use Rattle.html_modes.proofs.InBody.{last-split}
-use Rattle.html_modes.proofs.Plain.{IsAlike, alike-then, later, popped-push}
+use Rattle.html_modes.proofs.Plain.{IsAlike, alike-then, popped-push}
 
 -- THEIR NAMES
 

@@ -1,5 +1,5 @@
 -- The arms of the rules for foreign content, one lemma each: of a token that stays there and meets its test, the table has this plan.
-use Rattle.std.proofs.Common.{ℕ, ◌≡◌, ◌⊎◌, ◌==◌, true, false, subst, sym}
+use Rattle.std.proofs.Common.{ℕ, ◌≡◌, ◌==◌, true, false, subst, sym}
 use Rattle.html_names.specs.declared.foreign.Space.{Space}
 use Rattle.html_names.specs.declared.tag.Tag.{Tag}
 use Rattle.html_names.specs.Foreign.{space_of}

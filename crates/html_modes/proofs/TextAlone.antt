@@ -54,7 +54,7 @@ use Rattle.html_tree.specs.Targets.{place_for}
 use Rattle.html_tree.specs.Texts.{text_node, with_text}
 use Rattle.html_tree.specs.declared.groups.Target.TheVariants as target
 use Rattle.html_tree.specs.declared.groups.Target.{Target}
-use Rattle.std.proofs.Common.{◌≡◌, ◌&&◌, ◌-◌, ◌+◌, ℕ, eqb, inl, inr, Bool, true, false, List, [], ◌∷◌, ◌++◌, get_or, set, length, length-append, Option, Some, None, if◌then◌else◌, refl, sym, ap, subst, ◌∙◌, arith, ◌==◌, cond, append-nil, suc}
+use Rattle.std.proofs.Common.{◌≡◌, ◌&&◌, ◌+◌, ℕ, eqb, inl, inr, Bool, true, false, List, [], ◌∷◌, ◌++◌, get_or, set, length, length-append, Option, Some, None, if◌then◌else◌, refl, sym, ap, subst, ◌∙◌, arith, ◌==◌, cond, append-nil, suc}
 use Rattle.std.proofs.Math.Seq.{get_or-append_seam}
 use Rattle.std.proofs.lemmas.Bool.{false≢true}
 use Rattle.std.proofs.lemmas.List.{get_or-set_other, get_or-set_same, length-set, append_assoc}

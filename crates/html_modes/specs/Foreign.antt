@@ -1,36 +1,21 @@
 -- Claimed.
 -- The tokens that go by the rules for foreign content: the tree construction dispatcher (13.2.6). And what those rules close (13.2.6.5).
-use Rattle.std.specs.Prelude.{ℕ, ◌≡◌, ◌+◌, ◌==◌, ◌||◌, ◌&&◌, Bool, true, false, not, cond, List, [], ◌∷◌, length, is_some, Option, Some, None}
-use Rattle.html_names.specs.declared.foreign.Space.{Space}
+use Rattle.std.specs.Prelude.{ℕ, ◌==◌, ◌||◌, ◌&&◌, Bool, true, false, not, cond, List, [], ◌∷◌, length, is_some, Option, Some, None}
 use Rattle.html_names.specs.declared.tag.Tag.{Tag}
 use Rattle.html_names.specs.declared.tag.Tag.TheVariants as tag
-use Rattle.html_names.specs.Foreign.{is_breakout, is_font_attr, is_html_point, is_math_text_part, is_text_point, is_unknown_breakout, space_of}
+use Rattle.html_names.specs.Foreign.{is_breakout, is_font_attr, is_html_point, is_math_text_part, is_text_point, is_unknown_breakout}
 use Rattle.html_names.specs.Tags.{is_same}
 use Rattle.html_tokens.specs.declared.attributes.Attr.{Attr}
 use Rattle.html_tokens.specs.declared.token.TokenKind.{TokenKind}
-use Rattle.html_tokens.specs.Cut.{null_replaced}
-use Rattle.html_ledger.specs.declared.fate.Cause.TheVariants.{Misplaced}
-use Rattle.html_ledger.specs.declared.fate.Fate.TheVariants.{Dropped, Foreign, Made, Text}
 use Rattle.html_ledger.specs.declared.symbol.Symbol.{Symbol}
-use Rattle.html_ledger.specs.declared.symbol.Symbol.TheVariants.{Start, End, Char, Comment, Doctype, Eof}
-use Rattle.html_ledger.specs.Entries.{number_of}
-use Rattle.html_ledger.specs.Flags.{must_drop}
-use Rattle.html_ledger.specs.Spaces.{is_space}
-use Rattle.html_tree.specs.declared.groups.Target.TheVariants.{Current, Document as AtDocument}
+use Rattle.html_ledger.specs.declared.symbol.Symbol.TheVariants.{Start, End, Char, Eof}
 use Rattle.html_tree.specs.Closing.{before_index}
 use Rattle.html_tree.specs.Foreign.{found_foreign, is_at_html_point, left_foreign}
-use Rattle.html_tree.specs.Listing.{IsReopened}
-use Rattle.html_tree.specs.OpenTags.{open_tags}
 use Rattle.html_tree.specs.States.{State as Tree}
-use Rattle.html_tree.specs.Texts.{text_node, with_text}
-use Rattle.html_construction.specs.Calls.{HasFate, IsTree, comment_of, counting, doctype_of, foreign_of, opened_at, placed_at}
 use Rattle.html_construction.specs.Foreign.{foreign_tag}
-use Rattle.html_construction.specs.Modes.{is_of_frames, is_of_selects}
 use Rattle.html_construction.specs.States.{State}
-use Rattle.html_construction.specs.Tokens.{attrs_of, closes_itself, tag_name}
+use Rattle.html_construction.specs.Tokens.{attrs_of, tag_name}
 use Rattle.html_modes.specs.Fitting.{is_loose}
-use Rattle.html_modes.specs.declared.outcome.Outcome.{Outcome}
-use Rattle.html_modes.specs.declared.outcome.Outcome.TheVariants.{Done}
 
 -- THE DISPATCHER
 -- where the adjusted current node is an element of foreign content, of this tag

@@ -22,7 +22,6 @@ use Rattle.html_page.specs.Plain.{IsPlainPage}
 use Rattle.html_page.specs.Shows.{Shows}
 use Rattle.html_tokens.specs.Cost.{AreCosted}
 use Rattle.html_tokens.specs.Given.{Fed, fed_len, steps_taken, told as told_by}
-use Rattle.html_tokens.specs.Errors.{defined}
 use Rattle.html_tokens.specs.Stream.{errors_of, Run, Start as TextStart, tokens_of}
 use Rattle.html_tokens.specs.Tokens.{tokens_after}
 use Rattle.html_tokens.specs.declared.faults.Fault.{Fault}
@@ -110,7 +109,7 @@ pub record Ended (d : Decoder) (t : Tokenizer) (b : BuilderState) (starts : List
   pub told_few : length told ≤ 11 * (fed_len t + 2)
   pub fed : (run : Run) → Fed t run → fed_len t ≡ length run.text
   pub errors_are : errors ≡ fault_list told (places_of starts numbers)
-  pub defined : (run : Run) → Fed t run → run.finished ≡ true → tokens_of run.text run.switches run.start ≡ run.given → defined told ≡ errors_of run.text run.switches run.start
+  pub of_text : (run : Run) → Fed t run → run.finished ≡ true → tokens_of run.text run.switches run.start ≡ run.given → told ≡ errors_of run.text run.switches run.start
   pub own_least : (run : Run) → Fed t run → run.finished ≡ true → tokens_of run.text run.switches run.start ≡ run.given → length run.text ≤ own
   pub own_few : own ≤ 8 * (fed_len t + 2) + (fed_len t + 2) * (fed_len t + 2)
   pub steps_are : steps ≡ min (own + arena.steps) (2 ^ 128 - 1)
@@ -187,7 +186,7 @@ made start bytes run d t b starts told numbers fates arena errors n own steps e 
         finished = w.finished;
         all = w.all;
         errors_are = sym e.told_is;
-        errors_defined = e.defined run w.tokenized w.finished w.all ∙ ap (λ s. errors_of run.text run.switches s) w.begun ∙ ap (λ x. errors_of x run.switches (text_start start)) text;
+        errors_of_text = e.of_text run w.tokenized w.finished w.all ∙ ap (λ s. errors_of run.text run.switches s) w.begun ∙ ap (λ x. errors_of x run.switches (text_start start)) text;
         steps_are = sym e.own_is;
       };
       plain = λ document core p page h written.

@@ -1,6 +1,6 @@
 -- For this crate's own functions.
 -- Why no tree construction began.
-use Rattle.std.specs.Prelude.{ℕ, ◌≡◌, ◌<◌, Bool, false, List, Option, Some}
+use Rattle.std.specs.Prelude.{ℕ, ◌≡◌, ◌<◌, false, List, Option}
 use Rattle.html_arena.specs.declared.arena.Limits.{Limits}
 use Rattle.html_builder.specs.Handed.{AreSo}
 use Rattle.html_builder.specs.declared.error.BuildError.{BuildError}

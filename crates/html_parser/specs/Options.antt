@@ -1,6 +1,6 @@
 -- Claimed.
 -- What a caller asks of parsing.
-use Rattle.std.specs.Prelude.{ℕ, ◌≡◌, ◌<◌, Bool, true, false, List, Option, Some}
+use Rattle.std.specs.Prelude.{ℕ, ◌≡◌, ◌<◌, Bool, true, false, List, Some}
 use Rattle.html_charref.specs.declared.table.Row.{Row}
 use Rattle.html_arena.specs.declared.arena.Limits.{Limits}
 use Rattle.html_builder.specs.Contexts.{is_good, is_good_anywhere}

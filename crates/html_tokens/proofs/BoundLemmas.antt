@@ -5,16 +5,17 @@ use Rattle.std.proofs.lemmas.Nat.{mul-le}
 use Rattle.html_tokens.specs.Bounds.{Bounded, Told, IsWithin, due, searches, attr_count}
 use Rattle.html_tokens.specs.declared.faults.Faults.{Faults}
 use Rattle.html_tokens.specs.declared.tag.TagDraft.{TagDraft}
-use Rattle.html_tokens.specs.Fed.{BeginsTag, EndsTag, BeginsDoctype, Passes}
+use Rattle.html_tokens.specs.Fed.{BeginsTag, EndsTag, BeginsDoctype, GivesChars, Passes}
+use Rattle.std.proofs.Common.{Option, Some, None}
 use Rattle.html_tokens.specs.Bounds.{IsBounded}
 use Rattle.html_tokens.specs.declared.machine.Machine.{Machine}
 use Rattle.html_tokens.specs.declared.machine.Progress.{Progress}
 use Rattle.html_tokens.specs.declared.token.Region.{Region}
 use Rattle.html_tokens.specs.declared.token.Region.TheVariants.{Plain}
-use Rattle.std.proofs.Common.{Bool, Result, Ok, Err}
+use Rattle.std.proofs.Common.{Bool, true, false, cond, Result, Ok, Err}
 use Rattle.std.specs.Result.{IfOk, OnOk}
 use Rattle.html_tokens.specs.declared.machine.State.{State}
-use Rattle.html_tokens.specs.declared.machine.State.TheVariants.{Text, Comment, Doctype, Tag}
+use Rattle.html_tokens.specs.declared.machine.State.TheVariants.{Text, Second, Comment, Doctype, Tag}
 use Rattle.html_tokens.specs.declared.comment.CommentDraft.{CommentDraft}
 
 square_more : (p n : ℕ) → p * p + p ≤ (p + n) * (p + n) + (p + n)
@@ -82,12 +83,17 @@ pub doctype_begun : (old new : Machine) (region : Region) (k : ℕ) (f f' : Faul
 doctype_begun old new region k f f' s (d, n, p) t g b =
     rw p.state (to_text (Text region) (Doctype d) old.place new.place 9 k f f' (rw s at b) t p.place (omega arith) refl refl)
 
+-- what closes a tag has a code point or two
+pub closing_some : (self_closing : Bool) (n : ℕ) → n ≡ cond self_closing 2 1 → 0 < n
+closing_some true n e = omega arith
+closing_some false n e = omega arith
+
 pub tag_closed : {E : Type 0} (r : Result Progress E) (old new : Machine) (d d' : TagDraft) (self_closing : Bool) (n : ℕ) (f f' : Faults) → old.state ≡ Tag d → IfOk r (λ progress. EndsTag (record old { state = Tag d' }) self_closing n progress new) → new.place ≡ old.place + n →
-    Told 7 (length d.attrs) f f' → IsBounded old f → OnOk r (IsBounded new f')
-tag_closed (Ok progress) old new d d' self_closing n f f' s ends e t b =
+    0 < n → Told 8 (length d.attrs) f f' → IsBounded old f → OnOk r (IsBounded new f')
+tag_closed (Ok progress) old new d d' self_closing n f f' s ends e h t b =
     let at_end = ends d' refl in
-    rw at_end.state (tag_off d (Text Plain) old.place new.place n 7 f f' (rw s at b) t e (omega arith) refl refl)
-tag_closed (Err error) old new d d' self_closing n f f' s ends e t b = tt
+    rw at_end.state (tag_off d (Text Plain) old.place new.place n 8 f f' (rw s at b) t e (omega arith) refl refl)
+tag_closed (Err error) old new d d' self_closing n f f' s ends e h t b = tt
 
 pub plain_bounded : (old new : Machine) (f f' : Faults) → old.state ≡ Text Plain → Passes old 1 (Text Plain) new → Told 2 0 f f' → IsBounded old f → IsBounded new f'
 plain_bounded old new f f' s p t b = rw p.state (to_text (Text Plain) (Text Plain) old.place new.place 1 2 f f' (rw s at b) t p.place (omega arith) refl refl)
@@ -105,3 +111,8 @@ comment_copied old new d d' n f s p b = rw p.state (to_text (Comment d) (Comment
 -- plain text is taken, which tells nothing
 pub run_bounded : (old new : Machine) (n : ℕ) (f : Faults) → old.state ≡ Text Plain → Passes old n old.state new → IsBounded old f → IsBounded new f
 run_bounded old new n f s p b = rw (p.state, s) (to_text (Text Plain) (Text Plain) old.place new.place n 0 f f (rw s at b) (omega arith, omega arith) p.place (omega arith) refl refl)
+
+-- the code points of a reference are given
+pub chars_bounded : (old new : Machine) (region : Region) (len first : ℕ) (second : Option ℕ) (progress : Progress) (f f' : Faults) → old.state ≡ Text region → GivesChars old len first second progress new → Told 1 0 f f' → 0 < len → IsBounded old f → IsBounded new f'
+chars_bounded old new region len first None progress f f' s (g, p) t h b = rw p.state (to_text (Text region) (Text Plain) old.place new.place len 1 f f' (rw s at b) t p.place (omega arith) refl refl)
+chars_bounded old new region len first (Some c) progress f f' s (g, p) t h b = rw p.state (to_text (Text region) (Second c (old.place + 1)) old.place new.place len 1 f f' (rw s at b) t p.place (omega arith) refl refl)

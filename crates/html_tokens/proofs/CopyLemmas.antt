@@ -1,20 +1,24 @@
 -- Fronts that are copied as they stand.
-use Rattle.std.proofs.Common.{◌≡◌, ℕ, suc, ◌+◌, ◌≤◌, List, [], ◌∷◌, ◌++◌, length, take, drop, Bool, true, false, not, ◌&&◌, ◌||◌, ◌==◌, None, refl, ap, sym, ◌∙◌, arith, append_assoc, append-nil, zero-add, add-zero}
-use Rattle.std.proofs.lemmas.List.{take-append-drop, length-take-le}
+use Rattle.std.proofs.Common.{◌≡◌, ℕ, suc, ◌+◌, ◌≤◌, List, [], ◌∷◌, ◌++◌, length, take, drop, Bool, true, false, not, ◌&&◌, ◌==◌, None, refl, ap, sym, ◌∙◌, arith, append_assoc, append-nil, zero-add, add-zero}
+use Rattle.std.proofs.lemmas.List.{length-take-le}
 use Rattle.std.proofs.lemmas.Bool.{false≢true}
 use Rattle.html_charref.specs.declared.table.Row.{Row}
 use Rattle.html_tokens.specs.Copied.{AllPass, is_copied, is_without, copied_in, copied_by, CopiesTag, CopiesComment, cut_by}
 use Rattle.std.proofs.Common.{Result, Ok, Err}
 use Rattle.std.specs.Result.{IfOk}
-use Rattle.html_tokens.specs.Inside.{comment_errors, declared_errors}
-use Rattle.html_tokens.specs.Cut.{Cut, comment_mark, cut, null_replaced, ends_unquoted}
+use Rattle.html_tokens.specs.Inside.{comment_char_errors, comment_errors}
+use Rattle.html_tokens.specs.Cut.{Cut, cut, null_replaced, ends_unquoted}
 use Rattle.html_tokens.specs.Draft.{draft_cut, mark_of, passed}
 use Rattle.html_tokens.specs.declared.comment.CommentDraft.{CommentDraft}
 use Rattle.html_tokens.specs.declared.comment.CommentKind.{CommentKind}
 use Rattle.html_tokens.specs.declared.comment.CommentKind.TheVariants.{Declared, Bogus}
+use Rattle.html_tokens.proofs.CommentLemmas.{more_errors}
 use Rattle.html_tokens.proofs.Cuts.{longer_draft}
+use Rattle.html_tokens.proofs.PartLemmas.{attr_name_front_told, cut_in_two, first_false, inside_front_told, is_not, name_front_told, name_stands, neither}
+use Rattle.html_tokens.specs.AttrNames.{names_in, names_of}
+use Rattle.html_tokens.specs.InsideTags.{part_errors}
 use Rattle.html_tokens.specs.Value.{value_cut, end_mark}
-use Rattle.html_tokens.specs.Tag.{between, name_char, ends_name, ends_attr, tail, after_some, draft_tag, longer_tag, tag_by}
+use Rattle.html_tokens.specs.Tag.{ends_name, tail, after_some, draft_tag, longer_tag, tag_by}
 use Rattle.html_tokens.specs.Tag.{Tag as WholeTag}
 use Rattle.html_tokens.specs.Runs.{is_plain}
 use Rattle.html_tokens.specs.declared.token.TextMode.{TextMode}
@@ -24,14 +28,6 @@ use Rattle.html_tokens.specs.declared.tag.TagDraft.{TagDraft}
 use Rattle.html_tokens.specs.declared.tag.Part.TheVariants as parts
 use Rattle.html_tokens.specs.declared.tag.ValueEnd.{ValueEnd}
 use Rattle.html_tokens.specs.declared.tag.ValueEnd.TheVariants as ends
-
-pub neither : (a b : Bool) → not (a || b) ≡ true → (a ≡ false) × (not b ≡ true)
-neither true b h = absurd (false≢true h)
-neither false b h = (refl, h)
-
-pub is_not : (b : Bool) → not b ≡ true → b ≡ false
-is_not true h = absurd (false≢true h)
-is_not false h = refl
 
 pub not-false : (b : Bool) → not b ≡ false → b ≡ true
 not-false true h = refl
@@ -46,7 +42,7 @@ AllPass-map p q h [] a = tt
 AllPass-map p q h (x ∷ xs) a = (h x a.0, AllPass-map p q h xs a.1)
 
 -- Without U+0000, `&` and `<`, all is plain text in each mode.
-clean_in : (mode : TextMode) (c : ℕ) → (c == 0) ≡ false → (c == 60) ≡ false → (c == 38) ≡ false → is_plain mode c ≡ true
+pub clean_in : (mode : TextMode) (c : ℕ) → (c == 0) ≡ false → (c == 60) ≡ false → (c == 38) ≡ false → is_plain mode c ≡ true
 clean_in Data c a b d = rw (b, d) refl
 clean_in Rcdata c a b d = rw (b, d, a) refl
 clean_in Rawtext c a b d = rw (b, a) refl
@@ -97,20 +93,6 @@ tag_copies p Q put one keeps none join (c ∷ xs) d q a rows more =
     ∙ tag_by_more (length xs) (draft_tag rows (put (put d (c ∷ [])) xs) more)
     ∙ ap (λ (e : TagDraft). tag_by (suc (length xs)) (draft_tag rows e more)) (join d c xs)
 
-pub name_stands : (c : ℕ) → is_copied copied.Name c ≡ true → (ends_attr c ≡ false) × (name_char c ≡ c)
-name_stands c h =
-    let a = neither (ends_attr c) _ h in
-    let b = neither (c == 0) _ a.1 in
-    let d = neither (c == 34) _ b.1 in
-    let e = neither (c == 39) _ d.1 in
-    let f = neither (c == 60) _ e.1 in
-    let g = is_not (between 65 90 c) f.1 in
-    (a.0, rw (g, b.0) refl)
-
-pub first_false : (a b : Bool) → (a || b) ≡ false → a ≡ false
-first_false true b h = absurd (false≢true (sym h))
-first_false false b h = refl
-
 name_one : (d : TagDraft) (c : ℕ) → d.part ≡ parts.Name → is_copied copied.Name c ≡ true → (rows : List Row) (rest : List ℕ) →
     draft_tag rows d (c ∷ rest) ≡ longer_tag (draft_tag rows (record d { name = d.name ++ c ∷ [] }) rest)
 unfolding cut tail
@@ -158,9 +140,6 @@ unquoted_one d c p h rows rest =
     let g = neither (c == 38) _ f.1 in
     value_one ends.Space d c p (λ rest. rw a.0 refl) g.0 (not_null c b.0) rows rest
 
-cut_in_two : (n : ℕ) (text more : List ℕ) → text ++ more ≡ take n text ++ (drop n text ++ more)
-cut_in_two n text more = ap (λ (x : List ℕ). x ++ more) (sym (take-append-drop n text)) ∙ append_assoc (take n text) (drop n text) more
-
 tag_front : (p : ℕ → Bool) (Q : TagDraft → Type 0) (put : TagDraft → List ℕ → TagDraft) →
     ((d : TagDraft) (c : ℕ) → Q d → p c ≡ true → (rows : List Row) (rest : List ℕ) → draft_tag rows d (c ∷ rest) ≡ longer_tag (draft_tag rows (put d (c ∷ [])) rest)) →
     ((d : TagDraft) (c : ℕ) → Q d → Q (put d (c ∷ []))) → ((d : TagDraft) → put d [] ≡ d) → ((d : TagDraft) (c : ℕ) (cs : List ℕ) → put (put d (c ∷ [])) cs ≡ put d (c ∷ cs)) →
@@ -177,6 +156,7 @@ name_front d text n p h a = (
   h,
   refl,
   refl,
+  (λ rows place more. name_front_told d.part text n p h a rows (names_in d) place more),
 )
 
 pub attr_name_front : (d : TagDraft) (text : List ℕ) (n : ℕ) → d.part ≡ parts.AttrName → n ≤ length text → AllPass (is_copied copied.Name) (take n text) → CopiesTag d text n (record d { attr_name = d.attr_name ++ take n text })
@@ -186,27 +166,30 @@ attr_name_front d text n p h a = (
   h,
   refl,
   refl,
+  (λ rows place more. attr_name_front_told d.part text n p h a rows (names_of d.attrs) d.attr_name place more),
 )
 
 value_front : (p : ℕ → Bool) (end : ValueEnd) →
     ((d : TagDraft) (c : ℕ) → d.part ≡ parts.Inside end → p c ≡ true → (rows : List Row) (rest : List ℕ) → draft_tag rows d (c ∷ rest) ≡ longer_tag (draft_tag rows (record d { attr_value = d.attr_value ++ c ∷ [] }) rest)) →
-    (d : TagDraft) (text : List ℕ) (n : ℕ) → d.part ≡ parts.Inside end → n ≤ length text → AllPass p (take n text) → CopiesTag d text n (record d { attr_value = d.attr_value ++ take n text })
-value_front p end one d text n q h a = (
+    (d : TagDraft) (text : List ℕ) (n : ℕ) → d.part ≡ parts.Inside end → n ≤ length text → AllPass p (take n text) →
+    ((rows : List Row) (place : ℕ) (more : List ℕ) → part_errors rows (names_in d) d.part place (text ++ more) ≡ part_errors rows (names_in d) d.part (place + n) (drop n text ++ more)) → CopiesTag d text n (record d { attr_value = d.attr_value ++ take n text })
+value_front p end one d text n q h a told = (
   tag_front p (λ (e : TagDraft). e.part ≡ parts.Inside end) (λ (e : TagDraft) (xs : List ℕ). record e { attr_value = e.attr_value ++ xs })
       one (λ e c q. q) (λ e. rw (append-nil e.attr_value) refl) (λ e c cs. rw append_assoc refl) d text n q h a,
   h,
   refl,
   refl,
+  told,
 )
 
 pub inside_front : (end : ValueEnd) (d : TagDraft) (text : List ℕ) (n : ℕ) → d.part ≡ parts.Inside end → n ≤ length text → AllPass (is_copied (copied_in end)) (take n text) → CopiesTag d text n (record d { attr_value = d.attr_value ++ take n text })
-inside_front ends.DoubleQuote d text n q h a = value_front (is_copied copied.DoubleQuoted) ends.DoubleQuote double_one d text n q h a
-inside_front ends.SingleQuote d text n q h a = value_front (is_copied copied.SingleQuoted) ends.SingleQuote single_one d text n q h a
-inside_front ends.Space d text n q h a = value_front (is_copied copied.Unquoted) ends.Space unquoted_one d text n q h a
+inside_front ends.DoubleQuote d text n q h a = value_front (is_copied copied.DoubleQuoted) ends.DoubleQuote double_one d text n q h a (λ rows place more. inside_front_told ends.DoubleQuote d.part text n q h a rows (names_in d) place more)
+inside_front ends.SingleQuote d text n q h a = value_front (is_copied copied.SingleQuoted) ends.SingleQuote single_one d text n q h a (λ rows place more. inside_front_told ends.SingleQuote d.part text n q h a rows (names_in d) place more)
+inside_front ends.Space d text n q h a = value_front (is_copied copied.Unquoted) ends.Space unquoted_one d text n q h a (λ rows place more. inside_front_told ends.Space d.part text n q h a rows (names_in d) place more)
 
 -- nothing is copied
 pub none_front : (d : TagDraft) (text : List ℕ) → CopiesTag d text 0 d
-none_front d text = ((λ rows more. sym (tag_by_none (draft_tag rows d (text ++ more)))), omega arith, refl, refl)
+none_front d text = ((λ rows more. sym (tag_by_none (draft_tag rows d (text ++ more)))), omega arith, refl, refl, (λ rows place more. rw add-zero refl))
 
 pub name_copied : {E : Type 0} (r : Result ℕ E) (d : TagDraft) (text new : List ℕ) → d.part ≡ parts.Name →
     IfOk r (λ n. n ≤ length text) → IfOk r (λ n. AllPass (is_copied copied.Name) (take n text)) → IfOk r (λ n. new ≡ d.name ++ take n text) → IfOk r (λ n. CopiesTag d text n (record d { name = new }))
@@ -249,17 +232,20 @@ comment_copies d (c ∷ xs) a more =
     ∙ cut_by_more (length xs) (draft_cut (record d { «data» = (d.«data» ++ c ∷ []) ++ xs }) more)
     ∙ ap (λ (x : List ℕ). cut_by (suc (length xs)) (draft_cut (record d { «data» = x }) more)) (append_assoc d.«data» (c ∷ []) xs))
 
-marked_none : (place c : ℕ) (rest : List ℕ) → comment_mark (c ∷ rest) ≡ None → declared_errors place (c ∷ rest) ≡ declared_errors (place + 1) rest
-unfolding declared_errors
-marked_none place c rest e = rw e refl
+-- nor begins a `<!--`
+none_nested : (kind : CommentKind) (place c : ℕ) (rest : List ℕ) → is_copied (copied_by kind) c ≡ true → comment_char_errors kind place (c ∷ rest) ≡ []
+none_nested Declared place c rest h =
+    let a = neither (c == 0) _ h in
+    let b = neither (c == 45) _ a.1 in
+    rw (is_not (c == 60) b.1, a.0) refl
+none_nested Bogus place c rest h = rw (neither (c == 0) _ h).0 refl
 
 -- no code point that is copied closes a comment
 errors_copied : (kind : CommentKind) (place : ℕ) (xs : List ℕ) → AllPass (is_copied (copied_by kind)) xs → (more : List ℕ) → comment_errors kind place (xs ++ more) ≡ comment_errors kind (place + length xs) more
-errors_copied Bogus place xs a more = refl
-errors_copied Declared place [] a more = rw add-zero refl
-errors_copied Declared place (c ∷ xs) a more =
+errors_copied kind place [] a more = rw add-zero refl
+errors_copied kind place (c ∷ xs) a more =
     let e : place + suc (length xs) ≡ (place + 1) + length xs = omega arith in
-    marked_none place c (xs ++ more) ((comment_one Declared c a.0).0 (xs ++ more)) ∙ rw e (errors_copied Declared (place + 1) xs a.1 more)
+    more_errors kind place c (xs ++ more) ((comment_one kind c a.0).0 (xs ++ more)) ∙ rw (none_nested kind place c (xs ++ more) a.0, e) (errors_copied kind (place + 1) xs a.1 more)
 
 comment_front : (d : CommentDraft) (text : List ℕ) (n : ℕ) → n ≤ length text → AllPass (is_copied (copied_by d.kind)) (take n text) → CopiesComment d text n (record d { «data» = d.«data» ++ take n text })
 comment_front d text n h a = (

@@ -53,7 +53,8 @@ part_long rows parts.AttrName name val text = let l = tail_long rows (attribute 
 part_long rows parts.AfterName name val text = let l = tail_long rows (after_name rows text).len text in record { one = l.one; two = l.two }
 part_long rows parts.Value name val text = let l = tail_long rows (value rows text).len text in record { one = l.one; two = l.two }
 part_long rows (parts.Inside end) name val text = let l = tail_long rows (value_cut rows end 0 text).len text in record { one = l.one; two = l.two }
-part_long rows (parts.Number end base value) name val text = let l = tail_long rows _ text in record { one = l.one; two = l.two }
+part_long rows (parts.Number end base value start) name val text = let l = tail_long rows _ text in record { one = l.one; two = l.two }
+part_long rows (parts.Ampersand end start) name val text = let l = tail_long rows (value_cut rows end 0 text).len text in record { one = l.one; two = l.two }
 
 pub differs : (a b : ℕ) → ¬ (a ≡ b) → (a == b) ≡ false
 differs a b h = ne_eqb a b h
@@ -126,7 +127,8 @@ tail_empty rows parts.AttrName name val = (refl, refl)
 tail_empty rows parts.AfterName name val = (refl, refl)
 tail_empty rows parts.Value name val = (refl, refl)
 tail_empty rows (parts.Inside end) name val = (refl, refl)
-tail_empty rows (parts.Number end base value) name val = (refl, refl)
+tail_empty rows (parts.Number end base value start) name val = (refl, refl)
+tail_empty rows (parts.Ampersand end start) name val = (refl, refl)
 
 -- at the end of the text
 pub end_told : (rows : List Row) (d : TagDraft) (place : ℕ) → tag_end_errors d.is_end (place + (draft_tag rows d []).tail.len) (draft_tag rows d []).tail ≡ tag_told d.is_end place (draft_tag rows d []).tail

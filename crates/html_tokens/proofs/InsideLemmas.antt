@@ -5,7 +5,7 @@ use Rattle.std.proofs.lemmas.List.{drop-append-le}
 use Rattle.std.proofs.lemmas.Bool.{cases_eq}
 use Rattle.html_tokens.specs.Cut.{is_space}
 use Rattle.html_tokens.specs.Doctype.{keyword_at}
-use Rattle.html_tokens.specs.Inside.{ClosesComment, MovesDoctype, closes_part, doctype_error, doctype_errors, doctype_told, fault_if, is_closed, is_keyword, kind_errors, part_after, word_part}
+use Rattle.html_tokens.specs.Inside.{ClosesComment, MovesDoctype, closes_part, doctype_front_errors, doctype_errors, doctype_told, is_closed, is_keyword, kind_errors, part_after, word_part}
 use Rattle.html_tokens.specs.Input.{Decided, MayFollow}
 use Rattle.html_tokens.specs.declared.doctype.DoctypeDraft.{DoctypeDraft}
 use Rattle.html_tokens.specs.declared.doctype.DoctypePart.{DoctypePart}
@@ -26,7 +26,7 @@ use Rattle.html_tokens.proofs.Cuts.{empty_rest, first_of}
 use Rattle.html_tokens.proofs.DoctypeLemmas.{differs}
 
 -- outside of the part after the name no keyword begins
-other_told : (part : DoctypePart) (spaced : Bool) (place : ℕ) (text : List ℕ) → ¬ (part ≡ parts.AfterName) → doctype_told part spaced place text ≡ fault_if (doctype_error part spaced (slice_get text 0)) place
+other_told : (part : DoctypePart) (spaced : Bool) (place : ℕ) (text : List ℕ) → ¬ (part ≡ parts.AfterName) → doctype_told part spaced place text ≡ doctype_front_errors part spaced (slice_get text 0) place
 other_told parts.BeforeName spaced place text off = refl
 other_told parts.Name spaced place text off = refl
 other_told parts.AfterName spaced place text off = absurd (off refl)
@@ -60,7 +60,7 @@ ended_errors : (part : DoctypePart) (spaced : Bool) (place : ℕ) → doctype_er
 unfolding doctype_errors
 ended_errors part spaced place = refl
 
-ended_told : (part : DoctypePart) (spaced : Bool) (place : ℕ) → doctype_told part spaced place [] ≡ fault_if (doctype_error part spaced None) place
+ended_told : (part : DoctypePart) (spaced : Bool) (place : ℕ) → doctype_told part spaced place [] ≡ doctype_front_errors part spaced None place
 ended_told parts.BeforeName spaced place = refl
 ended_told parts.Name spaced place = refl
 ended_told parts.AfterName spaced place = refl
@@ -106,7 +106,7 @@ after_name_on : (spaced : Bool) (place c : ℕ) (rest : List ℕ) → keyword_at
 unfolding doctype_errors
 after_name_on spaced place c rest k h = rw (k, differs c 62 h) refl
 
-name_told : (spaced : Bool) (place : ℕ) (text : List ℕ) → keyword_at text ≡ keywords.Other → doctype_told parts.AfterName spaced place text ≡ fault_if (doctype_error parts.AfterName spaced (slice_get text 0)) place
+name_told : (spaced : Bool) (place : ℕ) (text : List ℕ) → keyword_at text ≡ keywords.Other → doctype_told parts.AfterName spaced place text ≡ doctype_front_errors parts.AfterName spaced (slice_get text 0) place
 name_told spaced place text k = rw k refl
 
 -- no keyword begins, and one code point is passed
@@ -188,11 +188,11 @@ moves_word d new input c keyword at first fit s h found i part spaced = (
 
 -- what stands there was told
 pub doctype_tells : (t : Machine) (d : DoctypeDraft) (first : Option ℕ) (old new : Faults) → t.state ≡ Doctype d →
-    ((place : ℕ) (more : List ℕ) → MayFollow t.input.finished more → doctype_told d.part d.spaced place (t.input.queue.items ++ more) ≡ fault_if (doctype_error d.part d.spaced (slice_get (t.input.queue.items ++ more) 0)) place) →
-    Decided t.input (λ rest. slice_get rest 0) first → Opens (fault_if (doctype_error d.part d.spaced first) t.place) old new → TellsAt t old new
+    ((place : ℕ) (more : List ℕ) → MayFollow t.input.finished more → doctype_told d.part d.spaced place (t.input.queue.items ++ more) ≡ doctype_front_errors d.part d.spaced (slice_get (t.input.queue.items ++ more) 0) place) →
+    Decided t.input (λ rest. slice_get rest 0) first → Opens (doctype_front_errors d.part d.spaced first t.place) old new → TellsAt t old new
 doctype_tells t d first old new s told found opens =
-    tells_decided t (fault_if (doctype_error d.part d.spaced first) t.place) old new
-    (λ more f. rw s (told t.place more f ∙ ap (λ (x : Option ℕ). fault_if (doctype_error d.part d.spaced x) t.place) (found more f))) opens
+    tells_decided t (doctype_front_errors d.part d.spaced first t.place) old new
+    (λ more f. rw s (told t.place more f ∙ ap (λ (x : Option ℕ). doctype_front_errors d.part d.spaced x t.place) (found more f))) opens
 
 -- COMMENTS
 

@@ -4,11 +4,14 @@ pub mod RefLemmas
 pub mod Cuts
 pub mod TokensLemmas
 pub mod ErrorLemmas
+pub mod ReferenceLemmas
 pub mod StepLemmas
 pub mod ToldLemmas
 pub mod FedLemmas
 pub mod CommentLemmas
 pub mod EndLemmas
+pub mod PartLemmas
+pub mod NameLemmas
 pub mod SectionLemmas
 pub mod StreamLemmas
 pub mod TagLemmas
@@ -30,3 +33,4 @@ pub mod ComparisonLemmas
 pub mod ScriptLemmas
 pub mod PlainLemmas
 pub mod BareLemmas
+pub mod AmpersandLemmas

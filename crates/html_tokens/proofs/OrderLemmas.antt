@@ -1,10 +1,9 @@
 -- Parse errors in order of their places.
-use Rattle.std.proofs.Common.{◌≡◌, ℕ, zero, suc, ◌-◌, ◌≤◌, ◌<◌, List, [], ◌∷◌, ◌++◌, length, take, drop, slice_index_or, Bool, true, false, cond, nat_le, refl, arith, ap, sym, ◌∙◌}
+use Rattle.std.proofs.Common.{◌≡◌, ℕ, zero, suc, ◌-◌, ◌≤◌, ◌<◌, List, [], ◌∷◌, ◌++◌, length, take, drop, slice_index_or, true, false, nat_le, refl, arith, ap, sym, ◌∙◌}
 use Rattle.std.proofs.lemmas.Bool.Decides.{nat_tests}
 use Rattle.std.proofs.lemmas.List.{take-append-drop}
-use Rattle.std.proofs.lemmas.List.Elements.{filter-append}
-use Rattle.std.specs.List.{AllByRecursion, AllWithin, filter}
-use Rattle.html_tokens.specs.Errors.{is_defined, defined, with_told}
+use Rattle.std.specs.List.{AllByRecursion, AllWithin}
+use Rattle.html_tokens.specs.Errors.{with_told}
 use Rattle.html_tokens.specs.Order.{IsAdded}
 use Rattle.std.proofs.lemmas.List.{get_or_default}
 use Rattle.std.specs.List.Sorted.{IsNonDecreasingBy}
@@ -31,14 +30,6 @@ within_back P [] (suc n) a = tt
 within_back P (x ∷ xs) zero a = (a 0 x (omega arith) (omega arith), within_back P xs zero (λ k d l m. a (suc k) d (omega arith) (omega arith)))
 within_back P (x ∷ xs) (suc n) a = within_back P xs n (λ k d l m. a (suc k) d (omega arith) (omega arith))
 
-kept_if : {X : Type 0} (P : X → Type 0) (b : Bool) (x : X) (xs : List X) → P x → AllByRecursion P xs → AllByRecursion P (cond b (x ∷ xs) xs)
-kept_if P true x xs p a = (p, a)
-kept_if P false x xs p a = a
-
-all_filtered : {X : Type 0} (P : X → Type 0) (test : X → Bool) (xs : List X) → AllByRecursion P xs → AllByRecursion P (filter test xs)
-all_filtered P test [] a = tt
-all_filtered P test (x ∷ xs) a = kept_if P (test x) x (filter test xs) a.0 (all_filtered P test xs a.1)
-
 not_later : (a b : ℕ) → a ≤ b → nat_le a b ≡ true
 not_later a b h = grind (arith, nat_tests)
 
@@ -51,19 +42,10 @@ told_between [] [] f a b = refl
 told_between [] (y ∷ ys) f a b = rw (later y.place f.place b.0) refl
 told_between (x ∷ xs) ys f a b = rw (not_later x.place f.place a.0) (ap (λ (l : List Fault). x ∷ l) (told_between xs ys f a.1 b))
 
-parted : (old : List Fault) (at : ℕ) → defined old ≡ defined (take at old) ++ defined (drop at old)
-parted old at = ap defined (sym (take-append-drop at old)) ∙ filter-append (λ f. is_defined f.name) (take at old) (drop at old)
-
-pub defined_added : (old new : List Fault) (f : Fault) → IsAdded old f new → is_defined f.name ≡ true → defined new ≡ with_told (defined old) f
-defined_added old new f added o =
+pub told_added : (old new : List Fault) (f : Fault) → IsAdded old f new → new ≡ with_told old f
+told_added old new f added =
     let front = take added.at old in
     let back = drop added.at old in
-    ap defined added.is ∙ filter-append (λ x. is_defined x.name) front (f ∷ back) ∙ rw o
-    (sym (told_between (defined front) (defined back) f (all_filtered _ _ front (within_front _ old added.at added.fit added.before)) (all_filtered _ _ back (within_back _ old added.at added.after)))
-    ∙ ap (λ (l : List Fault). with_told l f) (sym (parted old added.at)))
-
-pub other_added : (old new : List Fault) (f : Fault) → IsAdded old f new → is_defined f.name ≡ false → defined new ≡ defined old
-other_added old new f added o =
-    let front = take added.at old in
-    let back = drop added.at old in
-    ap defined added.is ∙ filter-append (λ x. is_defined x.name) front (f ∷ back) ∙ rw o (sym (parted old added.at))
+    added.is
+    ∙ sym (told_between front back f (within_front _ old added.at added.fit added.before) (within_back _ old added.at added.after))
+    ∙ ap (λ (l : List Fault). with_told l f) (take-append-drop added.at old)

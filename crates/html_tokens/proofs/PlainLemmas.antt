@@ -40,6 +40,10 @@ drop_all : (xs : List ℕ) → drop (length xs) xs ≡ []
 drop_all [] = refl
 drop_all (x ∷ xs) = drop_all xs
 
+-- none was told
+no_faults : Faults
+no_faults = record { list = []; lost = false; compared = 0 }
+
 -- the machine, with this text unread
 abbrev pub with_text : Machine → List ℕ → Machine
 with_text t text = record t { input = record { queue = record { items = text }; finished = t.input.finished } }
@@ -80,8 +84,8 @@ module _ (t : Machine) (text : List ℕ) (state : is_text t.state ≡ true) (non
   plain_taken run going plain i =
       let start = with_text t text in
       let whole : take (length text) text ≡ text = take_all (length text) text (omega arith) in
-      let taken : HasTaken start (past t text) [] (take (length text) text)
-      = taken_run (length text) start start (past t text) [] [] (taken_none start [] (text_state t.state state)) (omega arith)
+      let taken : HasTaken start (past t text) no_faults no_faults [] (take (length text) text)
+      = taken_run (length text) start start (past t text) no_faults no_faults [] [] (taken_none start no_faults [] (text_state t.state state)) (omega arith)
       (λ mode. subst (AllPass (is_plain mode)) (sym whole) (all_plain mode text plain)) passes in
       subst (λ x. IsAt (past t text) (gave_all (fed run text) (plain_tokens t.place x))) (sym taken.out ∙ whole) (taken.given (fed run text) (fed_at run going i))
 
@@ -89,10 +93,10 @@ module _ (t : Machine) (text : List ℕ) (state : is_text t.state ≡ true) (non
   plain_told_of f run going plain i told =
       let start = with_text t text in
       let whole : take (length text) text ≡ text = take_all (length text) text (omega arith) in
-      let taken : HasTaken start (past t text) [] (take (length text) text)
-      = taken_run (length text) start start (past t text) [] [] (taken_none start [] (text_state t.state state)) (omega arith)
+      let taken : HasTaken start (past t text) f f [] (take (length text) text)
+      = taken_run (length text) start start (past t text) f f [] [] (taken_none start f [] (text_state t.state state)) (omega arith)
       (λ mode. subst (AllPass (is_plain mode)) (sym whole) (all_plain mode text plain)) passes in
-      subst (λ x. AreTold (past t text) f (gave_all (fed run text) (plain_tokens t.place x))) (sym taken.out ∙ whole) (taken.told f (fed run text) (fed_at run going i) (told_at_text f run going i told))
+      subst (λ x. AreTold (past t text) f (gave_all (fed run text) (plain_tokens t.place x))) (sym taken.out ∙ whole) (taken.told (fed run text) (fed_at run going i) (told_at_text f run going i told))
 
   pub plain_within : (f : Faults) → IsBounded t f → IsBounded (past t text) f
   plain_within f b = run_bounded (with_text t text) (past t text) (length text) f (text_state t.state state) passes b

@@ -27,7 +27,9 @@ use Rattle.html_tokens.specs.declared.token.Token.{Token}
 use Rattle.html_tokens.proofs.CopyLemmas.{name_front}
 use Rattle.html_tokens.proofs.Cuts.{first_of}
 use Rattle.html_tokens.proofs.EndLemmas.{bare_told}
-use Rattle.html_tokens.specs.Inside.{begun_tag_errors}
+use Rattle.html_tokens.specs.AttrNames.{no_names}
+use Rattle.html_tokens.specs.InsideTags.{begun_tag_errors, part_told}
+use Rattle.html_tokens.proofs.PartLemmas.{closes_by}
 use Rattle.html_tokens.specs.Tag.{draft_tag}
 use Rattle.html_tokens.proofs.TagLemmas.{tag_given_at, tag_opens, tag_skips}
 
@@ -84,11 +86,12 @@ short_gives old new is_end opened len given s some fit begun piece inside name c
     let left : 0 < length (drop (opened + len) old.input.queue.items) = simp length-drop (omega arith) in
     let at : (more : List ℕ) → slice_get (drop (opened + len) old.input.queue.items ++ more) 0 ≡ Some 62 =
     λ more. rw (← drop-drop len opened old.input.queue.items) (front_at rest more len 62 room close) in
-    let gives : Steps b (Given given) new = tag_given_at b new d' d' 62 None false 1 (Given given) refl (closes_name d' refl refl) (λ more h. at more) (λ h. absurd (false≢true (ap (λ (n : ℕ). n == 47) h))) (omega arith) refl ends in
+    let gives : Steps b (Given given) new = tag_given_at b new d' d' 62 None false 1 (Given given) refl (closes_name d' refl refl) (closes_by parts.Name parts.Name 62 None false 1 refl refl) (λ r. absurd (false≢true r)) (λ more h. at more) (λ h. absurd (false≢true h)) (omega arith) refl ends in
     let reads = closes_name d' refl refl in
     let told : (more : List ℕ) → told_at b more ≡ [] =
     λ more. let text = first_of b.input.queue.items more 62 (at more) left in
-    bare_told old.table.now d' is_end b.place 1 (b.input.queue.items ++ more) d'.name (ap (λ (x : List ℕ). draft_tag old.table.now d' x) text ∙ reads.0 old.table.now (drop 1 b.input.queue.items ++ more) (λ h. absurd (false≢true (ap (λ (n : ℕ). n == 47) h)))) in (
+    rw (ap (λ (x : List ℕ). part_told old.table.now no_names parts.Name b.place x) text)
+    (bare_told old.table.now d' is_end b.place 1 (b.input.queue.items ++ more) d'.name (ap (λ (x : List ℕ). draft_tag old.table.now d' x) text ∙ reads.0 old.table.now (drop 1 b.input.queue.items ++ more) (λ h. absurd (false≢true (ap (λ (n : ℕ). n == 47) h))))) in (
       (λ more switch switches f. opens.0 more (switch ∷ switches) f ∙ copies.0 more (switch ∷ switches) f ∙ gives.0 more switch switches f),
       record { count = gives.1.count ∙ copies.1.count ∙ opens.2.count; finished = gives.1.finished; table = gives.1.table; drained = λ h. gives.1.drained (copies.1.drained (opens.2.drained h)) },
       gives.2,

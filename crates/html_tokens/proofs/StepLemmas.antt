@@ -1,11 +1,14 @@
 -- What each step gives, over plain variables.
-use Rattle.std.proofs.Common.{◌≡◌, ℕ, suc, ◌+◌, ◌<◌, ◌≤◌, List, [], ◌∷◌, ◌++◌, length, map, drop, Bool, Option, Some, None, true, false, refl, ap, sym, subst, ◌∙◌, arith, length-append}
+use Rattle.std.proofs.Common.{◌≡◌, ℕ, suc, ◌+◌, ◌<◌, ◌≤◌, List, [], ◌∷◌, ◌++◌, length, map, drop, Bool, Option, Some, None, true, false, refl, ap, sym, subst, ◌∙◌, arith, length-append, append_assoc, append-nil}
 use Rattle.html_tokens.specs.Cut.{Cut, null_replaced}
 use Rattle.html_tokens.specs.Draft.{draft_cut}
 use Rattle.html_tokens.specs.Tokens.{tokens_after, text_char, token, begun_piece, stays, switch_of}
 use Rattle.html_tokens.specs.Marks.{begin_at, is_stop, region_in}
-use Rattle.html_tokens.specs.Reference.{numbered, Numbered, reference, ref_opener, semicolon, is_digit, ends_digits}
+use Rattle.html_tokens.specs.Reference.{are_letters_closed, letters_after, numbered, Numbered, reference, ref_opener, semicolon, is_digit, ends_digits}
 use Rattle.html_charref.specs.Number.{char_of, radix, capped}
+use Rattle.html_tokens.proofs.ReferenceLemmas.{char_capped, digit_first, digits_end, digits_stop, errors_digit, letters_few, letters_many, number_whole, some_radix}
+use Rattle.html_tokens.specs.InsideReferences.{ampersand_errors, later_ref_errors, number_errors, number_told, soon_ref_errors}
+use Rattle.html_tokens.specs.Cut.{passes}
 use Rattle.html_charref.specs.declared.table.Row.{Row}
 use Rattle.html_tokens.specs.declared.token.Region.{Region}
 use Rattle.html_tokens.specs.declared.token.Region.TheVariants.{Plain, Escaped, Double}
@@ -14,12 +17,13 @@ use Rattle.html_tokens.specs.declared.token.Begin.TheVariants as begins
 use Rattle.std.proofs.Common.{add-zero, length-drop}
 use Rattle.std.proofs.lemmas.List.{drop-append-le}
 use Rattle.html_tokens.specs.Copied.{CopiesComment, cut_by}
-use Rattle.html_tokens.specs.Errors.{errors_after, inside_errors, piece_errors, told_in}
+use Rattle.html_tokens.specs.Errors.{errors_after, inside_errors, piece_errors, soon_errors, told_in}
 use Rattle.html_tokens.specs.declared.faults.Fault.{Fault}
-use Rattle.html_tokens.proofs.ErrorLemmas.{errors_begun, errors_end, errors_past, errors_past_all, errors_past_one, errors_text, none_at_end}
-use Rattle.html_tokens.specs.Fed.{Skips, coming, errors_coming, to_come, IsDrained, IsEnded, Passes, SameCount, Steps, switch_to, slack, GivesChars}
+use Rattle.html_tokens.proofs.ErrorLemmas.{errors_at_end, errors_begun, errors_past, errors_past_all, errors_past_one, errors_text, region_quiet, stop_told, told_at_end}
+use Rattle.html_tokens.specs.Fed.{GivesAmpersand, Skips, coming, errors_coming, to_come, IsDrained, IsEnded, Passes, SameCount, Steps, switch_to, slack, GivesChars}
 use Rattle.html_tokens.specs.Input.{Decided, IsShort}
-use Rattle.html_tokens.specs.Inside.{MovesComment, comment_errors, comment_told}
+use Rattle.html_tokens.specs.Inside.{MovesComment, comment_errors, comment_told, fault_when}
+use Rattle.html_tokens.specs.declared.fault_name.FaultName.TheVariants as names
 use Rattle.html_tokens.proofs.CommentLemmas.{comment_ends, comment_goes}
 use Rattle.html_tokens.specs.Input.{MayFollow}
 use Rattle.html_tokens.specs.declared.machine.Machine.{Machine}
@@ -29,7 +33,7 @@ use Rattle.html_tokens.specs.declared.token.TokenKind.TheVariants as kinds
 use Rattle.html_tokens.specs.declared.token.TextMode.{TextMode}
 use Rattle.html_tokens.specs.declared.token.TokenKind.TheVariants.{Char}
 use Rattle.html_tokens.specs.declared.machine.State.{State}
-use Rattle.html_tokens.specs.declared.machine.State.TheVariants.{Text, Number, Second, Comment, Ended}
+use Rattle.html_tokens.specs.declared.machine.State.TheVariants.{Text, Number, Second, Ampersand, Comment, Ended}
 use Rattle.std.specs.List.{slice_get}
 use Rattle.html_tokens.specs.Cut.{cut}
 use Rattle.html_tokens.specs.Draft.{mark_of, passed, Reads}
@@ -39,14 +43,11 @@ use Rattle.html_tokens.specs.declared.input.Input.{Input}
 use Rattle.html_tokens.specs.Tokens.{comment_piece, Piece, piece, mode_after, mode_after_kind, name_after, name_after_kind}
 use Rattle.html_tokens.specs.declared.comment.CommentKind.{CommentKind}
 use Rattle.html_tokens.proofs.TokensLemmas.{tokens_text, tokens_begun, tokens_past, tokens_past_one}
-use Rattle.std.proofs.Common.{◌*◌}
+use Rattle.std.proofs.Common.{◌*◌, ap₂}
 use Rattle.std.proofs.lemmas.Bool.{false≢true}
 use Rattle.std.specs.Char.{digit_value}
-use Rattle.std.specs.Int.Digits.{number_from_digits_after}
 use Rattle.html_charref.specs.Entities.{codes_with}
 use Rattle.html_charref.specs.declared.number.Base.{Base}
-use Rattle.html_charref.specs.declared.number.Base.TheVariants.{Decimal, Hex}
-use Rattle.html_charref.proofs.NumberLemmas.{capped-step, char_of-capped}
 use Rattle.html_tokens.specs.declared.token.RefOpener.TheVariants.{Numeric, Named}
 use Rattle.html_charref.specs.Table.{longest}
 use Rattle.html_charref.specs.declared.table.RefText.{RefText}
@@ -54,12 +55,7 @@ use Rattle.html_tokens.specs.declared.reference.NumberDraft.{NumberDraft}
 use Rattle.html_tokens.specs.declared.machine.Progress.{Progress}
 use Rattle.html_tokens.proofs.Cuts.{empty_rest, first_of}
 use Rattle.html_tokens.specs.Marks.{front}
-use Rattle.std.proofs.Common.{zero-add}
-use Rattle.std.proofs.lemmas.Bool.Decides.{nat_tests}
 use Rattle.html_tokens.specs.Cut.{stop_mark}
-
-capped-capped : (v : ℕ) → capped (capped v) ≡ capped v
-capped-capped v = omega arith
 
 pub char_given : (rows : List Row) (region after : Region) (mode : TextMode) (name : Option (List ℕ)) (place place' c d : ℕ) (items items' more : List ℕ) (switch : Option TextMode) (switches : List (Option TextMode)) →
     items ≡ c ∷ items' → begin_at mode region name (items ++ more) ≡ begins.Char → region_in mode region (items ++ more) ≡ after → d ≡ text_char mode c → place' ≡ place + 1 →
@@ -76,31 +72,36 @@ pub char_errors : (rows : List Row) (region after : Region) (mode : TextMode) (n
 char_errors rows region after mode name place place' c items items' more switch switches e t r p =
     let t' = rw e at t in
     let r' = rw e at r in
-    rw (e, t', p) (errors_text rows mode region after name place c (items' ++ more) switch switches t' r')
+    rw (e, t', p, region_quiet region place (c ∷ (items' ++ more)) (omega arith)) (errors_text rows mode region after name place c (items' ++ more) switch switches t' r')
 
 there : (items more : List ℕ) → 0 < length items → 0 < length (items ++ more)
 there items more h = omega (arith, length-append items more)
 
+four_apart : (a b c d : List Fault) → a ++ ((b ++ c) ++ d) ≡ (a ++ b) ++ (c ++ d)
+four_apart a b c d = rw (append_assoc b c d) (sym (append_assoc a b (c ++ d)))
+
 -- the errors of what begins, before so many code points of it
 pub errors_opened : (rows : List Row) (b : Begin) (region : Region) (mode : TextMode) (name : Option (List ℕ)) (place opened j : ℕ) (items more : List ℕ) (switches : List (Option TextMode)) (first : Piece) (inside : List Fault) →
     begin_at mode region name (items ++ more) ≡ b → is_stop b ≡ true → begun_piece rows b place (items ++ more) ≡ first → first.len ≡ opened + j → 0 < opened → opened ≤ length items →
-    inside_errors rows b place (items ++ more) ≡ inside →
+    inside_errors rows b place (items ++ more) ≡ soon_errors rows b place (items ++ more) ++ inside →
     errors_coming rows (Text region) mode name place (items ++ more) switches
     ≡ told_in rows (Text region) mode name place (items ++ more)
     ++ (inside ++ errors_after rows j (mode_after first.tokens switches mode) (name_after first.tokens name) (place + opened) (drop opened items ++ more) (drop (length first.tokens) switches))
 errors_opened rows b region mode name place opened j items more switches first inside e s p l h k i =
     errors_begun rows b mode region name place (items ++ more) switches first e s p (omega arith) (there items more (omega arith))
-    ∙ rw (e, l, i) (ap (λ (es : List Fault). piece_errors b place (items ++ more) ++ (inside ++ es)) (errors_past rows opened j _ _ place items more _ k))
+    ∙ rw (e, l, i, region_quiet region place (items ++ more) (there items more (omega arith)), stop_told rows b place (items ++ more) s)
+    (ap (λ (es : List Fault). piece_errors rows b place (items ++ more) ++ ((soon_errors rows b place (items ++ more) ++ inside) ++ es)) (errors_past rows opened j _ _ place items more _ k)
+    ∙ four_apart (piece_errors rows b place (items ++ more)) (soon_errors rows b place (items ++ more)) inside _)
 
 -- the errors of what begins and is passed whole
 pub errors_passed : (rows : List Row) (b : Begin) (region : Region) (mode : TextMode) (name : Option (List ℕ)) (place len : ℕ) (items more : List ℕ) (switches : List (Option TextMode)) (first : Piece) →
     begin_at mode region name (items ++ more) ≡ b → is_stop b ≡ true → begun_piece rows b place (items ++ more) ≡ first → first.len ≡ len → 0 < len → len ≤ length items →
-    inside_errors rows b place (items ++ more) ≡ [] →
+    inside_errors rows b place (items ++ more) ≡ soon_errors rows b place (items ++ more) →
     errors_coming rows (Text region) mode name place (items ++ more) switches
     ≡ told_in rows (Text region) mode name place (items ++ more)
     ++ errors_after rows 0 (mode_after first.tokens switches mode) (name_after first.tokens name) (place + len) (drop len items ++ more) (drop (length first.tokens) switches)
 errors_passed rows b region mode name place len items more switches first e s p l h k i =
-    errors_opened rows b region mode name place len 0 items more switches first [] e s p (l ∙ omega arith) h k i
+    errors_opened rows b region mode name place len 0 items more switches first [] e s p (l ∙ omega arith) h k (i ∙ sym (append-nil (soon_errors rows b place (items ++ more))))
 
 pub comment_opens : (rows : List Row) (region : Region) (mode : TextMode) (kind : CommentKind) (opened : ℕ) (name : Option (List ℕ)) (place : ℕ) (items more : List ℕ) (switches : List (Option TextMode)) →
     begin_at mode region name (items ++ more) ≡ begins.Markup →
@@ -199,7 +200,7 @@ pub open_gives : (old new : Machine) (region : Region) (b : Begin) (given : Toke
     ((switch : Option TextMode) (mode : TextMode) → mode_after_kind given.kind switch mode ≡ switch_to given.kind switch mode) → ((name : Option (List ℕ)) → name_after_kind given.kind name ≡ name) →
     is_stop b ≡ true → Decided old.input (begin_at old.mode region old.last_name) b →
     ((more : List ℕ) → MayFollow old.input.finished more → begun_piece old.table.now b old.place (old.input.queue.items ++ more) ≡ piece (given ∷ []) k) →
-    ((more : List ℕ) → MayFollow old.input.finished more → inside_errors old.table.now b old.place (old.input.queue.items ++ more) ≡ []) →
+    ((more : List ℕ) → MayFollow old.input.finished more → inside_errors old.table.now b old.place (old.input.queue.items ++ more) ≡ soon_errors old.table.now b old.place (old.input.queue.items ++ more)) →
     Steps old (Given given) new
 open_gives old new region b given k s p g h same named stop begun whole inside =
     open_given old new region given k (Text Plain) s p h (λ e. e) (named old.last_name)
@@ -218,11 +219,6 @@ text_ends Plain rows mode name place switches = refl
 text_ends Escaped rows mode name place switches = refl
 text_ends Double rows mode name place switches = refl
 
-errors_none : (region : Region) (rows : List Row) (mode : TextMode) (name : Option (List ℕ)) (place : ℕ) (switches : List (Option TextMode)) → errors_coming rows (Text region) mode name place [] switches ≡ []
-errors_none Plain rows mode name place switches = errors_end rows 0 mode name place switches
-errors_none Escaped rows mode name place switches = errors_end rows _ _ name place _
-errors_none Double rows mode name place switches = errors_end rows _ _ name place _
-
 -- nothing may follow, and nothing is unread
 pub all_read : (finished : Bool) (items : List ℕ) → ((more : List ℕ) → MayFollow finished more → items ++ more ≡ []) → (finished ≡ true) × (items ≡ [])
 all_read true [] e = (refl, refl)
@@ -236,7 +232,8 @@ state_ends old new region s n e = (
   (λ more switch switches f. rw (s, e more f, n) (text_ends region old.table.now old.mode old.last_name old.place (switch ∷ switches))),
   rw n (record { count = refl; finished = refl; table = refl; drained = λ _ _. all_read old.input.finished old.input.queue.items e }),
   rw n refl,
-  (λ more switch switches f. rw (s, e more f, n, none_at_end old.table.now region old.mode old.last_name old.place) (errors_none region old.table.now old.mode old.last_name old.place (switch ∷ switches))),
+  (λ more switch switches f. rw (s, e more f, n)
+      (errors_at_end old.table.now region old.mode old.last_name old.place (switch ∷ switches) ∙ sym (told_at_end old.table.now region old.mode old.last_name old.place) ∙ sym (append-nil _))),
 )
 
 -- a comment reads on by a code point
@@ -257,8 +254,8 @@ comment_closes rows draft draft' mode name place n items more switch switches e 
     ap (λ (c : Cut). token (kinds.Comment c.before) draft.start (place + c.len) ∷ tokens_after rows c.len (stays switch mode) name place (items ++ more) switches) e
     ∙ rw s (ap (λ (ts : List Token). token (kinds.Comment draft'.«data») draft.start (place + n) ∷ ts) (rw add-zero at (tokens_past rows n 0 (stays switch mode) name place items more switches h)))
 
-told_before : (whole told later before after : List Fault) → told ≡ [] → whole ≡ later → before ≡ after → whole ++ before ≡ told ++ (later ++ after)
-told_before whole told later before after t e h = rw (t, e, h) refl
+told_before : (whole told later before after : List Fault) → whole ≡ told ++ later → before ≡ after → whole ++ before ≡ told ++ (later ++ after)
+told_before whole told later before after e h = rw (e, h) (append_assoc told later after)
 
 told_same_then : (whole told before after : List Fault) → whole ≡ told → before ≡ after → whole ++ before ≡ told ++ after
 told_same_then whole told before after e h = rw (e, h) refl
@@ -268,8 +265,9 @@ comment_tells : (rows : List Row) (draft draft' : CommentDraft) (mode : TextMode
     errors_coming rows (Comment draft) mode name place (items ++ more) switches ≡ told_in rows (Comment draft) mode name place (items ++ more) ++ errors_coming rows (Comment draft') mode name (place + 1) (items' ++ more) switches
 comment_tells rows draft draft' mode name place items items' more switches e i h k none =
     let goes = comment_goes draft.kind place (items ++ more) none (there items more h) in
-    let on : comment_errors draft.kind place (items ++ more) ≡ comment_errors draft'.kind (place + 1) (items' ++ more) = rw (k, i) (goes.0 ∙ ap (λ (x : List ℕ). comment_errors draft.kind (place + 1) x) (drop-append-le 1 items more h)) in
-    told_before (comment_errors draft.kind place (items ++ more)) (comment_told draft.kind place (items ++ more)) (comment_errors draft'.kind (place + 1) (items' ++ more)) _ _ goes.1 on
+    let on : comment_errors draft.kind place (items ++ more) ≡ comment_told draft.kind place (items ++ more) ++ comment_errors draft'.kind (place + 1) (items' ++ more) =
+    rw (k, i) (goes.0 ∙ ap (λ (x : List ℕ). comment_told draft.kind place (items ++ more) ++ comment_errors draft.kind (place + 1) x) (drop-append-le 1 items more h)) in
+    told_before (comment_errors draft.kind place (items ++ more)) (comment_told draft.kind place (items ++ more)) (comment_errors draft'.kind (place + 1) (items' ++ more)) _ _ on
     (ap (λ (c : Cut). errors_after rows c.len (stays (switch_of switches) mode) name place (items ++ more) (drop 1 switches)) e
     ∙ errors_past_one rows (draft_cut draft' (items' ++ more)).len (stays (switch_of switches) mode) name place items items' more (drop 1 switches) i h)
 
@@ -320,16 +318,33 @@ pair_given rows region mode first second len name place items more switch switch
 pub chars_given : (old new : Machine) (region : Region) (len first : ℕ) (second : Option ℕ) (progress : Progress) → old.state ≡ Text region → Decided old.input (begin_at old.mode region old.last_name) begins.Reference →
     0 < len → len ≤ length old.input.queue.items →
     ((more : List ℕ) → MayFollow old.input.finished more → reference old.table.now (old.input.queue.items ++ more) ≡ record { codes = codes_with first second; len = len }) →
+    ((more : List ℕ) → MayFollow old.input.finished more →
+    later_ref_errors (ref_opener (old.input.queue.items ++ more)) old.table.now old.place (old.input.queue.items ++ more) ≡ soon_ref_errors (ref_opener (old.input.queue.items ++ more)) old.table.now old.place (old.input.queue.items ++ more)) →
     GivesChars old len first second progress new → Steps old progress new
-chars_given old new region len first None progress s begun h k found (e, p) =
+chars_given old new region len first None progress s begun h k found none (e, p) =
     rw e (open_gives old new region begins.Reference (token (kinds.Char first) old.place (old.place + len)) len s p h k (λ switch mode. refl) (λ name. refl) refl begun
-    (λ more f. rw (found more f) refl) (λ more f. refl))
-chars_given old new region len first (Some second) progress s begun h k found (e, p) =
+    (λ more f. rw (found more f) refl) none)
+chars_given old new region len first (Some second) progress s begun h k found none (e, p) =
     rw e (open_given old new region (token (kinds.Char first) old.place (old.place + 1)) len (Second second (old.place + 1)) s p k (λ e. e) refl
     (λ more switch switches f. pair_given old.table.now region old.mode (token (kinds.Char first) old.place (old.place + 1)) (token (kinds.Char second) (old.place + 1) (old.place + len)) len old.last_name old.place old.input.queue.items more switch switches
     (begun more f) (rw (found more f) refl) h k refl)
     (λ more switch switches f. errors_passed old.table.now begins.Reference region old.mode old.last_name old.place len old.input.queue.items more (switch ∷ switches)
-    (piece (token (kinds.Char first) old.place (old.place + 1) ∷ token (kinds.Char second) (old.place + 1) (old.place + len) ∷ []) len) (begun more f) refl (rw (found more f) refl) refl h k refl))
+    (piece (token (kinds.Char first) old.place (old.place + 1) ∷ token (kinds.Char second) (old.place + 1) (old.place + len) ∷ []) len) (begun more f) refl (rw (found more f) refl) refl h k (none more f)))
+
+many_left : (rows : List Row) (text rest : List ℕ) (place : ℕ) → ref_opener text ≡ Named → longest rows text ≡ None → letters_after rows text ≡ None → drop 1 text ≡ rest →
+    later_ref_errors (ref_opener text) rows place text ≡ soon_ref_errors (ref_opener text) rows place text ++ ampersand_errors place rest
+many_left rows text rest place e n l d = rw (e, n, l) (ap (λ (b : Bool). fault_when b names.UnknownNamedCharacterReference place) (letters_many rows text l ∙ ap are_letters_closed d))
+
+-- the `&` is given, and letters and digits come that begin no name, and more than are looked over
+pub ampersand_given : (old new : Machine) (region : Region) (progress : Progress) → old.state ≡ Text region → Decided old.input (begin_at old.mode region old.last_name) begins.Reference → 0 < length old.input.queue.items →
+    Decided old.input ref_opener Named → Decided old.input (longest old.table.now) None → Decided old.input (letters_after old.table.now) None → GivesAmpersand old progress new → Steps old progress new
+ampersand_given old new region progress s begun h opener none letter (e, p) =
+    rw e (open_given old new region (token (kinds.Char 38) old.place (old.place + 1)) 1 (Ampersand old.place) s p h (λ e. e) refl
+    (λ more switch switches f. piece_given old.table.now begins.Reference region old.mode (token (kinds.Char 38) old.place (old.place + 1)) 1 old.last_name old.place old.input.queue.items more switch switches (begun more f) refl
+    (rw (opener more f, none more f) refl) (omega arith) h refl)
+    (λ more switch switches f. errors_opened old.table.now begins.Reference region old.mode old.last_name old.place 1 0 old.input.queue.items more (switch ∷ switches) (piece (token (kinds.Char 38) old.place (old.place + 1) ∷ []) 1)
+    (ampersand_errors old.place (drop 1 old.input.queue.items ++ more)) (begun more f) refl (rw (opener more f, none more f) refl) refl (omega arith) h
+    (many_left old.table.now (old.input.queue.items ++ more) _ old.place (opener more f) (none more f) (letter more f) (drop-append-le 1 old.input.queue.items more h))))
 
 pub second_given : (old new : Machine) (c start : ℕ) → old.state ≡ Second c start → new ≡ record old { state = Text Plain } → Steps old (Given (token (kinds.Char c) start old.place)) new
 second_given old new c start s n = ((λ more switch switches f. rw (s, n) refl), rw n (record { count = refl; finished = refl; table = refl; drained = λ _ h. absurd h }), rw n refl, (λ more switch switches f. rw (s, n) refl))
@@ -357,42 +372,7 @@ number_begins old new region base opened s begun h k found p =
     let n = numbered base 0 (drop opened items ++ more) in
     let whole : begun_piece old.table.now begins.Reference old.place (items ++ more) ≡ piece (token (kinds.Char (char_of n.value)) old.place (old.place + (opened + n.len)) ∷ []) (opened + n.len) =
     rw (found more f, drop-append-le opened items more k) refl in
-    errors_opened old.table.now begins.Reference region old.mode old.last_name old.place opened n.len items more switches _ [] (begun more f) refl whole refl h k refl)
-
--- the number so far counts only up to the first number past the code points
-number_capped : (b v : ℕ) (ds : List ℕ) → 0 < b → capped (number_from_digits_after b (capped v) ds) ≡ capped (number_from_digits_after b v ds)
-number_capped b v [] h = capped-capped v
-number_capped b v (d ∷ ds) h =
-    sym (number_capped b (capped v * b + d) ds h)
-    ∙ ap (λ x. capped (number_from_digits_after b x ds)) (capped-step v b d h)
-    ∙ number_capped b (v * b + d) ds h
-
-pub char_capped : (b v w : ℕ) (ds : List ℕ) → 0 < b → w ≡ capped v → char_of (number_from_digits_after b w ds) ≡ char_of (number_from_digits_after b v ds)
-char_capped b v w ds h e =
-    rw e (sym (char_of-capped (number_from_digits_after b (capped v) ds)) ∙ ap char_of (number_capped b v ds h) ∙ char_of-capped (number_from_digits_after b v ds))
-
-pub some_radix : (base : Base) → 0 < radix base
-some_radix Decimal = omega arith
-some_radix Hex = omega arith
-
-suc-plus : (a b : ℕ) → suc a + b ≡ suc (a + b)
-suc-plus a b = omega arith
-
-pub not_semicolon : (c : ℕ) → ¬ (c ≡ 59) → semicolon (c ∷ []) ≡ 0
-not_semicolon c h = grind (arith, nat_tests)
-
-pub digit_first : (base : Base) (v c : ℕ) (rest : List ℕ) → is_digit base c ≡ true →
-    numbered base v (c ∷ rest) ≡ record { value = (numbered base (v * radix base + digit_value c) rest).value; len = suc (numbered base (v * radix base + digit_value c) rest).len }
-unfolding cut
-digit_first base v c rest e = rw (e, suc-plus) refl
-
-pub digits_stop : (base : Base) (v c : ℕ) (rest : List ℕ) → is_digit base c ≡ false → numbered base v (c ∷ rest) ≡ record { value = v; len = semicolon (c ∷ rest) }
-unfolding cut
-digits_stop base v c rest e = rw (e, zero-add) refl
-
-pub digits_end : (base : Base) (v : ℕ) → numbered base v [] ≡ record { value = v; len = 0 }
-unfolding cut
-digits_end base v = refl
+    errors_opened old.table.now begins.Reference region old.mode old.last_name old.place opened n.len items more switches _ (number_errors base 0 old.place (drop opened items ++ more)) (begun more f) refl whole refl h k (rw (found more f, drop-append-le opened items more k) refl))
 
 -- a number reads on by a digit
 pub number_more : (old new : Machine) (draft : NumberDraft) (c d value : ℕ) → old.state ≡ Number draft → Decided old.input (λ rest. slice_get rest 0) (Some c) → 0 < length old.input.queue.items →
@@ -419,16 +399,21 @@ number_more old new draft c d value s first h digit e v p = (
       let text = first_of items more c (first more f) h in
       let rest = drop 1 items ++ more in
       let n = numbered draft.base (draft.value * radix draft.base + digit_value c) rest in
-      rw (s, p.state, p.mode, p.name, p.place, p.items, p.table)
+      let told : number_told draft.base draft.value draft.start (slice_get (items ++ more) 0) ≡ [] = rw (first more f, digit) refl in
+      let left : number_errors draft.base draft.value draft.start (items ++ more) ≡ number_errors draft.base value draft.start rest =
+      ap (λ (x : List ℕ). number_errors draft.base draft.value draft.start x) text ∙ errors_digit draft.base draft.value value draft.start c rest digit (rw e at v) in
+      rw (s, p.state, p.mode, p.name, p.place, p.items, p.table, told)
+      (ap₂ (λ (es fs : List Fault). es ++ fs) left
       (ap (λ (x : Numbered). errors_after old.table.now x.len (stays (switch_of switches) old.mode) old.last_name old.place (items ++ more) (drop 1 switches)) (ap (λ (x : List ℕ). numbered draft.base draft.value x) text ∙ digit_first draft.base draft.value c rest digit)
-      ∙ errors_past_one old.table.now n.len (stays (switch_of switches) old.mode) old.last_name old.place items (drop 1 items) more (drop 1 switches) refl h)),
+      ∙ errors_past_one old.table.now n.len (stays (switch_of switches) old.mode) old.last_name old.place items (drop 1 items) more (drop 1 switches) refl h))),
 )
 
 -- a number closes
 pub number_given : (old new : Machine) (draft : NumberDraft) (len : ℕ) (progress : Progress) → old.state ≡ Number draft → len ≤ length old.input.queue.items →
     ((more : List ℕ) → MayFollow old.input.finished more → numbered draft.base draft.value (old.input.queue.items ++ more) ≡ record { value = draft.value; len = len }) →
+    ((more : List ℕ) → MayFollow old.input.finished more → passes (is_digit draft.base) (slice_get (old.input.queue.items ++ more) 0) ≡ false) →
     (progress ≡ Given (token (kinds.Char (char_of draft.value)) draft.start (old.place + len))) × Passes old len (Text Plain) new → Steps old progress new
-number_given old new draft len progress s h whole (g, p) =
+number_given old new draft len progress s h whole stops (g, p) =
     rw g (
       (λ more switch switches f. rw (s, p.state, p.mode, p.name, p.place, p.items, p.table)
           (ap (λ (x : Numbered). number_coming old.table.now draft.start old.place x old.mode old.last_name (old.input.queue.items ++ more) (switch ∷ switches)) (whole more f)
@@ -436,8 +421,9 @@ number_given old new draft len progress s h whole (g, p) =
       passes_count old new len _ p h (λ e. e),
       p.name,
       (λ more switch switches f. rw (s, p.state, p.mode, p.name, p.place, p.items, p.table)
+          (ap₂ (λ (es fs : List Fault). es ++ fs) (number_whole draft.base draft.value draft.start (old.input.queue.items ++ more) (stops more f))
           (ap (λ (x : Numbered). errors_after old.table.now x.len (stays switch old.mode) old.last_name old.place (old.input.queue.items ++ more) switches) (whole more f)
-          ∙ errors_past_all old.table.now len (stays switch old.mode) old.last_name old.place old.input.queue.items more switches h)),
+          ∙ errors_past_all old.table.now len (stays switch old.mode) old.last_name old.place old.input.queue.items more switches h))),
     )
 
 pub number_ends : (old : Machine) (draft : NumberDraft) → Decided old.input (λ rest. slice_get rest 0) None →
@@ -457,6 +443,11 @@ named_some rows text len found e n = rw (e, n) refl
 
 pub named_none : (rows : List Row) (text : List ℕ) → ref_opener text ≡ Named → longest rows text ≡ None → reference rows text ≡ record { codes = codes_with 38 None; len = 1 }
 named_none rows text e n = rw (e, n) refl
+
+-- few letters and digits come after the `&`, and all of them is told there
+pub soon_few : (rows : List Row) (text : List ℕ) (place : ℕ) (closed : Bool) → ref_opener text ≡ Named → longest rows text ≡ None → letters_after rows text ≡ Some closed →
+    later_ref_errors (ref_opener text) rows place text ≡ soon_ref_errors (ref_opener text) rows place text
+soon_few rows text place closed e n few = rw (e, n, few) (ap (λ (b : Bool). fault_when b names.UnknownNamedCharacterReference place) (letters_few rows text closed few))
 
 -- the tokens from a comment on, which is this and began there
 abbrev comment_coming : List Row → ℕ → ℕ → Cut → TextMode → Option (List ℕ) → List ℕ → List (Option TextMode) → List Token

@@ -22,7 +22,7 @@ use Rattle.html_tokens.specs.declared.token.TextMode.TheVariants.{Foreign}
 use Rattle.html_tokens.specs.declared.token.Opener.{Opener}
 use Rattle.html_tokens.specs.declared.token.Opener.TheVariants as opens
 use Rattle.html_tokens.specs.declared.machine.State.{State}
-use Rattle.html_tokens.specs.declared.machine.State.TheVariants.{Text, Number, Second, Comment, Doctype, Tag, Section, Ended}
+use Rattle.html_tokens.specs.declared.machine.State.TheVariants.{Text, Number, Second, Ampersand, Comment, Doctype, Tag, Section, Ended}
 use Rattle.html_tokens.specs.declared.machine.Machine.{Machine}
 use Rattle.html_tokens.specs.declared.machine.Progress.TheVariants.{Given, More, Wait}
 
@@ -160,6 +160,7 @@ reach_coming rows (Text Plain) mode name place text switches = reach_tokens rows
 reach_coming rows (Text Escaped) mode name place text switches = reach_text rows (front mode Escaped name text) mode name place text switches
 reach_coming rows (Text Double) mode name place text switches = reach_text rows (front mode Double name text) mode name place text switches
 reach_coming rows (Number draft) mode name place text switches = (omega arith, reach_tokens rows _ _ name place place text (drop 1 switches) (omega arith))
+reach_coming rows (Ampersand start) mode name place text switches = reach_tokens rows 0 mode name place place text switches (omega arith)
 reach_coming rows (Second c start) mode name place text switches = (omega arith, reach_tokens rows 0 _ name place place text (drop 1 switches) (omega arith))
 reach_coming rows (Comment draft) mode name place text switches = (omega arith, reach_tokens rows _ _ name place place text (drop 1 switches) (omega arith))
 reach_coming rows (Doctype draft) mode name place text switches = (omega arith, reach_tokens rows _ _ name place place text (drop 1 switches) (omega arith))
@@ -267,6 +268,7 @@ none_to_come rows (Text Plain) mode name place rest switches e = absurd (tokens_
 none_to_come rows (Text Escaped) mode name place rest switches e = absurd (tokens_some rows _ _ name place rest _ (last_none (chars_at mode place (front mode Escaped name rest)) _ e))
 none_to_come rows (Text Double) mode name place rest switches e = absurd (tokens_some rows _ _ name place rest _ (last_none (chars_at mode place (front mode Double name rest)) _ e))
 none_to_come rows (Number draft) mode name place rest switches e = cc
+none_to_come rows (Ampersand start) mode name place rest switches e = absurd (tokens_some rows 0 mode name place rest switches e)
 none_to_come rows (Second c start) mode name place rest switches e = cc
 none_to_come rows (Comment draft) mode name place rest switches e = cc
 none_to_come rows (Doctype draft) mode name place rest switches e = cc

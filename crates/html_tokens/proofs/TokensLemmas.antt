@@ -74,7 +74,7 @@ chars_turned said mode place (c ∷ cs) =
     let one : text_char mode c ≡ text_char (stays said mode) c = mode_cases (λ m n. text_char m c ≡ text_char n c) (λ m. refl) refl refl said mode in
     rw one (ap (λ (ts : List Token). char_at (stays said mode) place c ∷ ts) (chars_turned said mode (place + 1) cs))
 
-stops_in : (a b : Bool) (other : Begin) → is_stop (cond a begins.Markup other) ≡ is_stop (cond a (cond b begins.Section begins.Markup) other)
+pub stops_in : (a b : Bool) (other : Begin) → is_stop (cond a begins.Markup other) ≡ is_stop (cond a (cond b begins.Section begins.Markup) other)
 stops_in true true other = refl
 stops_in true false other = refl
 stops_in false b other = refl

@@ -1,8 +1,11 @@
 -- What steps and runs tell.
 use Rattle.std.proofs.Common.{◌≡◌, ℕ, List, [], ◌∷◌, ◌++◌, length, Option, Some, None, true, false, refl, ap, subst, sym, ◌∙◌, append_assoc, append-nil}
-use Rattle.html_tokens.specs.Errors.{all_told, IsQuiet, Opens, defined, piece_errors, told_in, with_told}
-use Rattle.html_tokens.specs.Fed.{IsSilent, Skips, Steps, Tells, TellsAt, told_at, errors_to_come, errors_to_come_after}
+use Rattle.html_tokens.specs.Errors.{all_told, begin_told, IsQuiet, Opens, region_end_errors, told_in, with_told}
+use Rattle.html_tokens.specs.Fed.{GivesChars, IsSilent, Skips, Steps, Tells, TellsAt, told_at, errors_to_come, errors_to_come_after}
 use Rattle.html_tokens.specs.Input.{Decided, MayFollow}
+use Rattle.html_tokens.specs.InsideReferences.{begun_ref_errors, number_told, soon_ref_errors}
+use Rattle.html_tokens.specs.declared.reference.NumberDraft.{NumberDraft}
+use Rattle.html_tokens.specs.Reference.{ref_opener, reference}
 use Rattle.html_tokens.specs.Marks.{begin_at}
 use Rattle.html_tokens.specs.Stream.{AreTold, IsAt, Run, answered, errors_of, gave}
 use Rattle.html_tokens.specs.declared.faults.Fault.{Fault}
@@ -11,12 +14,13 @@ use Rattle.html_tokens.specs.declared.machine.Machine.{Machine}
 use Rattle.html_tokens.specs.declared.machine.Progress.{Progress}
 use Rattle.html_tokens.specs.declared.machine.Progress.TheVariants.{Given, More, Wait}
 use Rattle.html_tokens.specs.declared.machine.State.{State}
-use Rattle.html_tokens.specs.declared.machine.State.TheVariants.{Text, Number, Second, Comment, Doctype, Tag, Section, Ended}
+use Rattle.html_tokens.specs.declared.machine.State.TheVariants.{Text, Number, Second, Ampersand, Comment, Doctype, Tag, Section, Ended}
 use Rattle.html_tokens.specs.declared.token.Begin.{Begin}
 use Rattle.html_tokens.specs.declared.token.Region.{Region}
 use Rattle.html_tokens.specs.declared.token.TextMode.{TextMode}
 use Rattle.html_tokens.specs.declared.token.Token.{Token}
-use Rattle.html_tokens.proofs.ErrorLemmas.{none_at_end}
+use Rattle.html_tokens.proofs.ErrorLemmas.{region_quiet, told_at_end}
+use Rattle.html_tokens.proofs.Cuts.{not_empty}
 use Rattle.html_tokens.proofs.StreamLemmas.{same_mode, switch_is}
 use Rattle.std.proofs.lemmas.Bool.{false≢true}
 use Rattle.html_tokens.specs.Given.{MaySwitch}
@@ -37,15 +41,18 @@ use Rattle.std.proofs.Common.{ap₂, ◌+◌, ◌<◌, arith}
 use Rattle.std.specs.List.{slice_get}
 use Rattle.html_tokens.specs.Cut.{is}
 use Rattle.html_tokens.specs.Errors.{bogus_error, is_cdata}
-use Rattle.html_tokens.specs.Inside.{fault}
+use Rattle.html_tokens.specs.Inside.{fault, null_errors}
 use Rattle.html_tokens.specs.declared.fault_name.FaultName.TheVariants as names
 use Rattle.html_tokens.specs.declared.token.Opener.TheVariants as opens
+
+pub none_both : (es fs : List Fault) → es ≡ [] → fs ≡ [] → es ++ fs ≡ []
+none_both es fs e f = rw (e, f) refl
 
 pub told_none : (told : List Fault) → all_told told [] ≡ told
 unfolding all_told
 told_none told = refl
 
-pub told_one : (old new : List Fault) (f : Fault) → defined new ≡ with_told (defined old) f → defined new ≡ all_told (defined old) (f ∷ [])
+pub told_one : (old new : List Fault) (f : Fault) → new ≡ with_told old f → new ≡ all_told old (f ∷ [])
 unfolding all_told
 told_one old new f e = e
 
@@ -70,18 +77,22 @@ quiet_then told a b c q o = λ kept. let later = o kept in let first = q later.0
 
 -- some, and some more
 pub opens_both : (es fs : List Fault) (a b c : Faults) → Opens es a b → Opens fs b c → Opens (es ++ fs) a c
-opens_both es fs a b c o p = λ kept. let later = p kept in let first = o later.0 in (first.0, later.1 ∙ ap (λ (l : List Fault). all_told l fs) first.1 ∙ sym (told_both (defined a.list) es fs))
+opens_both es fs a b c o p = λ kept. let later = p kept in let first = o later.0 in (first.0, later.1 ∙ ap (λ (l : List Fault). all_told l fs) first.1 ∙ sym (told_both a.list es fs))
 
 -- no error in place of one
 pub quiet_opens : (old new : Faults) → IsQuiet old new → Opens [] old new
-quiet_opens old new q = λ kept. ((q kept).0, (q kept).1 ∙ sym (told_none (defined old.list)))
+quiet_opens old new q = λ kept. ((q kept).0, (q kept).1 ∙ sym (told_none old.list))
+
+-- where there is none
+pub opens_quietly : (es : List Fault) (old new : Faults) → es ≡ [] → Opens es old new → IsQuiet old new
+opens_quietly es old new e o = λ kept. ((o kept).0, (o kept).1 ∙ ap (λ (x : List Fault). all_told old.list x) e ∙ told_none old.list)
 
 pub opens_none : (f : Faults) → Opens [] f f
 opens_none f = quiet_opens f f (quiet_same f)
 
 pub tells_quiet : (t : Machine) (progress : Progress) (old new : Faults) → IsSilent t → IsQuiet old new → Tells t progress old new
-tells_quiet t (Given given) old new silent q = λ kept. ((q kept).0, λ more f. (q kept).1 ∙ sym (ap (λ (es : List Fault). all_told (defined old.list) es) (silent more f) ∙ told_none (defined old.list)))
-tells_quiet t More old new silent q = λ kept. ((q kept).0, λ more f. (q kept).1 ∙ sym (ap (λ (es : List Fault). all_told (defined old.list) es) (silent more f) ∙ told_none (defined old.list)))
+tells_quiet t (Given given) old new silent q = λ kept. ((q kept).0, λ more f. (q kept).1 ∙ sym (ap (λ (es : List Fault). all_told old.list es) (silent more f) ∙ told_none old.list))
+tells_quiet t More old new silent q = λ kept. ((q kept).0, λ more f. (q kept).1 ∙ sym (ap (λ (es : List Fault). all_told old.list es) (silent more f) ∙ told_none old.list))
 tells_quiet t Wait old new silent q = q
 
 -- where nothing is told, nothing has to be
@@ -94,19 +105,51 @@ tells_wait t old = quiet_same old
 
 -- a step tells what is decided
 pub tells_decided : (t : Machine) (told : List Fault) (old new : Faults) → ((more : List ℕ) → MayFollow t.input.finished more → told_at t more ≡ told) → Opens told old new → TellsAt t old new
-tells_decided t told old new decided opens = λ kept. ((opens kept).0, λ more f. (opens kept).1 ∙ ap (λ (es : List Fault). all_told (defined old.list) es) (sym (decided more f)))
+tells_decided t told old new decided opens = λ kept. ((opens kept).0, λ more f. (opens kept).1 ∙ ap (λ (es : List Fault). all_told old.list es) (sym (decided more f)))
 
 -- in other states than text nothing is told
 pub silent_in : (t : Machine) (s : State) → t.state ≡ s → ((rows : List Row) (mode : TextMode) (name : Option (List ℕ)) (place : ℕ) (rest : List ℕ) → told_in rows s mode name place rest ≡ []) → IsSilent t
 silent_in t s e h = λ more f. rw e (h t.table.now t.mode t.last_name t.place (t.input.queue.items ++ more))
 
 -- what begins tells nothing
-pub silent_begun : (t : Machine) (region : Region) (b : Begin) → t.state ≡ Text region → Decided t.input (begin_at t.mode region t.last_name) b → ((place : ℕ) (text : List ℕ) → piece_errors b place text ≡ []) → IsSilent t
-silent_begun t region b s begun h = λ more f. rw (s, begun more f) (h t.place (t.input.queue.items ++ more))
+pub silent_begun : (t : Machine) (region : Region) (b : Begin) → t.state ≡ Text region → Decided t.input (begin_at t.mode region t.last_name) b → 0 < length t.input.queue.items → ((rows : List Row) (place : ℕ) (text : List ℕ) → begin_told rows b place text ≡ []) → IsSilent t
+silent_begun t region b s begun some h = λ more f. rw (s, begun more f, region_quiet region t.place (t.input.queue.items ++ more) (not_empty t.input.queue.items more some)) (h t.table.now t.place (t.input.queue.items ++ more))
 
--- the end tells nothing
-pub silent_end : (t : Machine) (region : Region) → t.state ≡ Text region → ((more : List ℕ) → MayFollow t.input.finished more → t.input.queue.items ++ more ≡ []) → IsSilent t
-silent_end t region s e = λ more f. rw (s, e more f) (none_at_end t.table.now region t.mode t.last_name t.place)
+-- what a `&` in text tells, and of the letters and digits after it
+pub both_told : (t : Machine) (region : Region) (told soon : List Fault) → t.state ≡ Text region → Decided t.input (begin_at t.mode region t.last_name) begins.Reference → 0 < length t.input.queue.items →
+    ((more : List ℕ) → MayFollow t.input.finished more → begun_ref_errors (ref_opener (t.input.queue.items ++ more)) (reference t.table.now (t.input.queue.items ++ more)) t.place (t.input.queue.items ++ more) ≡ told) →
+    ((more : List ℕ) → MayFollow t.input.finished more → soon_ref_errors (ref_opener (t.input.queue.items ++ more)) t.table.now t.place (t.input.queue.items ++ more) ≡ soon) →
+    (more : List ℕ) → MayFollow t.input.finished more → told_at t more ≡ told ++ soon
+both_told t region told soon s begun some h g = λ more f.
+    rw (s, begun more f, region_quiet region t.place (t.input.queue.items ++ more) (not_empty t.input.queue.items more some)) (ap₂ (λ (es fs : List Fault). es ++ fs) (h more f) (g more f))
+
+-- where nothing is told of these
+pub ref_told : (t : Machine) (region : Region) (told : List Fault) → t.state ≡ Text region → Decided t.input (begin_at t.mode region t.last_name) begins.Reference → 0 < length t.input.queue.items →
+    ((more : List ℕ) → MayFollow t.input.finished more → begun_ref_errors (ref_opener (t.input.queue.items ++ more)) (reference t.table.now (t.input.queue.items ++ more)) t.place (t.input.queue.items ++ more) ≡ told) →
+    ((more : List ℕ) → MayFollow t.input.finished more → soon_ref_errors (ref_opener (t.input.queue.items ++ more)) t.table.now t.place (t.input.queue.items ++ more) ≡ []) →
+    (more : List ℕ) → MayFollow t.input.finished more → told_at t more ≡ told
+ref_told t region told s begun some h none = λ more f. both_told t region told [] s begun some h none more f ∙ append-nil told
+
+-- what a reference gives is told
+pub ref_tells : (old new : Machine) (len first : ℕ) (second : Option ℕ) (progress : Progress) (f f' : Faults) → GivesChars old len first second progress new → TellsAt old f f' → Tells old progress f f'
+ref_tells old new len first None progress f f' (e, p) tells = rw e tells
+ref_tells old new len first (Some second) progress f f' (e, p) tells = rw e tells
+
+-- a number that ends is told
+pub number_tells : (t : Machine) (told : List Fault) (draft : NumberDraft) (progress : Progress) {given : Token} (f f' : Faults) → t.state ≡ Number draft → progress ≡ Given given →
+    ((more : List ℕ) → MayFollow t.input.finished more → number_told draft.base draft.value draft.start (slice_get (t.input.queue.items ++ more) 0) ≡ told) → Opens told f f' → Tells t progress f f'
+number_tells t told draft progress f f' s g h opens = rw g (tells_decided t told f f' (λ more m. rw s (h more m)) opens)
+
+-- a code point of text tells whether it is U+0000
+pub tells_char : (t : Machine) (region : Region) (c : ℕ) (old new : Faults) → t.state ≡ Text region → Decided t.input (begin_at t.mode region t.last_name) begins.Char → Decided t.input (λ rest. slice_get rest 0) (Some c) → 0 < length t.input.queue.items →
+    Opens (null_errors (Some c) t.place) old new → TellsAt t old new
+tells_char t region c old new s begun first some opens =
+    tells_decided t (null_errors (Some c) t.place) old new
+    (λ more f. rw (s, begun more f, region_quiet region t.place (t.input.queue.items ++ more) (not_empty t.input.queue.items more some)) (ap (λ (x : Option ℕ). null_errors x t.place) (first more f))) opens
+
+-- what the end tells is told
+pub tells_end : (t : Machine) (region : Region) (old new : Faults) → t.state ≡ Text region → ((more : List ℕ) → MayFollow t.input.finished more → t.input.queue.items ++ more ≡ []) → Opens (region_end_errors region t.place) old new → TellsAt t old new
+tells_end t region old new s e opens = tells_decided t (region_end_errors region t.place) old new (λ more f. rw (s, e more f) (told_at_end t.table.now region t.mode t.last_name t.place)) opens
 
 -- RUNS
 
@@ -114,7 +157,7 @@ pub told_same : (t : Machine) (old new : Faults) (run : Run) → IsQuiet old new
 told_same t old new run q told = λ kept more switches f. told (q kept).0 more switches f ∙ ap (λ (l : List Fault). all_told l (errors_to_come t more switches)) (sym (q kept).1)
 
 pub told_skips : (old new : Machine) (f f' : Faults) (run : Run) → Skips old new → IsQuiet f f' → IsAt old run → AreTold old f run → AreTold new f' run
-told_skips old new f f' run s q i told = told_same new f f' run q (λ kept more switches h. told kept more switches h ∙ ap (λ (es : List Fault). all_told (defined f.list) es) (s.3 more switches (rw i.finished h)))
+told_skips old new f f' run s q i told = told_same new f f' run q (λ kept more switches h. told kept more switches h ∙ ap (λ (es : List Fault). all_told f.list es) (s.3 more switches (rw i.finished h)))
 
 told_on : (told told' at_once later whole : List Fault) → whole ≡ at_once ++ later → told' ≡ all_told told at_once → all_told told whole ≡ all_told told' later
 told_on told told' at_once later whole e h = ap (λ (es : List Fault). all_told told es) e ∙ told_both told at_once later ∙ ap (λ (l : List Fault). all_told l later) (sym h)
@@ -123,20 +166,20 @@ pub told_more : (old new : Machine) (f f' : Faults) (run : Run) → Steps old Mo
 told_more old new f f' run s tells i told = λ kept more switches h.
     let g = tells kept in
     let k : MayFollow old.input.finished more = rw i.finished h in
-    told g.0 more switches h ∙ told_on (defined f.list) (defined f'.list) (told_at old more) (errors_to_come new more switches) (errors_to_come old more switches) (s.4 more switches k) (g.1 more k)
+    told g.0 more switches h ∙ told_on f.list f'.list (told_at old more) (errors_to_come new more switches) (errors_to_come old more switches) (s.4 more switches k) (g.1 more k)
 
 pub told_given : (old new : Machine) (f f' : Faults) (run : Run) (given : Token) (switch : Option TextMode) → Steps old (Given given) new → TellsAt old f f' → IsAt old run → AreTold old f run → AreTold (answered given switch new) f' (gave run given switch)
 told_given old new f f' run given switch s tells i told = λ kept more switches h.
     let g = tells kept in
     let k : MayFollow old.input.finished more = rw i.finished h in
     rw append_assoc
-    (told g.0 more (switch ∷ switches) h ∙ told_on (defined f.list) (defined f'.list) (told_at old more) (errors_to_come_after given switch new more switches) (errors_to_come old more (switch ∷ switches)) (s.3 more switch switches k) (g.1 more k))
+    (told g.0 more (switch ∷ switches) h ∙ told_on f.list f'.list (told_at old more) (errors_to_come_after given switch new more switches) (errors_to_come old more (switch ∷ switches)) (s.3 more switch switches k) (g.1 more k))
 
 -- what a `<` begins tells what is decided
 pub opens_told : (t : Machine) (region : Region) (found : Opener) (told : List Fault) → t.state ≡ Text region → Decided t.input (begin_at t.mode region t.last_name) begins.Markup → Decided t.input opener found →
-    Decided t.input (opening_errors found t.place) told → (more : List ℕ) → MayFollow t.input.finished more → told_at t more ≡ told
-opens_told t region found told s begun is errors = λ more f.
-    rw (s, begun more f)
+    Decided t.input (opening_errors found t.place) told → 0 < length t.input.queue.items → (more : List ℕ) → MayFollow t.input.finished more → told_at t more ≡ told
+opens_told t region found told s begun is errors some = λ more f.
+    rw (s, begun more f, region_quiet region t.place (t.input.queue.items ++ more) (not_empty t.input.queue.items more some))
     (ap (λ (o : Opener). opening_errors o t.place (t.input.queue.items ++ more)) (is more f) ∙ errors more f)
 
 -- a piece was fed
@@ -185,6 +228,7 @@ tells_ok (Err e) t old new silent q = tt
 none_after_end : (rows : List Row) (state : State) (mode : TextMode) (name : Option (List ℕ)) (place : ℕ) (rest : List ℕ) (switches : List (Option TextMode)) → IsEnded state → errors_coming rows state mode name place rest switches ≡ []
 none_after_end rows (Text region) mode name place rest switches h = absurd h
 none_after_end rows (Number d) mode name place rest switches h = absurd h
+none_after_end rows (Ampersand start) mode name place rest switches h = absurd h
 none_after_end rows (Second c start) mode name place rest switches h = absurd h
 none_after_end rows (Comment d) mode name place rest switches h = absurd h
 none_after_end rows (Doctype d) mode name place rest switches h = absurd h
@@ -193,15 +237,15 @@ none_after_end rows Section mode name place rest switches h = absurd h
 none_after_end rows Ended mode name place rest switches h = refl
 
 -- once all tokens were given, the errors told are those of the text
-pub whole_told : (t : Machine) (f : Faults) (run : Run) → IsAt t run → f.lost ≡ false → AreTold t f run → run.finished ≡ true → tokens_of run.text run.switches run.start ≡ run.given → defined f.list ≡ errors_of run.text run.switches run.start
+pub whole_told : (t : Machine) (f : Faults) (run : Run) → IsAt t run → f.lost ≡ false → AreTold t f run → run.finished ≡ true → tokens_of run.text run.switches run.start ≡ run.given → f.list ≡ errors_of run.text run.switches run.start
 whole_told t f run i kept told finished all =
     let whole = i.tokens [] [] (λ _. refl) in
     let none : to_come t [] [] ≡ [] = same_front run.given (to_come t [] []) (sym all ∙ ap₂ (λ text said. tokens_of text said run.start) (sym (append-nil run.text)) (sym (append-nil run.switches)) ∙ whole) in
     let end = none_to_come t.table.now t.state t.mode t.last_name t.place (t.input.queue.items ++ []) [] none in
     sym (ap₂ (λ text said. errors_of text said run.start) (sym (append-nil run.text)) (sym (append-nil run.switches))
     ∙ told kept [] [] (λ _. refl)
-    ∙ ap (λ (es : List Fault). all_told (defined f.list) es) (none_after_end t.table.now t.state t.mode t.last_name t.place (t.input.queue.items ++ []) [] end)
-    ∙ told_none (defined f.list))
+    ∙ ap (λ (es : List Fault). all_told f.list es) (none_after_end t.table.now t.state t.mode t.last_name t.place (t.input.queue.items ++ []) [] end)
+    ∙ told_none f.list)
 
 -- WHAT BEGINS A BOGUS COMMENT
 

@@ -1,6 +1,7 @@
 -- Attributes that are read at once.
-use Rattle.std.proofs.Common.{◌≡◌, ℕ, zero, suc, ◌+◌, ◌-◌, ◌<◌, ◌≤◌, List, [], ◌∷◌, ◌++◌, ◌||◌, ◌==◌, length, take, drop, Option, Some, None, Result, Ok, Err, Bool, true, false, refl, ap, sym, ◌∙◌, inl, inr, arith, append-nil, length-drop}
+use Rattle.std.proofs.Common.{◌≡◌, ℕ, zero, suc, ◌+◌, ◌-◌, ◌<◌, ◌≤◌, List, [], ◌∷◌, ◌++◌, ◌||◌, ◌==◌, length, take, drop, Option, Some, None, Result, Ok, Err, Bool, true, false, not, refl, ap, ap₂, sym, ◌∙◌, inl, inr, arith, add-zero, append-nil, length-drop}
 use Rattle.std.specs.List.{slice_get}
+use Rattle.std.specs.Option.{option_map}
 use Rattle.std.specs.Result.{OnErr}
 use Rattle.std.proofs.lemmas.List.{drop-drop}
 use Rattle.std.proofs.lemmas.Bool.{false≢true}
@@ -8,7 +9,7 @@ use Rattle.std.proofs.lemmas.Option.{slice_get_within}
 use Rattle.html_charref.specs.declared.table.Row.{Row}
 use Rattle.html_tokens.specs.Bounds.{Bounded, IsBounded, IsWithin}
 use Rattle.html_tokens.specs.Copied.{AllPass, CopiesTag, copied_in, is_copied}
-use Rattle.html_tokens.specs.Cut.{cut, ends_unquoted, is_space}
+use Rattle.html_tokens.specs.Cut.{cut, ends_unquoted, is_space, passes}
 use Rattle.html_tokens.specs.Fed.{told_at, IsSilent, EndsTagAt, Passes, Skips, Steps, new_tag}
 use Rattle.html_tokens.specs.Input.{Decided}
 use Rattle.html_tokens.specs.Marks.{begin_at}
@@ -39,14 +40,26 @@ use Rattle.html_tokens.specs.declared.token.Region.TheVariants.{Plain}
 use Rattle.html_tokens.specs.declared.token.Token.{Token}
 use Rattle.html_tokens.specs.declared.whole_attr.WholeAttr.{WholeAttr}
 use Rattle.html_tokens.proofs.BoundLemmas.{square_on, tag_fails, tag_off, tag_on, to_tag}
-use Rattle.html_tokens.proofs.CopyLemmas.{attr_name_front, first_false, inside_front, name_front, name_stands, neither, none_front}
+use Rattle.html_tokens.proofs.CopyLemmas.{attr_name_front, inside_front, name_front, none_front}
+use Rattle.html_tokens.proofs.PartLemmas.{closes_by, first_false, name_ends_told, name_part, name_stands, neither, passes_quietly, second_false, space_closes_told, value_opens_told}
 use Rattle.html_tokens.proofs.TagLemmas.{tag_given_at, tag_opens, tag_skips}
+use Rattle.html_tokens.proofs.NameLemmas.{added_after, none_twice}
+use Rattle.html_tokens.specs.AttrNames.{names_by, names_in, names_of, with_name}
+use Rattle.html_tokens.specs.InsideTags.{part_errors, part_told, tag_char_errors}
 
--- a code point is passed in a tag, which comes to the same
-record Takes (d : TagDraft) (c : ℕ) (d' : TagDraft) : Type 0 where
+-- a code point is passed in a tag, which comes to the same, and tells nothing before what follows so
+record Takes (P : List ℕ → Type 0) (d : TagDraft) (c : ℕ) (d' : TagDraft) : Type 0 where
   same : (rows : List Row) (rest : List ℕ) → draft_tag rows d (c ∷ rest) ≡ longer_tag (draft_tag rows d' rest)
+  quiet : (rows : List Row) (place : ℕ) (rest : List ℕ) → P rest → part_errors rows (names_in d) d.part place (c ∷ rest) ≡ part_errors rows (names_in d') d'.part (place + 1) rest
   start : d'.start ≡ d.start
   is_end : d'.is_end ≡ d.is_end
+
+abbrev Any : List ℕ → Type 0
+Any rest = Unit {0}
+
+-- what may follow a quote
+abbrev Free : List ℕ → Type 0
+Free rest = passes (λ c. not (ends_name c)) (slice_get rest 0) ≡ false
 
 by_one : (t : WholeTag) → longer_tag t ≡ tag_by 1 t
 by_one t = let e : suc t.tail.len ≡ 1 + t.tail.len = omega arith in rw e refl
@@ -54,8 +67,9 @@ by_one t = let e : suc t.tail.len ≡ 1 + t.tail.len = omega arith in rw e refl
 by_sum : (n m : ℕ) (t : WholeTag) → tag_by n (tag_by m t) ≡ tag_by (n + m) t
 by_sum n m t = let e : n + (m + t.tail.len) ≡ n + m + t.tail.len = omega arith in rw e refl
 
-copies_one : (d d' : TagDraft) (c : ℕ) (rest : List ℕ) → Takes d c d' → CopiesTag d (c ∷ rest) 1 d'
-copies_one d d' c rest t = ((λ rows more. t.same rows (rest ++ more) ∙ by_one (draft_tag rows d' (rest ++ more))), omega arith, t.start, t.is_end)
+copies_one : (P : List ℕ → Type 0) (d d' : TagDraft) (c : ℕ) (rest : List ℕ) → Takes P d c d' → ((more : List ℕ) → P (rest ++ more)) → CopiesTag d (c ∷ rest) 1 d'
+copies_one P d d' c rest t follows =
+    ((λ rows more. t.same rows (rest ++ more) ∙ by_one (draft_tag rows d' (rest ++ more))), omega arith, t.start, t.is_end, (λ rows place more. t.quiet rows place (rest ++ more) (follows more)))
 
 pub copies_then : (a b c : TagDraft) (text : List ℕ) (n m : ℕ) → CopiesTag a text n b → CopiesTag b (drop n text) m c → CopiesTag a text (n + m) c
 copies_then a b c text n m s t =
@@ -69,17 +83,16 @@ copies_then a b c text n m s t =
       omega arith,
       t.2 ∙ s.2,
       t.3 ∙ s.3,
+      (λ rows place more.
+          let e : place + (n + m) ≡ place + n + m = omega arith in
+          rw e (s.4 rows place more ∙ t.4 rows (place + n) more ∙ ap (λ (x : List ℕ). part_errors rows (names_in c) c.part (place + n + m) (x ++ more)) (drop-drop m n text))),
     )
 
-second_false : (a b : Bool) → (a || b) ≡ false → b ≡ false
-second_false true b h = absurd (false≢true (sym h))
-second_false false b h = h
-
-takes_space : (d : TagDraft) → d.part ≡ parts.Attributes → Takes d 32 d
+takes_space : (d : TagDraft) → d.part ≡ parts.Attributes → Takes Any d 32 d
 unfolding tail
-takes_space d p = record { same = λ rows rest. rw p refl; start = refl; is_end = refl }
+takes_space d p = record { same = λ rows rest. rw p refl; quiet = λ rows place rest _. rw p (passes_quietly rows (names_by parts.Attributes (names_of d.attrs) d.attr_name) parts.Attributes parts.Attributes place 32 rest refl (λ r. absurd (false≢true r)) refl refl refl refl); start = refl; is_end = refl }
 
-takes_first : (d : TagDraft) (c : ℕ) → d.part ≡ parts.Attributes → is_copied copied.Name c ≡ true → Takes d c (record d { part = parts.AttrName; attr_name = c ∷ []; attr_value = [] })
+takes_first : (d : TagDraft) (c : ℕ) → d.part ≡ parts.Attributes → is_copied copied.Name c ≡ true → Takes Any d c (record d { part = parts.AttrName; attr_name = c ∷ []; attr_value = [] })
 unfolding tail
 takes_first d c p h =
     let s = name_stands c h in
@@ -88,19 +101,26 @@ takes_first d c p h =
     let g : (c == 62) ≡ false = second_false (is_space c || c == 47) (c == 62) e in
     let i : is_space c ≡ false = first_false (is_space c) (c == 47) f in
     let j : (c == 47) ≡ false = second_false (is_space c) (c == 47) f in
-    record { same = λ rows rest. rw (p, g, j, i, s.1) refl; start = refl; is_end = refl }
+    let m = name_part c h in
+    record {
+      same = λ rows rest. rw (p, g, j, i, s.1) refl;
+      quiet = λ rows place rest _.
+          rw p (passes_quietly rows (names_by parts.Attributes (names_of d.attrs) d.attr_name) parts.Attributes parts.AttrName place c rest refl (λ r. absurd (false≢true r)) (rw (m.greater, m.slash) refl) (rw (m.slash, m.equals, m.double, m.single, m.less, m.null) refl) (rw m.ends refl) refl ∙ rw (m.ends, s.1) refl);
+      start = refl;
+      is_end = refl;
+    }
 
-takes_equals : (d : TagDraft) → d.part ≡ parts.AttrName → Takes d 61 (record d { part = parts.Value })
+takes_equals : (d : TagDraft) → d.part ≡ parts.AttrName → has_name d.attr_name d.attrs ≡ false → Takes Any d 61 (record d { part = parts.Value })
 unfolding cut tail after_some after_name
-takes_equals d p = record { same = λ rows rest. rw (p, append-nil d.name, append-nil d.attr_name) refl; start = refl; is_end = refl }
+takes_equals d p h = record { same = λ rows rest. rw (p, append-nil d.name, append-nil d.attr_name) refl; quiet = λ rows place rest _. rw p (passes_quietly rows (names_by parts.AttrName (names_of d.attrs) d.attr_name) parts.AttrName parts.Value place 61 rest refl (λ r. absurd (false≢true r)) refl refl refl (none_twice d.attrs d.attr_name (Some 61) place h)); start = refl; is_end = refl }
 
-takes_double : (d : TagDraft) → d.part ≡ parts.Value → Takes d 34 (record d { part = parts.Inside ends.DoubleQuote })
+takes_double : (d : TagDraft) → d.part ≡ parts.Value → Takes Any d 34 (record d { part = parts.Inside ends.DoubleQuote })
 unfolding tail value
-takes_double d p = record { same = λ rows rest. rw p refl; start = refl; is_end = refl }
+takes_double d p = record { same = λ rows rest. rw p refl; quiet = λ rows place rest _. rw p (passes_quietly rows (names_by parts.Value (names_of d.attrs) d.attr_name) parts.Value (parts.Inside ends.DoubleQuote) place 34 rest refl (λ r g. absurd (omega arith)) refl refl refl refl); start = refl; is_end = refl }
 
-takes_single : (d : TagDraft) → d.part ≡ parts.Value → Takes d 39 (record d { part = parts.Inside ends.SingleQuote })
+takes_single : (d : TagDraft) → d.part ≡ parts.Value → Takes Any d 39 (record d { part = parts.Inside ends.SingleQuote })
 unfolding tail value
-takes_single d p = record { same = λ rows rest. rw p refl; start = refl; is_end = refl }
+takes_single d p = record { same = λ rows rest. rw p refl; quiet = λ rows place rest _. rw p (passes_quietly rows (names_by parts.Value (names_of d.attrs) d.attr_name) parts.Value (parts.Inside ends.SingleQuote) place 39 rest refl (λ r g. absurd (omega arith)) refl refl refl refl); start = refl; is_end = refl }
 
 added : (attrs : List Attr) (a : Attr) → has_name a.name attrs ≡ false → add_first attrs a ≡ attrs ++ a ∷ []
 added attrs a h = rw h refl
@@ -114,25 +134,30 @@ record IsAfter (d front : TagDraft) : Type 0 where
   start : front.start ≡ d.start
   is_end : front.is_end ≡ d.is_end
 
+names_after : (d front : TagDraft) → IsAfter d front → names_of front.attrs ≡ with_name (names_of d.attrs) d.attr_name
+names_after d front a = rw a.attrs (added_after d.attrs (attr d.attr_name d.attr_value) a.new)
+
 closed_with : (d : TagDraft) (t : Tail) (k : ℕ) → List Attr → WholeTag
 closed_with d t k kept = record { name = d.name; tail = record { attrs = firsts_after kept t.attrs; self_closing = t.self_closing; closed = t.closed; len = k } }
 
-double_closes : (d front : TagDraft) → d.part ≡ parts.Inside ends.DoubleQuote → IsAfter d front → Takes d 34 front
+double_closes : (d front : TagDraft) → d.part ≡ parts.Inside ends.DoubleQuote → IsAfter d front → Takes Free d 34 front
 unfolding tail value_cut closed_with
 double_closes d front p a = record {
   same = λ rows rest.
       let t = tail rows 0 rest in
       rw (p, a.part, a.name, a.attrs, append-nil d.name, append-nil d.attr_value) (ap (closed_with d t (suc t.len)) (added d.attrs (attr d.attr_name d.attr_value) a.new));
+  quiet = λ rows place rest free. rw (p, a.part, names_after d front a) (passes_quietly rows (names_by (parts.Inside ends.DoubleQuote) (names_of d.attrs) d.attr_name) (parts.Inside ends.DoubleQuote) parts.Attributes place 34 rest refl (λ r g. absurd (omega arith)) refl (rw free refl) refl refl);
   start = a.start;
   is_end = a.is_end;
 }
 
-single_closes : (d front : TagDraft) → d.part ≡ parts.Inside ends.SingleQuote → IsAfter d front → Takes d 39 front
+single_closes : (d front : TagDraft) → d.part ≡ parts.Inside ends.SingleQuote → IsAfter d front → Takes Free d 39 front
 unfolding tail value_cut closed_with
 single_closes d front p a = record {
   same = λ rows rest.
       let t = tail rows 0 rest in
       rw (p, a.part, a.name, a.attrs, append-nil d.name, append-nil d.attr_value) (ap (closed_with d t (suc t.len)) (added d.attrs (attr d.attr_name d.attr_value) a.new));
+  quiet = λ rows place rest free. rw (p, a.part, names_after d front a) (passes_quietly rows (names_by (parts.Inside ends.SingleQuote) (names_of d.attrs) d.attr_name) (parts.Inside ends.SingleQuote) parts.Attributes place 39 rest refl (λ r g. absurd (omega arith)) refl (rw free refl) refl refl);
   start = a.start;
   is_end = a.is_end;
 }
@@ -140,11 +165,12 @@ single_closes d front p a = record {
 -- a draft that comes to the same before what stands here
 record Turns (d : TagDraft) (text : List ℕ) (d' : TagDraft) : Type 0 where
   same : (rows : List Row) (more : List ℕ) → draft_tag rows d (text ++ more) ≡ draft_tag rows d' (text ++ more)
+  quiet : (rows : List Row) (place : ℕ) (more : List ℕ) → part_errors rows (names_in d) d.part place (text ++ more) ≡ part_errors rows (names_in d') d'.part place (text ++ more)
   start : d'.start ≡ d.start
   is_end : d'.is_end ≡ d.is_end
 
 copies_turn : (d d' : TagDraft) (text : List ℕ) → Turns d text d' → CopiesTag d text 0 d'
-copies_turn d d' text t = ((λ rows more. t.same rows more ∙ (none_front d' text).0 rows more), omega arith, t.start, t.is_end)
+copies_turn d d' text t = ((λ rows more. t.same rows more ∙ (none_front d' text).0 rows more), omega arith, t.start, t.is_end, (λ rows place more. rw add-zero (t.quiet rows place more)))
 
 -- a value without quotes begins
 opens_unquoted : (d : TagDraft) (c : ℕ) (rest : List ℕ) → d.part ≡ parts.Value → is_copied copied.Unquoted c ≡ true → Turns d (c ∷ rest) (record d { part = parts.Inside ends.Space })
@@ -155,7 +181,7 @@ opens_unquoted d c rest p h =
     let e = neither (c == 34) _ b.1 in
     let f = neither (c == 39) _ e.1 in
     let s : is_space c ≡ false = first_false (is_space c) (c == 62) a.0 in
-    record { same = λ rows more. rw (p, s, e.0, f.0) refl; start = refl; is_end = refl }
+    record { same = λ rows more. rw (p, s, e.0, f.0) refl; quiet = λ rows place more. rw p (value_opens_told rows (names_by parts.Value (names_of d.attrs) d.attr_name) place c (rest ++ more) h); start = refl; is_end = refl }
 
 -- and ends
 space_closes : (d front : TagDraft) (c : ℕ) (rest : List ℕ) → d.part ≡ parts.Inside ends.Space → ends_unquoted c ≡ true → IsAfter d front → Turns d (c ∷ rest) front
@@ -164,6 +190,7 @@ space_closes d front c rest p h a = record {
   same = λ rows more.
       let t = tail rows 0 (c ∷ rest ++ more) in
       rw (p, a.part, a.name, a.attrs, append-nil d.name, h, append-nil d.attr_value) (ap (closed_with d t t.len) (added d.attrs (attr d.attr_name d.attr_value) a.new));
+  quiet = λ rows place more. rw (p, a.part, names_after d front a) (space_closes_told rows (names_by (parts.Inside ends.Space) (names_of d.attrs) d.attr_name) place c (rest ++ more) h);
   start = a.start;
   is_end = a.is_end;
 }
@@ -177,12 +204,26 @@ copies_name d (c ∷ rest) (suc k) p s h a =
     let first = record d { part = parts.AttrName; attr_name = c ∷ []; attr_value = [] } in
     let e : 1 + k ≡ suc k = omega arith in
     rw e at (copies_then d first (record d { part = parts.AttrName; attr_name = take (suc k) (c ∷ rest); attr_value = [] }) (c ∷ rest) 1 k
-    (copies_one d first c rest (takes_first d c p a.0)) (attr_name_front first rest k refl (omega arith) a.1))
+    (copies_one Any d first c rest (takes_first d c p a.0) (λ more. tt)) (attr_name_front first rest k refl (omega arith) a.1))
 
 -- a code point that is known
-copies_known : (d d' : TagDraft) (text : List ℕ) (c : ℕ) → slice_get text 0 ≡ Some c → Takes d c d' → CopiesTag d text 1 d'
+copies_known : (d d' : TagDraft) (text : List ℕ) (c : ℕ) → slice_get text 0 ≡ Some c → Takes Any d c d' → CopiesTag d text 1 d'
 copies_known d d' [] c e t = absurd cc
-copies_known d d' (x ∷ rest) c e t = let f : x ≡ c = cc in rw f (copies_one d d' c rest t)
+copies_known d d' (x ∷ rest) c e t = let f : x ≡ c = cc in rw f (copies_one Any d d' c rest t (λ more. tt))
+
+free_more : (rest more : List ℕ) → option_map ends_name (slice_get rest 0) ≡ Some true → Free (rest ++ more)
+free_more [] more e = absurd cc
+free_more (x ∷ rest) more e = let f : ends_name x ≡ true = cc in rw f refl
+
+-- a quote that closes
+copies_closed : (d d' : TagDraft) (text : List ℕ) (c : ℕ) → slice_get text 0 ≡ Some c → Takes Free d c d' → option_map ends_name (slice_get text 1) ≡ Some true → CopiesTag d text 1 d'
+copies_closed d d' [] c e t free = absurd cc
+copies_closed d d' (x ∷ rest) c e t free = let f : x ≡ c = cc in rw f (copies_one Free d d' c rest t (λ more. free_more rest more free))
+
+get_later : (text : List ℕ) (n : ℕ) → slice_get (drop n text) 1 ≡ slice_get text (n + 1)
+get_later text zero = refl
+get_later [] (suc n) = refl
+get_later (x ∷ xs) (suc n) = let e : suc n + 1 ≡ suc (n + 1) = omega arith in rw e (get_later xs n)
 
 get_drop : (text : List ℕ) (n c : ℕ) → slice_get text n ≡ Some c → slice_get (drop n text) 0 ≡ Some c
 get_drop text zero c e = e
@@ -190,13 +231,13 @@ get_drop [] (suc n) c e = e
 get_drop (x ∷ xs) (suc n) c e = get_drop xs n c e
 
 -- a value in quotes
-copies_quoted : (d opened front : TagDraft) (rest : List ℕ) (end : ValueEnd) (quote len : ℕ) → Takes d quote opened → opened.part ≡ parts.Inside end → Takes (record opened { attr_value = opened.attr_value ++ take len (drop 1 rest) }) quote front →
-    slice_get rest 0 ≡ Some quote → AllPass (is_copied (copied_in end)) (take len (drop 1 rest)) → slice_get (drop 1 rest) len ≡ Some quote → CopiesTag d rest (1 + (len + 1)) front
-copies_quoted d opened front rest end quote len t p u first valued last =
+copies_quoted : (d opened front : TagDraft) (rest : List ℕ) (end : ValueEnd) (quote len : ℕ) → Takes Any d quote opened → opened.part ≡ parts.Inside end → Takes Free (record opened { attr_value = opened.attr_value ++ take len (drop 1 rest) }) quote front →
+    slice_get rest 0 ≡ Some quote → AllPass (is_copied (copied_in end)) (take len (drop 1 rest)) → slice_get (drop 1 rest) len ≡ Some quote → option_map ends_name (slice_get (drop 1 rest) (len + 1)) ≡ Some true → CopiesTag d rest (1 + (len + 1)) front
+copies_quoted d opened front rest end quote len t p u first valued last free =
     let inner = drop 1 rest in
     let room = slice_get_within inner len quote last in
     copies_then d opened front rest 1 (len + 1) (copies_known d opened rest quote first t)
-    (copies_then opened _ front inner len 1 (inside_front end opened inner len p (omega arith) valued) (copies_known _ front (drop len inner) quote (get_drop inner len quote last) u))
+    (copies_then opened _ front inner len 1 (inside_front end opened inner len p (omega arith) valued) (copies_closed _ front (drop len inner) quote (get_drop inner len quote last) u (ap (λ (x : Option ℕ). option_map ends_name x) (get_later inner len) ∙ free)))
 
 copies_as : (a b : TagDraft) (text : List ℕ) (n m : ℕ) → n ≡ m → CopiesTag a text n b → CopiesTag a text m b
 copies_as a b text n m e c = rw e at c
@@ -236,10 +277,10 @@ copies_value : (end : ValueEnd) (d front : TagDraft) (rest : List ℕ) (len : �
     front ≡ record d { part = parts.Attributes; attrs = d.attrs ++ attr d.attr_name (take len (drop (quote_len end) rest)) ∷ []; attr_name = front.attr_name; attr_value = front.attr_value } → CopiesTag d rest (quote_len end + (len + quote_len end)) front
 copies_value ends.DoubleQuote d front rest len p z v h f =
     copies_quoted d (record d { part = parts.Inside ends.DoubleQuote }) front rest ends.DoubleQuote 34 len (takes_double d p) refl
-    (double_closes _ front refl (record { new = h; part = rw f refl; name = rw f refl; attrs = rw (f, z) refl; start = rw f refl; is_end = rw f refl })) v.begins v.valued v.close
+    (double_closes _ front refl (record { new = h; part = rw f refl; name = rw f refl; attrs = rw (f, z) refl; start = rw f refl; is_end = rw f refl })) v.begins v.valued v.close v.free
 copies_value ends.SingleQuote d front rest len p z v h f =
     copies_quoted d (record d { part = parts.Inside ends.SingleQuote }) front rest ends.SingleQuote 39 len (takes_single d p) refl
-    (single_closes _ front refl (record { new = h; part = rw f refl; name = rw f refl; attrs = rw (f, z) refl; start = rw f refl; is_end = rw f refl })) v.begins v.valued v.close
+    (single_closes _ front refl (record { new = h; part = rw f refl; name = rw f refl; attrs = rw (f, z) refl; start = rw f refl; is_end = rw f refl })) v.begins v.valued v.close v.free
 copies_value ends.Space d front rest len p z v h f =
     let s = v.some in
     copies_as d front rest len (0 + (len + 0)) (omega arith)
@@ -254,7 +295,7 @@ copies_whole d front text a p w h f =
     let named = record d { part = parts.AttrName; attr_name = take n text; attr_value = [] } in
     let valued = record named { part = parts.Value } in
     copies_then d named front text n (1 + (q + (a.value + q))) (copies_name d text n p w.some w.fit w.named)
-    (copies_then named valued front rest 1 (q + (a.value + q)) (copies_known named valued rest 61 w.equals (takes_equals named refl))
+    (copies_then named valued front rest 1 (q + (a.value + q)) (copies_known named valued rest 61 w.equals (takes_equals named refl h))
     (copies_value a.end valued front (drop 1 rest) a.value refl refl w.value h (rw (f, p) refl)))
 
 -- a space that may stand before it
@@ -310,7 +351,7 @@ takes_name d named d1 n len compared a h = λ place faults b.
 pub names_end : (d : TagDraft) (text : List ℕ) (c : ℕ) → d.part ≡ parts.Name → slice_get text 0 ≡ Some c → ends_name c ≡ true → CopiesTag d text 0 (record d { part = parts.Attributes })
 unfolding cut
 names_end d [] c p e h = absurd cc
-names_end d (x ∷ rest) c p e h = let f : x ≡ c = cc in rw f (copies_turn d (record d { part = parts.Attributes }) (c ∷ rest) (record { same = λ rows more. rw (p, h) refl; start = refl; is_end = refl }))
+names_end d (x ∷ rest) c p e h = let f : x ≡ c = cc in rw f (copies_turn d (record d { part = parts.Attributes }) (c ∷ rest) (record { same = λ rows more. rw (p, h) refl; quiet = λ rows place more. rw p (name_ends_told rows (names_by parts.Name (names_of d.attrs) d.attr_name) place c (rest ++ more) h); start = refl; is_end = refl }))
 
 -- a name
 pub copies_start : (d : TagDraft) (rest pushed : List ℕ) (name : ℕ) → d.part ≡ parts.Name → name ≤ length rest → AllPass (is_copied copied.Name) (take name rest) → pushed ≡ d.name ++ take name rest → CopiesTag d rest name (record d { name = pushed })
@@ -380,19 +421,23 @@ closes_whole old passed new d self_closing len given skips named (inl (first, sc
     let room = slice_get_within items 0 62 first in
     let p = is_named d.part items 62 named first refl in
     let ends' : EndsTagAt m d false 1 (Given given) new = rw (sc, one) at (ends_as passed new d self_closing len given ends) in
-    gives_after old m new given skips (tag_given_at m new d d 62 None false 1 (Given given) refl (closes_at d p) (λ more f. front_more items more 0 62 first) (λ h. absurd (false≢true (ap (λ (n : ℕ). n == 47) h))) (omega arith) refl ends') silent
-    (λ more. start_told m.table.now d m.place (items ++ more) (read_tag d false 1) is
-    (ap (λ (x : List ℕ). draft_tag m.table.now d x) (first_of items more 62 (front_more items more 0 62 first) room) ∙ (closes_at d p).0 m.table.now (drop 1 items ++ more) (λ h. absurd (false≢true (ap (λ (n : ℕ). n == 47) h)))) refl)
+    gives_after old m new given skips (tag_given_at m new d d 62 None false 1 (Given given) refl (closes_at d p) (rw p (closes_by parts.Attributes parts.Attributes 62 None false 1 refl refl)) (λ r. absurd (false≢true (rw p at r))) (λ more f. front_more items more 0 62 first) (λ h. absurd (false≢true (rw p at h))) (omega arith) refl ends') silent
+    (λ more.
+    let at_end : part_told m.table.now (names_in d) d.part m.place (items ++ more) ≡ [] = ap₂ (λ (q : Part) (x : List ℕ). part_told m.table.now (names_by q (names_of d.attrs) d.attr_name) q m.place x) p (first_of items more 62 (front_more items more 0 62 first) room) in
+    rw at_end (start_told m.table.now d m.place (items ++ more) (read_tag d false 1) is
+    (ap (λ (x : List ℕ). draft_tag m.table.now d x) (first_of items more 62 (front_more items more 0 62 first) room) ∙ (closes_at d p).0 m.table.now (drop 1 items ++ more) (λ h. absurd (false≢true (ap (λ (n : ℕ). n == 47) h)))) refl))
 closes_whole old passed new d self_closing len given skips named (inr (first, second, sc, two)) ends silent is =
     let m = record passed { state = Tag d } in
     let items = passed.input.queue.items in
     let room = slice_get_within items 1 62 second in
     let p = is_named d.part items 47 named first refl in
     let ends' : EndsTagAt m d true 2 (Given given) new = rw (sc, two) at (ends_as passed new d self_closing len given ends) in
-    gives_after old m new given skips (tag_given_at m new d d 47 (Some 62) true 2 (Given given) refl (closes_itself d p) (λ more f. front_more items more 0 47 first) (λ h more f. front_more items more 1 62 second) (omega arith) refl ends') silent
+    gives_after old m new given skips (tag_given_at m new d d 47 (Some 62) true 2 (Given given) refl (closes_itself d p) (rw p (closes_by parts.Attributes parts.Attributes 47 (Some 62) true 2 refl refl)) (λ r. absurd (false≢true (rw p at r))) (λ more f. front_more items more 0 47 first) (λ h more f. front_more items more 1 62 second) (omega arith) refl ends') silent
     (λ more. let text = first_of items more 47 (front_more items more 0 47 first) (omega arith) in
-    start_told m.table.now d m.place (items ++ more) (read_tag d true 2) is
-    (ap (λ (x : List ℕ). draft_tag m.table.now d x) text ∙ (closes_itself d p).0 m.table.now (drop 1 items ++ more) (λ h. rw text at (front_more items more 1 62 second))) refl)
+    let at_end : part_told m.table.now (names_in d) d.part m.place (items ++ more) ≡ [] =
+    ap₂ (λ (q : Part) (x : List ℕ). part_told m.table.now (names_by q (names_of d.attrs) d.attr_name) q m.place x) p text ∙ ap (λ (x : Option ℕ). tag_char_errors parts.Attributes 47 x m.place ++ []) (rw text at (front_more items more 1 62 second)) in
+    rw at_end (start_told m.table.now d m.place (items ++ more) (read_tag d true 2) is
+    (ap (λ (x : List ℕ). draft_tag m.table.now d x) text ∙ (closes_itself d p).0 m.table.now (drop 1 items ++ more) (λ h. rw text at (front_more items more 1 62 second))) refl))
 
 -- the bounds after what was read of it
 pub whole_bounded : (old passed : Machine) (d d' : TagDraft) (n compared : ℕ) (f f' : Faults) → old.state ≡ Text Plain → d.attrs ≡ [] → KeepsBounds d n compared d' → passed.place ≡ old.place + (1 + n) →

@@ -4,7 +4,7 @@ use Rattle.std.specs.Prelude.{ℕ, ◌+◌, ◌*◌, ◌≤◌, length}
 use Rattle.html_tokens.specs.declared.faults.Faults.{Faults}
 use Rattle.html_tokens.specs.declared.machine.Machine.{Machine}
 use Rattle.html_tokens.specs.declared.machine.State.{State}
-use Rattle.html_tokens.specs.declared.machine.State.TheVariants.{Text, Number, Second, Comment, Doctype, Tag, Section, Ended}
+use Rattle.html_tokens.specs.declared.machine.State.TheVariants.{Text, Number, Second, Ampersand, Comment, Doctype, Tag, Section, Ended}
 
 -- at most so many errors more, and so many comparisons
 abbrev pub Told : ℕ → ℕ → Faults → Faults → Type 0
@@ -15,6 +15,7 @@ abbrev pub due : State → ℕ
 due (Text region) = 8
 due (Number draft) = 10
 due (Second c start) = 8
+due (Ampersand start) = 8
 due (Comment draft) = 10
 due (Doctype draft) = 10
 due (Tag draft) = 15
@@ -26,6 +27,7 @@ abbrev pub searches : State → ℕ → ℕ
 searches (Text region) place = 0
 searches (Number draft) place = 0
 searches (Second c start) place = 0
+searches (Ampersand start) place = 0
 searches (Comment draft) place = 0
 searches (Doctype draft) place = 0
 searches (Tag draft) place = place
@@ -37,6 +39,7 @@ abbrev pub attr_count : State → ℕ
 attr_count (Text region) = 0
 attr_count (Number draft) = 0
 attr_count (Second c start) = 0
+attr_count (Ampersand start) = 0
 attr_count (Comment draft) = 0
 attr_count (Doctype draft) = 0
 attr_count (Tag draft) = length draft.attrs

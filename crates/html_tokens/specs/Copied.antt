@@ -2,9 +2,11 @@
 -- Code points that names, values and comments take as they stand: they end nothing, begin nothing, become nothing else and tell no error.
 use Rattle.std.specs.Prelude.{◌≡◌, ℕ, ◌+◌, ◌≤◌, List, [], ◌∷◌, ◌++◌, length, drop, Bool, true, false, not, ◌||◌, ◌==◌, Some}
 use Rattle.std.specs.List.{slice_get}
+use Rattle.html_tokens.specs.AttrNames.{names_in}
 use Rattle.html_tokens.specs.Cut.{Cut, ends_unquoted}
 use Rattle.html_tokens.specs.Draft.{draft_cut}
 use Rattle.html_tokens.specs.Inside.{comment_errors}
+use Rattle.html_tokens.specs.InsideTags.{part_errors}
 use Rattle.html_tokens.specs.Tag.{between, ends_attr, draft_tag, tag_by}
 use Rattle.html_charref.specs.declared.table.Row.{Row}
 use Rattle.html_tokens.specs.declared.comment.CommentDraft.{CommentDraft}
@@ -48,6 +50,7 @@ abbrev pub CopiesTag : TagDraft → List ℕ → ℕ → TagDraft → Type 0
 CopiesTag old text n new =
     ((rows : List Row) (more : List ℕ) → draft_tag rows old (text ++ more) ≡ tag_by n (draft_tag rows new (drop n text ++ more)))
     × (n ≤ length text) × (new.start ≡ old.start) × (new.is_end ≡ old.is_end)
+    × ((rows : List Row) (place : ℕ) (more : List ℕ) → part_errors rows (names_in old) old.part place (text ++ more) ≡ part_errors rows (names_in new) new.part (place + n) (drop n text ++ more))
 
 -- so many code points more
 abbrev pub cut_by : ℕ → Cut → Cut

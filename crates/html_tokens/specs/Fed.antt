@@ -1,21 +1,25 @@
--- Claimed, but for this crate's own functions: SameCount, to_come_after, errors_to_come_after, told_at, IsSilent, TellsAt, Tells, Steps, Skips, Passes, IsComment, IsTag, IsDoctype, EndsDoctype, BeginsDoctype, EndsComment, new_tag, BeginsTag, mode_after_tag, name_after_tag, read_tag, EndsTagAt, EndsTag, GivesChars.
+-- Claimed, but for this crate's own functions: SameCount, to_come_after, errors_to_come_after, told_at, IsSilent, TellsAt, Tells, Steps, Skips, Passes, IsComment, IsTag, IsDoctype, EndsDoctype, BeginsDoctype, EndsComment, new_tag, BeginsTag, mode_after_tag, name_after_tag, read_tag, EndsTagAt, EndsTag, GivesChars, GivesAmpersand.
 -- What a tokenizer has still to give, and what it was fed.
 use Rattle.std.specs.Prelude.{◌≡◌, ℕ, ◌+◌, ◌<◌, List, [], ◌∷◌, ◌++◌, length, drop, Bool, true, false, Option, Some, None}
+use Rattle.html_tokens.specs.AttrNames.{names_in}
 use Rattle.html_tokens.specs.Cut.{cut, section_mark}
 use Rattle.html_tokens.specs.Draft.{draft_cut}
 use Rattle.html_tokens.specs.Doctype.{draft_doctype, new_doctype, ids_of, closes}
 use Rattle.html_tokens.specs.declared.doctype.DoctypeDraft.{DoctypeDraft}
 use Rattle.html_tokens.specs.Input.{MayFollow, IsShort}
 use Rattle.html_tokens.specs.Inside.{comment_errors, draft_errors, section_errors, tag_end_errors}
+use Rattle.html_tokens.specs.InsideReferences.{ampersand_errors, number_errors}
+use Rattle.html_tokens.specs.InsideTags.{part_errors}
 use Rattle.html_tokens.specs.Tag.{draft_tag}
 use Rattle.html_tokens.specs.Tag.{Tag as WholeTag}
 use Rattle.html_tokens.specs.Tokens.{token, tokens_after, text_after, chars_at, tag_tokens, tag_kind, doctype_kind, stays, switch_of, switched, mode_after, name_after, name_after_kind}
-use Rattle.html_tokens.specs.Errors.{all_told, errors_after, IsQuiet, defined, told_in}
+use Rattle.html_tokens.specs.Errors.{all_told, errors_after, front_errors, IsQuiet, told_in}
 use Rattle.html_tokens.specs.Marks.{front, name_len}
 use Rattle.html_tokens.specs.Reference.{numbered}
 use Rattle.html_charref.specs.Number.{char_of}
 use Rattle.html_charref.specs.Table.{longest_len}
 use Rattle.html_charref.specs.declared.table.Row.{Row}
+use Rattle.html_tokens.specs.declared.token.Region.{Region}
 use Rattle.html_tokens.specs.declared.token.Region.TheVariants.{Plain, Escaped, Double}
 use Rattle.html_tokens.specs.declared.comment.CommentDraft.{CommentDraft}
 use Rattle.html_tokens.specs.declared.tag.TagDraft.{TagDraft}
@@ -28,7 +32,7 @@ use Rattle.html_tokens.specs.declared.token.TokenKind.{TokenKind}
 use Rattle.html_tokens.specs.declared.token.TokenKind.TheVariants as kinds
 use Rattle.html_tokens.specs.declared.token.TextMode.{TextMode}
 use Rattle.html_tokens.specs.declared.machine.State.{State}
-use Rattle.html_tokens.specs.declared.machine.State.TheVariants.{Text, Number, Second, Comment, Doctype, Tag, Section, Ended}
+use Rattle.html_tokens.specs.declared.machine.State.TheVariants.{Text, Number, Second, Ampersand, Comment, Doctype, Tag, Section, Ended}
 use Rattle.html_tokens.specs.declared.machine.Machine.{Machine}
 use Rattle.html_tokens.specs.declared.machine.Progress.{Progress}
 use Rattle.html_tokens.specs.declared.machine.Progress.TheVariants.{Given, More, Wait}
@@ -41,6 +45,7 @@ coming rows (Text Double) mode name place rest switches = text_after rows (front
 coming rows (Number draft) mode name place rest switches =
     let n = numbered draft.base draft.value rest in
     token (kinds.Char (char_of n.value)) draft.start (place + n.len) ∷ tokens_after rows n.len (stays (switch_of switches) mode) name place rest (drop 1 switches)
+coming rows (Ampersand start) mode name place rest switches = tokens_after rows 0 mode name place rest switches
 coming rows (Second c start) mode name place rest switches = token (kinds.Char c) start place ∷ tokens_after rows 0 (stays (switch_of switches) mode) name place rest (drop 1 switches)
 coming rows (Comment draft) mode name place rest switches =
     let c = draft_cut draft rest in
@@ -61,26 +66,32 @@ coming rows Ended mode name place rest switches = []
 abbrev pub to_come : Machine → List ℕ → List (Option TextMode) → List Token
 to_come t more switches = coming t.table.now t.state t.mode t.last_name t.place (t.input.queue.items ++ more) switches
 
--- the errors from a place of text in a region on
+-- the errors after text at a place
 abbrev pub text_errors : List Row → List ℕ → TextMode → Option (List ℕ) → ℕ → List ℕ → List (Option TextMode) → List Fault
 text_errors rows chars mode name place text switches =
     let given = chars_at mode place chars in
     errors_after rows (length chars) (mode_after given switches mode) name place text (drop (length given) switches)
 
+-- the errors from a place of text in a region on
+abbrev pub region_errors : List Row → Region → TextMode → Option (List ℕ) → ℕ → List ℕ → List (Option TextMode) → List Fault
+region_errors rows region mode name place text switches = front_errors mode region name place text ++ text_errors rows (front mode region name text) mode name place text switches
+
 -- the errors still to come from a state at a place, where this is the whole rest of the text
 abbrev pub errors_coming : List Row → State → TextMode → Option (List ℕ) → ℕ → List ℕ → List (Option TextMode) → List Fault
 errors_coming rows (Text Plain) mode name place rest switches = errors_after rows 0 mode name place rest switches
-errors_coming rows (Text Escaped) mode name place rest switches = text_errors rows (front mode Escaped name rest) mode name place rest switches
-errors_coming rows (Text Double) mode name place rest switches = text_errors rows (front mode Double name rest) mode name place rest switches
+errors_coming rows (Text Escaped) mode name place rest switches = region_errors rows Escaped mode name place rest switches
+errors_coming rows (Text Double) mode name place rest switches = region_errors rows Double mode name place rest switches
 errors_coming rows (Number draft) mode name place rest switches =
-    errors_after rows (numbered draft.base draft.value rest).len (stays (switch_of switches) mode) name place rest (drop 1 switches)
+    number_errors draft.base draft.value draft.start rest ++ errors_after rows (numbered draft.base draft.value rest).len (stays (switch_of switches) mode) name place rest (drop 1 switches)
+errors_coming rows (Ampersand start) mode name place rest switches = ampersand_errors start rest ++ errors_after rows 0 mode name place rest switches
 errors_coming rows (Second c start) mode name place rest switches = errors_after rows 0 (stays (switch_of switches) mode) name place rest (drop 1 switches)
 errors_coming rows (Comment draft) mode name place rest switches = comment_errors draft.kind place rest ++ errors_after rows (draft_cut draft rest).len (stays (switch_of switches) mode) name place rest (drop 1 switches)
 errors_coming rows (Doctype draft) mode name place rest switches = draft_errors draft place rest ++ errors_after rows (draft_doctype draft rest).len (stays (switch_of switches) mode) name place rest (drop 1 switches)
 errors_coming rows (Tag draft) mode name place rest switches =
     let t = draft_tag rows draft rest in
     let given = tag_tokens draft.is_end draft.start (place + t.tail.len) t in
-    tag_end_errors draft.is_end (place + t.tail.len) t.tail ++ errors_after rows t.tail.len (mode_after given switches mode) (name_after given name) place rest (drop (length given) switches)
+    part_errors rows (names_in draft) draft.part place rest
+    ++ (tag_end_errors draft.is_end (place + t.tail.len) t.tail ++ errors_after rows t.tail.len (mode_after given switches mode) (name_after given name) place rest (drop (length given) switches))
 errors_coming rows Section mode name place rest switches =
     let section = cut section_mark rest in
     let given = chars_at Foreign place section.before in
@@ -95,6 +106,7 @@ abbrev pub IsEnded : State → Type 0
 IsEnded (Text region) = ⊥
 IsEnded (Number draft) = ⊥
 IsEnded (Second c start) = ⊥
+IsEnded (Ampersand start) = ⊥
 IsEnded (Comment draft) = ⊥
 IsEnded (Doctype draft) = ⊥
 IsEnded (Tag draft) = ⊥
@@ -140,7 +152,7 @@ IsSilent t = (more : List ℕ) → MayFollow t.input.finished more → told_at t
 
 -- What a step tells, where no error was lost.
 abbrev pub TellsAt : Machine → Faults → Faults → Type 0
-TellsAt t old new = new.lost ≡ false → (old.lost ≡ false) × ((more : List ℕ) → MayFollow t.input.finished more → defined new.list ≡ all_told (defined old.list) (told_at t more))
+TellsAt t old new = new.lost ≡ false → (old.lost ≡ false) × ((more : List ℕ) → MayFollow t.input.finished more → new.list ≡ all_told old.list (told_at t more))
 
 abbrev pub Tells : Machine → Progress → Faults → Faults → Type 0
 Tells t (Given given) old new = TellsAt t old new
@@ -181,6 +193,7 @@ abbrev pub IsComment : State → Type 0
 IsComment (Text region) = ⊥
 IsComment (Number draft) = ⊥
 IsComment (Second c start) = ⊥
+IsComment (Ampersand start) = ⊥
 IsComment (Comment draft) = Unit {0}
 IsComment (Doctype draft) = ⊥
 IsComment (Tag draft) = ⊥
@@ -191,6 +204,7 @@ abbrev pub IsTag : State → Type 0
 IsTag (Text region) = ⊥
 IsTag (Number draft) = ⊥
 IsTag (Second c start) = ⊥
+IsTag (Ampersand start) = ⊥
 IsTag (Comment draft) = ⊥
 IsTag (Doctype draft) = ⊥
 IsTag (Tag draft) = Unit {0}
@@ -201,6 +215,7 @@ abbrev pub IsDoctype : State → Type 0
 IsDoctype (Text region) = ⊥
 IsDoctype (Number draft) = ⊥
 IsDoctype (Second c start) = ⊥
+IsDoctype (Ampersand start) = ⊥
 IsDoctype (Comment draft) = ⊥
 IsDoctype (Doctype draft) = Unit {0}
 IsDoctype (Tag draft) = ⊥
@@ -255,3 +270,7 @@ EndsTag old self_closing len progress new = (draft : TagDraft) → old.state ≡
 abbrev pub GivesChars : Machine → ℕ → ℕ → Option ℕ → Progress → Machine → Type 0
 GivesChars old len first None progress new = (progress ≡ Given (token (kinds.Char first) old.place (old.place + len))) × Passes old len (Text Plain) new
 GivesChars old len first (Some second) progress new = (progress ≡ Given (token (kinds.Char first) old.place (old.place + 1))) × Passes old len (Second second (old.place + 1)) new
+
+-- the `&` is given before letters and digits that begin no name
+abbrev pub GivesAmpersand : Machine → Progress → Machine → Type 0
+GivesAmpersand old progress new = (progress ≡ Given (token (kinds.Char 38) old.place (old.place + 1))) × Passes old 1 (Ampersand old.place) new

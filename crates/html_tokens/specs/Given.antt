@@ -2,7 +2,6 @@
 -- What callers of a tokenizer know of it: its run.
 use Rattle.std.specs.Prelude.{◌≡◌, ◌⊎◌, ℕ, ◌+◌, ◌-◌, ◌^◌, min, List, [], length, Bool, true, false, cond, Option}
 use Rattle.html_tokens.specs.Stream.{AreTold, errors_of, Run, Start, IsAt, gave, answered, tokens_of}
-use Rattle.html_tokens.specs.Errors.{defined}
 use Rattle.html_charref.specs.declared.table.Row.{Row}
 use Rattle.html_tokens.specs.Runs.{is_text, plain_front}
 use Rattle.html_tokens.specs.Tokens.{is_data}
@@ -62,8 +61,7 @@ pub record IsTold (start : Start) (text : List ℕ) (switches : List (Option Tex
   pub finished : run.finished ≡ true
   pub all : tokens_of run.text run.switches run.start ≡ run.given
   pub errors_are : told tokenizer ≡ errors
-  -- those of them whose names are defined are those of the text
-  pub errors_defined : defined errors ≡ errors_of text switches start
+  pub errors_of_text : errors ≡ errors_of text switches start
   pub steps_are : steps_taken tokenizer ≡ steps
 
 -- the plain text that comes next, as far as it was fed

@@ -1,12 +1,12 @@
--- Claimed, but for this crate's own functions: ends_here, tag_told, declared_told, comment_told, kind_errors, ClosesComment, MovesComment, section_told, PassesErrors, MovesDoctype, MovesPart.
+-- Claimed, but for this crate's own functions: ends_here, tag_told, comment_told, ClosesComment, MovesComment, section_told, PassesErrors, MovesDoctype, MovesPart.
 -- The parse errors inside of a piece of the text, after what opens it (HTML 13.2.2).
 use Rattle.std.specs.Prelude.{◌≡◌, ◌⊎◌, ◌<◌, ℕ, zero, suc, ◌+◌, ◌-◌, List, [], ◌∷◌, ◌++◌, length, drop, Bool, true, false, cond, Option, Some, None, slice_get, ◌==◌, ◌&&◌, ◌||◌, not}
-use Rattle.html_tokens.specs.Cut.{comment_mark, is, is_space, section_mark}
+use Rattle.html_tokens.specs.Cut.{is, is_space, passes, section_mark}
 use Rattle.html_tokens.specs.Draft.{mark_of}
 use Rattle.html_tokens.specs.Doctype.{is_quote, keyword_at}
 use Rattle.html_tokens.specs.Input.{MayFollow}
-use Rattle.html_tokens.specs.Tag.{Tail, tag_of}
-use Rattle.html_charref.specs.declared.table.Row.{Row}
+use Rattle.html_tokens.specs.Marks.{declares}
+use Rattle.html_tokens.specs.Tag.{Tail}
 use Rattle.html_tokens.specs.declared.comment.CommentDraft.{CommentDraft}
 use Rattle.html_tokens.specs.declared.comment.CommentKind.{CommentKind}
 use Rattle.html_tokens.specs.declared.comment.CommentKind.TheVariants as comments
@@ -43,11 +43,16 @@ unfoldable pub unless_closed : FaultName → (List ℕ → Option ℕ) → ℕ �
 unless_closed name mark place [] = fault name place ∷ []
 unless_closed name mark place (c ∷ rest) = unless_after (mark (c ∷ rest)) (unless_closed name mark (place + 1) rest)
 
--- TAGS
-
 -- an error, where this is so
 abbrev pub fault_when : Bool → FaultName → ℕ → List Fault
 fault_when is name place = cond is (fault name place ∷ []) []
+
+-- U+0000 in text, in names and values, in comments and in doctypes: unexpected-null-character (HTML 13.2.5.1 to 13.2.5.5, 13.2.5.8, 13.2.5.33, 13.2.5.36 to 13.2.5.38, 13.2.5.41,
+-- 13.2.5.45, 13.2.5.54 to 13.2.5.68)
+abbrev pub null_errors : Option ℕ → ℕ → List Fault
+null_errors found place = fault_when (is 0 found) names.UnexpectedNullCharacter place
+
+-- TAGS
 
 -- A tag that ends before a place: eof-in-tag where the text ends in it (HTML 13.2.5.8, 13.2.5.32 to 13.2.5.40); and at the `>` of an end tag end-tag-with-attributes and
 -- end-tag-with-trailing-solidus (HTML 13.2.2, 13.2.5).
@@ -56,10 +61,6 @@ tag_end_errors is_end end t =
     cond t.closed
     (cond is_end (fault_when (not (length t.attrs == 0)) names.EndTagWithAttributes (end - 1) ++ fault_when t.self_closing names.EndTagWithTrailingSolidus (end - 1)) [])
     (fault names.EofInTag end ∷ [])
-
--- the same of a tag that begins at a place, and its name after so many code points
-abbrev pub begun_tag_errors : List Row → Bool → ℕ → ℕ → List ℕ → List Fault
-begun_tag_errors rows is_end opened place text = let t = (tag_of rows (drop opened text)).tail in tag_end_errors is_end (place + opened + t.len) t
 
 -- what stands at the front ends the tag: `>`, or `/>`, or the end of the text
 abbrev pub ends_here : Tail → Bool
@@ -80,34 +81,43 @@ closing_errors closed n place = cond (n == 4) (fault names.IncorrectlyClosedComm
 abbrev pub is_closed : ℕ → List ℕ → Bool
 is_closed n text = n == 3 && is 62 (slice_get text 2)
 
--- where a mark of this length closes a comment
-abbrev pub mark_errors : Option ℕ → ℕ → List ℕ → List Fault → List Fault
-mark_errors (Some n) place text later = closing_errors (is_closed n text) n place
-mark_errors None place text later = later
+-- `<!--` stands here, and then another code point than `>` (HTML 13.2.5.46 to 13.2.5.49)
+abbrev pub nests : List ℕ → Bool
+nests text = declares text && passes (λ c. not (c == 62)) (slice_get text 4)
 
--- The errors of the rest of a comment that `<!--` began: those of what closes it first, or of the end.
-unfoldable pub declared_errors : ℕ → List ℕ → List Fault
-declared_errors place [] = fault names.EofInComment place ∷ []
-declared_errors place (c ∷ rest) = mark_errors (comment_mark (c ∷ rest)) place (c ∷ rest) (declared_errors (place + 1) rest)
+-- so in a comment that `<!--` began
+abbrev pub nests_in : CommentKind → List ℕ → Bool
+nests_in comments.Declared text = nests text
+nests_in comments.Bogus text = false
 
--- The end of a bogus comment tells nothing (HTML 13.2.5.41).
-abbrev pub comment_errors : CommentKind → ℕ → List ℕ → List Fault
-comment_errors comments.Declared place text = declared_errors place text
-comment_errors comments.Bogus place text = []
+-- what a code point tells that belongs to a comment: nested-comment, after the `<!--` that it begins, and whether it is U+0000
+abbrev pub comment_char_errors : CommentKind → ℕ → List ℕ → List Fault
+comment_char_errors kind place text = fault_when (nests_in kind text) names.NestedComment (place + 4) ++ null_errors (slice_get text 0) place
 
--- what a step tells at the front of the rest of a comment
-abbrev pub declared_told : ℕ → List ℕ → List Fault
-declared_told place [] = fault names.EofInComment place ∷ []
-declared_told place (c ∷ rest) = mark_errors (comment_mark (c ∷ rest)) place (c ∷ rest) []
-
-abbrev pub comment_told : CommentKind → ℕ → List ℕ → List Fault
-comment_told comments.Declared place text = declared_told place text
-comment_told comments.Bogus place text = []
+-- the end of the text: eof-in-comment (HTML 13.2.5.43 to 13.2.5.52), and nothing in a bogus comment (HTML 13.2.5.41)
+abbrev pub comment_end_errors : CommentKind → ℕ → List Fault
+comment_end_errors comments.Declared place = fault names.EofInComment place ∷ []
+comment_end_errors comments.Bogus place = []
 
 -- what closes a comment of this kind tells
 abbrev pub kind_errors : CommentKind → Bool → ℕ → ℕ → List Fault
 kind_errors comments.Declared closed n place = closing_errors closed n place
 kind_errors comments.Bogus closed n place = []
+
+-- where a mark of this length closes a comment
+abbrev pub mark_errors : CommentKind → Option ℕ → ℕ → List ℕ → List Fault → List Fault
+mark_errors kind (Some n) place text later = kind_errors kind (is_closed n text) n place
+mark_errors kind None place text later = later
+
+-- The errors of the rest of a comment: those of each code point that belongs to it, and of what closes it first, or of the end.
+unfoldable pub comment_errors : CommentKind → ℕ → List ℕ → List Fault
+comment_errors kind place [] = comment_end_errors kind place
+comment_errors kind place (c ∷ rest) = mark_errors kind (mark_of kind (c ∷ rest)) place (c ∷ rest) (comment_char_errors kind place (c ∷ rest) ++ comment_errors kind (place + 1) rest)
+
+-- what a step tells at the front of the rest of a comment
+abbrev pub comment_told : CommentKind → ℕ → List ℕ → List Fault
+comment_told kind place [] = comment_end_errors kind place
+comment_told kind place (c ∷ rest) = mark_errors kind (mark_of kind (c ∷ rest)) place (c ∷ rest) (comment_char_errors kind place (c ∷ rest))
 
 -- a code point belongs to the comment, or so many close it; or the text ends
 abbrev pub ClosesComment : CommentKind → List ℕ → ℕ → Type 0
@@ -201,9 +211,13 @@ begins_keyword (parts.System quote) keyword = false
 begins_keyword parts.AfterSystem keyword = false
 begins_keyword (parts.BadRest force_quirks) keyword = false
 
+-- and whether that is U+0000
+abbrev pub doctype_front_errors : DoctypePart → Bool → Option ℕ → ℕ → List Fault
+doctype_front_errors part spaced found place = fault_if (doctype_error part spaced found) place ++ null_errors found place
+
 -- the errors at the front of the rest, in a part of a doctype
 abbrev pub doctype_told : DoctypePart → Bool → ℕ → List ℕ → List Fault
-doctype_told part spaced place text = cond (begins_keyword part (keyword_at text)) [] (fault_if (doctype_error part spaced (slice_get text 0)) place)
+doctype_told part spaced place text = cond (begins_keyword part (keyword_at text)) [] (doctype_front_errors part spaced (slice_get text 0) place)
 
 -- `>` closes a doctype in each part (and is no quote)
 abbrev pub closes_part : DoctypePart → ℕ → Bool
@@ -267,12 +281,12 @@ PassesErrors old input n new = (place : ℕ) (more : List ℕ) → MayFollow inp
 -- what the front of the rest tells, and what it leaves to be told
 abbrev pub MovesDoctype : DoctypeDraft → Input → DoctypeReading → DoctypeDraft → Type 0
 MovesDoctype old input More new =
-    PassesErrors old input 1 new × ((place : ℕ) (more : List ℕ) → MayFollow input.finished more → doctype_told old.part old.spaced place (input.queue.items ++ more) ≡ fault_if (doctype_error old.part old.spaced (slice_get (input.queue.items ++ more) 0)) place)
+    PassesErrors old input 1 new × ((place : ℕ) (more : List ℕ) → MayFollow input.finished more → doctype_told old.part old.spaced place (input.queue.items ++ more) ≡ doctype_front_errors old.part old.spaced (slice_get (input.queue.items ++ more) 0) place)
 MovesDoctype old input (Word n) new =
     PassesErrors old input n new × ((place : ℕ) (more : List ℕ) → MayFollow input.finished more → doctype_told old.part old.spaced place (input.queue.items ++ more) ≡ [])
 MovesDoctype old input (Closed force_quirks n) new =
     ((place : ℕ) (more : List ℕ) → MayFollow input.finished more → draft_errors old place (input.queue.items ++ more) ≡ doctype_told old.part old.spaced place (input.queue.items ++ more))
-    × ((place : ℕ) (more : List ℕ) → MayFollow input.finished more → doctype_told old.part old.spaced place (input.queue.items ++ more) ≡ fault_if (doctype_error old.part old.spaced (slice_get (input.queue.items ++ more) 0)) place)
+    × ((place : ℕ) (more : List ℕ) → MayFollow input.finished more → doctype_told old.part old.spaced place (input.queue.items ++ more) ≡ doctype_front_errors old.part old.spaced (slice_get (input.queue.items ++ more) 0) place)
 MovesDoctype old input Wait new = Unit {0}
 
 -- The part after one code point, outside of keywords; or the doctype closes there.

@@ -1,4 +1,5 @@
 -- Claimed.
+pub mod AttrNames
 pub mod Bare
 pub mod Cost
 pub mod Cut
@@ -9,6 +10,8 @@ pub mod Fed
 pub mod Given
 pub mod Input
 pub mod Inside
+pub mod InsideReferences
+pub mod InsideTags
 pub mod Marks
 pub mod Paused
 pub mod Reference

@@ -1,11 +1,11 @@
--- Claimed, but for this crate's own functions: opened_by.
+-- Claimed, but for this crate's own functions: opened_by, letters_bound, closed_within, letters_after, closes_some, is_soon_unknown.
 -- What a reference stands for, and its length.
-use Rattle.std.specs.Prelude.{ℕ, ◌+◌, List, [], ◌∷◌, map, drop, Bool, ◌||◌, cond, not, nat_lt, Option, Some, None, slice_get}
-use Rattle.std.specs.Char.{digit_value}
+use Rattle.std.specs.Prelude.{ℕ, zero, suc, ◌+◌, ◌==◌, List, [], ◌∷◌, map, drop, Bool, false, ◌&&◌, ◌||◌, is_none, cond, not, nat_lt, Option, Some, None, slice_get}
+use Rattle.std.specs.Char.{digit_value, is_ascii_alphanumeric}
 use Rattle.std.specs.Int.Digits.{number_from_digits_after}
 use Rattle.html_charref.specs.Entities.{codes_of}
 use Rattle.html_charref.specs.Number.{radix, char_of}
-use Rattle.html_charref.specs.Table.{longest}
+use Rattle.html_charref.specs.Table.{longest, longest_len}
 use Rattle.html_charref.specs.declared.number.Base.{Base}
 use Rattle.html_charref.specs.declared.number.Base.TheVariants.{Decimal, Hex}
 use Rattle.html_charref.specs.declared.table.Row.{Row}
@@ -73,8 +73,47 @@ reference_by Literal rows text = literal
 abbrev pub reference : List Row → List ℕ → Reference
 reference rows text = reference_by (ref_opener text) rows text
 
+-- no letter or digit
+abbrev pub ends_letters : ℕ → Bool
+ends_letters c = not (is_ascii_alphanumeric c)
+
+-- a `;` comes after the letters and digits at the front
+abbrev pub are_letters_closed : List ℕ → Bool
+are_letters_closed text = is 59 (slice_get (drop (cut (stop_mark ends_letters) text).len text) 0)
+
+-- letters or digits come after the `&`, and a `;` after them
+abbrev pub closes_letters : List ℕ → Bool
+closes_letters text = passes is_ascii_alphanumeric (slice_get text 1) && are_letters_closed (drop 1 text)
+
+-- the same, and they begin no name (HTML 13.2.5.72 to 13.2.5.74)
+abbrev pub is_unknown : List Row → List ℕ → Bool
+is_unknown rows text = is_none (longest rows text) && closes_letters text
+
 -- how many code points are there, at least
 abbrev pub opened_by : RefOpener → ℕ
 opened_by Named = 1
 opened_by (Numeric base opened) = opened
 opened_by Literal = 1
+
+-- as many letters and digits are looked over, after a `&`
+abbrev pub letters_bound : List Row → ℕ
+letters_bound rows = longest_len rows + 8
+
+-- Whether a `;` comes after the letters and digits at the front, where they are fewer than this.
+unfoldable pub closed_within : ℕ → List ℕ → Option Bool
+closed_within zero text = None
+closed_within (suc k) [] = Some false
+closed_within (suc k) (c ∷ rest) = cond (is_ascii_alphanumeric c) (closed_within k rest) (Some (c == 59))
+
+-- whether letters or digits come after the `&`, and a `;` after them, where they are few
+abbrev pub letters_after : List Row → List ℕ → Option Bool
+letters_after rows text = cond (passes is_ascii_alphanumeric (slice_get text 1)) (closed_within (letters_bound rows) (drop 1 text)) (Some false)
+
+-- a `;` comes after them
+abbrev pub closes_some : Option Bool → Bool
+closes_some None = false
+closes_some (Some closed) = closed
+
+-- the same, and they begin no name
+abbrev pub is_soon_unknown : List Row → List ℕ → Bool
+is_soon_unknown rows text = is_none (longest rows text) && closes_some (letters_after rows text)

@@ -9,7 +9,7 @@ use Rattle.html_tokens.specs.declared.token.TextMode.{TextMode}
 use Rattle.html_tokens.specs.declared.token.TextMode.TheVariants.{Data, Rcdata, Rawtext, Script, Plaintext, Foreign}
 use Rattle.html_tokens.specs.declared.token.Region.TheVariants.{Plain, Escaped, Double}
 use Rattle.html_tokens.specs.declared.machine.State.{State}
-use Rattle.html_tokens.specs.declared.machine.State.TheVariants.{Text, Number, Second, Comment, Doctype, Tag, Section, Ended}
+use Rattle.html_tokens.specs.declared.machine.State.TheVariants.{Text, Number, Second, Ampersand, Comment, Doctype, Tag, Section, Ended}
 
 -- The code point stands for itself, and begins no markup and no reference (HTML 13.2.5.1 to 13.2.5.5).
 abbrev pub is_plain : TextMode → ℕ → Bool
@@ -32,6 +32,7 @@ is_text (Text Escaped) = false
 is_text (Text Double) = false
 is_text (Number draft) = false
 is_text (Second c start) = false
+is_text (Ampersand start) = false
 is_text (Comment draft) = false
 is_text (Doctype draft) = false
 is_text (Tag draft) = false

@@ -6,7 +6,7 @@ use Rattle.html_tokens.specs.Input.{MayFollow}
 use Rattle.html_tokens.specs.Tokens.{tokens_after, name_after_kind}
 use Rattle.html_charref.specs.Table.{IsTable}
 use Rattle.html_charref.specs.declared.table.Row.{Row}
-use Rattle.html_tokens.specs.Errors.{all_told, errors_after, defined}
+use Rattle.html_tokens.specs.Errors.{all_told, errors_after}
 use Rattle.html_tokens.specs.Fed.{to_come, errors_to_come, switch_to, slack, IsDrained}
 use Rattle.html_tokens.specs.declared.faults.Fault.{Fault}
 use Rattle.html_tokens.specs.declared.faults.Faults.{Faults}
@@ -59,7 +59,7 @@ pub record IsAt (t : Machine) (run : Run) : Type 0 where
 -- However a run goes on, the errors told and those that are still to come are those of the text.
 abbrev pub AreTold : Machine → Faults → Run → Type 0
 AreTold t faults run = faults.lost ≡ false → (more : List ℕ) (switches : List (Option TextMode)) → MayFollow run.finished more →
-    errors_of (run.text ++ more) (run.switches ++ switches) run.start ≡ all_told (defined faults.list) (errors_to_come t more switches)
+    errors_of (run.text ++ more) (run.switches ++ switches) run.start ≡ all_told faults.list (errors_to_come t more switches)
 
 -- the run after a token, and what is said of the mode after it
 abbrev pub gave : Run → Token → Option TextMode → Run

@@ -1,6 +1,7 @@
--- Claimed, but for this crate's own functions: longer_tag, reads_refs, is_number, ReadsTag, ClosesAt, GoesOn, Settles, tail_by, tag_by, IsInside, OpensRef, ReadsRef, AddsAttr.
+-- Claimed, but for this crate's own functions: longer_tag, is_unsettled, ReadsTag, ClosesAt, GoesOn, Settles, tail_by, tag_by, IsInside, OpensRef, ReadsRef, AddsAttr.
 -- A tag: its name, its attributes, and how it closes.
 use Rattle.std.specs.Prelude.{◌≡◌, ℕ, zero, suc, ◌+◌, ◌≤◌, ◌<◌, List, [], ◌∷◌, ◌++◌, length, map, drop, Bool, true, false, ◌&&◌, ◌||◌, ◌==◌, cond, nat_le, Option, IsTrue, slice_get, option_to_list}
+use Rattle.std.specs.Char.{is_ascii_alphanumeric}
 use Rattle.std.specs.List.{list_any}
 use Rattle.std.specs.Str.{bytes_eq}
 use Rattle.html_tokens.specs.Cut.{Cut, cut, is, null_replaced, stop_mark, is_space}
@@ -114,7 +115,8 @@ part_tail rows parts.AttrName name val text = let named = attribute rows name va
 part_tail rows parts.AfterName name val text = let more = after_name rows text in with_attr (attr name (val ++ more.before)) (tail rows more.len text)
 part_tail rows parts.Value name val text = let more = value rows text in with_attr (attr name (val ++ more.before)) (tail rows more.len text)
 part_tail rows (parts.Inside end) name val text = let more = value_cut rows end 0 text in with_attr (attr name (val ++ more.before)) (tail rows more.len text)
-part_tail rows (parts.Number end base value) name val text = let more = number_cut rows end base value text in with_attr (attr name (val ++ more.before)) (tail rows more.len text)
+part_tail rows (parts.Ampersand end start) name val text = let more = value_cut rows end 0 text in with_attr (attr name (val ++ more.before)) (tail rows more.len text)
+part_tail rows (parts.Number end base value start) name val text = let more = number_cut rows end base value text in with_attr (attr name (val ++ more.before)) (tail rows more.len text)
 
 abbrev pub name_rest : Part → List ℕ → List ℕ
 name_rest parts.Name text = map name_char (cut (stop_mark ends_name) text).before
@@ -123,7 +125,8 @@ name_rest parts.AttrName text = []
 name_rest parts.AfterName text = []
 name_rest parts.Value text = []
 name_rest (parts.Inside end) text = []
-name_rest (parts.Number end base value) text = []
+name_rest (parts.Number end base value start) text = []
+name_rest (parts.Ampersand end start) text = []
 
 abbrev pub with_attrs : List Attr → Tail → Tail
 with_attrs front t = record { attrs = firsts_after front t.attrs; self_closing = t.self_closing; closed = t.closed; len = t.len }
@@ -142,16 +145,19 @@ reads_refs parts.AttrName = false
 reads_refs parts.AfterName = false
 reads_refs parts.Value = true
 reads_refs (parts.Inside end) = true
-reads_refs (parts.Number end base value) = true
+reads_refs (parts.Number end base value start) = true
+reads_refs (parts.Ampersand end start) = true
 
-abbrev pub is_number : Part → Bool
-is_number parts.Name = false
-is_number parts.Attributes = false
-is_number parts.AttrName = false
-is_number parts.AfterName = false
-is_number parts.Value = false
-is_number (parts.Inside end) = false
-is_number (parts.Number end base value) = true
+-- a part in which a number is read, or letters and digits after a `&`
+abbrev pub is_unsettled : Part → Bool
+is_unsettled parts.Name = false
+is_unsettled parts.Attributes = false
+is_unsettled parts.AttrName = false
+is_unsettled parts.AfterName = false
+is_unsettled parts.Value = false
+is_unsettled (parts.Inside end) = false
+is_unsettled (parts.Number end base value start) = true
+is_unsettled (parts.Ampersand end start) = true
 
 -- The reading of one code point, before this one.
 abbrev pub ReadsTag : TagDraft → ℕ → Option ℕ → TagReading → TagDraft → Type 0
@@ -166,7 +172,7 @@ abbrev pub ClosesAt : ℕ → TagReading → Type 0
 ClosesAt c More = Unit {0}
 ClosesAt c (Closed self_closing n) = IsTrue (c == 62 || c == 47) × (n ≡ cond self_closing 2 1)
 
--- a number goes on at this code point
+-- a number goes on at this code point, or letters and digits do
 abbrev pub GoesOn : Part → ℕ → Type 0
 GoesOn parts.Name c = Unit {0}
 GoesOn parts.Attributes c = Unit {0}
@@ -174,7 +180,8 @@ GoesOn parts.AttrName c = Unit {0}
 GoesOn parts.AfterName c = Unit {0}
 GoesOn parts.Value c = Unit {0}
 GoesOn (parts.Inside end) c = Unit {0}
-GoesOn (parts.Number end base value) c = is_digit base c ≡ false → c ≡ 59
+GoesOn (parts.Number end base value start) c = is_digit base c ≡ false → c ≡ 59
+GoesOn (parts.Ampersand end start) c = is_ascii_alphanumeric c ≡ true
 
 -- a draft that comes to the same before this code point, and in which a number goes on there
 abbrev pub Settles : TagDraft → ℕ → TagDraft → Type 0
@@ -194,7 +201,8 @@ IsInside parts.AttrName = ⊥
 IsInside parts.AfterName = ⊥
 IsInside parts.Value = ⊥
 IsInside (parts.Inside end) = Unit {0}
-IsInside (parts.Number end base value) = ⊥
+IsInside (parts.Number end base value start) = ⊥
+IsInside (parts.Ampersand end start) = ⊥
 
 -- a draft that comes to the same before a `&`, inside a value
 abbrev pub OpensRef : TagDraft → TagDraft → Type 0

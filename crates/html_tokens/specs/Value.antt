@@ -1,6 +1,6 @@
 -- Claimed, but for this crate's own functions: is_taken, ref_len, Begins, IsValueRef, IsValueNamed.
 -- References in the values of attributes.
-use Rattle.std.specs.Prelude.{◌≡◌, ◌<◌, ◌≤◌, length, not, ℕ, zero, suc, ◌-◌, List, [], ◌∷◌, ◌++◌, Bool, ◌||◌, ◌==◌, cond, Option, Some, None, slice_get}
+use Rattle.std.specs.Prelude.{◌≡◌, ◌<◌, ◌≤◌, length, not, ℕ, zero, suc, ◌-◌, List, [], ◌∷◌, ◌++◌, Bool, false, true, ◌||◌, ◌==◌, cond, Option, Some, None, slice_get}
 use Rattle.std.specs.Char.{is_ascii_alphanumeric}
 use Rattle.html_charref.specs.Number.{char_of}
 use Rattle.html_charref.specs.Table.{longest}
@@ -11,7 +11,7 @@ use Rattle.html_charref.specs.declared.number.Base.{Base}
 use Rattle.html_tokens.specs.Cut.{Cut, cut_or, is, null_replaced, passes, stop_mark, ends_unquoted, quote_mark}
 use Rattle.html_tokens.specs.declared.tag.ValueEnd.{ValueEnd}
 use Rattle.html_tokens.specs.declared.tag.ValueEnd.TheVariants as ends
-use Rattle.html_tokens.specs.Reference.{Reference, literal, named_by, numeric_by, numbered, ref_opener}
+use Rattle.html_tokens.specs.Reference.{Reference, is_soon_unknown, is_unknown, letters_after, literal, named_by, numeric_by, numbered, ref_opener}
 use Rattle.html_tokens.specs.Input.{MayFollow, Decided}
 use Rattle.html_tokens.specs.declared.input.Input.{Input}
 use Rattle.html_tokens.specs.declared.reference.ValueRef.{ValueRef}
@@ -73,14 +73,18 @@ is_taken len text = is 59 (slice_get text (len - 1)) || not (passes goes_on (sli
 -- how many code points are passed
 abbrev pub ref_len : ValueRef → ℕ
 ref_len (refs.Numeric base opened) = opened
+ref_len refs.Letters = 1
 ref_len refs.Unknown = 1
+ref_len refs.Literal = 1
 ref_len (refs.Codes len first second) = len
 
 -- this begins at the front of the rest of a value
 abbrev pub Begins : List Row → ValueRef → List ℕ → Type 0
 Begins rows (refs.Numeric base opened) text = ref_opener text ≡ Numeric base opened
-Begins rows refs.Unknown text = value_reference rows text ≡ literal
-Begins rows (refs.Codes len first second) text = value_reference rows text ≡ record { codes = codes_with first second; len = len }
+Begins rows refs.Letters text = (ref_opener text ≡ Named) × (longest rows text ≡ None) × (letters_after rows text ≡ None)
+Begins rows refs.Unknown text = (ref_opener text ≡ Named) × (longest rows text ≡ None) × (letters_after rows text ≡ Some true)
+Begins rows refs.Literal text = ref_opener text ≡ Literal
+Begins rows (refs.Codes len first second) text = (ref_opener text ≡ Named) × (value_reference rows text ≡ record { codes = codes_with first second; len = len }) × (is_unknown rows text ≡ false) × (is_soon_unknown rows text ≡ false)
 
 abbrev pub IsValueRef : List Row → Input → ValueRef → Type 0
 IsValueRef rows input found = ((more : List ℕ) → MayFollow input.finished more → Begins rows found (input.queue.items ++ more)) × (0 < ref_len found) × (ref_len found ≤ length input.queue.items)
@@ -88,6 +92,8 @@ IsValueRef rows input found = ((more : List ℕ) → MayFollow input.finished mo
 -- what a name gives that stands at the front of the rest of a value
 abbrev pub IsValueNamed : Input → ℕ → RefText → ValueRef → Type 0
 IsValueNamed input len text (refs.Numeric base opened) = ⊥
+IsValueNamed input len text refs.Letters = ⊥
 IsValueNamed input len text refs.Unknown = ⊥
+IsValueNamed input len text refs.Literal = ⊥
 IsValueNamed input len text (refs.Codes n first second) =
     Decided input (value_named (Some (len, text))) (record { codes = codes_with first second; len = n }) × (0 < n) × (n ≤ length input.queue.items)

@@ -35,12 +35,19 @@ ClosesValue ends.DoubleQuote last = last ≡ Some 34
 ClosesValue ends.SingleQuote last = last ≡ Some 39
 ClosesValue ends.Space last = option_map ends_unquoted last ≡ Some true
 
+-- what a closing quote is followed by: white space, `/` or `>` (HTML 13.2.5.39)
+abbrev pub IsFree : ValueEnd → Option ℕ → Type 0
+IsFree ends.DoubleQuote next = option_map ends_name next ≡ Some true
+IsFree ends.SingleQuote next = option_map ends_name next ≡ Some true
+IsFree ends.Space next = Unit {0}
+
 -- A value stands at the front, closes so, has this length and is copied as it stands.
 pub record IsValue (rest : List ℕ) (end : ValueEnd) (len : ℕ) : Type 0 where
   pub begins : OpensValue end (slice_get rest 0)
   pub some : 0 < quote_len end + len
   pub valued : AllPass (is_copied (copied_in end)) (take len (drop (quote_len end) rest))
   pub close : ClosesValue end (slice_get (drop (quote_len end) rest) len)
+  pub free : IsFree end (slice_get (drop (quote_len end) rest) (len + 1))
 
 -- An attribute with a value stands at the front, whose name is copied as it stands (HTML 13.2.5.33).
 pub record IsWholeAttr (text : List ℕ) (found : WholeAttr) : Type 0 where

@@ -1,13 +1,14 @@
 // Comments.
-ghost use Rattle.std.specs.Prelude.{◌≡◌, ℕ, ◌≤◌, ◌+◌, length, MatchOption, IfOk, OnErr};
+ghost use Rattle.std.specs.Prelude.{◌≡◌, ℕ, ◌≤◌, ◌+◌, length, true, MatchOption, IfOk, OnErr};
 ghost use Rattle.html_tokens.specs.Copied.{copied_by, CopiesComment};
 ghost use Rattle.html_tokens.specs.Cut.{comment_mark, greater_mark};
 ghost use Rattle.html_tokens.specs.Draft.{Reads, mark_of};
 ghost use Rattle.html_tokens.specs.Input.{Decided, IsShort, Marks};
-ghost use Rattle.html_tokens.specs.Inside.{MovesComment};
+ghost use Rattle.html_tokens.specs.Inside.{MovesComment, nests, nests_in};
 
 use crate::copied::Copied;
 use crate::input::{Input, Peek};
+use crate::marks::declares;
 use crate::nulls::null_replaced;
 use html_text::Str;
 use std::alloc::AllocError;
@@ -72,7 +73,31 @@ fn greater_mark(input: &Input) -> Option<Option<usize>>
     }
 }
 
+/// Whether a `<!--` stands at the front of the rest, and then another code point than `>`.
+fn nests(input: &Input) -> Option<bool>
+    ensures { MatchOption result (IsShort input.now 8) (λ found. Decided input.now nests found × (found ≡ true → 5 ≤ length input.now.queue.items)) }
+{
+    if !declares(input)? {
+        return Some(false);
+    }
+    match input.peek(4) {
+        Peek::Is(Some(c)) => Some(c != '>'),
+        Peek::Is(None) => Some(false),
+        Peek::Wait => None,
+    }
+}
+
 impl CommentKind {
+    /// Whether a `<!--` stands at the front of the rest that is an error in a comment of this kind.
+    pub(crate) fn nests(self, input: &Input) -> Option<bool>
+        ensures { MatchOption result (IsShort input.now 8) (λ found. Decided input.now (nests_in self) found × (found ≡ true → 5 ≤ length input.now.queue.items)) }
+    {
+        match self {
+            CommentKind::Declared => nests(input),
+            CommentKind::Bogus => Some(false),
+        }
+    }
+
     /// What a comment of this kind takes as it stands.
     fn copied(self) -> Copied
         ensures { result ≡ copied_by self }

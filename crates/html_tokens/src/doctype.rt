@@ -64,7 +64,7 @@ pub enum DoctypeReading {
     Wait,
 }
 
-fn is_quote(c: char) -> bool
+pub(crate) fn is_quote(c: char) -> bool
     ensures { result ≡ is_quote c }
 {
     c == '"' || c == '\''

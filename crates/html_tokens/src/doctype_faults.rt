@@ -2,8 +2,8 @@
 ghost use Rattle.std.specs.Prelude.{◌≡◌, ℕ, ◌≤◌, ◌+◌, true, cond, length, IfSome, None};
 ghost use Rattle.html_tokens.specs.Cut.{is_space};
 ghost use Rattle.html_tokens.specs.Bounds.{Told};
-ghost use Rattle.html_tokens.specs.Errors.{is_defined, Opens};
-ghost use Rattle.html_tokens.specs.Inside.{doctype_char_error, doctype_close_error, doctype_end_error, doctype_error, fault_if, id_error};
+ghost use Rattle.html_tokens.specs.Errors.{Opens};
+ghost use Rattle.html_tokens.specs.Inside.{doctype_char_error, doctype_close_error, doctype_end_error, doctype_front_errors, fault_if, id_error};
 
 use crate::doctype::DoctypePart;
 use crate::fault_name::FaultName;
@@ -12,10 +12,7 @@ use crate::tag::is_space;
 
 /// What a code point tells where an id may begin: that no white space stands before its quote, or that it is no quote.
 fn id_fault(c: char, spaced: bool, unspaced: FaultName, unquoted: FaultName) -> Option<FaultName>
-    requires unspaced { is_defined unspaced ≡ true }
-    requires unquoted { is_defined unquoted ≡ true }
     ensures name { result ≡ id_error c spaced unspaced unquoted }
-    ensures defined { IfSome result (λ name. is_defined name ≡ true) }
 {
     match c {
         '"' | '\'' if spaced => None,
@@ -27,7 +24,6 @@ fn id_fault(c: char, spaced: bool, unspaced: FaultName, unquoted: FaultName) -> 
 /// What a code point other than white space and `>` tells in a part of a doctype, where no keyword begins.
 fn part_fault(part: DoctypePart, c: char, spaced: bool) -> Option<FaultName>
     ensures name { result ≡ doctype_char_error part c spaced }
-    ensures defined { IfSome result (λ name. is_defined name ≡ true) }
 {
     match part {
         DoctypePart::BeforeName if spaced => None,
@@ -64,7 +60,6 @@ fn part_fault(part: DoctypePart, c: char, spaced: bool) -> Option<FaultName>
 /// What a code point other than `>` tells in a part of a doctype, where no keyword begins.
 fn char_fault(part: DoctypePart, c: char, spaced: bool) -> Option<FaultName>
     ensures name { result ≡ cond (is_space c) None (doctype_char_error part c spaced) }
-    ensures defined { IfSome result (λ name. is_defined name ≡ true) }
 {
     if is_space(c) {
         return None;
@@ -75,7 +70,6 @@ fn char_fault(part: DoctypePart, c: char, spaced: bool) -> Option<FaultName>
 /// What a `>` tells that closes a doctype in one of its parts.
 fn close_fault(part: DoctypePart) -> Option<FaultName>
     ensures name { result ≡ doctype_close_error part }
-    ensures defined { IfSome result (λ name. is_defined name ≡ true) }
 {
     match part {
         DoctypePart::BeforeName => Some(FaultName::MissingDoctypeName),
@@ -102,7 +96,7 @@ impl Faults {
         place: u64,
     )
         ensures told { Told 2 0 self.old self.new }
-        ensures opens { Opens (fault_if (doctype_error part spaced found) place) self.old self.new }
+        ensures opens { Opens (doctype_front_errors part spaced found place) self.old self.new }
     {
         match found {
             None => self.doctype_end(part, place),
@@ -126,7 +120,6 @@ impl Faults {
     }
 
     fn tell_named(&mut self, name: Option<FaultName>, place: u64)
-        requires defined { IfSome name (λ name. is_defined name ≡ true) }
         ensures told { Told 1 0 self.old self.new }
         ensures opens { Opens (fault_if name place) self.old self.new }
     {

@@ -1,9 +1,11 @@
 // The parse errors that are told, and what they rest on.
-ghost use Rattle.std.specs.Prelude.{◌≡◌, ◌+◌, ◌<◌, ◌≤◌, ◌^◌, ◌&&◌, ℕ, [], ◌∷◌, true, false, length, option_to_list, slice_get, IfSome, MatchOption, OnOk, Some};
+ghost use Rattle.std.specs.Prelude.{◌≡◌, ◌+◌, ◌<◌, ◌≤◌, ◌^◌, ◌-◌, ◌&&◌, ℕ, [], ◌∷◌, true, false, not, length, option_to_list, slice_get, IfSome, MatchOption, OnOk, Some};
 ghost use Rattle.html_tokens.specs.Order.{IsAdded};
 ghost use Rattle.html_tokens.specs.Bounds.{Told};
-ghost use Rattle.html_tokens.specs.Errors.{bogus_error, is_cdata, is_defined, IsQuiet, literal_error, Opens, opening_errors};
-ghost use Rattle.html_tokens.specs.Inside.{fault};
+ghost use Rattle.html_tokens.specs.Errors.{bogus_error, is_cdata, IsQuiet, literal_error, Opens, opening_errors, region_end_errors};
+ghost use Rattle.html_tokens.specs.Cut.{is};
+ghost use Rattle.html_tokens.specs.Inside.{fault, null_errors};
+ghost use Rattle.html_tokens.specs.InsideReferences.{ref_fault_name};
 ghost use Rattle.html_tokens.specs.Input.{Decided, IsShort};
 ghost use Rattle.html_tokens.specs.Tokens.{opened_len, opener};
 
@@ -26,31 +28,17 @@ pub struct Fault {
     pub place: u64,
 }
 
-/// What earlier code points let a later one tell.
-#[derive(Clone, Copy)]
-pub struct Watch {
-    /// Where the reference begins whose number or letters are being read.
-    pub reference: u64,
-    /// Where the letters of a name would go on that is in no table.
-    pub letters: Option<u64>,
-    /// Where the code point stands that comes after a closing quote.
-    pub quote: Option<u64>,
-    /// How many code points of `<!--` have just been read in a comment.
-    pub opened: u8,
-}
-
 /// The parse errors told so far, and how many attribute names were compared.
 #[derive(Drop)]
 pub struct Faults {
     pub list: FaultList,
     pub lost: bool,
     pub compared: u128,
-    pub watch: Watch,
 }
 
 /// The name of what is wrong with a number.
 fn number_name(fault: RefFault) -> FaultName
-    ensures { is_defined result ≡ false }
+    ensures name { result ≡ ref_fault_name fault }
 {
     match fault {
         RefFault::Null => FaultName::NullCharacterReference,
@@ -61,12 +49,13 @@ fn number_name(fault: RefFault) -> FaultName
     }
 }
 
-/// Whether the code point at a place of the rest is there, and another than this.
-fn is_other(input: &Input, at: usize, c: char) -> bool {
-    match input.peek(at) {
-        Peek::Is(Some(d)) => d != c,
-        Peek::Is(None) | Peek::Wait => false,
-    }
+/// Whether no `;` ends this many code points at the front of the rest.
+pub(crate) fn lacks_semicolon(input: &Input, len: usize) -> bool
+    requires some { 0 < len }
+    requires fit { len ≤ length input.now.queue.items }
+    ensures { Decided input.now (λ rest. not (is 59 (slice_get rest (len - 1)))) result }
+{
+    input.queue.unread()[len - 1] != ';'
 }
 
 /// Whether `[CDATA[` stands after `<!`.
@@ -83,7 +72,6 @@ pub(crate) fn opening_fault(input: &Input, found: Opener, place: u64) -> Option<
     requires fit { opened_len found ≤ length input.now.queue.items }
     requires room { place + length input.now.queue.items < 2 ^ 64 }
     ensures told { MatchOption result (IsShort input.now 8) (λ fault. Decided input.now (opening_errors found place) (option_to_list fault)) }
-    ensures opening { IfSome result (λ fault. IfSome fault (λ f. is_defined f.name ≡ true)) }
 {
     Some(match found {
         Opener::Literal => Some(literal_fault(input, place)?),
@@ -105,7 +93,6 @@ fn literal_fault(input: &Input, place: u64) -> Option<Fault>
     requires some { 0 < length input.now.queue.items }
     requires room { place + length input.now.queue.items < 2 ^ 64 }
     ensures told { MatchOption result (IsShort input.now 8) (λ f. Decided input.now (λ rest. literal_error (slice_get rest 1) place) f) }
-    ensures opening { IfSome result (λ f. is_defined f.name ≡ true) }
 {
     let next = place.saturating_add(1);
     match input.peek(1) {
@@ -130,7 +117,6 @@ fn bogus_fault(input: &Input, place: u64) -> Option<Fault>
     requires two { 1 < length input.now.queue.items }
     requires room { place + length input.now.queue.items < 2 ^ 64 }
     ensures told { MatchOption result (IsShort input.now 8) (λ f. Decided input.now (bogus_error place) f) }
-    ensures opening { IfSome result (λ f. is_defined f.name ≡ true) }
 {
     let next = place.saturating_add(1);
     if is_at(input, 1, '?')? {
@@ -164,12 +150,6 @@ impl Faults {
             list: FaultList::new(alloc),
             lost: false,
             compared: 0,
-            watch: Watch {
-                reference: 0,
-                letters: None,
-                quote: None,
-                opened: 0,
-            },
         }
     }
 
@@ -187,16 +167,10 @@ impl Faults {
         if self.lost { Err(AllocError) } else { Ok(()) }
     }
 
-    /// Whether no earlier code point lets a later one tell more than it tells by itself.
-    pub(crate) fn is_quiet(&self) -> bool {
-        self.watch.letters.is_none() && self.watch.opened == 0
-    }
-
     /// Adds an error, or notes that memory was refused.
     pub(crate) fn tell(&mut self, name: FaultName, place: u64)
         ensures told { Told 1 0 self.old self.new }
-        ensures quiet { is_defined name ≡ false → IsQuiet self.old self.new }
-        ensures opens { is_defined name ≡ true → Opens (fault name place ∷ []) self.old self.new }
+        ensures opens { Opens (fault name place ∷ []) self.old self.new }
         ensures added { self.new.lost ≡ false → IsAdded self.old.list (record { name = name; place = place }) self.new.list }
         ensures compared { self.new.compared ≡ self.old.compared }
     {
@@ -207,7 +181,6 @@ impl Faults {
     }
 
     pub(crate) fn tell_some(&mut self, fault: Option<Fault>)
-        requires opening { IfSome fault (λ f. is_defined f.name ≡ true) }
         ensures told { Told 1 0 self.old self.new }
         ensures opens { Opens (option_to_list fault) self.old self.new }
     {
@@ -219,7 +192,7 @@ impl Faults {
     /// What a U+0000 tells.
     pub(crate) fn null(&mut self, c: char, place: u64)
         ensures told { Told 1 0 self.old self.new }
-        ensures quiet { IsQuiet self.old self.new }
+        ensures opens { Opens (null_errors (Some c) place) self.old self.new }
     {
         if c == '\0' {
             self.tell(FaultName::UnexpectedNullCharacter, place);
@@ -229,9 +202,8 @@ impl Faults {
     /// What a code point of text tells.
     pub(crate) fn text_char(&mut self, c: char, place: u64)
         ensures told { Told 2 0 self.old self.new }
-        ensures quiet { IsQuiet self.old self.new }
+        ensures opens { Opens (null_errors (Some c) place) self.old self.new }
     {
-        self.letter(c, place);
         self.null(c, place);
     }
 
@@ -246,7 +218,7 @@ impl Faults {
     /// What the end tells in text.
     pub(crate) fn text_end(&mut self, region: Region, place: u64)
         ensures told { Told 1 0 self.old self.new }
-        ensures quiet { IsQuiet self.old self.new }
+        ensures opens { Opens (region_end_errors region place) self.old self.new }
     {
         match region {
             Region::Plain => {}

@@ -34,6 +34,7 @@ pub enum State {
     Text(Region),
     Number(NumberDraft),
     Second(char, u64),
+    Ampersand(u64),
     Comment(CommentDraft),
     Doctype(DoctypeDraft),
     Tag(TagDraft),
@@ -192,6 +193,10 @@ impl<'a> Machine<'a> {
             State::Second(c, start) => {
                 let (c, start) = (*c, *start);
                 Ok(self.second_step(c, start))
+            }
+            State::Ampersand(start) => {
+                let start = *start;
+                self.letters_step(start, faults)
             }
             State::Comment(_) => self.comment_step(faults),
             State::Doctype(_) => self.doctype_step(faults),

@@ -152,7 +152,8 @@ pub(crate) fn is_end_mark(input: &Input, name: &[char]) -> Option<bool>
     )
 }
 
-fn declares(input: &Input) -> Option<bool>
+/// Whether `<!--` stands at the front of the rest.
+pub(crate) fn declares(input: &Input) -> Option<bool>
     ensures { MatchOption result (IsShort input.now 8) (λ found. Decided input.now declares found) }
 {
     Some(

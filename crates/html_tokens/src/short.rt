@@ -213,9 +213,6 @@ impl<'a> Machine<'a> {
             let given = self.take_start(1, len)?;
             return Ok(Some(given));
         }
-        if !faults.is_quiet() {
-            return Ok(None);
-        }
         self.read_start(len, faults)
     }
 }

@@ -1,12 +1,15 @@
 // Tags.
 ghost use Rattle.std.specs.Prelude.{length, ◌≡◌, ℕ, ◌≤◌, ◌+◌, ◌∷◌, [], ◌++◌, OnOk, IfOk, true, false, Option};
 ghost use Rattle.html_tokens.specs.Copied.{copied_in, CopiesTag};
+ghost use Rattle.html_tokens.specs.AttrNames.{NamesOn, ends_attr_name, names_in};
 ghost use Rattle.html_tokens.specs.Cut.{is_space, ends_unquoted};
-ghost use Rattle.html_tokens.specs.Tag.{name_char, ReadsTag, ends_name, ends_attr, AddsAttr, reads_refs, is_number, Settles, OpensRef, ReadsRef, IsInside, GoesOn, ClosesAt};
+ghost use Rattle.html_tokens.specs.Tag.{name_char, ReadsTag, ends_name, ends_attr, AddsAttr, reads_refs, is_unsettled, Settles, OpensRef, ReadsRef, IsInside, GoesOn, ClosesAt};
+ghost use Rattle.html_tokens.specs.InsideTags.{closes_before, looks_on, may_tell, may_tell_in, MovesRef, MovesTag, SettlesPart, TurnsTo};
 ghost use Rattle.html_tokens.specs.Reference.{is_digit};
 ghost use Rattle.html_charref.specs.Number.{char_of};
 ghost use Rattle.html_charref.specs.Entities.{codes_with};
 ghost use Rattle.html_tokens.specs.Fed.{new_tag};
+ghost use Rattle.std.specs.Char.{is_ascii_alphanumeric};
 
 use crate::attributes::Attr;
 use crate::copied::Copied;
@@ -27,7 +30,8 @@ pub enum Part {
     AfterName,
     Value,
     Inside(ValueEnd),
-    Number(ValueEnd, Base, u32),
+    Number(ValueEnd, Base, u32, u64),
+    Ampersand(ValueEnd, u64),
 }
 
 /// How a value closes.
@@ -36,6 +40,85 @@ pub enum ValueEnd {
     DoubleQuote,
     SingleQuote,
     Space,
+}
+
+impl Part {
+    /// Whether a code point is judged by the one after it here.
+    pub(crate) fn looks_on(self, c: char) -> bool
+        ensures { result ≡ looks_on self c }
+    {
+        match self {
+            Part::Inside(ValueEnd::DoubleQuote)
+            | Part::Number(ValueEnd::DoubleQuote, ..)
+            | Part::Ampersand(ValueEnd::DoubleQuote, _) => { matches!(c, '/' | '"') }
+            Part::Inside(ValueEnd::SingleQuote)
+            | Part::Number(ValueEnd::SingleQuote, ..)
+            | Part::Ampersand(ValueEnd::SingleQuote, _) => { matches!(c, '/' | '\'') }
+            Part::Name
+            | Part::Attributes
+            | Part::AttrName
+            | Part::AfterName
+            | Part::Value
+            | Part::Inside(ValueEnd::Space)
+            | Part::Number(ValueEnd::Space, ..)
+            | Part::Ampersand(ValueEnd::Space, _) => c == '/',
+        }
+    }
+
+    /// Whether the name of an attribute ends here.
+    #[inline(always)]
+    pub(crate) fn ends_attr_name(self, found: Option<char>) -> bool
+        ensures { result ≡ ends_attr_name self found }
+    {
+        match self {
+            Part::AttrName => match found {
+                Some(c) => ends_attr(c),
+                None => true,
+            },
+            Part::Name
+            | Part::Attributes
+            | Part::AfterName
+            | Part::Value
+            | Part::Inside(_)
+            | Part::Number(..)
+            | Part::Ampersand(..) => false,
+        }
+    }
+
+    /// Whether a quote closes a value here, before white space, `/` or `>`.
+    pub(crate) fn closes_before(self, c: char, next: char) -> bool
+        ensures { result ≡ true → closes_before self c next ≡ true }
+    {
+        match self {
+            Part::Inside(ValueEnd::DoubleQuote) => c == '"' && ends_name(next),
+            Part::Inside(ValueEnd::SingleQuote) => c == '\'' && ends_name(next),
+            _ => false,
+        }
+    }
+
+    /// Whether a code point may tell an error here, but for `/`.
+    pub(crate) fn may_tell(self, c: char) -> bool
+        ensures { result ≡ may_tell self c }
+    {
+        c == '\0' || self.may_tell_in(c)
+    }
+
+    /// The same, but for U+0000.
+    fn may_tell_in(self, c: char) -> bool
+        ensures { result ≡ may_tell_in self c }
+    {
+        match self {
+            Part::Name => false,
+            Part::Attributes => matches!(c, '=' | '"' | '\'' | '<'),
+            Part::AttrName | Part::AfterName => matches!(c, '"' | '\'' | '<'),
+            Part::Value => matches!(c, '>' | '<' | '=' | '`'),
+            Part::Inside(ValueEnd::DoubleQuote) => c == '"',
+            Part::Inside(ValueEnd::SingleQuote) => c == '\'',
+            Part::Inside(ValueEnd::Space) => matches!(c, '"' | '\'' | '<' | '=' | '`'),
+            Part::Number(_, base, ..) => digit(c, base).is_none(),
+            Part::Ampersand(..) => !c.is_ascii_alphanumeric(),
+        }
+    }
 }
 
 impl ValueEnd {
@@ -123,7 +206,7 @@ impl TagDraft {
     {
         match self.part {
             Part::Name | Part::Attributes | Part::AttrName | Part::AfterName => false,
-            Part::Value | Part::Inside(_) | Part::Number(..) => true,
+            Part::Value | Part::Inside(_) | Part::Number(..) | Part::Ampersand(..) => true,
         }
     }
 
@@ -136,7 +219,11 @@ impl TagDraft {
             Part::Name => Copied::Name.copy(rest, &mut self.name),
             Part::AttrName => Copied::Name.copy(rest, &mut self.attr_name),
             Part::Inside(end) => end.copied().copy(rest, &mut self.attr_value),
-            Part::Attributes | Part::AfterName | Part::Value | Part::Number(..) => Ok(0),
+            Part::Attributes
+            | Part::AfterName
+            | Part::Value
+            | Part::Number(..)
+            | Part::Ampersand(..) => Ok(0),
         }
     }
 
@@ -145,6 +232,8 @@ impl TagDraft {
         requires plain { reads_refs self.old.part ≡ true → c ≡ 38 → ⊥ }
         ensures reads { IfOk result (λ reading. ReadsTag self.old c after reading self.new) }
         ensures closes { IfOk result (λ reading. ClosesAt c reading) }
+        ensures moves { IfOk result (λ reading. MovesTag self.old.part c after reading self.new.part) }
+        ensures names { IfOk result (λ reading. NamesOn self.old c reading self.new) }
         ensures attrs { OnOk result (length self.new.attrs ≤ length self.old.attrs + 1) }
     {
         self.settle(c)?;
@@ -157,10 +246,16 @@ impl TagDraft {
         requires goes_on { GoesOn self.old.part c }
         ensures reads { IfOk result (λ reading. ReadsTag self.old c after reading self.new) }
         ensures closes { IfOk result (λ reading. ClosesAt c reading) }
+        ensures moves { IfOk result (λ reading. MovesTag self.old.part c after reading self.new.part) }
+        ensures names { IfOk result (λ reading. NamesOn self.old c reading self.new) }
         ensures attrs { OnOk result (length self.new.attrs ≤ length self.old.attrs + 1) }
     {
-        if let Part::Number(end, base, value) = self.part {
-            self.read_number(end, base, value, c)?;
+        if let Part::Number(end, base, value, start) = self.part {
+            self.read_number(end, base, value, start, c)?;
+            return Ok(TagReading::More);
+        }
+        if let Part::Ampersand(end, start) = self.part {
+            self.read_letter(end, start, c)?;
             return Ok(TagReading::More);
         }
         self.read_part(c, after)
@@ -168,10 +263,12 @@ impl TagDraft {
 
     /// The same, outside a number.
     fn read_part(&mut self, c: char, after: Option<char>) -> Result<TagReading, AllocError>
-        requires part { is_number self.old.part ≡ false }
+        requires part { is_unsettled self.old.part ≡ false }
         requires plain { reads_refs self.old.part ≡ true → c ≡ 38 → ⊥ }
         ensures reads { IfOk result (λ reading. ReadsTag self.old c after reading self.new) }
         ensures closes { IfOk result (λ reading. ClosesAt c reading) }
+        ensures moves { IfOk result (λ reading. MovesTag self.old.part c after reading self.new.part) }
+        ensures names { IfOk result (λ reading. NamesOn self.old c reading self.new) }
         ensures attrs { OnOk result (length self.new.attrs ≤ length self.old.attrs + 1) }
     {
         match self.part {
@@ -183,7 +280,7 @@ impl TagDraft {
             Part::Inside(ValueEnd::DoubleQuote) => self.read_double_quoted(c, after),
             Part::Inside(ValueEnd::SingleQuote) => self.read_single_quoted(c, after),
             Part::Inside(ValueEnd::Space) => self.read_unquoted(c, after),
-            Part::Number(..) => Ok(TagReading::More),
+            Part::Number(..) | Part::Ampersand(..) => Ok(TagReading::More),
         }
     }
 
@@ -192,6 +289,8 @@ impl TagDraft {
         requires { self.old.part ≡ Part.Name }
         ensures reads { IfOk result (λ reading. ReadsTag self.old c after reading self.new) }
         ensures closes { IfOk result (λ reading. ClosesAt c reading) }
+        ensures turns { IfOk result (λ reading. TurnsTo self.old.part c after reading self.new.part) }
+        ensures names { IfOk result (λ reading. NamesOn self.old c reading self.new) }
         ensures attrs { OnOk result (length self.new.attrs ≤ length self.old.attrs + 1) }
     {
         if ends_name(c) {
@@ -207,6 +306,8 @@ impl TagDraft {
         requires { self.old.part ≡ Part.Attributes }
         ensures reads { IfOk result (λ reading. ReadsTag self.old c after reading self.new) }
         ensures closes { IfOk result (λ reading. ClosesAt c reading) }
+        ensures turns { IfOk result (λ reading. TurnsTo self.old.part c after reading self.new.part) }
+        ensures names { IfOk result (λ reading. NamesOn self.old c reading self.new) }
         ensures attrs { self.new.attrs ≡ self.old.attrs }
     {
         if c == '>' {
@@ -232,6 +333,8 @@ impl TagDraft {
         requires { self.old.part ≡ Part.AttrName }
         ensures reads { IfOk result (λ reading. ReadsTag self.old c after reading self.new) }
         ensures closes { IfOk result (λ reading. ClosesAt c reading) }
+        ensures turns { IfOk result (λ reading. TurnsTo self.old.part c after reading self.new.part) }
+        ensures names { IfOk result (λ reading. NamesOn self.old c reading self.new) }
         ensures attrs { OnOk result (length self.new.attrs ≤ length self.old.attrs + 1) }
     {
         if ends_attr(c) {
@@ -247,6 +350,8 @@ impl TagDraft {
         requires { self.old.part ≡ Part.AfterName }
         ensures reads { IfOk result (λ reading. ReadsTag self.old c after reading self.new) }
         ensures closes { IfOk result (λ reading. ClosesAt c reading) }
+        ensures turns { IfOk result (λ reading. TurnsTo self.old.part c after reading self.new.part) }
+        ensures names { IfOk result (λ reading. NamesOn self.old c reading self.new) }
         ensures attrs { OnOk result (length self.new.attrs ≤ length self.old.attrs + 1) }
     {
         if is_space(c) {
@@ -266,6 +371,8 @@ impl TagDraft {
         requires plain { c ≡ 38 → ⊥ }
         ensures reads { IfOk result (λ reading. ReadsTag self.old c after reading self.new) }
         ensures closes { IfOk result (λ reading. ClosesAt c reading) }
+        ensures turns { IfOk result (λ reading. TurnsTo self.old.part c after reading self.new.part) }
+        ensures names { IfOk result (λ reading. NamesOn self.old c reading self.new) }
         ensures attrs { OnOk result (length self.new.attrs ≤ length self.old.attrs + 1) }
     {
         if is_space(c) {
@@ -289,6 +396,8 @@ impl TagDraft {
         requires plain { c ≡ 38 → ⊥ }
         ensures reads { IfOk result (λ reading. ReadsTag self.old c after reading self.new) }
         ensures closes { IfOk result (λ reading. ClosesAt c reading) }
+        ensures turns { IfOk result (λ reading. TurnsTo self.old.part c after reading self.new.part) }
+        ensures names { IfOk result (λ reading. NamesOn self.old c reading self.new) }
         ensures attrs { OnOk result (length self.new.attrs ≤ length self.old.attrs + 1) }
     {
         if c == '"' {
@@ -305,6 +414,8 @@ impl TagDraft {
         requires plain { c ≡ 38 → ⊥ }
         ensures reads { IfOk result (λ reading. ReadsTag self.old c after reading self.new) }
         ensures closes { IfOk result (λ reading. ClosesAt c reading) }
+        ensures turns { IfOk result (λ reading. TurnsTo self.old.part c after reading self.new.part) }
+        ensures names { IfOk result (λ reading. NamesOn self.old c reading self.new) }
         ensures attrs { OnOk result (length self.new.attrs ≤ length self.old.attrs + 1) }
     {
         if c == '\'' {
@@ -321,6 +432,8 @@ impl TagDraft {
         requires plain { c ≡ 38 → ⊥ }
         ensures reads { IfOk result (λ reading. ReadsTag self.old c after reading self.new) }
         ensures closes { IfOk result (λ reading. ClosesAt c reading) }
+        ensures turns { IfOk result (λ reading. TurnsTo self.old.part c after reading self.new.part) }
+        ensures names { IfOk result (λ reading. NamesOn self.old c reading self.new) }
         ensures attrs { OnOk result (length self.new.attrs ≤ length self.old.attrs + 1) }
     {
         if ends_unquoted(c) {
@@ -334,19 +447,76 @@ impl TagDraft {
     /// The number that is being read is whole, where this code point is no part of it.
     fn settle(&mut self, c: char) -> Result<(), AllocError>
         ensures ok { OnOk result (Settles self.old c self.new) }
+        ensures part { OnOk result (SettlesPart self.old.part c self.new.part) }
         ensures refs { OnOk result (reads_refs self.new.part ≡ reads_refs self.old.part) }
+        ensures names { OnOk result (names_in self.new ≡ names_in self.old) }
         ensures attrs { OnOk result (self.new.attrs ≡ self.old.attrs) }
     {
-        if let Part::Number(end, base, value) = self.part {
-            match digit(c, base) {
-                Some(_) => {}
-                None => {
-                    if c != ';' {
-                        self.number_ends(end, value)?;
-                    }
-                }
+        match self.part {
+            Part::Number(end, base, value, start) => {
+                self.settle_number(end, base, value, start, c)
             }
+            Part::Ampersand(end, start) => {
+                self.settle_letters(end, start, c);
+                Ok(())
+            }
+            Part::Name
+            | Part::Attributes
+            | Part::AttrName
+            | Part::AfterName
+            | Part::Value
+            | Part::Inside(_) => Ok(()),
         }
+    }
+
+    /// The same of a number.
+    fn settle_number(
+        &mut self,
+        end: ValueEnd,
+        base: Base,
+        value: u32,
+        start: u64,
+        c: char,
+    ) -> Result<(), AllocError>
+        requires part { self.old.part ≡ Part.Number end base value start }
+        ensures ok { OnOk result (Settles self.old c self.new) }
+        ensures part { OnOk result (SettlesPart self.old.part c self.new.part) }
+        ensures refs { OnOk result (reads_refs self.new.part ≡ reads_refs self.old.part) }
+        ensures names { OnOk result (names_in self.new ≡ names_in self.old) }
+        ensures attrs { OnOk result (self.new.attrs ≡ self.old.attrs) }
+    {
+        match digit(c, base) {
+            Some(_) => {}
+            None if c == ';' => {}
+            None => self.number_ends(end, value)?,
+        }
+        Ok(())
+    }
+
+    /// The letters and digits after a `&` have ended, where this code point is none of them.
+    fn settle_letters(&mut self, end: ValueEnd, start: u64, c: char)
+        requires part { self.old.part ≡ Part.Ampersand end start }
+        ensures ok { Settles self.old c self.new }
+        ensures part { SettlesPart self.old.part c self.new.part }
+        ensures refs { reads_refs self.new.part ≡ reads_refs self.old.part }
+        ensures names { names_in self.new ≡ names_in self.old }
+        ensures attrs { self.new.attrs ≡ self.old.attrs }
+    {
+        if !c.is_ascii_alphanumeric() {
+            self.part = Part::Inside(end);
+        }
+    }
+
+    /// Reads a letter or digit after a `&`.
+    fn read_letter(&mut self, end: ValueEnd, start: u64, c: char) -> Result<(), AllocError>
+        requires part { self.old.part ≡ Part.Ampersand end start }
+        requires letter { is_ascii_alphanumeric c ≡ true }
+        ensures ok { OnOk result ((after : Option ℕ) → ReadsTag self.old c after TagReading.More self.new) }
+        ensures moves { OnOk result ((after : Option ℕ) → MovesTag self.old.part c after TagReading.More self.new.part) }
+        ensures names { OnOk result (names_in self.new ≡ names_in self.old) }
+        ensures attrs { OnOk result (self.new.attrs ≡ self.old.attrs) }
+    {
+        self.push_codes(c, None)?;
         Ok(())
     }
 
@@ -356,15 +526,18 @@ impl TagDraft {
         end: ValueEnd,
         base: Base,
         value: u32,
+        start: u64,
         c: char,
     ) -> Result<(), AllocError>
-        requires part { self.old.part ≡ Part.Number end base value }
+        requires part { self.old.part ≡ Part.Number end base value start }
         requires belongs { is_digit base c ≡ false → c ≡ 59 }
         ensures ok { OnOk result ((after : Option ℕ) → ReadsTag self.old c after TagReading.More self.new) }
+        ensures moves { OnOk result ((after : Option ℕ) → MovesTag self.old.part c after TagReading.More self.new.part) }
+        ensures names { OnOk result (names_in self.new ≡ names_in self.old) }
         ensures attrs { OnOk result (self.new.attrs ≡ self.old.attrs) }
     {
         match digit(c, base) {
-            Some(d) => self.part = Part::Number(end, base, add_digit(value, d, base)),
+            Some(d) => self.part = Part::Number(end, base, add_digit(value, d, base), start),
             None => self.number_ends(end, value)?,
         }
         Ok(())
@@ -380,20 +553,24 @@ impl TagDraft {
         Ok(())
     }
 
-    /// Reads what a `&` begins in a value.
-    pub(crate) fn read_ref(&mut self, found: ValueRef) -> Result<(), AllocError>
+    /// Reads what a `&` at a place begins in a value.
+    pub(crate) fn read_ref(&mut self, found: ValueRef, place: u64) -> Result<(), AllocError>
         requires refs { reads_refs self.old.part ≡ true }
         ensures ok { OnOk result (ReadsRef self.old found self.new) }
+        ensures moves { OnOk result (MovesRef self.old.part found place self.new.part) }
+        ensures names { OnOk result (names_in self.new ≡ names_in self.old) }
         ensures attrs { OnOk result (self.new.attrs ≡ self.old.attrs) }
     {
         self.open_ref()?;
-        self.take_ref(found)
+        self.take_ref(found, place)
     }
 
     /// The value goes on, or begins, with a `&`.
     fn open_ref(&mut self) -> Result<(), AllocError>
         requires refs { reads_refs self.old.part ≡ true }
         ensures ok { OnOk result (OpensRef self.old self.new) }
+        ensures part { OnOk result (SettlesPart self.old.part 38 self.new.part) }
+        ensures names { OnOk result (names_in self.new ≡ names_in self.old) }
         ensures attrs { OnOk result (self.new.attrs ≡ self.old.attrs) }
     {
         match self.part {
@@ -401,7 +578,11 @@ impl TagDraft {
                 self.part = Part::Inside(ValueEnd::Space);
                 Ok(())
             }
-            Part::Number(end, _, value) => self.number_ends(end, value),
+            Part::Number(end, _, value, _) => self.number_ends(end, value),
+            Part::Ampersand(end, _) => {
+                self.part = Part::Inside(end);
+                Ok(())
+            }
             Part::Inside(_) | Part::Name | Part::Attributes | Part::AttrName | Part::AfterName => {
                 Ok(())
             }
@@ -409,17 +590,25 @@ impl TagDraft {
     }
 
     /// Reads what a `&` begins inside a value.
-    fn take_ref(&mut self, found: ValueRef) -> Result<(), AllocError>
+    fn take_ref(&mut self, found: ValueRef, place: u64) -> Result<(), AllocError>
         requires inside { IsInside self.old.part }
         ensures ok { OnOk result (ReadsRef self.old found self.new) }
+        ensures moves { OnOk result (MovesRef self.old.part found place self.new.part) }
+        ensures names { OnOk result (names_in self.new ≡ names_in self.old) }
         ensures attrs { OnOk result (self.new.attrs ≡ self.old.attrs) }
     {
         match found {
             ValueRef::Numeric(base, _) => {
-                self.begin_number(base);
+                self.begin_number(base, place);
+                Ok(())
+            }
+            ValueRef::Letters => {
+                self.push_codes('&', None)?;
+                self.begin_letters(place);
                 Ok(())
             }
             ValueRef::Unknown => self.push_codes('&', None),
+            ValueRef::Literal => self.push_codes('&', None),
             ValueRef::Codes(_, first, second) => self.push_codes(first, second),
         }
     }
@@ -436,14 +625,25 @@ impl TagDraft {
         Ok(())
     }
 
-    /// A number begins.
-    fn begin_number(&mut self, base: Base)
+    /// A number begins, whose `&` stands at a place.
+    fn begin_number(&mut self, base: Base, place: u64)
         requires inside { IsInside self.old.part }
-        ensures number { (end : ValueEnd) → self.old.part ≡ Part.Inside end → self.new ≡ record self.old { part = Part.Number end base 0 } }
+        ensures number { (end : ValueEnd) → self.old.part ≡ Part.Inside end → self.new ≡ record self.old { part = Part.Number end base 0 place } }
         ensures attrs { self.new.attrs ≡ self.old.attrs }
     {
         if let Part::Inside(end) = self.part {
-            self.part = Part::Number(end, base, 0);
+            self.part = Part::Number(end, base, 0, place);
+        }
+    }
+
+    /// Letters and digits begin, after a `&` at a place.
+    fn begin_letters(&mut self, place: u64)
+        requires inside { IsInside self.old.part }
+        ensures letters { (end : ValueEnd) → self.old.part ≡ Part.Inside end → self.new ≡ record self.old { part = Part.Ampersand end place } }
+        ensures attrs { self.new.attrs ≡ self.old.attrs }
+    {
+        if let Part::Inside(end) = self.part {
+            self.part = Part::Ampersand(end, place);
         }
     }
 

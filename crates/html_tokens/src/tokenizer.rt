@@ -42,7 +42,6 @@ pub enum TokenError {
 }
 
 impl<'a> Tokenizer<'a> {
-    ghost use Rattle.html_tokens.specs.Errors.{defined};
     ghost use Rattle.html_tokens.specs.Stream.{errors_of, Run, Start, gave, fed, ended, IsPrompt, tokens_of};
     ghost use Rattle.html_tokens.specs.Given.{Fed, Awaits, fed_len, is_stopped, is_finished, told, plain_next, steps_taken, visits_made, comparisons_made, MaySwitch, run_from};
     ghost use Rattle.html_tokens.specs.Runs.{gave_all};
@@ -237,7 +236,6 @@ impl<'a> Tokenizer<'a> {
         if self.failed
             || self.machine.is_finished()
             || !self.machine.is_idle()
-            || !self.faults.is_quiet()
             || !self.machine.has_room(text.len())
         {
             return None;
@@ -250,7 +248,7 @@ impl<'a> Tokenizer<'a> {
     pub fn takes_plain(&self) -> bool
         ensures going { result ≡ true → is_stopped self.now ≡ false }
     {
-        !self.failed && self.machine.is_idle() && self.faults.is_quiet()
+        !self.failed && self.machine.is_idle()
     }
 
     /// Takes the next piece of the text, which is a tag without attributes, and gives its token. It is as `feed` and then one call of `next`. Nothing, and
@@ -273,7 +271,6 @@ impl<'a> Tokenizer<'a> {
             || self.machine.is_finished()
             || !self.machine.is_idle()
             || !self.machine.is_data()
-            || !self.faults.is_quiet()
             || !self.machine.has_room(tag.as_str().len())
         {
             return Ok(None);
@@ -316,8 +313,8 @@ impl<'a> Tokenizer<'a> {
         ensures ordered { IsNonDecreasingBy (λ x. x.place) result.now }
         ensures bound { length result.now ≤ 11 * (fed_len self.now + 2) }
         ensures count { (run : Run) → Fed self.now run → fed_len self.now ≡ length run.text }
-        // Once all tokens were given, those whose names are defined are those of the text.
-        ensures defined { (run : Run) → Fed self.now run → run.finished ≡ true → tokens_of run.text run.switches run.start ≡ run.given → defined result.now ≡ errors_of run.text run.switches run.start }
+        // Once all tokens were given, they are those of the text.
+        ensures whole { (run : Run) → Fed self.now run → run.finished ≡ true → tokens_of run.text run.switches run.start ≡ run.given → result.now ≡ errors_of run.text run.switches run.start }
     {
         self.faults.list.as_slice()
     }

@@ -4,13 +4,13 @@ ghost use Rattle.html_tokens.specs.Bounds.{IsBounded, IsWithin};
 ghost use Rattle.html_tokens.specs.Copied.{AllPass, CopiesTag, EndsAt, copied_in, is_copied};
 ghost use Rattle.html_tokens.specs.Errors.{IsQuiet};
 ghost use Rattle.html_tokens.specs.Fed.{Skips};
-ghost use Rattle.html_tokens.specs.Whole.{AddsOne, ClosesValue, IsValue, IsWholeAttr, OpensValue, quote_len, whole_len};
+ghost use Rattle.html_tokens.specs.Whole.{AddsOne, ClosesValue, IsFree, IsValue, IsWholeAttr, OpensValue, quote_len, whole_len};
 
 use crate::attributes::Attr;
 use crate::copied::{Copied, push_all};
 use crate::faults::Faults;
 use crate::machine::{Machine, State};
-use crate::tag::{Part, TagDraft, ValueEnd, ends_unquoted};
+use crate::tag::{Part, TagDraft, ValueEnd, ends_name, ends_unquoted};
 use html_text::Str;
 use std::alloc::AllocError;
 
@@ -22,19 +22,17 @@ pub struct WholeAttr {
     pub value: usize,
 }
 
-/// What was taken of a tag at once: so many code points, so many attribute names were compared, and whether a quote closed the last of them.
+/// What was taken of a tag at once: so many code points, and so many attribute names were compared.
 #[derive(Clone, Copy)]
 pub struct Taken {
     pub len: usize,
     pub compared: u128,
-    pub is_quoted: bool,
 }
 
 /// Nothing was taken.
 pub(crate) const NOTHING: Taken = Taken {
     len: 0,
     compared: 0,
-    is_quoted: false,
 };
 
 /// The length of the space at the front, where there is one.
@@ -82,6 +80,19 @@ impl ValueEnd {
         }
     }
 
+    /// Whether what stands behind its closing quote is no part of an attribute.
+    fn is_free(self, inner: &[char], at: usize) -> bool
+        ensures { result ≡ true → IsFree self (slice_get inner.now at) }
+    {
+        match self {
+            ValueEnd::DoubleQuote | ValueEnd::SingleQuote => match inner.get(at) {
+                Some(c) => ends_name(*c),
+                None => false,
+            },
+            ValueEnd::Space => true,
+        }
+    }
+
     /// The length of the longest front of the rest that it takes as it stands.
     fn front(self, rest: &[char]) -> usize
         ensures fit { result ≤ length rest.now }
@@ -105,7 +116,9 @@ fn whole_value(rest: &[char]) -> Option<(ValueEnd, usize)>
     let inner = &rest[quote..];
     let len = end.front(inner);
     match inner.get(len) {
-        Some(c) if end.closes(*c) && 0 < quote + len => Some((end, len)),
+        Some(c) if end.closes(*c) && 0 < quote + len && end.is_free(inner, len + 1) => {
+            Some((end, len))
+        }
         _ => None,
     }
 }
@@ -176,28 +189,19 @@ impl TagDraft {
         Ok(Taken {
             len: spaces + (whole.name + (1 + (quote + (whole.value + quote)))),
             compared: compared as u128,
-            is_quoted: 0 < quote,
         })
     }
 }
 
 impl Faults {
-    /// Whether an attribute may begin here without white space before it.
-    fn may_begin(&self, place: u64) -> bool {
-        self.watch.quote != Some(place)
-    }
-
-    /// What was taken at once ends at this place.
-    pub(crate) fn took(&mut self, taken: Taken, place: u64)
+    /// The names of what was taken at once were compared.
+    pub(crate) fn took(&mut self, taken: Taken)
         ensures list { self.new.list ≡ self.old.list }
         ensures lost { self.new.lost ≡ self.old.lost }
         ensures quiet { IsQuiet self.old self.new }
         ensures compared { self.new.compared ≡ min (self.old.compared + taken.compared) (2 ^ 128 - 1) }
     {
         self.compared = self.compared.saturating_add(taken.compared);
-        if taken.is_quoted {
-            self.watch.quote = Some(place);
-        }
     }
 }
 
@@ -214,19 +218,15 @@ impl<'a> Machine<'a> {
         ensures bounded { IsBounded self.old faults.old → OnOk result (IsBounded self.new faults.new) }
         ensures within { IsBounded self.old faults.old → OnErr result (IsWithin self.new.place faults.new) }
     {
-        if !faults.is_quiet() {
-            return Ok(false);
-        }
-        let may_begin = faults.may_begin(self.place);
         let State::Tag(draft) = &mut self.state else {
             return Ok(false);
         };
         let Part::Attributes = draft.part else {
             return Ok(false);
         };
-        let taken = draft.take_whole(self.input.queue.unread(), may_begin)?;
+        let taken = draft.take_whole(self.input.queue.unread(), true)?;
         self.pass(taken.len);
-        faults.took(taken, self.place);
+        faults.took(taken);
         Ok(0 < taken.len)
     }
 }

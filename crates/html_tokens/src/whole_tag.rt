@@ -39,7 +39,6 @@ impl TagDraft {
     {
         let mut len = 0;
         let mut compared: u128 = 0;
-        let mut is_quoted = false;
         'taking: loop {
             let taken = self.take_whole(&rest[len..], false)?;
             if taken.len == 0 {
@@ -47,12 +46,10 @@ impl TagDraft {
                 return Ok(Taken {
                     len: len + spaces,
                     compared,
-                    is_quoted: is_quoted & (spaces == 0),
                 });
             }
             len += taken.len;
             compared = compared.saturating_add(taken.compared);
-            is_quoted = taken.is_quoted;
         }
     }
 
@@ -141,7 +138,7 @@ impl<'a> Machine<'a> {
         let mut draft = TagDraft::new(self.alloc, false, self.place);
         let taken = draft.take_front(&self.input.queue.unread()[1..], name)?;
         self.pass(1 + taken.len);
-        faults.took(taken, self.place);
+        faults.took(taken);
         match closing(self.input.queue.unread()) {
             None => {
                 self.enter(State::Tag(draft));

@@ -6,6 +6,7 @@ ghost use Rattle.html_tokens.specs.Bounds.{IsBounded, IsWithin};
 use super::{Machine, Progress, State, token};
 use crate::comment::Reading;
 use crate::faults::Faults;
+use crate::input::Peek;
 use crate::token::{Region, TokenKind};
 use std::alloc::AllocError;
 use std::mem;
@@ -25,11 +26,16 @@ impl<'a> Machine<'a> {
         let State::Comment(draft) = &mut self.state else {
             return Ok(Progress::Wait);
         };
-        let first = self.input.peek(0);
+        let Some(nests) = draft.kind.nests(&self.input) else {
+            return Ok(Progress::Wait);
+        };
+        let Peek::Is(first) = self.input.peek(0) else {
+            return Ok(Progress::Wait);
+        };
         match draft.read(&mut self.input)? {
             Reading::Wait => Ok(Progress::Wait),
             Reading::More => {
-                faults.comment_char(draft.kind, first, self.place);
+                faults.comment_char(nests, first, self.place);
                 self.place += 1;
                 Ok(Progress::More)
             }

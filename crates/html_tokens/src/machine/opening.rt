@@ -1,6 +1,6 @@
 // What a `<` in data begins.
 ghost use Rattle.std.specs.Prelude.{◌≡◌, ◌≤◌, ◌+◌, ◌^◌, ◌<◌, [], length, option_to_list, true, IfSome};
-ghost use Rattle.html_tokens.specs.Errors.{is_defined, opening_errors};
+ghost use Rattle.html_tokens.specs.Errors.{opening_errors};
 ghost use Rattle.html_tokens.specs.Fed.{Tells, Steps, Passes, BeginsTag, BeginsDoctype};
 ghost use Rattle.html_tokens.specs.Input.{Decided};
 ghost use Rattle.html_tokens.specs.Tokens.{token, opener, opened_len};
@@ -48,7 +48,6 @@ impl<'a> Machine<'a> {
         requires markup { Decided self.old.input (begin_at self.old.mode region self.old.last_name) Begin.Markup }
         requires found { Decided self.old.input opener found }
         requires told { Decided self.old.input (opening_errors found self.old.place) (option_to_list fault) }
-        requires opening { IfSome fault (λ f. is_defined f.name ≡ true) }
         requires some { 0 < opened_len found }
         requires fit { opened_len found ≤ length self.old.input.queue.items }
         requires room { self.old.place + length self.old.input.queue.items < 2 ^ 64 }

@@ -31,6 +31,7 @@ impl<'a> Machine<'a> {
             State::Text(Region::Escaped | Region::Double)
             | State::Number(_)
             | State::Second(..)
+            | State::Ampersand(_)
             | State::Comment(_)
             | State::Doctype(_)
             | State::Tag(_)
@@ -118,19 +119,19 @@ impl<'a> Machine<'a> {
         ensures within { IsBounded self.old faults.old → OnErr result (IsWithin self.new.place faults.new) }
     {
         let mode = self.mode;
-        self.take_clean(faults, out)?;
+        self.take_clean(out)?;
         'taking: while let Some(c) = self.input.take_plain(mode) {
             faults.text_char(c, self.place);
             self.place += 1;
             out.push(c)?;
-            self.take_clean(faults, out)?;
+            self.take_clean(out)?;
         }
         faults.check()
     }
 
-    /// Appends a front of the rest that is plain text, where no error waits for it, and answers its length.
+    /// Appends a front of the rest that is plain text, and answers its length.
     #[inline(always)]
-    fn take_clean(&mut self, faults: &Faults, out: &mut Vec<char>) -> Result<usize, AllocError>
+    fn take_clean(&mut self, out: &mut Vec<char>) -> Result<usize, AllocError>
         requires room { self.old.place + length self.old.input.queue.items < 2 ^ 64 }
         ensures fit { IfOk result (λ n. n ≤ length self.old.input.queue.items) }
         ensures plain { IfOk result (λ n. (mode : TextMode) → AllPass (is_plain mode) (take n self.old.input.queue.items)) }
@@ -139,9 +140,6 @@ impl<'a> Machine<'a> {
         ensures err { OnErr result (self.new ≡ self.old) }
         ensures kept { OnErr result (out.new.items ≡ out.old.items) }
     {
-        if !faults.is_quiet() {
-            return Ok(0);
-        }
         let len = self.input.clean_len();
         if len == 0 {
             return Ok(0);

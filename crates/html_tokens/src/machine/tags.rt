@@ -2,12 +2,13 @@
 ghost use Rattle.std.specs.Prelude.{◌≡◌, ◌≤◌, ◌+◌, ◌^◌, ◌<◌, Some, length, slice_get, IfOk, OnErr, OnOk, true};
 ghost use Rattle.html_tokens.specs.Fed.{Steps, Tells, IsTag, EndsTag};
 ghost use Rattle.html_tokens.specs.Input.{Decided};
+ghost use Rattle.html_tokens.specs.InsideTags.{looks_on};
 ghost use Rattle.html_tokens.specs.Tag.{reads_refs};
 ghost use Rattle.html_tokens.specs.Bounds.{IsBounded, IsWithin};
 ghost use Rattle.std.specs.Prelude.{option_to_list};
 
 use super::{Machine, Progress, State, token};
-use crate::faults::Faults;
+use crate::faults::{Faults, lacks_semicolon};
 use crate::input::Peek;
 use crate::reference::value_ref;
 use crate::short::keep_text;
@@ -44,7 +45,7 @@ impl<'a> Machine<'a> {
             return self.value_step(faults);
         }
         let mut after = None;
-        if c == '/' {
+        if draft.part.looks_on(c) {
             match self.input.peek(1) {
                 Peek::Wait => return Ok(Progress::Wait),
                 Peek::Is(found) => after = found,
@@ -70,11 +71,12 @@ impl<'a> Machine<'a> {
         let Some(found) = value_ref(self.table, &self.input) else {
             return Ok(Progress::Wait);
         };
+        let lacking = lacks_semicolon(&self.input, found.len());
         let State::Tag(draft) = &mut self.state else {
             return Ok(Progress::Wait);
         };
-        faults.value_ref(&self.input, draft.part, found, self.place);
-        draft.read_ref(found)?;
+        faults.value_ref(draft.part, found, lacking, self.place);
+        draft.read_ref(found, self.place)?;
         self.pass(found.len());
         Ok(Progress::More)
     }
@@ -89,7 +91,7 @@ impl<'a> Machine<'a> {
         requires state { IsTag self.old.state }
         requires plain { (draft : TagDraft) → self.old.state ≡ State.Tag draft → reads_refs draft.part ≡ true → c ≡ 38 → ⊥ }
         requires first { Decided self.old.input (λ rest. slice_get rest 0) (Some c) }
-        requires second { c ≡ 47 → Decided self.old.input (λ rest. slice_get rest 1) after }
+        requires second { (draft : TagDraft) → self.old.state ≡ State.Tag draft → looks_on draft.part c ≡ true → Decided self.old.input (λ rest. slice_get rest 1) after }
         requires fit { 1 + length (option_to_list after) ≤ length self.old.input.queue.items }
         requires room { self.old.place + length self.old.input.queue.items < 2 ^ 64 }
         ensures steps { IfOk result (λ progress. Steps self.old progress self.new) }

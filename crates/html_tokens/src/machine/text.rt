@@ -1,6 +1,5 @@
 // Text, code point by code point.
 ghost use Rattle.std.specs.Prelude.{◌≡◌, ◌≤◌, ◌+◌, ◌^◌, ◌<◌, Some, length, slice_get, MatchOption, cond};
-ghost use Rattle.html_tokens.specs.Errors.{IsQuiet};
 ghost use Rattle.html_tokens.specs.Fed.{Steps, Tells, slack};
 ghost use Rattle.html_tokens.specs.Input.{Decided, IsShort};
 ghost use Rattle.html_tokens.specs.Bounds.{IsBounded};
@@ -14,6 +13,7 @@ use crate::token::{Begin, Region, TextMode, TokenKind};
 
 impl<'a> Machine<'a> {
     /// Reads on in text.
+    #[inline(always)]
     pub(super) fn text_step(&mut self, region: Region, faults: &mut Faults) -> Progress
         requires state { self.old.state ≡ State.Text region }
         requires room { self.old.place + length self.old.input.queue.items < 2 ^ 64 }
@@ -46,6 +46,7 @@ impl<'a> Machine<'a> {
     }
 
     /// What begins at the front of the rest; nothing where more input is wanted.
+    #[inline(always)]
     fn begin(&self, region: Region, first: char) -> Option<Begin>
         requires first { Decided self.now.input (λ rest. slice_get rest 0) (Some first) }
         ensures { MatchOption result (IsShort self.now.input (slack self.now.table.now self.now.last_name)) (λ found. Decided self.now.input (begin_at self.now.mode region self.now.last_name) found × (found ≡ Begin.EndMark → 2 ≤ length self.now.input.queue.items) × (found ≡ Begin.Section → 9 ≤ length self.now.input.queue.items)) }
@@ -119,7 +120,7 @@ impl<'a> Machine<'a> {
         requires room { self.old.place + length self.old.input.queue.items < 2 ^ 64 }
         ensures steps { Steps self.old result self.new }
         ensures bounded { IsBounded self.old faults.old → IsBounded self.new faults.new }
-        ensures quiet { IsQuiet faults.old faults.new }
+        ensures tells { Tells self.old result faults.old faults.new }
     {
         let Some(after) = self.region_after(region) else {
             return Progress::Wait;

@@ -1,4 +1,4 @@
-use Rattle.std.proofs.Common.{◌≤◌, ap, arith, length, subst, sym, take}
+use Rattle.std.proofs.Common.{◌≤◌, ap, arith, length, subst, sym}
 use Rattle.html_construction.specs.States.{State}
 use Rattle.html_construction.specs.Weights.{weight}
 use Rattle.html_modes.proofs.Constructing.{text-taken-in}

@@ -1,5 +1,4 @@
-use Rattle.std.proofs.Common.{◌≡◌, ◌∙◌, length, rules, refl, ap, sym}
-use Rattle.html_tokens.specs.Errors.{defined}
+use Rattle.std.proofs.Common.{◌≡◌, ◌∙◌, length, rules, refl, sym}
 use Rattle.html_page.proofs.TokenLists.{run_of, all_given}
 use Rattle.html_page.proofs.tokens.all_tokens.Goals as goal
 
@@ -43,6 +42,6 @@ returns-in-None-clause-told c = λ start begun.
       finished = refl;
       all = whole run fed refl;
       errors_are = sym (same ∙ c.errors.ensures.list);
-      errors_defined = ap defined same ∙ c.errors.ensures.defined run (prompt run fed).0 refl (whole run fed refl);
+      errors_of_text = same ∙ c.errors.ensures.whole run (prompt run fed).0 refl (whole run fed refl);
       steps_are = sym c.steps.ensures.count;
     }

@@ -1,7 +1,8 @@
 use Rattle.std.proofs.Common.{◌==◌, arith, refl, sym, ◌∙◌}
 use Rattle.std.proofs.lemmas.List.{take_all, take_more}
 use Rattle.html_tokens.specs.Copied.{is_without}
-use Rattle.html_tokens.proofs.CopyLemmas.{AllPass-push, AllPass-pushed, both-left, both-right, is_not, not-false}
+use Rattle.html_tokens.proofs.CopyLemmas.{AllPass-push, AllPass-pushed, both-left, both-right, not-false}
+use Rattle.html_tokens.proofs.PartLemmas.{is_not}
 use Rattle.html_tokens.proofs.fronts.are_without.Goals as goal
 
 pub loop-c-preserved : goal.loop-c-preserved

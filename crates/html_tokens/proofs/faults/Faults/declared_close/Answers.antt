@@ -1,8 +1,7 @@
 use Rattle.std.proofs.Common.{[], ◌≡◌, ◌∙◌, refl, sym}
-use Rattle.html_tokens.proofs.ToldLemmas.{quiet_then}
 use Rattle.html_tokens.proofs.faults.Faults.declared_close.Goals as goal
 
 pub returns-clause-opens : goal.returns-clause-opens
 returns-clause-opens c = λ closed decided.
     let same : c.is_closed-closed.result ≡ closed = sym (c.is_closed-closed.ensures [] (λ _. refl)) ∙ decided [] (λ _. refl) in
-    quiet_then _ c.args.self.now c.nested_end.new.self c.declared_end.new.self c.nested_end.ensures.quiet (rw same at c.declared_end.ensures.opens)
+    rw same at c.declared_end.ensures.opens

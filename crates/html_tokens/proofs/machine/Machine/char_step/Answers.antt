@@ -1,6 +1,7 @@
 use Rattle.std.proofs.Common.{refl, arith}
 use Rattle.html_tokens.proofs.Cuts.{shorter}
 use Rattle.html_tokens.proofs.StepLemmas.{char_errors, char_given}
+use Rattle.html_tokens.proofs.ToldLemmas.{tells_char}
 use Rattle.html_tokens.proofs.machine.Machine.char_step.Goals as goal
 
 pub returns-clause-steps : goal.returns-clause-steps
@@ -13,3 +14,9 @@ returns-clause-steps c =
       (λ more switch switches h. rw (c.token.ensures, c.requires.state)
           (char_errors t.table.now c.args.region _ t.mode t.last_name t.place _ _ _ _ more switch switches c.take-found.ensures.items (c.requires.text more h) (c.in-Some.ensures more h) refl)),
     )
+
+pub returns-clause-tells : goal.returns-clause-tells
+returns-clause-tells c =
+    let t = c.args.self.now in
+    let items = c.take-found.ensures.items in
+    tells_char t c.args.region c.take-found.result c.args.faults.now c.text_char.new.self c.requires.state c.requires.text (λ more f. rw items refl) c.requires.some c.text_char.ensures.opens

@@ -1,10 +1,10 @@
-use Rattle.std.proofs.Common.{◌++◌, refl}
-use Rattle.html_tokens.specs.declared.machine.Progress.TheVariants.{More}
+use Rattle.std.proofs.Common.{◌+◌, ◌++◌, ◌∙◌, ℕ, Bool, Option, ap₂, refl}
 use Rattle.html_tokens.proofs.CommentLemmas.{comment_goes}
 use Rattle.html_tokens.proofs.InsideLemmas.{closed_fed, comment_tells}
-use Rattle.html_tokens.specs.Inside.{is_closed}
+use Rattle.html_tokens.specs.Inside.{fault_when, is_closed, null_errors}
+use Rattle.html_tokens.specs.declared.fault_name.FaultName.TheVariants as names
 use Rattle.html_tokens.proofs.Cuts.{not_empty}
-use Rattle.html_tokens.proofs.ToldLemmas.{tells_quiet}
+use Rattle.html_tokens.proofs.ToldLemmas.{tells_decided}
 use Rattle.html_tokens.proofs.StepLemmas.{comment_more, comment_given, comment_waits}
 use Rattle.html_tokens.proofs.machine.Machine.comment_step.Goals as goal
 
@@ -21,10 +21,13 @@ returns-in-Closed-clause-steps c =
 
 pub returns-in-More-clause-tells : goal.returns-in-More-clause-tells
 returns-in-More-clause-tells c =
+    let old = c.args.self.now in
+    let items = old.input.queue.items in
     let reads = rw c.in-More.is at c.in_ok-read.ensures.reads in
     let moves = rw c.in-More.is at c.in_ok-read.ensures.moves in
-    tells_quiet c.args.self.now More c.args.faults.now c.comment_char.new.self
-    (λ more f. rw c.in-Comment.is (comment_goes c.in-Comment.draft.kind c.args.self.now.place (c.args.self.now.input.queue.items ++ more) (moves.1 more f) (not_empty c.args.self.now.input.queue.items more reads.2)).1) c.comment_char.ensures.quiet
+    tells_decided old _ c.args.faults.now c.comment_char.new.self
+    (λ more f. rw c.in-Comment.is ((comment_goes c.in-Comment.draft.kind old.place (items ++ more) (moves.1 more f) (not_empty items more reads.2)).1
+    ∙ ap₂ (λ (b : Bool) (x : Option ℕ). fault_when b names.NestedComment (old.place + 4) ++ null_errors x old.place) (c.in-Some.ensures.0 more f) (c.in-Is.ensures.0 more f))) c.comment_char.ensures.opens
 
 pub returns-in-Closed-clause-tells : goal.returns-in-Closed-clause-tells
 returns-in-Closed-clause-tells c =

@@ -18,4 +18,4 @@ returns-clause-telling c = λ run i told.
     let state = text_state now.state (sym c.if-not-is_text.ensures) in
     let new = record now { input = c.take_plain.new.self; place = now.place + 1 } in
     plain_told now new c.in_ok-c.c items c.args.faults.now c.text_char.new.self run state c.in_ok-c.ensures.0 c.in_ok-c.ensures.1
-    (passes_one now new c.in_ok-c.c items c.in_ok-c.ensures.1 refl c.in_ok-c.ensures.2 refl refl refl refl refl state) c.text_char.ensures.quiet i told
+    (passes_one now new c.in_ok-c.c items c.in_ok-c.ensures.1 refl c.in_ok-c.ensures.2 refl refl refl refl refl state) c.text_char.ensures.opens i told

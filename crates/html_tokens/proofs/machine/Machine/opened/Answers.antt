@@ -38,7 +38,7 @@ returns-in-Bogus-clause-steps c =
     let k = c.in-Bogus.opened in
     open_more _ _ c.args.region k _ c.requires.state c.begin_comment-in-Bogus.ensures some fit (λ e. e)
     (λ more switches h. comment_begins _ c.args.region _ Bogus k _ _ _ more switches (c.requires.markup more h) (rw (is more h) refl) some fit)
-    (λ more switches h. comment_opens _ c.args.region _ Bogus k _ _ _ more switches (c.requires.markup more h) (rw (is more h) refl) some fit (rw (is more h) refl))
+    (λ more switches h. comment_opens _ c.args.region _ Bogus k _ _ _ more switches (c.requires.markup more h) (rw (is more h) refl) some fit (rw (is more h, drop-append-le k _ more fit) refl))
 
 pub returns-in-ShortComment-clause-steps : goal.returns-in-ShortComment-clause-steps
 returns-in-ShortComment-clause-steps c =
@@ -90,26 +90,26 @@ pub returns-in-Doctype-clause-bounded : goal.returns-in-Doctype-clause-bounded
 returns-in-Doctype-clause-bounded c = doctype_begun c.args.self.now c.begin_doctype.new.self c.args.region 1 c.args.faults.now c.tell_some.new.self c.requires.state c.begin_doctype.ensures c.tell_some.ensures.told (omega arith)
 
 pub returns-in-Empty-clause-tells : goal.returns-in-Empty-clause-tells
-returns-in-Empty-clause-tells c = tells_decided c.args.self.now _ c.args.faults.now c.tell_some.new.self (opens_told c.args.self.now c.args.region _ _ c.requires.state c.requires.markup c.requires.found c.requires.told) c.tell_some.ensures.opens
+returns-in-Empty-clause-tells c = tells_decided c.args.self.now _ c.args.faults.now c.tell_some.new.self (opens_told c.args.self.now c.args.region _ _ c.requires.state c.requires.markup c.requires.found c.requires.told (omega (arith, c.requires.some, c.requires.fit))) c.tell_some.ensures.opens
 
 pub returns-in-Comment-clause-tells : goal.returns-in-Comment-clause-tells
-returns-in-Comment-clause-tells c = tells_decided c.args.self.now _ c.args.faults.now c.tell_some.new.self (opens_told c.args.self.now c.args.region _ _ c.requires.state c.requires.markup c.requires.found c.requires.told) c.tell_some.ensures.opens
+returns-in-Comment-clause-tells c = tells_decided c.args.self.now _ c.args.faults.now c.tell_some.new.self (opens_told c.args.self.now c.args.region _ _ c.requires.state c.requires.markup c.requires.found c.requires.told (omega (arith, c.requires.some, c.requires.fit))) c.tell_some.ensures.opens
 
 pub returns-in-Bogus-clause-tells : goal.returns-in-Bogus-clause-tells
-returns-in-Bogus-clause-tells c = tells_decided c.args.self.now _ c.args.faults.now c.tell_some.new.self (opens_told c.args.self.now c.args.region _ _ c.requires.state c.requires.markup c.requires.found c.requires.told) c.tell_some.ensures.opens
+returns-in-Bogus-clause-tells c = tells_decided c.args.self.now _ c.args.faults.now c.tell_some.new.self (opens_told c.args.self.now c.args.region _ _ c.requires.state c.requires.markup c.requires.found c.requires.told (omega (arith, c.requires.some, c.requires.fit))) c.tell_some.ensures.opens
 
 pub returns-in-ShortComment-clause-tells : goal.returns-in-ShortComment-clause-tells
-returns-in-ShortComment-clause-tells c = tells_decided c.args.self.now _ c.args.faults.now c.tell_some.new.self (opens_told c.args.self.now c.args.region _ _ c.requires.state c.requires.markup c.requires.found c.requires.told) c.tell_some.ensures.opens
+returns-in-ShortComment-clause-tells c = tells_decided c.args.self.now _ c.args.faults.now c.tell_some.new.self (opens_told c.args.self.now c.args.region _ _ c.requires.state c.requires.markup c.requires.found c.requires.told (omega (arith, c.requires.some, c.requires.fit))) c.tell_some.ensures.opens
 
 pub returns-in-StartTag-clause-tells : goal.returns-in-StartTag-clause-tells
-returns-in-StartTag-clause-tells c = tells_decided c.args.self.now _ c.args.faults.now c.tell_some.new.self (opens_told c.args.self.now c.args.region _ _ c.requires.state c.requires.markup c.requires.found c.requires.told) c.tell_some.ensures.opens
+returns-in-StartTag-clause-tells c = tells_decided c.args.self.now _ c.args.faults.now c.tell_some.new.self (opens_told c.args.self.now c.args.region _ _ c.requires.state c.requires.markup c.requires.found c.requires.told (omega (arith, c.requires.some, c.requires.fit))) c.tell_some.ensures.opens
 
 pub returns-in-EndTag-clause-tells : goal.returns-in-EndTag-clause-tells
-returns-in-EndTag-clause-tells c = tells_decided c.args.self.now _ c.args.faults.now c.tell_some.new.self (opens_told c.args.self.now c.args.region _ _ c.requires.state c.requires.markup c.requires.found c.requires.told) c.tell_some.ensures.opens
+returns-in-EndTag-clause-tells c = tells_decided c.args.self.now _ c.args.faults.now c.tell_some.new.self (opens_told c.args.self.now c.args.region _ _ c.requires.state c.requires.markup c.requires.found c.requires.told (omega (arith, c.requires.some, c.requires.fit))) c.tell_some.ensures.opens
 
 pub returns-in-Doctype-clause-tells : goal.returns-in-Doctype-clause-tells
-returns-in-Doctype-clause-tells c = tells_decided c.args.self.now _ c.args.faults.now c.tell_some.new.self (opens_told c.args.self.now c.args.region _ _ c.requires.state c.requires.markup c.requires.found c.requires.told) c.tell_some.ensures.opens
+returns-in-Doctype-clause-tells c = tells_decided c.args.self.now _ c.args.faults.now c.tell_some.new.self (opens_told c.args.self.now c.args.region _ _ c.requires.state c.requires.markup c.requires.found c.requires.told (omega (arith, c.requires.some, c.requires.fit))) c.tell_some.ensures.opens
 
 pub returns-in-Literal-clause-tells : goal.returns-in-Literal-clause-tells
 returns-in-Literal-clause-tells c =
-    rw c.less_given.ensures.0 (tells_decided c.args.self.now _ c.args.faults.now c.tell_some.new.self (opens_told c.args.self.now c.args.region _ _ c.requires.state c.requires.markup c.requires.found c.requires.told) c.tell_some.ensures.opens)
+    rw c.less_given.ensures.0 (tells_decided c.args.self.now _ c.args.faults.now c.tell_some.new.self (opens_told c.args.self.now c.args.region _ _ c.requires.state c.requires.markup c.requires.found c.requires.told (omega (arith, c.requires.some, c.requires.fit))) c.tell_some.ensures.opens)

@@ -4,8 +4,8 @@ use Rattle.html_tokens.proofs.SectionLemmas.{section_opens}
 use Rattle.html_tokens.proofs.Cuts.{empty_rest}
 use Rattle.html_tokens.specs.declared.token.Begin.TheVariants as begins
 use Rattle.std.proofs.Common.{refl, true, arith}
-use Rattle.html_tokens.proofs.ToldLemmas.{quiet_same, silent_begun, silent_end, tells_quiet}
-use Rattle.html_tokens.specs.declared.machine.Progress.TheVariants.{Given, More}
+use Rattle.html_tokens.proofs.ToldLemmas.{quiet_same, silent_begun, tells_end, tells_quiet}
+use Rattle.html_tokens.specs.declared.machine.Progress.TheVariants.{More}
 use Rattle.html_tokens.proofs.machine.Machine.text_step.Goals as goal
 
 pub returns-in-Is-None-clause-steps : goal.returns-in-Is-None-clause-steps
@@ -26,24 +26,16 @@ returns-in-Some-Section-clause-steps c =
 pub returns-in-Is-None-clause-tells : goal.returns-in-Is-None-clause-tells
 returns-in-Is-None-clause-tells c =
     let at_end = rw c.in-Is-None.field-0-is at c.in-Is-None.ensures in
-    tells_quiet c.args.self.now (Given c.token.result) c.args.faults.now c.text_end.new.self (silent_end c.args.self.now c.args.region c.requires.state (λ more h. empty_rest _ (at_end.0 more h))) c.text_end.ensures.quiet
-
-pub returns-in-Some-Char-clause-tells : goal.returns-in-Some-Char-clause-tells
-returns-in-Some-Char-clause-tells c =
-    let found = rw c.in-Some-Char.field-0-is at c.in-Some-Char.ensures in
-    tells_quiet c.args.self.now c.char_step.result c.args.faults.now c.char_step.new.faults (silent_begun c.args.self.now c.args.region begins.Char c.requires.state found.0 (λ place text. refl)) c.char_step.ensures.quiet
+    tells_end c.args.self.now c.args.region c.args.faults.now c.text_end.new.self c.requires.state (λ more h. empty_rest _ (at_end.0 more h)) c.text_end.ensures.opens
 
 pub returns-in-Some-EndMark-clause-tells : goal.returns-in-Some-EndMark-clause-tells
 returns-in-Some-EndMark-clause-tells c =
     let found = rw c.in-Some-EndMark.field-0-is at c.in-Some-EndMark.ensures in
-    tells_quiet c.args.self.now More c.args.faults.now c.args.faults.now (silent_begun c.args.self.now c.args.region begins.EndMark c.requires.state found.0 (λ place text. refl)) (quiet_same c.args.faults.now)
-
-pub returns-in-Some-Reference-clause-tells : goal.returns-in-Some-Reference-clause-tells
-returns-in-Some-Reference-clause-tells c =
-    let found = rw c.in-Some-Reference.field-0-is at c.in-Some-Reference.ensures in
-    tells_quiet c.args.self.now c.ref_step.result c.args.faults.now c.ref_step.new.faults (silent_begun c.args.self.now c.args.region begins.Reference c.requires.state found.0 (λ place text. refl)) c.ref_step.ensures.quiet
+    let first = rw c.in-Is-Some.field-0-is at c.in-Is-Some.ensures in
+    tells_quiet c.args.self.now More c.args.faults.now c.args.faults.now (silent_begun c.args.self.now c.args.region begins.EndMark c.requires.state found.0 first.1 (λ rows place text. refl)) (quiet_same c.args.faults.now)
 
 pub returns-in-Some-Section-clause-tells : goal.returns-in-Some-Section-clause-tells
 returns-in-Some-Section-clause-tells c =
     let found = rw c.in-Some-Section.field-0-is at c.in-Some-Section.ensures in
-    tells_quiet c.args.self.now More c.args.faults.now c.args.faults.now (silent_begun c.args.self.now c.args.region begins.Section c.requires.state found.0 (λ place text. refl)) (quiet_same c.args.faults.now)
+    let first = rw c.in-Is-Some.field-0-is at c.in-Is-Some.ensures in
+    tells_quiet c.args.self.now More c.args.faults.now c.args.faults.now (silent_begun c.args.self.now c.args.region begins.Section c.requires.state found.0 first.1 (λ rows place text. refl)) (quiet_same c.args.faults.now)

@@ -1,0 +1,7 @@
+use Rattle.html_tokens.proofs.ToldLemmas.{opens_both}
+use Rattle.html_tokens.proofs.faults.Faults.between.Goals as goal
+
+pub returns-clause-opens : goal.returns-clause-opens
+returns-clause-opens c =
+    opens_both _ _ c.args.self.now c.solidus.new.self c.attr_char.new.self c.solidus.ensures.opens
+    (opens_both _ _ c.solidus.new.self c.tell_if.new.self c.attr_char.new.self c.tell_if.ensures.opens c.attr_char.ensures.opens)
