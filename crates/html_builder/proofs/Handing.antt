@@ -42,7 +42,7 @@ use Rattle.html_modes.specs.declared.outcome.Foreign.{Foreign}
 use Rattle.html_modes.specs.declared.outcome.Foreign.TheVariants as foreign
 use Rattle.html_builder.specs.Builders.{BuilderState}
 use Rattle.html_builder.specs.Errors.{IsTextTold, IsTold, error_at}
-use Rattle.html_builder.specs.Handed.{AddsFates, AreSet, EntersNone, GivesFates, Handed, HandsIn, attribute_total, IsBuildCause, IsForeignOutside, IsTextCause, Starts, fates_of, foreign_tag, given}
+use Rattle.html_builder.specs.Handed.{AddsFates, AreSet, EntersNone, GivesFates, Handed, HandsIn, attribute_total, IsBuildCause, IsForeignOutside, IsTextCause, LeadsTo, Starts, fates_of, foreign_tag, given}
 use Rattle.html_builder.specs.Switches.{said_after, switch_after}
 use Rattle.html_builder.specs.declared.error.BuildError.{BuildError}
 use Rattle.html_builder.specs.declared.error.BuildError.TheVariants as error
@@ -164,6 +164,12 @@ pub handed-then : (xs ys : List ℕ) (u v w : BuilderState) → HandsIn (chars_o
 handed-then xs ys u v w f g = λ s l ts h.
     subst (λ us. Handed s l us w) (append_assoc ts (chars_of xs) (chars_of ys) ∙ ap (λ us. ts ++ us) (sym (chars-append xs ys)))
     (g s l (ts ++ chars_of xs) (f s l ts h))
+
+pub leads-none : (v : BuilderState) → LeadsTo (chars_of []) v v
+leads-none v = refl
+
+pub leads-then : (xs ys : List ℕ) (u v w : BuilderState) → LeadsTo (chars_of xs) u v → LeadsTo (chars_of ys) v w → LeadsTo (chars_of (xs ++ ys)) u w
+leads-then xs ys u v w f g = subst (λ us. LeadsTo us u w) (sym (chars-append xs ys)) (constructs-then (chars_of xs) (chars_of ys) u.page v.page w.page f g)
 
 pub added-none : (v : BuilderState) → AddsFates v v
 added-none v = λ s l ts h. ([], sym (append-nil (fates_of v)))
@@ -348,6 +354,12 @@ viewed-token t y u v w e i f p r o q x m n j a b g =
 pub viewed-run : (cs : List ℕ) (u v w : BuilderState) → u ≡ v → AcceptsRun cs u.page w.page → Pays u.page w.page → Enters (length cs) u.entries w.entries u.page w.page → Toils 0 u.page w.page → (list_all is_not_null cs ≡ true → GoesOnText cs u.page w.page) → AddsText cs u.page w.page → 0 < length cs → IsFounded w.page
     → w.page.parses_foreign ≡ u.page.parses_foreign → Constructs (chars_of cs) u.page w.page → w.stopped ≡ false → HandsIn (chars_of cs) v w
 viewed-run cs u v w e f p r o q z k i m n g = subst (λ x. HandsIn (chars_of cs) x w) e (handed-run cs u w f p r o q z k i m n g)
+
+pub viewed-leads : (us : List TokenKind) (u v w : BuilderState) → u ≡ v → Constructs us u.page w.page → LeadsTo us v w
+viewed-leads us u v w e h = subst (λ x. LeadsTo us x w) e h
+
+pub viewed-one : (t : TokenKind) (y : Symbol) (u v w : BuilderState) → u ≡ v → y ≡ symbol_of t → Entries y t (begun_call u.page) w.page → LeadsTo (t ∷ []) v w
+viewed-one t y u v w e i h = viewed-leads (t ∷ []) u v w e (constructs-one t u.page w.page (subst (λ z. Entries z t (begun_call u.page) w.page) i h))
 
 pub viewed-added : (cs : List ℕ) (u v w : BuilderState) → u ≡ v → AcceptsRun cs u.page w.page → AddsFates v w
 viewed-added cs u v w e f = subst (λ x. AddsFates x w) e (added-run cs u w f)

@@ -8,5 +8,6 @@ pub mod Adding
 pub mod Opened
 pub mod Standing
 pub mod Saying
+pub mod SayingOn
 pub mod Going
 pub mod Plainly

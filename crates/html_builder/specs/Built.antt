@@ -10,6 +10,11 @@ use Rattle.html_open.specs.Marking.{bare}
 use Rattle.html_construction.specs.Beginning.{IsFirst}
 use Rattle.html_construction.specs.States.{State}
 use Rattle.html_modes.specs.Dispatching.{Constructs}
+use Rattle.html_builder.specs.Builders.{BuilderState}
+
+-- the tree of a builder, but for marks and counted steps
+abbrev pub IsTreeIn : BuilderState → Tree → Type 0
+IsTreeIn b t = bare t ≡ b.page.tree.tree
 
 -- The tree and the fates are those to which the rules lead from the beginning, where foreign content is parsed or refused, through these tokens.
 pub record IsBuiltByRules (s : Setting) (limits : Option Limits) (foreign : Bool) (tokens : List TokenKind) (fates : List Fate) (t : Tree) : Type 0 where

@@ -92,6 +92,10 @@ pub record Handed (s : Setting) (limits : Option Limits) (tokens : List TokenKin
 abbrev pub HandsIn : List TokenKind → BuilderState → BuilderState → Type 0
 HandsIn more a b = (s : Setting) (limits : Option Limits) (tokens : List TokenKind) → Handed s limits tokens a → Handed s limits (tokens ++ more) b
 
+-- By the rules these tokens lead from the one state to the other.
+abbrev pub LeadsTo : List TokenKind → BuilderState → BuilderState → Type 0
+LeadsTo more a b = Constructs more a.page b.page
+
 -- Fates are only added.
 abbrev pub AddsFates : BuilderState → BuilderState → Type 0
 AddsFates a b = (s : Setting) (limits : Option Limits) (tokens : List TokenKind) → Handed s limits tokens a → (later : List Fate) × (fates_of b ≡ fates_of a ++ later)

@@ -1,14 +1,21 @@
 -- Claimed.
 -- What is said of the text after a token: what its fate says; and, where foreign content was made or is the context, whether it is read as that of
 -- foreign content (13.2.6.2, 13.2.6.4, and 13.2.5.42).
-use Rattle.std.specs.Prelude.{Option, Some, None, if◌then◌else◌}
+use Rattle.std.specs.Prelude.{◌≡◌, ◌⊎◌, true, List, [], ◌∷◌, is_some, Option, Some, None, if◌then◌else◌}
+use Rattle.html_arena.specs.declared.arena.Limits.{Limits}
 use Rattle.html_names.specs.declared.tag.Tag.{Tag}
 use Rattle.html_tokens.specs.declared.token.TextMode.{TextMode}
 use Rattle.html_tokens.specs.declared.token.TextMode.TheVariants.{Data, Foreign}
 use Rattle.html_tokens.specs.declared.token.TokenKind.{TokenKind}
+use Rattle.html_tokens.specs.declared.token.TokenKind.TheVariants as kind
+use Rattle.html_tokens.specs.Tokens.{mode_after_kind}
+use Rattle.html_ledger.specs.declared.setting.Setting.{Setting}
 use Rattle.html_ledger.specs.Runs.{last_of}
+use Rattle.html_ledger.specs.Symbols.{symbol_of}
+use Rattle.html_construction.specs.Beginning.{IsFirst}
 use Rattle.html_construction.specs.Foreign.{foreign_tag}
 use Rattle.html_construction.specs.States.{State}
+use Rattle.html_modes.specs.Dispatching.{Entries, begun}
 use Rattle.html_builder.specs.Builders.{BuilderState}
 use Rattle.html_builder.specs.Switches.{switch_after}
 
@@ -27,5 +34,34 @@ abbrev pub said_of : State → Option TextMode
 said_of a = if a.ledger.history.foreign then Some (mode_at (foreign_tag a)) else None
 
 -- after a token that was taken: what its fate says, or else by the adjusted current node then
+abbrev pub said_after_in : TokenKind → State → Option TextMode
+said_after_in token a = or_said (switch_after token (last_of a.ledger.fates)) (said_of a)
+
 abbrev pub said_in : TokenKind → BuilderState → Option TextMode
-said_in token b = or_said (switch_after token (last_of b.page.ledger.fates)) (said_of b.page)
+said_in token b = said_after_in token b.page
+
+-- In text that is read in this mode a token says so, by the state after it. Where the text is not data of foreign content, a code point may as well say nothing.
+abbrev pub Says : TextMode → TokenKind → State → Option TextMode → Type 0
+Says mode (kind.Char c) a said = (said ≡ said_after_in (kind.Char c) a) ⊎ ((said ≡ None) × (mode ≡ Foreign → ⊥))
+Says mode token a said = said ≡ said_after_in token a
+
+-- Tree construction takes these tokens one after another, each through its entries, from the one state to the other; and each says this of the text after it, the
+-- first of them in text that is read in this mode.
+abbrev pub Reads : TextMode → List TokenKind → List (Option TextMode) → State → State → Type 0
+Reads mode [] [] a z = begun a ≡ begun z
+Reads mode (t ∷ ts) (m ∷ ms) a z = (b : State) × Entries (symbol_of t) t (begun a) b × Says mode t b m × Reads (mode_after_kind t m mode) ts ms b z
+Reads mode _ _ a z = ⊥
+
+-- the mode in which the text after these tokens is read
+abbrev pub mode_by : TextMode → List TokenKind → List (Option TextMode) → TextMode
+mode_by mode (t ∷ ts) (m ∷ ms) = mode_by (mode_after_kind t m mode) ts ms
+mode_by mode _ _ = mode
+
+-- The rules lead to the state of a builder from the beginning, through these tokens, each of which says this. Where the text is read as data of foreign content, the
+-- adjusted current node is one of foreign content.
+pub record HasSaid (s : Setting) (limits : Option Limits) (mode : TextMode) (tokens : List TokenKind) (said : List (Option TextMode)) (b : BuilderState) : Type 0 where
+  pub first : State
+  pub begins : IsFirst s limits first
+  pub parses : first.parses_foreign ≡ b.page.parses_foreign
+  pub reads : Reads mode tokens said first b.page
+  pub where_foreign : mode_by mode tokens said ≡ Foreign → is_some (foreign_tag b.page) ≡ true

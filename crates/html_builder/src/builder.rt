@@ -24,10 +24,10 @@ ghost use Rattle.html_page.specs.Label.{Label};
 ghost use Rattle.html_page.specs.PageTokens.{page_kinds};
 ghost use Rattle.html_page.specs.Plain.{IsPlainPage};
 ghost use Rattle.html_page.specs.Shows.{Shows};
-ghost use Rattle.html_builder.specs.Built.{IsBuiltByRules};
+ghost use Rattle.html_builder.specs.Built.{IsBuiltByRules, IsTreeIn};
 ghost use Rattle.html_builder.specs.Contexts.{IsGood, IsGoodAnywhere, context_tag, setting_of};
 ghost use Rattle.html_builder.specs.Errors.{IsTextTold, IsTold};
-ghost use Rattle.html_builder.specs.Handed.{AddsFates, AreSo, CostAtMost, EndsAtEof, EntersNone, GivesFates, Handed, HandsIn, HaveFates, IsBuildCause, IsForeignOutside, IsForeignRefused, IsTextCause, fates_of, is_stopped, parses_foreign, reads_foreign};
+ghost use Rattle.html_builder.specs.Handed.{AddsFates, AreSo, CostAtMost, EndsAtEof, EntersNone, GivesFates, Handed, HandsIn, HaveFates, IsBuildCause, IsForeignOutside, IsForeignRefused, IsTextCause, LeadsTo, fates_of, is_stopped, parses_foreign, reads_foreign};
 ghost use Rattle.html_builder.specs.Outcome.{IsBounded, IsOutcome, most_entries};
 ghost use Rattle.html_builder.specs.Plain.{HavePlainFates};
 ghost use Rattle.html_builder.specs.Saying.{said_in};
@@ -276,6 +276,7 @@ impl Builder {
     #[inline(always)]
     pub fn process(&mut self, token: &Token) -> Result<Option<TextMode>, BuildError>
         ensures takes { OnOk result (HandsIn (token.now.kind ∷ []) self.old self.new) }
+        ensures leads { OnOk result (LeadsTo (token.now.kind ∷ []) self.old self.new) }
         ensures grows { OnOk result (AddsFates self.old self.new) }
         ensures gives { OnOk result (GivesFates self.old self.new) }
         ensures said { IfOk result (λ m. m ≡ said_in token.now.kind self.new) }
@@ -320,6 +321,7 @@ impl Builder {
     /// Those of `process`, with the place of the code point that was refused; those before it were taken.
     pub fn process_text(&mut self, text: &[char], start: u64) -> Result<(), BuildError>
         ensures takes { OnOk result (HandsIn (chars_of text.now) self.old self.new) }
+        ensures leads { OnOk result (LeadsTo (chars_of text.now) self.old self.new) }
         ensures grows { OnOk result (AddsFates self.old self.new) }
         ensures gives { OnOk result (GivesFates self.old self.new) }
         ensures enters { OnOk result (EntersNone self.old self.new) }
@@ -345,6 +347,7 @@ impl Builder {
     fn process_front(&mut self, text: &[char], at: u64) -> Result<usize, BuildError>
         requires some { 0 < length text.now }
         ensures takes { IfOk result (λ n. HandsIn (chars_of (take n text.now)) self.old self.new) }
+        ensures leads { IfOk result (λ n. LeadsTo (chars_of (take n text.now)) self.old self.new) }
         ensures grows { OnOk result (AddsFates self.old self.new) }
         ensures gives { OnOk result (GivesFates self.old self.new) }
         ensures enters { OnOk result (EntersNone self.old self.new) }
@@ -379,6 +382,7 @@ impl Builder {
     /// Those of `process`, with the place of the code point that was refused; those before it were taken.
     pub fn process_plain(&mut self, text: &PlainText<'_>, start: u64) -> Result<(), BuildError>
         ensures takes { OnOk result (HandsIn (chars_of text.now) self.old self.new) }
+        ensures leads { OnOk result (LeadsTo (chars_of text.now) self.old self.new) }
         ensures grows { OnOk result (AddsFates self.old self.new) }
         ensures gives { OnOk result (GivesFates self.old self.new) }
         ensures enters { OnOk result (EntersNone self.old self.new) }
@@ -404,6 +408,7 @@ impl Builder {
     fn process_plain_front(&mut self, text: &PlainText<'_>, at: u64) -> Result<usize, BuildError>
         requires some { 0 < length text.now }
         ensures takes { IfOk result (λ n. HandsIn (chars_of (take n text.now)) self.old self.new) }
+        ensures leads { IfOk result (λ n. LeadsTo (chars_of (take n text.now)) self.old self.new) }
         ensures grows { OnOk result (AddsFates self.old self.new) }
         ensures gives { OnOk result (GivesFates self.old self.new) }
         ensures enters { OnOk result (EntersNone self.old self.new) }
@@ -460,6 +465,7 @@ impl Builder {
     #[tactic(auto, using(crate::proofs::Endings::finish_rules))]
     pub fn finish(self) -> (Arena, Fates, Vec<u64>)
         ensures fates { result.1 ≡ fates_of self }
+        ensures tree { IsTreeIn self result.0 }
         ensures steps { result.0.steps ≡ self.page.tree.steps }
         ensures outcome { (s : Setting) (l : Option Limits) (tokens : List TokenKind) → Handed s l tokens self → EndsAtEof tokens
             → IsOutcome s tokens result.1 result.2.items result.0 }

@@ -66,6 +66,7 @@ handed_of start p bytes h =
       handed = r.handed;
       switches = run.switches;
       said = r.said;
+      has_said = r.has_said;
       late = prompt.0;
       list = subst (λ s. tokens_of run.text run.switches s ≡ run.given ++ prompt.0) r.begun prompt.1;
       few = subst (λ s. AllByRecursion (IsLate (slack s.rows (last_name run.given s.name)) (length run.text)) prompt.0) r.begun prompt.2;

@@ -6,7 +6,9 @@ use Rattle.html_tokens.specs.Runs.{gave_all}
 use Rattle.html_tokens.specs.Stream.{Run, gave}
 use Rattle.html_tokens.specs.declared.token.Token.{Token}
 use Rattle.html_ledger.specs.Runs.{last_of}
-use Rattle.html_builder.specs.Handed.{AddsFates, Handed, HandsIn, HaveFates, fates_of, is_stopped as builder_stopped, parses_foreign}
+use Rattle.html_builder.specs.Saying.{HasSaid, said_in}
+use Rattle.html_builder.proofs.SayingOn.{one-said, text-said}
+use Rattle.html_builder.specs.Handed.{AddsFates, Handed, HandsIn, HaveFates, LeadsTo, fates_of, is_stopped as builder_stopped, parses_foreign, reads_foreign}
 use Rattle.html_construction.specs.Built.{chars_of, symbols}
 use Rattle.html_ledger.specs.MayDrop.{MayBeForeign}
 use Rattle.html_ledger.specs.declared.setting.Setting.{Setting}
@@ -34,6 +36,7 @@ rest_of start finished p bytes run r = record {
   decoded = r.decoded;
   handed = r.handed;
   said = r.said;
+  has_said = r.has_said;
   foreign = r.foreign;
   starts = r.starts;
   tokens = r.tokens;
@@ -49,6 +52,7 @@ run_of start finished p bytes run r f running = record {
   tokenized = f;
   handed = r.handed;
   said = r.said;
+  has_said = r.has_said;
   foreign = r.foreign;
   starts = r.starts;
   tokens = r.tokens;
@@ -61,6 +65,8 @@ pub record HandsText (old new : Stages) (tokens : List Token) (text : List ℕ) 
   pub are : kinds tokens ≡ chars_of text
   pub decoder : new.decoder ≡ old.decoder
   pub takes : HandsIn (chars_of text) old.builder new.builder
+  pub leads : LeadsTo (chars_of text) old.builder new.builder
+  pub html : reads_foreign old.builder ≡ false
   pub grows : AddsFates old.builder new.builder
   pub starts : new.kept.starts ≡ old.kept.starts ++ starts_of tokens
   pub tokens_are : old.kept.keeps_tokens ≡ true → new.kept.tokens ≡ old.kept.tokens ++ tokens
@@ -87,6 +93,9 @@ text_rest start finished bytes run old new tokens text s h r =
           (subst (λ fs. AreSaid start.setting (kinds run.given ++ chars_of text) fs after.switches) (sym grown.1)
           (subst (AreSaid start.setting (kinds run.given ++ chars_of text) (fates_of old.builder ++ grown.0)) (sym (chars-switches run tokens text s.are))
           (says-text start.setting (kinds run.given) text (fates_of old.builder) grown.0 run.switches h r.said)));
+      has_said = subst (λ ks. HasSaid start.setting start.limits start.mode ks after.switches new.builder) (sym are)
+          (subst (λ ms. HasSaid start.setting start.limits start.mode (kinds run.given ++ chars_of text) ms new.builder) (sym (chars-switches run tokens text s.are))
+          (text-said start.setting start.limits start.mode (kinds run.given) run.switches text old.builder new.builder s.leads s.parses s.html r.has_said));
       foreign = s.parses ∙ r.foreign;
       starts = s.starts ∙ ap (λ x. x ++ starts_of tokens) r.starts ∙ sym (ap starts_of given ∙ starts-append run.given tokens);
       tokens = λ keeps.
@@ -110,6 +119,8 @@ pub record HandsOne (old new : Stages) (token : Token) (said : Option TextMode) 
   pub may : (s : Setting) (ts : List TokenKind) → (new.builder.page.ledger.history.foreign ≡ true → MayBeForeign s (symbols ts) (fates_of new.builder))
       → MaySayAfter s ts (fates_of new.builder) token.kind (last_of (fates_of new.builder)) said
   pub takes : HandsIn (token.kind ∷ []) old.builder new.builder
+  pub leads : LeadsTo (token.kind ∷ []) old.builder new.builder
+  pub says : said ≡ said_in token.kind new.builder
   pub grows : AddsFates old.builder new.builder
   pub starts : new.kept.starts ≡ old.kept.starts ++ starts_of (token ∷ [])
   pub tokens : old.kept.keeps_tokens ≡ true → new.kept.tokens ≡ old.kept.tokens ++ token ∷ []
@@ -141,6 +152,8 @@ one_further start finished bytes run old new token said s h k known r f =
             (says-one start.setting (kinds run.given) token.kind (fates_of old.builder) grown.0 run.switches said h both r.said
             (subst (λ fs. MaySayAfter start.setting (kinds run.given ++ token.kind ∷ []) fs token.kind (last_of fs) said) grown.1
             (s.may start.setting (kinds run.given ++ token.kind ∷ []) known))));
+        has_said = subst (λ ks. HasSaid start.setting start.limits start.mode ks (run.switches ++ said ∷ []) new.builder) (sym are)
+            (one-said start.setting start.limits start.mode (kinds run.given) run.switches token.kind said old.builder new.builder s.leads s.parses s.says r.handed (s.takes start.setting start.limits (kinds run.given) r.handed) grown r.has_said);
         foreign = s.parses ∙ r.foreign;
         starts = s.starts ∙ ap (λ x. x ++ starts_of (token ∷ [])) r.starts ∙ sym (starts-append run.given (token ∷ []));
         tokens = λ keeps.

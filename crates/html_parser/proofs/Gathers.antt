@@ -9,7 +9,7 @@ use Rattle.html_tokens.specs.declared.token.Token.{Token}
 use Rattle.html_tokens.specs.declared.tokenizer.Tokenizer.{Tokenizer}
 use Rattle.html_tokens.specs.declared.token.TextMode.{TextMode}
 use Rattle.html_tokens.specs.declared.token.TokenKind.TheVariants.{Char}
-use Rattle.html_builder.specs.Handed.{AddsFates, HandsIn, is_stopped as builder_stopped, parses_foreign}
+use Rattle.html_builder.specs.Handed.{AddsFates, HandsIn, LeadsTo, is_stopped as builder_stopped, parses_foreign, reads_foreign}
 use Rattle.html_construction.specs.Built.{chars_of}
 use Rattle.html_parser.specs.Gathered.{Gathers, Gives, HasRest, IsAwaiting}
 use Rattle.html_parser.specs.Kinds.{starts_of}
@@ -141,6 +141,7 @@ same_further start finished bytes text old new d t b k f =
         tokenized = rw t r.tokenized;
         handed = rw b r.handed;
         said = rw b r.said;
+        has_said = rw b r.has_said;
         foreign = rw b r.foreign;
         starts = rw k r.starts;
         tokens = rw k r.tokens;
@@ -159,14 +160,16 @@ behind_is whole items old more start s n e = take_rest whole start ∙ ap (λ x.
 pub joined_hands : (old new : Stages) (t : Tokenizer) (k : Kept) (first after whole : List ℕ) (Then : Run → Type 0) (token : Token) (c : ℕ) (g : Gathers t k new.kept first after Then)
     → token.kind ≡ Char c → first ≡ c ∷ [] → whole ≡ after → k.starts ≡ old.kept.starts ++ starts_of (token ∷ [])
     → (old.kept.keeps_tokens ≡ true → k.tokens ≡ old.kept.tokens ++ token ∷ []) → k.keeps_tokens ≡ old.kept.keeps_tokens → new.kept.keeps_tokens ≡ k.keeps_tokens
-    → new.decoder ≡ old.decoder → HandsIn (chars_of whole) old.builder new.builder → AddsFates old.builder new.builder → builder_stopped new.builder ≡ builder_stopped old.builder
+    → new.decoder ≡ old.decoder → HandsIn (chars_of whole) old.builder new.builder → LeadsTo (chars_of whole) old.builder new.builder → reads_foreign old.builder ≡ false → AddsFates old.builder new.builder → builder_stopped new.builder ≡ builder_stopped old.builder
     → parses_foreign new.builder ≡ parses_foreign old.builder → HandsText old new (token ∷ g.tokens) whole
-joined_hands old new t k first after whole Then token c g is one e s ks kept keeps decoder takes grows building parses =
+joined_hands old new t k first after whole Then token c g is one e s ks kept keeps decoder takes leads html grows building parses =
     let text : whole ≡ c ∷ g.text = e ∙ g.text_is ∙ ap (λ x. x ++ g.text) one in
     record {
       are = ap₂ (λ x xs. x ∷ xs) is g.are ∙ ap chars_of (sym text);
       decoder = decoder;
       takes = takes;
+      leads = leads;
+      html = html;
       grows = grows;
       starts = g.starts ∙ ap (λ x. x ++ starts_of g.tokens) s ∙ append_assoc old.kept.starts (starts_of (token ∷ [])) (starts_of g.tokens);
       tokens_are = λ wanted. g.kept (kept ∙ wanted) ∙ ap (λ x. x ++ g.tokens) (ks wanted) ∙ append_assoc old.kept.tokens (token ∷ []) g.tokens;
@@ -184,6 +187,7 @@ same_rest start finished bytes run old new d b k r = record {
   decoded = rw d r.decoded;
   handed = rw b r.handed;
   said = rw b r.said;
+  has_said = rw b r.has_said;
   foreign = rw b r.foreign;
   starts = rw k r.starts;
   tokens = rw k r.tokens;

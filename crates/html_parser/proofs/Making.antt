@@ -29,13 +29,14 @@ use Rattle.html_tokens.specs.declared.token.Token.{Token}
 use Rattle.html_tokens.specs.declared.token.TokenKind.{TokenKind}
 use Rattle.html_tokens.specs.declared.tokenizer.Tokenizer.{Tokenizer}
 use Rattle.html_builder.specs.Builders.{BuilderState}
-use Rattle.html_builder.specs.Built.{IsBuiltByRules}
+use Rattle.html_builder.specs.Built.{IsTreeIn}
 use Rattle.html_builder.specs.Handed.{CostAtMost, EndsAtEof, Handed, fates_of, parses_foreign}
 use Rattle.html_construction.specs.Built.{is_native, symbols}
 use Rattle.html_ledger.specs.Settings.{is_foreign_context}
 use Rattle.std.specs.List.{list_all}
 use Rattle.html_builder.specs.Outcome.{IsBounded, IsOutcome, most_tree_steps}
 use Rattle.html_builder.specs.Plain.{HavePlainFates}
+use Rattle.html_builder.proofs.SayingOn.{reads-constructs}
 use Rattle.html_parser.proofs.Plain.{text-kinds}
 use Rattle.html_parser.specs.Faults.{construction_fault, fault_list, front_below, places_of, rest_from, told_fault}
 use Rattle.html_parser.specs.Kinds.{kinds, starts_of}
@@ -98,7 +99,7 @@ pub record Ended (d : Decoder) (t : Tokenizer) (b : BuilderState) (starts : List
   pub outcome : (s : Setting) (l : Option Limits) (tokens : List TokenKind) → Handed s l tokens b → EndsAtEof tokens → IsOutcome s tokens fates numbers arena
   pub plain : (l : Option Limits) (tokens : List TokenKind) → Handed Document l tokens b → (page : Forest Label) → IsPlainPage page → tokens ≡ page_kinds page → Shows arena (0 ∷ []) page
   pub native : (s : Setting) (l : Option Limits) (tokens : List TokenKind) → Handed s l tokens b → parses_foreign b ≡ false → is_foreign_context s ≡ false → list_all is_native fates ≡ true
-  pub built : (s : Setting) (l : Option Limits) (tokens : List TokenKind) → Handed s l tokens b → IsBuiltByRules s l (parses_foreign b) tokens fates arena
+  pub tree_is : IsTreeIn b arena
   pub plain_fates : (l : Option Limits) (tokens : List TokenKind) → Handed Document l tokens b → (page : Forest Label) → IsPlainPage page → tokens ≡ page_kinds page → HavePlainFates tokens fates
   pub within : (s : Setting) (l : Option Limits) (tokens : List TokenKind) → Handed s l tokens b → AreWithin l (length arena.labels) arena.held
   pub own_is : own ≡ steps_taken t
@@ -199,7 +200,16 @@ made start bytes run d t b starts told numbers fates arena errors n own steps e 
       numbers = numbers;
       outcome = outcome;
       root_is = refl;
-      built = subst (λ f. IsBuiltByRules start.setting start.limits f (kinds run.given) fates arena) w.foreign (e.built start.setting start.limits (kinds run.given) w.handed);
+      built = record {
+        first = w.has_said.first;
+        begins = w.has_said.begins;
+        foreign_is = w.has_said.parses ∙ w.foreign;
+        last = b.page;
+        constructs = reads-constructs start.mode (kinds run.given) run.switches w.has_said.first b.page w.has_said.reads;
+        tree_is = e.tree_is;
+        fates_are = e.fates_are;
+      };
+      read = w.has_said.reads;
       faults = record {
         told = told;
         are = faults;
@@ -242,6 +252,7 @@ whole start p bytes e = record {
   tokenized = e.is_run.tokenized;
   handed = e.is_run.handed;
   said = e.is_run.said;
+  has_said = e.is_run.has_said;
   foreign = e.is_run.foreign;
   starts_are = e.is_run.starts;
   all = e.all;

@@ -16,6 +16,7 @@ use Rattle.html_parser.specs.Fed.{IsFed}
 use Rattle.html_parser.specs.Feeding.{AreHandedOn}
 use Rattle.html_parser.specs.Kinds.{kinds, starts_of}
 use Rattle.html_parser.specs.Paused.{ArePaused, HavePaused, KeepsPaused, MayResume}
+use Rattle.html_builder.specs.Saying.{HasSaid}
 use Rattle.html_parser.specs.Said.{AreSaid}
 use Rattle.html_parser.specs.Staged.{AreStaged, HasRead, KeepsTokens}
 use Rattle.html_parser.specs.Start.{Start, most_input, parses}
@@ -57,6 +58,7 @@ resumed rows p s decoder builder kept goes stopped start bytes h =
         tokenized = tokenized start rows p s.tokenizer bytes goes h;
         handed = subst (λ x. Handed start.setting start.limits (kinds run.given) x) b r.handed;
         said = subst (λ x. AreSaid start.setting (kinds run.given) (fates_of x) run.switches) b r.said;
+        has_said = subst (λ x. HasSaid start.setting start.limits start.mode (kinds run.given) run.switches x) b r.has_said;
         foreign = subst (λ x. parses_foreign x ≡ parses start.foreign) b r.foreign;
         starts = ap (λ x. x.starts) k ∙ r.starts;
         tokens = λ keeps. ap (λ x. x.tokens) k ∙ r.tokens (sym (ap (λ x. x.keeps_tokens) k) ∙ keeps);

@@ -13,8 +13,9 @@ use Rattle.html_tokens.specs.Runs.{gave_all, plain_tokens}
 use Rattle.html_tokens.specs.Stream.{Run, fed, tokens_of}
 use Rattle.html_tokens.specs.declared.token.Token.{Token}
 use Rattle.html_tokens.specs.declared.tokenizer.Tokenizer.{Tokenizer}
-use Rattle.html_builder.specs.Handed.{AddsFates, HandsIn, HaveFates, Handed, IsTextCause, fates_of, is_stopped as builder_stopped, parses_foreign}
+use Rattle.html_builder.specs.Handed.{AddsFates, HandsIn, HaveFates, Handed, IsTextCause, LeadsTo, fates_of, is_stopped as builder_stopped, parses_foreign, reads_foreign}
 use Rattle.html_builder.specs.Errors.{IsTextTold}
+use Rattle.html_builder.specs.Saying.{HasSaid}
 use Rattle.html_builder.specs.declared.error.BuildError.{BuildError}
 use Rattle.html_construction.specs.States.{State}
 use Rattle.html_builder.specs.declared.error.BuildError.TheVariants as build
@@ -28,6 +29,7 @@ use Rattle.html_parser.specs.Tokenizing.{IsTokenizing}
 use Rattle.html_parser.specs.declared.error.ParseError.{ParseError}
 use Rattle.html_parser.specs.declared.error.ParseError.TheVariants.{OutOfMemory}
 use Rattle.html_parser.specs.declared.stages.Stages.{Stages}
+use Rattle.html_builder.proofs.SayingOn.{text-said}
 use Rattle.html_parser.proofs.Causing.{said_each}
 use Rattle.html_parser.proofs.Ends.{kinds-append}
 use Rattle.html_parser.proofs.Feeds.{TakesSome, cause_longer, feed_cause, read_of}
@@ -91,6 +93,7 @@ stages_same start bytes run old new d t b k r = record {
     tokenized = subst (λ x. Fed x run) (sym t) r.tokenized;
     handed = rw b r.handed;
     said = rw b r.said;
+    has_said = rw b r.has_said;
     foreign = rw b r.foreign;
     starts = rw k r.starts;
     tokens = rw k r.tokens;
@@ -106,6 +109,8 @@ pub record HandsPlain (old new : Stages) (piece : List ℕ) (place : ℕ) (text 
   pub decodes : (limit : ℕ) (bytes before : List ℕ) → Decodes limit false old.decoder bytes before → Decodes limit false new.decoder (bytes ++ piece) (before ++ text)
   pub given : (run : Run) → Fed old.tokenizer run → Fed new.tokenizer (gave_all (fed run text) (plain_tokens place text))
   pub takes : HandsIn (chars_of text) old.builder new.builder
+  pub leads : LeadsTo (chars_of text) old.builder new.builder
+  pub html : reads_foreign old.builder ≡ false
   pub grows : AddsFates old.builder new.builder
   pub starts : new.kept.starts ≡ old.kept.starts ++ starts_of (plain_tokens place text)
   pub tokens : old.kept.keeps_tokens ≡ true → new.kept.tokens ≡ old.kept.tokens ++ plain_tokens place text
@@ -137,6 +142,9 @@ plain_read start bytes piece run old new place text s h r =
             (subst (λ fs. AreSaid start.setting (kinds run.given ++ chars_of text) fs after.switches) (sym grown.1)
             (subst (AreSaid start.setting (kinds run.given ++ chars_of text) (fates_of old.builder ++ grown.0)) (sym (gave-switches base place text))
             (says-text start.setting (kinds run.given) text (fates_of old.builder) grown.0 run.switches h r.said)));
+        has_said = subst (λ ks. HasSaid start.setting start.limits start.mode ks after.switches new.builder) (sym are)
+            (subst (λ ms. HasSaid start.setting start.limits start.mode (kinds run.given ++ chars_of text) ms new.builder) (sym (gave-switches base place text))
+            (text-said start.setting start.limits start.mode (kinds run.given) run.switches text old.builder new.builder s.leads s.parses s.html r.has_said));
         foreign = s.parses ∙ r.foreign;
         starts = s.starts ∙ ap (λ x. x ++ starts_of tokens) r.starts ∙ sym (ap starts_of given ∙ starts-append run.given tokens);
         tokens = λ keeps.

@@ -2,7 +2,9 @@
 use Rattle.std.proofs.Common.{ℕ, zero, suc, ◌+◌, ◌-◌, ◌<◌, ◌≤◌, ◌≡◌, ◌∙◌, inl, inr, Bool, true, false, arith, List, [], ◌∷◌, ◌++◌, length, take, replicate, Option, Some, None, refl, sym, ap, subst, append_assoc, length-append}
 use Rattle.std.specs.Prelude.{slice_get}
 use Rattle.std.proofs.lemmas.Bool.{cases_lt}
+use Rattle.html_arena.specs.declared.arena.Limits.{Limits}
 use Rattle.html_tokens.specs.declared.token.TextMode.{TextMode}
+use Rattle.html_tokens.specs.declared.token.TextMode.TheVariants.{Foreign}
 use Rattle.html_tokens.specs.declared.token.TokenKind.{TokenKind}
 use Rattle.html_tokens.specs.declared.token.TokenKind.TheVariants.{Start, End, Char, Comment, Doctype, Eof}
 use Rattle.html_ledger.specs.declared.fate.Fate.{Fate}
@@ -12,9 +14,14 @@ use Rattle.html_ledger.specs.MayDrop.{MayBeForeign}
 use Rattle.html_ledger.specs.Runs.{last_of}
 use Rattle.html_ledger.specs.Symbols.{symbol_of}
 use Rattle.html_construction.specs.Built.{chars_of, symbols}
-use Rattle.html_builder.specs.Handed.{HaveFates}
+use Rattle.html_builder.specs.Builders.{BuilderState}
+use Rattle.html_builder.specs.declared.context.Context.{Context}
+use Rattle.html_builder.specs.Handed.{Handed, HaveFates, reads_foreign}
+use Rattle.html_builder.specs.Saying.{HasSaid}
+use Rattle.html_builder.proofs.SayingOn.{begun-foreign, none-said as none-said-by}
 use Rattle.html_builder.specs.Switches.{switch_after, switch_by, switches_by}
 use Rattle.html_parser.specs.Said.{AreSaid, AreSaidByFates, MaySayAfter}
+use Rattle.html_parser.specs.Start.{mode_in, setting_in}
 
 -- MORE OF A LIST
 
@@ -147,6 +154,16 @@ none-said s = record { count = refl; each = λ i t m is said. some-none t (sym i
 
 pub nothing-said : (s : Setting) (ts : List TokenKind) (fs : List Fate) (ms : List (Option TextMode)) → ts ≡ [] → fs ≡ [] → ms ≡ [] → AreSaid s ts fs ms
 nothing-said s ts fs ms a b c = subst (λ x. AreSaid s x fs ms) (sym a) (subst (λ x. AreSaid s [] x ms) (sym b) (subst (λ x. AreSaid s [] [] x) (sym c) (none-said s)))
+
+-- and by the rules
+pub nothing-read : (s : Setting) (l : Option Limits) (mode : TextMode) (ts : List TokenKind) (ms : List (Option TextMode)) (b : BuilderState) → Handed s l [] b → (mode ≡ Foreign → reads_foreign b ≡ true) → ts ≡ [] → ms ≡ []
+    → HasSaid s l mode ts ms b
+nothing-read s l mode ts ms b h k e f = subst (λ x. HasSaid s l mode x ms b) (sym e) (subst (λ x. HasSaid s l mode [] x b) (sym f) (none-said-by s l mode b h k))
+
+-- where tree construction begins in a context, or in none
+pub begun-in : (o : Option Context) (l : Option Limits) (b : BuilderState) → Handed (setting_in o) l [] b → mode_in o ≡ Foreign → reads_foreign b ≡ true
+begun-in None l b h e = cc
+begun-in (Some c) l b h e = begun-foreign c l b h e
 
 -- what a token said it said, when more tokens come and more fates are given
 may-more : (s : Setting) (ts us : List TokenKind) (fs gs : List Fate) (i : ℕ) (t : TokenKind) (m : Option TextMode) → switch_after t (slice_get fs i) ≡ switch_after t (slice_get (fs ++ gs) i)

@@ -16,7 +16,8 @@ use Rattle.html_ledger.specs.declared.setting.Setting.{Setting}
 use Rattle.html_construction.specs.Built.{symbols}
 use Rattle.html_construction.specs.States.{State}
 use Rattle.html_builder.specs.Errors.{IsTold}
-use Rattle.html_builder.specs.Handed.{AddsFates, Handed, HandsIn, HaveFates, IsBuildCause, IsForeignRefused, fates_of, is_stopped as builder_stopped, parses_foreign}
+use Rattle.html_builder.specs.Saying.{HasSaid, said_in}
+use Rattle.html_builder.specs.Handed.{AddsFates, Handed, HandsIn, HaveFates, IsBuildCause, IsForeignRefused, LeadsTo, fates_of, is_stopped as builder_stopped, parses_foreign}
 use Rattle.html_builder.specs.declared.error.BuildError.{BuildError}
 use Rattle.html_builder.specs.declared.error.BuildError.TheVariants as build
 use Rattle.html_parser.specs.Causes.{IsFeedCause, IsTokenAt, IsTokenCause, build_cause}
@@ -28,6 +29,7 @@ use Rattle.html_parser.specs.Start.{Start, most_input}
 use Rattle.html_parser.specs.Tokenizing.{IsTokenizing}
 use Rattle.html_parser.specs.declared.error.ParseError.{ParseError}
 use Rattle.html_parser.specs.declared.stages.Stages.{Stages}
+use Rattle.html_builder.proofs.SayingOn.{one-said}
 use Rattle.html_parser.proofs.Causing.{IsRefusal, not-parsed}
 use Rattle.html_parser.proofs.Ends.{kinds-append}
 use Rattle.html_parser.proofs.Feeds.{feed_cause}
@@ -68,6 +70,8 @@ pub record HandsTag (old new : Stages) (text : List ℕ) (token : Token) (said :
   pub may : (s : Setting) (ts : List TokenKind) → (new.builder.page.ledger.history.foreign ≡ true → MayBeForeign s (symbols ts) (fates_of new.builder))
       → MaySayAfter s ts (fates_of new.builder) token.kind (last_of (fates_of new.builder)) said
   pub takes : HandsIn (token.kind ∷ []) old.builder new.builder
+  pub leads : LeadsTo (token.kind ∷ []) old.builder new.builder
+  pub says : said ≡ said_in token.kind new.builder
   pub grows : AddsFates old.builder new.builder
   pub starts : new.kept.starts ≡ old.kept.starts ++ starts_of (token ∷ [])
   pub tokens : old.kept.keeps_tokens ≡ true → new.kept.tokens ≡ old.kept.tokens ++ token ∷ []
@@ -99,6 +103,8 @@ tag_read start bytes run old new text token said s h k known r =
             (says-one start.setting (kinds run.given) token.kind (fates_of old.builder) grown.0 run.switches said h both r.said
             (subst (λ fs. MaySayAfter start.setting (kinds run.given ++ token.kind ∷ []) fs token.kind (last_of fs) said) grown.1
             (s.may start.setting (kinds run.given ++ token.kind ∷ []) known))));
+        has_said = subst (λ ks. HasSaid start.setting start.limits start.mode ks (run.switches ++ said ∷ []) new.builder) (sym are)
+            (one-said start.setting start.limits start.mode (kinds run.given) run.switches token.kind said old.builder new.builder s.leads s.parses s.says r.handed (s.takes start.setting start.limits (kinds run.given) r.handed) grown r.has_said);
         foreign = s.parses ∙ r.foreign;
         starts = s.starts ∙ ap (λ x. x ++ starts_of (token ∷ [])) r.starts ∙ sym (starts-append run.given (token ∷ []));
         tokens = λ keeps.

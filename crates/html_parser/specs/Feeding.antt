@@ -9,6 +9,7 @@ use Rattle.html_tokens.specs.declared.token.TextMode.{TextMode}
 use Rattle.html_tokens.specs.declared.token.Token.{Token}
 use Rattle.html_builder.specs.Builders.{BuilderState}
 use Rattle.html_builder.specs.Handed.{Handed, fates_of}
+use Rattle.html_builder.specs.Saying.{HasSaid}
 use Rattle.html_parser.specs.Kinds.{kinds}
 use Rattle.html_parser.specs.Said.{AreSaid}
 use Rattle.html_parser.specs.Start.{Start, most_input, text_start}
@@ -22,6 +23,7 @@ pub record AreHandedOn (start : Start) (b : BuilderState) (bytes : List ℕ) (to
   pub handed : Handed start.setting start.limits (kinds tokens) b
   pub switches : List (Option TextMode)
   pub said : AreSaid start.setting (kinds tokens) (fates_of b) switches
+  pub has_said : HasSaid start.setting start.limits start.mode (kinds tokens) switches b
   pub late : List Token
   pub list : tokens_of text switches (text_start start) ≡ tokens ++ late
   pub few : AllByRecursion (IsLate (slack start.rows (last_name tokens None)) (length text)) late

@@ -8,6 +8,7 @@ use Rattle.html_tokens.specs.Stream.{Run, gave}
 use Rattle.html_tokens.specs.declared.token.Token.{Token}
 use Rattle.html_tokens.specs.declared.tokenizer.Tokenizer.{Tokenizer}
 use Rattle.html_builder.specs.Handed.{Handed, fates_of, is_stopped as builder_stopped, parses_foreign}
+use Rattle.html_builder.specs.Saying.{HasSaid}
 use Rattle.html_construction.specs.Built.{chars_of}
 use Rattle.html_parser.specs.Kinds.{kinds, starts_of}
 use Rattle.html_parser.specs.Said.{AreSaid}
@@ -52,6 +53,7 @@ pub record HasRest (start : Start) (finished : Bool) (p : Stages) (bytes : List 
   pub decoded : Decodes (most_input start) finished p.decoder bytes run.text
   pub handed : Handed start.setting start.limits (kinds run.given) p.builder
   pub said : AreSaid start.setting (kinds run.given) (fates_of p.builder) run.switches
+  pub has_said : HasSaid start.setting start.limits start.mode (kinds run.given) run.switches p.builder
   pub foreign : parses_foreign p.builder ≡ parses start.foreign
   pub starts : p.kept.starts ≡ starts_of run.given
   pub tokens : p.kept.keeps_tokens ≡ true → p.kept.tokens ≡ run.given

@@ -8,6 +8,7 @@ use Rattle.html_tokens.specs.Stream.{Run, tokens_of}
 use Rattle.html_tokens.specs.declared.tokenizer.Tokenizer.{Tokenizer}
 use Rattle.html_builder.specs.Builders.{BuilderState}
 use Rattle.html_builder.specs.Handed.{Handed, fates_of, parses_foreign}
+use Rattle.html_builder.specs.Saying.{HasSaid}
 use Rattle.html_parser.specs.Kinds.{kinds, starts_of}
 use Rattle.html_parser.specs.Said.{AreSaid}
 use Rattle.html_parser.specs.Parsed.{Headline}
@@ -24,6 +25,7 @@ pub record IsWhole (start : Start) (bytes : List ℕ) (run : Run) (d : Decoder) 
   pub tokenized : Tokenizes t run
   pub handed : Handed start.setting start.limits (kinds run.given) b
   pub said : AreSaid start.setting (kinds run.given) (fates_of b) run.switches
+  pub has_said : HasSaid start.setting start.limits start.mode (kinds run.given) run.switches b
   pub foreign : parses_foreign b ≡ parses start.foreign
   pub starts_are : starts ≡ starts_of run.given
   pub all : tokens_of run.text run.switches run.start ≡ run.given

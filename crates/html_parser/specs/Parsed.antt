@@ -22,6 +22,7 @@ use Rattle.html_construction.specs.Built.{is_native}
 use Rattle.html_builder.specs.Built.{IsBuiltByRules}
 use Rattle.html_builder.specs.Outcome.{IsOutcome, most_held}
 use Rattle.html_builder.specs.Plain.{HavePlainFates}
+use Rattle.html_builder.specs.Saying.{Reads}
 use Rattle.html_ledger.specs.declared.setting.Setting.TheVariants.{Document}
 use Rattle.html_page.specs.declared.profile.Profile.{Profile}
 use Rattle.html_page.specs.Html.{html_of}
@@ -85,6 +86,9 @@ pub record Headline (start : Start) (bytes : List ℕ) (tokens : List Token) (fa
   pub root_is : root ≡ 0
   -- they are those to which the rules of tree construction lead, through these tokens
   pub built : IsBuiltByRules start.setting start.limits (parses start.foreign) (kinds tokens) fates t
+  -- and each token says of the text after it what its fate says, or else, once foreign content was made or is the context, whether the adjusted current node is
+  -- one of foreign content, so that the text is read as data of it (13.2.5.42)
+  pub read : Reads start.mode (kinds tokens) tokens_are.said built.first built.last
   -- where a document's text is that of a plain page, in either profile, and the table has the five core rows: the page's own tree, and of its tokens each
   -- but the end tags and the end of the page made a node or is text
   pub plain : IsDocument start → HasCore start.rows → (p : Profile) (page : Forest Label) → IsPlainPage page → html_of p false page ≡ decode bytes

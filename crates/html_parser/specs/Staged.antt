@@ -6,9 +6,11 @@ use Rattle.html_input.specs.Fed.{Fed as Decodes}
 use Rattle.html_tokens.specs.Given.{Fed as Tokenizes, is_stopped as tokenizer_stopped, steps_taken}
 use Rattle.html_tokens.specs.Stream.{IsPrompt, Run, tokens_of}
 use Rattle.html_tokens.specs.declared.token.TextMode.{TextMode}
+use Rattle.html_tokens.specs.declared.token.TextMode.TheVariants.{Foreign}
 use Rattle.html_input.specs.declared.decoder.Decoder.{Decoder}
 use Rattle.html_builder.specs.Builders.{BuilderState}
-use Rattle.html_builder.specs.Handed.{Handed, fates_of, is_stopped as builder_stopped, parses_foreign}
+use Rattle.html_builder.specs.Handed.{Handed, fates_of, is_stopped as builder_stopped, parses_foreign, reads_foreign}
+use Rattle.html_builder.specs.Saying.{HasSaid}
 use Rattle.html_parser.specs.Kinds.{kinds, starts_of}
 use Rattle.html_parser.specs.Said.{AreSaid}
 use Rattle.html_parser.specs.Spent.{AreFewSteps}
@@ -24,6 +26,7 @@ pub record IsRun (start : Start) (finished : Bool) (p : Stages) (bytes : List �
   pub tokenized : Tokenizes p.tokenizer run
   pub handed : Handed start.setting start.limits (kinds run.given) p.builder
   pub said : AreSaid start.setting (kinds run.given) (fates_of p.builder) run.switches
+  pub has_said : HasSaid start.setting start.limits start.mode (kinds run.given) run.switches p.builder
   pub foreign : parses_foreign p.builder ≡ parses start.foreign
   -- what is kept of the tokens
   pub starts : p.kept.starts ≡ starts_of run.given
@@ -78,3 +81,4 @@ pub record IsBeginning (start : Start) (rows : List Row) (mode : TextMode) (deco
   pub fates : fates_of builder ≡ []
   pub building : builder_stopped builder ≡ false
   pub foreign : parses_foreign builder ≡ parses start.foreign
+  pub where_foreign : start.mode ≡ Foreign → reads_foreign builder ≡ true

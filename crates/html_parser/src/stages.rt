@@ -6,7 +6,7 @@ ghost use Rattle.html_text.specs.Plain.{is_plain_byte};
 ghost use Rattle.html_arena.specs.declared.arena.Limits.{Limits as LimitsType};
 ghost use Rattle.html_builder.specs.Errors.{IsTextTold, IsTold};
 ghost use Rattle.html_construction.specs.Built.{chars_of};
-ghost use Rattle.html_builder.specs.Handed.{AddsFates, Handed, HandsIn, IsBuildCause, IsForeignRefused, IsTextCause, fates_of, is_stopped as builder_stopped, parses_foreign};
+ghost use Rattle.html_builder.specs.Handed.{AddsFates, Handed, HandsIn, IsBuildCause, IsForeignRefused, IsTextCause, LeadsTo, fates_of, is_stopped as builder_stopped, parses_foreign, reads_foreign};
 ghost use Rattle.html_builder.specs.declared.error.BuildError.{BuildError as BuildErrorKind};
 ghost use Rattle.html_ledger.specs.declared.setting.Setting.{Setting};
 ghost use Rattle.html_tokens.specs.declared.token.TokenKind.{TokenKind};
@@ -213,7 +213,9 @@ impl<'a> Stages<'a> {
     }
 
     /// Whether a plain text may be taken by itself.
-    fn takes_plain(&self) -> bool {
+    fn takes_plain(&self) -> bool
+        ensures html { result ≡ true → reads_foreign self.now.builder ≡ false }
+    {
         self.tokenizer.takes_plain() && !self.counts_steps() && !self.builder.reads_foreign()
     }
 
@@ -239,6 +241,7 @@ impl<'a> Stages<'a> {
 
     /// Takes a plain text by itself, where that goes: whether it was taken.
     fn take_text(&mut self, text: &PlainText<'_>) -> Result<bool, ParseError>
+        requires html { reads_foreign self.old.builder ≡ false }
         ensures reads { IfOk result (λ taken. (start : Start) (bytes : List ℕ) (run : Run) → IsRun start false self.old bytes run → HasRead start self.new (bytes ++ cond taken (encode_utf8_all text.now) [])) }
         ensures cause { IfErr result (λ e. (start : Start) (bytes : List ℕ) (run : Run) → IsRun start false self.old bytes run → IsFeedCause start (bytes ++ encode_utf8_all text.now) e) }
         ensures told { IfErr result (λ e. (start : Start) (bytes : List ℕ) (run : Run) → IsRun start false self.old bytes run → IsToldIn start.limits self.new.builder.page e) }
@@ -442,6 +445,7 @@ impl<'a> Stages<'a> {
 
     /// Hands on the plain text that comes next, if any.
     fn hand_run(&mut self) -> Result<(), ParseError>
+        requires html { reads_foreign self.old.builder ≡ false }
         ensures further { OnOk result ((start : Start) (finished : Bool) (bytes : List ℕ) (run : Run) → IsRun start finished self.old bytes run → IsFurther start finished self.new bytes run.text) }
         ensures same { OnOk result (length self.old.kept.starts ≤ length self.new.kept.starts) }
         ensures cause { IfErr result (λ e. (start : Start) (finished : Bool) (bytes : List ℕ) (run : Run) → IsRun start finished self.old bytes run → IsTokenCause start finished run.text e) }
@@ -511,6 +515,7 @@ impl<'a> Stages<'a> {
     fn joining(&self, token: &Token, is_over: bool) -> Option<char>
         ensures char { IfSome result (λ c. token.now.kind ≡ TokenKind.Char c) }
         ensures unlimited { IfSome result (λ c. self.now.builder.page.tree.tree.limits ≡ None) }
+        ensures html { IfSome result (λ c. reads_foreign self.now.builder ≡ false) }
         ensures in_time { IfSome result (λ c. is_over ≡ false) }
     {
         match token.kind {
@@ -527,6 +532,7 @@ impl<'a> Stages<'a> {
     fn hand_joined(&mut self, token: Token, c: char) -> Result<(), ParseError>
         requires char { token.kind ≡ TokenKind.Char c }
         requires unlimited { self.old.builder.page.tree.tree.limits ≡ None }
+        requires html { reads_foreign self.old.builder ≡ false }
         requires going { tokenizer_stopped self.old.tokenizer ≡ false }
         requires given { IsTokenizing self.old.tokenizer (self.old.kept.starts ++ starts_of (token ∷ [])) }
         ensures further { OnOk result ((start : Start) (finished : Bool) (bytes : List ℕ) (run : Run) → HasRest start finished self.old bytes run → Gives self.old.tokenizer token run
@@ -697,6 +703,7 @@ fn let_go(_token: Token) {}
 /// Hands a text to tree construction, whose first code point stands at a place and each other one at the next. It stands here alone, since it is long.
 fn put(builder: &mut Builder, text: &[char], start: u64) -> Result<(), ParseError>
     ensures takes { OnOk result (HandsIn (chars_of text.now) builder.old builder.new) }
+    ensures leads { OnOk result (LeadsTo (chars_of text.now) builder.old builder.new) }
     ensures grows { OnOk result (AddsFates builder.old builder.new) }
     ensures parses { OnOk result (parses_foreign builder.new ≡ parses_foreign builder.old) }
     ensures ok { OnOk result (builder_stopped builder.new ≡ builder_stopped builder.old) }
@@ -715,6 +722,7 @@ fn build(
     is_over: bool,
 ) -> Result<Option<TextMode>, ParseError>
     ensures takes { OnOk result (HandsIn (token.now.kind ∷ []) builder.old builder.new) }
+    ensures leads { OnOk result (LeadsTo (token.now.kind ∷ []) builder.old builder.new) }
     ensures grows { OnOk result (AddsFates builder.old builder.new) }
     ensures said { IfOk result (λ m. m ≡ said_in token.now.kind builder.new) }
     ensures parses { OnOk result (parses_foreign builder.new ≡ parses_foreign builder.old) }

@@ -18,7 +18,7 @@ returns c =
           (c.finish-arena.ensures.outcome s l tokens h ends);
       plain = c.finish-arena.ensures.plain;
       native = c.finish-arena.ensures.native;
-      built = c.finish-arena.ensures.built;
+      tree_is = c.finish-arena.ensures.tree;
       plain_fates = c.finish-arena.ensures.plain_fates;
       within = c.finish-arena.ensures.within;
       own_is = refl;

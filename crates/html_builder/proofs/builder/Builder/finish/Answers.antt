@@ -1,4 +1,4 @@
-use Rattle.std.proofs.Common.{Bool, ap, false, subst, sym, true, ◌≡◌}
+use Rattle.std.proofs.Common.{Bool, ap, false, subst, sym, true, ◌≡◌, ◌∙◌}
 use Rattle.std.specs.List.{list_all}
 use Rattle.html_construction.specs.Built.{is_native}
 use Rattle.html_ledger.specs.declared.setting.Setting.TheVariants.{Document}
@@ -43,6 +43,9 @@ pub returns-clause-within : goal.returns-clause-within
 returns-clause-within c = λ s l ts h.
     within s l ts (record { page = c.self.inside.construction; entries = c.self.inside.entries; stopped = c.self.inside.stopped }) c.into_parts.result.0
     (subst (λ b. Handed s l ts b) (sym c.self.view_is) h) c.into_parts.ensures.nodes c.into_parts.ensures.within
+
+pub returns-clause-tree : goal.returns-clause-tree
+returns-clause-tree c = c.into_parts.ensures.nodes ∙ ap (λ (b : BuilderState). b.page.tree.tree) c.self.view_is
 
 pub returns-clause-built : goal.returns-clause-built
 returns-clause-built c = λ s l ts h.

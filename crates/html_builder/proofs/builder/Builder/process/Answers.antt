@@ -5,7 +5,7 @@ use Rattle.html_modes.specs.Begun.{ignores_foreign}
 use Rattle.html_modes.specs.Steps.{root_of}
 use Rattle.html_builder.specs.Handed.{fates_of}
 use Rattle.html_builder.proofs.Saying.{foreign-refused, refused-other, said-by, viewed-parses}
-use Rattle.html_builder.proofs.Handing.{cause-at, cause-foreign, foreign-outside, refusal-outside, told-at, viewed-gives, viewed-grown, viewed-token}
+use Rattle.html_builder.proofs.Handing.{cause-at, cause-foreign, foreign-outside, refusal-outside, told-at, viewed-gives, viewed-grown, viewed-one, viewed-token}
 use Rattle.html_builder.proofs.builder.Builder.process.Goals as goal
 
 pub returns-in-Ok-None-clause-takes : goal.returns-in-Ok-None-clause-takes
@@ -13,6 +13,11 @@ returns-in-Ok-None-clause-takes c =
     viewed-token c.args.token.now.kind c.of-symbol.result (record { page = c.self.inside.construction; entries = c.self.inside.entries; stopped = c.self.inside.stopped }) c.args.self.now (record { page = c.take.new.page; entries = c.take.new.entries; stopped = false }) c.self.view_is c.of-symbol.ensures.value
     (c.in-Ok-None.ensures.takes c.in-Ok-None.field-0-is) (c.in-Ok-None.ensures.pays c.in-Ok-None.field-0-is) (c.in-Ok-None.ensures.enters c.in-Ok-None.field-0-is) (c.in-Ok-None.ensures.toils c.in-Ok-None.field-0-is) (c.in-Ok-None.ensures.plain c.in-Ok-None.field-0-is)
     (c.in-Ok-None.ensures.opens c.in-Ok-None.field-0-is) (c.in-Ok-None.ensures.adds c.in-Ok-None.field-0-is) (c.in-Ok-None.ensures.ends c.in-Ok-None.field-0-is) (c.in-Ok-None.ensures.founded c.in-Ok-None.field-0-is) c.in-Ok-None.ensures.parses (c.in-Ok-None.ensures.entries c.in-Ok-None.field-0-is) refl
+
+pub returns-in-Ok-None-clause-leads : goal.returns-in-Ok-None-clause-leads
+returns-in-Ok-None-clause-leads c =
+    viewed-one c.args.token.now.kind c.of-symbol.result (record { page = c.self.inside.construction; entries = c.self.inside.entries; stopped = c.self.inside.stopped }) c.args.self.now (record { page = c.take.new.page; entries = c.take.new.entries; stopped = false }) c.self.view_is c.of-symbol.ensures.value
+    (c.in-Ok-None.ensures.entries c.in-Ok-None.field-0-is)
 
 pub returns-in-Ok-None-clause-grows : goal.returns-in-Ok-None-clause-grows
 returns-in-Ok-None-clause-grows c =

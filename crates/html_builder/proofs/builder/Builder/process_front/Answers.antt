@@ -1,6 +1,7 @@
 use Rattle.std.proofs.Common.{refl, take, false, arith}
+use Rattle.html_construction.specs.Built.{chars_of}
 use Rattle.html_builder.specs.Handed.{fates_of}
-use Rattle.html_builder.proofs.Handing.{going-not, take-some, taken-enters, text-cause-at, text-told-at, viewed-added, viewed-enters, viewed-gives, viewed-run}
+use Rattle.html_builder.proofs.Handing.{going-not, take-some, taken-enters, text-cause-at, text-told-at, viewed-added, viewed-enters, viewed-gives, viewed-leads, viewed-run}
 use Rattle.html_builder.proofs.Saying.{viewed-parses}
 use Rattle.html_builder.proofs.builder.Builder.process_front.Goals as goal
 
@@ -12,6 +13,11 @@ pub returns-in-Ok-clause-takes : goal.returns-in-Ok-clause-takes
 returns-in-Ok-clause-takes c =
     viewed-run (take c.in-Ok.count c.args.text.now) (record { page = c.self.inside.construction; entries = c.self.inside.entries; stopped = c.self.inside.stopped }) c.args.self.now _ c.self.view_is
     c.in-Ok.ensures.takes c.in-Ok.ensures.pays (taken-enters c.in-Ok.count c.args.text.now c.self.inside.entries c.take_front.new.entries c.self.inside.construction c.take_front.new.page c.in-Ok.ensures.count.1 c.in-Ok.ensures.enters) c.in-Ok.ensures.toils c.in-Ok.ensures.plain c.in-Ok.ensures.adds (take-some c.in-Ok.count c.args.text.now c.in-Ok.ensures.count.0 c.requires.some) c.in-Ok.ensures.founded c.in-Ok.ensures.parses c.in-Ok.ensures.constructs refl
+
+pub returns-in-Ok-clause-leads : goal.returns-in-Ok-clause-leads
+returns-in-Ok-clause-leads c =
+    viewed-leads (chars_of (take c.in-Ok.count c.args.text.now)) (record { page = c.self.inside.construction; entries = c.self.inside.entries; stopped = c.self.inside.stopped }) c.args.self.now (record { page = c.take_front.new.page; entries = c.take_front.new.entries; stopped = false }) c.self.view_is
+    c.in-Ok.ensures.constructs
 
 pub returns-in-Ok-clause-grows : goal.returns-in-Ok-clause-grows
 returns-in-Ok-clause-grows c =

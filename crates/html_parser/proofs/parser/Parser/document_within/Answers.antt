@@ -14,6 +14,7 @@ new-requires c = record {
       fates = c.in_ok-builder.ensures.fates;
       building = c.in_ok-builder.ensures.fresh;
       foreign = c.in_ok-builder.ensures.refuses;
+      where_foreign = λ e. cc;
     },
   );
 }
@@ -27,4 +28,5 @@ returns-clause-begun c = c.in_ok-feeder.ensures.begun (document_start c.args.tab
   fates = c.in_ok-builder.ensures.fates;
   building = c.in_ok-builder.ensures.fresh;
   foreign = c.in_ok-builder.ensures.refuses;
+  where_foreign = λ e. cc;
 })

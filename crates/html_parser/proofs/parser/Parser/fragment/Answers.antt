@@ -1,4 +1,5 @@
 use Rattle.std.proofs.Common.{refl, sym, None}
+use Rattle.html_builder.proofs.SayingOn.{begun-foreign}
 use Rattle.html_parser.specs.Start.{fragment_start}
 use Rattle.html_parser.proofs.parser.Parser.fragment.Goals as goal
 
@@ -14,6 +15,7 @@ new-requires-2 c = record {
       fates = c.in_ok-builder.ensures.fates;
       building = c.in_ok-builder.ensures.fresh;
       foreign = c.in_ok-builder.ensures.refuses;
+      where_foreign = begun-foreign c.args.context.now None _ c.in_ok-builder.ensures.begun;
     },
   );
 }
@@ -27,4 +29,5 @@ returns-clause-begun c = c.in_ok-feeder.ensures.begun (fragment_start c.args.tab
   fates = c.in_ok-builder.ensures.fates;
   building = c.in_ok-builder.ensures.fresh;
   foreign = c.in_ok-builder.ensures.refuses;
+  where_foreign = begun-foreign c.args.context.now None _ c.in_ok-builder.ensures.begun;
 })

@@ -1,5 +1,6 @@
 use Rattle.std.proofs.Common.{refl, sym}
 use Rattle.html_parser.specs.Options.{start_of}
+use Rattle.html_parser.proofs.Switching.{begun-in}
 use Rattle.html_parser.proofs.parser.Parser.new.Goals as goal
 
 pub new-requires : goal.new-requires
@@ -14,6 +15,7 @@ new-requires c = record {
       fates = c.in_ok-builder.ensures.fates;
       building = c.in_ok-builder.ensures.fresh;
       foreign = c.in_ok-builder.ensures.parses;
+      where_foreign = begun-in c.args.options.now.context c.args.options.now.limits _ c.in_ok-builder.ensures.handed;
     },
   );
 }
@@ -27,4 +29,5 @@ returns-clause-begun c = c.in_ok-feeder.ensures.begun (start_of c.args.table.now
   fates = c.in_ok-builder.ensures.fates;
   building = c.in_ok-builder.ensures.fresh;
   foreign = c.in_ok-builder.ensures.parses;
+  where_foreign = begun-in c.args.options.now.context c.args.options.now.limits _ c.in_ok-builder.ensures.handed;
 })

@@ -33,7 +33,7 @@ returns-in_err-hand_answer-clause-cause c =
     rw (p.1, p.2) (λ start finished bytes run r given.
     let hands = joined_hands c.args.self.now _ c.args.self.now.tokenizer c.gather_char.new.kept c.gather_char.new.text.items c.gather.new.text.items c.as_slice.result.now _ c.args.token c.args.c g
     c.requires.char (c.in_ok-gather_char.ensures.text ∙ ap (λ x. x ++ c.args.c ∷ []) c.clear.ensures.items) c.as_slice.ensures.value c.in_ok-gather_char.ensures.starts c.in_ok-gather_char.ensures.tokens
-    c.gather_char.ensures.keeps c.gather.ensures.keeps refl c.in_ok-put.ensures.takes c.in_ok-put.ensures.grows c.in_ok-put.ensures.ok c.in_ok-put.ensures.parses in
+    c.gather_char.ensures.keeps c.gather.ensures.keeps refl c.in_ok-put.ensures.takes c.in_ok-put.ensures.leads c.requires.html c.in_ok-put.ensures.grows c.in_ok-put.ensures.ok c.in_ok-put.ensures.parses in
     let rest = text_rest start finished bytes run c.args.self.now _ (c.args.token ∷ g.tokens) c.as_slice.result.now hands
     (c.counted.ensures.counted start.setting start.limits (kinds run.given) r.handed) r in
     subst (λ t. IsTokenCause start finished t c.in_err-hand_answer.field-0.0) (gave-text run (c.args.token ∷ g.tokens))
@@ -46,7 +46,7 @@ returns-in_err-hand_answer-clause-told c =
     rw (p.1, p.2) (λ start finished bytes run r.
     let hands = joined_hands c.args.self.now _ c.args.self.now.tokenizer c.gather_char.new.kept c.gather_char.new.text.items c.gather.new.text.items c.as_slice.result.now _ c.args.token c.args.c g
     c.requires.char (c.in_ok-gather_char.ensures.text ∙ ap (λ x. x ++ c.args.c ∷ []) c.clear.ensures.items) c.as_slice.ensures.value c.in_ok-gather_char.ensures.starts c.in_ok-gather_char.ensures.tokens
-    c.gather_char.ensures.keeps c.gather.ensures.keeps refl c.in_ok-put.ensures.takes c.in_ok-put.ensures.grows c.in_ok-put.ensures.ok c.in_ok-put.ensures.parses in
+    c.gather_char.ensures.keeps c.gather.ensures.keeps refl c.in_ok-put.ensures.takes c.in_ok-put.ensures.leads c.requires.html c.in_ok-put.ensures.grows c.in_ok-put.ensures.ok c.in_ok-put.ensures.parses in
     let rest = text_rest start finished bytes run c.args.self.now _ (c.args.token ∷ g.tokens) c.as_slice.result.now hands
     (c.counted.ensures.counted start.setting start.limits (kinds run.given) r.handed) r in
     c.in_err-hand_answer.ensures.told start finished bytes (gave_all run (c.args.token ∷ g.tokens)) rest)
@@ -57,7 +57,7 @@ returns-clause-further c =
     λ start finished bytes run r given.
     let hands = joined_hands c.args.self.now _ c.args.self.now.tokenizer c.gather_char.new.kept c.gather_char.new.text.items c.gather.new.text.items c.as_slice.result.now _ c.args.token c.args.c g
     c.requires.char (c.in_ok-gather_char.ensures.text ∙ ap (λ x. x ++ c.args.c ∷ []) c.clear.ensures.items) c.as_slice.ensures.value c.in_ok-gather_char.ensures.starts c.in_ok-gather_char.ensures.tokens
-    c.gather_char.ensures.keeps c.gather.ensures.keeps refl c.in_ok-put.ensures.takes c.in_ok-put.ensures.grows c.in_ok-put.ensures.ok c.in_ok-put.ensures.parses in
+    c.gather_char.ensures.keeps c.gather.ensures.keeps refl c.in_ok-put.ensures.takes c.in_ok-put.ensures.leads c.requires.html c.in_ok-put.ensures.grows c.in_ok-put.ensures.ok c.in_ok-put.ensures.parses in
     let rest = text_rest start finished bytes run c.args.self.now _ (c.args.token ∷ g.tokens) c.as_slice.result.now hands
     (c.counted.ensures.counted start.setting start.limits (kinds run.given) r.handed) r in
     subst (IsFurther start finished _ bytes) (gave-text run (c.args.token ∷ g.tokens))

@@ -1,6 +1,6 @@
 use Rattle.std.proofs.Common.{◌≡◌, ◌⊎◌, ◌++◌, ◌∙◌, ap, inl, refl, subst}
 use Rattle.std.proofs.lemmas.Result.{err_from_is_err_and}
-use Rattle.html_builder.specs.Handed.{HandsIn}
+use Rattle.html_builder.specs.Handed.{HandsIn, LeadsTo}
 use Rattle.html_construction.specs.Built.{chars_of}
 use Rattle.html_parser.specs.Kinds.{kinds}
 use Rattle.html_parser.proofs.Causing.{IsTextRefusal, joined_told, run_refused}
@@ -65,6 +65,8 @@ returns-clause-further c =
       are = kinds-plain c.in-Some.place (plain_next c.args.self.now.tokenizer);
       decoder = refl;
       takes = subst (λ t. HandsIn (chars_of t) c.args.self.now.builder c.put.new.builder) text c.in_ok-put.ensures.takes;
+      leads = subst (λ t. LeadsTo (chars_of t) c.args.self.now.builder c.put.new.builder) text c.in_ok-put.ensures.leads;
+      html = c.requires.html;
       grows = c.in_ok-put.ensures.grows;
       starts = c.in_ok-push_run.ensures.starts ∙ ap (λ t. c.args.self.now.kept.starts ++ starts_of (plain_tokens c.in-Some.place t)) later;
       tokens_are = λ keeps. c.in_ok-push_run.ensures.tokens keeps ∙ ap (λ t. c.args.self.now.kept.tokens ++ plain_tokens c.in-Some.place t) later;

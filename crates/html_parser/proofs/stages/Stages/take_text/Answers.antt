@@ -38,6 +38,9 @@ returns-in_err-push_plain-clause-cause c =
     let p = err_from_is_err_and c.from_residual-in_err-push_plain.result c.from_residual-in_err-push_plain.ensures.1 in
     rw (p.1, p.2) (λ start bytes run r. memory_refused start c.args.self.now bytes (encode_utf8_all c.args.text.now) run r)
 
+pub returns-in_default-clause-cause : goal.returns-in_default-clause-cause
+returns-in_default-clause-cause c = λ start bytes run r. memory_refused start c.args.self.now bytes (encode_utf8_all c.args.text.now) run r
+
 pub returns-clause-reads : goal.returns-clause-reads
 returns-clause-reads c = λ start bytes run r.
     plain_read start bytes (encode_utf8_all c.args.text.now) run c.args.self.now _ c.in-Some.place c.args.text.now
@@ -48,6 +51,8 @@ returns-clause-reads c = λ start bytes run r.
           (c.if-not-take_text.ensures.taken refl limit bytes before d));
       given = c.in-Some.ensures.given;
       takes = c.in_ok-process_plain.ensures.takes;
+      leads = c.in_ok-process_plain.ensures.leads;
+      html = c.requires.html;
       grows = c.in_ok-process_plain.ensures.grows;
       starts = c.in_ok-push_plain.ensures.starts;
       tokens = c.in_ok-push_plain.ensures.tokens;
