@@ -39,6 +39,7 @@ use Rattle.html_ledger.specs.Settings.{is_foreign_context}
 use Rattle.html_construction.specs.Accounts.{AreMade, AreTexts}
 use Rattle.html_construction.specs.Origins.{AreOrigins, HasRoot, IsRootLabel}
 use Rattle.html_construction.specs.States.{State}
+use Rattle.html_construction.proofs.Building.{symbols-append}
 use Rattle.html_modes.specs.Steps.{allowance}
 use Rattle.html_builder.specs.Builders.{BuilderState}
 use Rattle.html_builder.specs.Built.{IsBuiltByRules}
@@ -100,10 +101,6 @@ last_or d (y ∷ ys) = last_or y ys
 pub last-of : (d y : Symbol) (ys : List Symbol) → last_or d (ys ++ y ∷ []) ≡ y
 last-of d y [] = refl
 last-of d y (z ∷ ys) = last-of z y ys
-
-pub symbols-append : (ts us : List TokenKind) → symbols (ts ++ us) ≡ symbols ts ++ symbols us
-symbols-append [] us = refl
-symbols-append (t ∷ ts) us = ap (λ xs. symbol_of t ∷ xs) (symbols-append ts us)
 
 -- code points end with a code point
 abbrev pub is_char : Symbol → Type 0

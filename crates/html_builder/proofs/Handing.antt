@@ -165,9 +165,6 @@ handed-then xs ys u v w f g = λ s l ts h.
     subst (λ us. Handed s l us w) (append_assoc ts (chars_of xs) (chars_of ys) ∙ ap (λ us. ts ++ us) (sym (chars-append xs ys)))
     (g s l (ts ++ chars_of xs) (f s l ts h))
 
-pub leads-none : (v : BuilderState) → LeadsTo (chars_of []) v v
-leads-none v = refl
-
 pub leads-then : (xs ys : List ℕ) (u v w : BuilderState) → LeadsTo (chars_of xs) u v → LeadsTo (chars_of ys) v w → LeadsTo (chars_of (xs ++ ys)) u w
 leads-then xs ys u v w f g = subst (λ us. LeadsTo us u w) (sym (chars-append xs ys)) (constructs-then (chars_of xs) (chars_of ys) u.page v.page w.page f g)
 

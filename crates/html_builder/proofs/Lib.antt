@@ -7,6 +7,7 @@ pub mod Holding
 pub mod Adding
 pub mod Opened
 pub mod Standing
+pub mod Steady
 pub mod Saying
 pub mod SayingOn
 pub mod Going

@@ -1,5 +1,5 @@
 -- What is said of the text after a token, and what is known of foreign content.
-use Rattle.std.proofs.Common.{ℕ, zero, suc, ◌≡◌, ◌≤◌, ◌+◌, ◌∙◌, inl, inr, Bool, true, false, List, [], ◌∷◌, ◌++◌, length, refl, sym, ap, subst}
+use Rattle.std.proofs.Common.{ℕ, zero, suc, ◌≡◌, ◌<◌, ◌≤◌, ◌+◌, ◌∙◌, inl, inr, Bool, true, false, List, [], ◌∷◌, ◌++◌, length, refl, sym, ap, subst, arith}
 use Rattle.std.specs.Prelude.{Option, Some, None, slice_get}
 use Rattle.html_arena.specs.declared.arena.Limits.{Limits}
 use Rattle.html_names.specs.declared.tag.Tag.{Tag}
@@ -62,11 +62,16 @@ refused-other b r at e q = subst (λ x. IsForeignRefused b x) (sym q) (by r)
 
 -- WHAT WAS MADE
 
-get-front : (xs ys : List Symbol) (i : ℕ) (x : Symbol) → slice_get xs i ≡ Some x → slice_get (xs ++ ys) i ≡ Some x
+pub get-front : {X : Type 0} (xs ys : List X) (i : ℕ) (x : X) → slice_get xs i ≡ Some x → slice_get (xs ++ ys) i ≡ Some x
 get-front [] ys zero x e = absurd (let k = e in cc)
 get-front [] ys (suc i) x e = absurd (let k = e in cc)
 get-front (y ∷ xs) ys zero x e = e
 get-front (y ∷ xs) ys (suc i) x e = get-front xs ys i x e
+
+pub get-within : {X : Type 0} (xs ys : List X) (i : ℕ) → i < length xs → slice_get (xs ++ ys) i ≡ slice_get xs i
+get-within [] ys i h = absurd (omega (arith, h))
+get-within (x ∷ xs) ys zero h = refl
+get-within (x ∷ xs) ys (suc i) h = let less : suc i < suc (length xs) = h in get-within xs ys i (omega (arith, less))
 
 -- of more tokens
 more-foreign : (s : Setting) (ys zs : List Symbol) (fs : List Fate) → MayBeForeign s ys fs → MayBeForeign s (ys ++ zs) fs

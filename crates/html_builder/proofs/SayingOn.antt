@@ -1,5 +1,5 @@
 -- What is said of the text after tokens, as more of them are taken.
-use Rattle.std.proofs.Common.{◌≡◌, ◌∙◌, ◌<◌, ◌&&◌, ℕ, zero, suc, inl, inr, Bool, true, false, cond, if◌then◌else◌, List, [], ◌∷◌, ◌++◌, length, replicate, Option, Some, None, refl, sym, ap, subst, arith}
+use Rattle.std.proofs.Common.{◌≡◌, ◌∙◌, ◌<◌, ◌&&◌, ℕ, inl, inr, Bool, true, false, cond, if◌then◌else◌, List, [], ◌∷◌, ◌++◌, length, replicate, Option, Some, None, refl, sym, ap, subst, arith}
 use Rattle.std.specs.Prelude.{is_some, slice_get}
 use Rattle.std.proofs.lemmas.Bool.{false≢true}
 use Rattle.std.proofs.lemmas.Option.{slice_get_within}
@@ -14,7 +14,7 @@ use Rattle.html_tokens.specs.declared.token.TextMode.{TextMode}
 use Rattle.html_tokens.specs.declared.token.TextMode.TheVariants as text
 use Rattle.html_tokens.specs.declared.token.TokenKind.{TokenKind}
 use Rattle.html_tokens.specs.declared.token.TokenKind.TheVariants as kind
-use Rattle.html_tokens.specs.Tokens.{mode_after_kind, switched}
+use Rattle.html_tokens.specs.Tokens.{mode_after_kind, stays, switched}
 use Rattle.html_ledger.specs.declared.fate.Fate.{Fate}
 use Rattle.html_ledger.specs.declared.fate.Fate.TheVariants as fate
 use Rattle.html_ledger.specs.declared.setting.Setting.{Setting}
@@ -27,12 +27,14 @@ use Rattle.html_construction.specs.Built.{chars_of, symbols}
 use Rattle.html_construction.specs.Foreign.{adjusted_tag, foreign_tag, if_foreign}
 use Rattle.html_construction.specs.States.{State}
 use Rattle.html_modes.specs.Dispatching.{Constructs, Entries, begun}
+use Rattle.html_construction.proofs.Building.{symbols-append}
 use Rattle.html_builder.specs.Builders.{BuilderState}
 use Rattle.html_builder.specs.Handed.{Handed, LeadsTo, fates_of, parses_foreign, reads_foreign}
-use Rattle.html_builder.specs.Saying.{HasSaid, Reads, Says, mode_at, mode_by, or_said, said_after_in, said_in, said_of}
+use Rattle.html_builder.specs.Saying.{HasSaid, Reads, Says, StaysHtml, mode_at, mode_by, or_said, said_after_in, said_in, said_of}
 use Rattle.html_builder.specs.Contexts.{context_tag, holds_html, setting_of, text_mode_of}
 use Rattle.html_builder.specs.Switches.{or_data, switch_after, switch_of, text_mode_in}
 use Rattle.html_builder.specs.declared.context.Context.{Context}
+use Rattle.html_builder.proofs.Saying.{get-front, get-within}
 
 -- RUNS
 
@@ -62,26 +64,39 @@ reads-constructs mode [] (m ∷ ms) a z h = absurd h
 reads-constructs mode (t ∷ ts) [] a z h = absurd h
 reads-constructs mode (t ∷ ts) (m ∷ ms) a z h = (h.0, h.1, reads-constructs (mode_after_kind t m mode) ts ms h.0 z h.3)
 
--- code points that say nothing
-text-reads : (mode : TextMode) (cs : List ℕ) (a z : State) → (mode ≡ text.Foreign → ⊥) → Constructs (chars_of cs) a z → Reads mode (chars_of cs) (replicate (length cs) None) a z
-text-reads mode [] a z n h = h
-text-reads mode (c ∷ cs) a z n h = (h.0, h.1, inr (refl, n), text-reads mode cs h.0 z n h.2)
+-- code points that say nothing, where that changes nothing
+silent-data : (mode : TextMode) → (mode ≡ text.Foreign → ⊥) → stays None mode ≡ stays (Some text.Data) mode
+silent-data text.Data n = refl
+silent-data text.Rcdata n = refl
+silent-data text.Rawtext n = refl
+silent-data text.Script n = refl
+silent-data text.Plaintext n = refl
+silent-data text.Foreign n = absurd (n refl)
+
+text-says : (mode : TextMode) (c : ℕ) (b : State) → (mode ≡ text.Foreign → ⊥) → foreign_tag b ≡ None → Says mode (kind.Char c) b None
+text-says mode c b n e = by (last_of b.ledger.fates) b.ledger.history.foreign (foreign_tag b) e
+  where
+    by : (o : Option Fate) (f : Bool) (g : Option Tag) → g ≡ None → stays None mode ≡ stays (or_said (switch_after (kind.Char c) o) (if f then Some (mode_at g) else None)) mode
+    by None true g i = silent-data mode n ∙ ap (λ x. stays (Some (mode_at x)) mode) (sym i)
+    by None false g i = refl
+    by (Some o) true g i = silent-data mode n ∙ ap (λ x. stays (Some (mode_at x)) mode) (sym i)
+    by (Some o) false g i = refl
+
+-- and from which none leads into foreign content
+abbrev Stays : State → Type 0
+Stays a = (cs : List ℕ) (z : State) → Constructs (chars_of cs) a z → foreign_tag z ≡ None
+
+text-reads : (mode : TextMode) (cs : List ℕ) (a z : State) → (mode ≡ text.Foreign → ⊥) → Stays a → Constructs (chars_of cs) a z → Reads mode (chars_of cs) (replicate (length cs) None) a z
+text-reads mode [] a z n s h = h
+text-reads mode (c ∷ cs) a z n s h =
+    (h.0, h.1, text-says mode c h.0 n (s (c ∷ []) h.0 (h.0, h.1, refl)), text-reads mode cs h.0 z n (λ ds y k. s (c ∷ ds) y (h.0, h.1, k)) h.2)
 
 text-mode : (mode : TextMode) (cs : List ℕ) → mode_by mode (chars_of cs) (replicate (length cs) None) ≡ mode
 text-mode mode [] = refl
 text-mode mode (c ∷ cs) = text-mode mode cs
 
--- any token says what it says
-says-itself : (mode : TextMode) (t : TokenKind) (a : State) (m : Option TextMode) → m ≡ said_after_in t a → Says mode t a m
-says-itself mode (kind.Char c) a m e = inl e
-says-itself mode (kind.Start n attrs s) a m e = e
-says-itself mode (kind.End n) a m e = e
-says-itself mode (kind.Comment x) a m e = e
-says-itself mode (kind.Doctype n p s f) a m e = e
-says-itself mode kind.Eof a m e = e
-
 one-reads : (mode : TextMode) (t : TokenKind) (m : Option TextMode) (a z : State) → Constructs (t ∷ []) a z → m ≡ said_after_in t z → Reads mode (t ∷ []) (m ∷ []) a z
-one-reads mode t m a z h e = (h.0, h.1, says-itself mode t h.0 m (e ∙ sym (ap (λ (x : State). said_after_in t x) h.2)), h.2)
+one-reads mode t m a z h e = (h.0, h.1, ap (λ v. mode_after_kind t v mode) (e ∙ sym (ap (λ (x : State). said_after_in t x) h.2)), h.2)
 
 -- WHERE TEXT IS READ AS DATA OF FOREIGN CONTENT
 
@@ -185,27 +200,6 @@ one-foreign t mode a b j k e = by b.ledger.history.foreign (foreign_tag b) refl 
 
 -- WHAT WAS MADE IS MADE
 
-get-front : (xs ys : List Symbol) (i : ℕ) (x : Symbol) → slice_get xs i ≡ Some x → slice_get (xs ++ ys) i ≡ Some x
-get-front [] ys zero x e = absurd (let k = e in cc)
-get-front [] ys (suc i) x e = absurd (let k = e in cc)
-get-front (y ∷ xs) ys zero x e = e
-get-front (y ∷ xs) ys (suc i) x e = get-front xs ys i x e
-
-get-fate : (xs ys : List Fate) (i : ℕ) (x : Fate) → slice_get xs i ≡ Some x → slice_get (xs ++ ys) i ≡ Some x
-get-fate [] ys zero x e = absurd (let k = e in cc)
-get-fate [] ys (suc i) x e = absurd (let k = e in cc)
-get-fate (y ∷ xs) ys zero x e = e
-get-fate (y ∷ xs) ys (suc i) x e = get-fate xs ys i x e
-
-get-within : (xs ys : List Symbol) (i : ℕ) → i < length xs → slice_get (xs ++ ys) i ≡ slice_get xs i
-get-within [] ys i h = absurd (omega (arith, h))
-get-within (x ∷ xs) ys zero h = refl
-get-within (x ∷ xs) ys (suc i) h = let less : suc i < suc (length xs) = h in get-within xs ys i (omega (arith, less))
-
-symbols-append : (ts us : List TokenKind) → symbols (ts ++ us) ≡ symbols ts ++ symbols us
-symbols-append [] us = refl
-symbols-append (t ∷ ts) us = ap (λ r. symbol_of t ∷ r) (symbols-append ts us)
-
 -- of tokens that have their fates, after more
 pub still-foreign : (s : Setting) (l : Option Limits) (ts us : List TokenKind) (a b : BuilderState) → Handed s l ts a → Handed s l (ts ++ us) b → (later : List Fate) × (fates_of b ≡ fates_of a ++ later)
     → a.page.ledger.history.foreign ≡ true → b.page.ledger.history.foreign ≡ true
@@ -217,7 +211,7 @@ still-foreign s l ts us a b h k grown e =
     more : (front later xs ys : List Symbol) → MayBeForeign s front (fates_of a) → symbols ts ≡ front ++ xs → symbols (ts ++ us) ≡ later ++ ys → length (fates_of b) ≡ length later → MayBeForeign s later (fates_of b)
     more front later xs ys (inr c) p q n = inr c
     more front later xs ys (inl w) p q n =
-        let own : slice_get (fates_of b) w.at ≡ Some w.fate = ap (λ v. slice_get v w.at) grown.1 ∙ get-fate (fates_of a) grown.0 w.at w.fate w.fate_is in
+        let own : slice_get (fates_of b) w.at ≡ Some w.fate = ap (λ v. slice_get v w.at) grown.1 ∙ get-front (fates_of a) grown.0 w.at w.fate w.fate_is in
         let low : w.at < length later = (let m = slice_get_within (fates_of b) w.at w.fate own in omega (arith, m, n)) in
         let all : slice_get (symbols (ts ++ us)) w.at ≡ Some w.token
         = ap (λ v. slice_get v w.at) (symbols-append ts us) ∙ get-front (symbols ts) (symbols us) w.at w.token (ap (λ v. slice_get v w.at) p ∙ get-front front xs w.at w.token w.token_is) in
@@ -237,17 +231,17 @@ still-foreign s l ts us a b h k grown e =
 pub none-said : (s : Setting) (l : Option Limits) (mode : TextMode) (b : BuilderState) → Handed s l [] b → (mode ≡ text.Foreign → reads_foreign b ≡ true) → HasSaid s l mode [] [] b
 none-said s l mode b h k = record { first = h.first; begins = h.begins; parses = h.parses; reads = h.constructs; where_foreign = k }
 
--- a text, where the adjusted current node is none of foreign content
-pub text-said : (s : Setting) (l : Option Limits) (mode : TextMode) (ts : List TokenKind) (ms : List (Option TextMode)) (cs : List ℕ) (a b : BuilderState) → LeadsTo (chars_of cs) a b → parses_foreign b ≡ parses_foreign a → reads_foreign a ≡ false
+-- a text, where none leads into foreign content
+pub text-said : (s : Setting) (l : Option Limits) (mode : TextMode) (ts : List TokenKind) (ms : List (Option TextMode)) (cs : List ℕ) (a b : BuilderState) → LeadsTo (chars_of cs) a b → parses_foreign b ≡ parses_foreign a → StaysHtml a
     → HasSaid s l mode ts ms a → HasSaid s l mode (ts ++ chars_of cs) (ms ++ replicate (length cs) None) b
 text-said s l mode ts ms cs a b h p html r =
     let now = mode_by mode ts ms in
-    let other : now ≡ text.Foreign → ⊥ = λ e. false≢true (sym html ∙ r.where_foreign e) in
+    let other : now ≡ text.Foreign → ⊥ = λ e. false≢true (sym (ap is_some (html [] a.page refl)) ∙ r.where_foreign e) in
     record {
       first = r.first;
       begins = r.begins;
       parses = r.parses ∙ sym p;
-      reads = reads-then mode ts (chars_of cs) ms (replicate (length cs) None) r.first a.page b.page r.reads (text-reads now cs a.page b.page other h);
+      reads = reads-then mode ts (chars_of cs) ms (replicate (length cs) None) r.first a.page b.page r.reads (text-reads now cs a.page b.page other html h);
       where_foreign = λ e. absurd (other (sym (text-mode now cs) ∙ sym (modes-then mode ts (chars_of cs) ms (replicate (length cs) None) r.first a.page r.reads) ∙ e));
     }
 

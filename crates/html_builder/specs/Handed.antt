@@ -1,4 +1,4 @@
--- Claimed.
+-- Claimed, but for this crate's own functions: reads_foreign.
 -- What callers know of a builder: what it was begun with, the tokens handed in, and what became of them.
 use Rattle.std.specs.Prelude.{◌≡◌, ℕ, ◌+◌, ◌*◌, ◌<◌, ◌≤◌, Bool, false, List, [], ◌∷◌, ◌++◌, length, is_some, Option, None, Some}
 use Rattle.std.specs.List.{sum_by}

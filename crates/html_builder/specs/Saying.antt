@@ -1,21 +1,23 @@
 -- Claimed.
 -- What is said of the text after a token: what its fate says; and, where foreign content was made or is the context, whether it is read as that of
 -- foreign content (13.2.6.2, 13.2.6.4, and 13.2.5.42).
-use Rattle.std.specs.Prelude.{◌≡◌, ◌⊎◌, true, List, [], ◌∷◌, is_some, Option, Some, None, if◌then◌else◌}
+use Rattle.std.specs.Prelude.{◌≡◌, ◌&&◌, ◌||◌, ℕ, Bool, true, false, not, List, [], ◌∷◌, is_some, Option, Some, None, if◌then◌else◌}
 use Rattle.html_arena.specs.declared.arena.Limits.{Limits}
 use Rattle.html_names.specs.declared.tag.Tag.{Tag}
 use Rattle.html_tokens.specs.declared.token.TextMode.{TextMode}
 use Rattle.html_tokens.specs.declared.token.TextMode.TheVariants.{Data, Foreign}
 use Rattle.html_tokens.specs.declared.token.TokenKind.{TokenKind}
-use Rattle.html_tokens.specs.declared.token.TokenKind.TheVariants as kind
 use Rattle.html_tokens.specs.Tokens.{mode_after_kind}
 use Rattle.html_ledger.specs.declared.setting.Setting.{Setting}
 use Rattle.html_ledger.specs.Runs.{last_of}
 use Rattle.html_ledger.specs.Symbols.{symbol_of}
+use Rattle.html_construction.specs.declared.mode.Mode.{Mode}
+use Rattle.html_construction.specs.declared.mode.Mode.TheVariants as mode
 use Rattle.html_construction.specs.Beginning.{IsFirst}
+use Rattle.html_construction.specs.Built.{chars_of}
 use Rattle.html_construction.specs.Foreign.{foreign_tag}
 use Rattle.html_construction.specs.States.{State}
-use Rattle.html_modes.specs.Dispatching.{Entries, begun}
+use Rattle.html_modes.specs.Dispatching.{Constructs, Entries, begun}
 use Rattle.html_builder.specs.Builders.{BuilderState}
 use Rattle.html_builder.specs.Switches.{switch_after}
 
@@ -40,13 +42,13 @@ said_after_in token a = or_said (switch_after token (last_of a.ledger.fates)) (s
 abbrev pub said_in : TokenKind → BuilderState → Option TextMode
 said_in token b = said_after_in token b.page
 
--- In text that is read in this mode a token says so, by the state after it. Where the text is not data of foreign content, a code point may as well say nothing.
+-- A token says of the text after it, which until then is read in this mode, what leads to the mode that the state after it asks for: so a code point may as well
+-- say nothing, where that changes nothing.
 abbrev pub Says : TextMode → TokenKind → State → Option TextMode → Type 0
-Says mode (kind.Char c) a said = (said ≡ said_after_in (kind.Char c) a) ⊎ ((said ≡ None) × (mode ≡ Foreign → ⊥))
-Says mode token a said = said ≡ said_after_in token a
+Says mode token a said = mode_after_kind token said mode ≡ mode_after_kind token (said_after_in token a) mode
 
--- Tree construction takes these tokens one after another, each through its entries, from the one state to the other; and each says this of the text after it, the
--- first of them in text that is read in this mode.
+-- Tree construction takes these tokens one after another, each through its entries, from the one state to the other; and each says this of the text after it, where
+-- that after the first is read in this mode until then.
 abbrev pub Reads : TextMode → List TokenKind → List (Option TextMode) → State → State → Type 0
 Reads mode [] [] a z = begun a ≡ begun z
 Reads mode (t ∷ ts) (m ∷ ms) a z = (b : State) × Entries (symbol_of t) t (begun a) b × Says mode t b m × Reads (mode_after_kind t m mode) ts ms b z
@@ -65,3 +67,22 @@ pub record HasSaid (s : Setting) (limits : Option Limits) (mode : TextMode) (tok
   pub parses : first.parses_foreign ≡ b.page.parses_foreign
   pub reads : Reads mode tokens said first b.page
   pub where_foreign : mode_by mode tokens said ≡ Foreign → is_some (foreign_tag b.page) ≡ true
+
+-- No code points lead from here into foreign content: the adjusted current node is none of it, and is none after any of them.
+abbrev pub StaysHtml : BuilderState → Type 0
+StaysHtml b = (text : List ℕ) (z : State) → Constructs (chars_of text) b.page z → foreign_tag z ≡ None
+
+-- the modes in which a code point closes no element, and opens none but clones of formatting elements
+abbrev pub is_steady : Mode → Bool
+is_steady mode.Initial = false
+is_steady mode.BeforeHtml = false
+is_steady mode.BeforeHead = false
+is_steady mode.InHead = false
+is_steady mode.InHeadNoscript = false
+is_steady mode.AfterHead = false
+is_steady mode.InColumnGroup = false
+is_steady _ = true
+
+-- Where a builder knows it: where no element of foreign content was made and none is the context; and in these modes, where the adjusted current node is none of it.
+abbrev pub stays_html : BuilderState → Bool
+stays_html b = not b.page.ledger.history.foreign || (not b.stopped && (is_steady b.page.mode && not (is_some (foreign_tag b.page))))

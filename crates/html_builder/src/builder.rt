@@ -27,10 +27,10 @@ ghost use Rattle.html_page.specs.Shows.{Shows};
 ghost use Rattle.html_builder.specs.Built.{IsBuiltByRules, IsTreeIn};
 ghost use Rattle.html_builder.specs.Contexts.{IsGood, IsGoodAnywhere, context_tag, setting_of};
 ghost use Rattle.html_builder.specs.Errors.{IsTextTold, IsTold};
-ghost use Rattle.html_builder.specs.Handed.{AddsFates, AreSo, CostAtMost, EndsAtEof, EntersNone, GivesFates, Handed, HandsIn, HaveFates, IsBuildCause, IsForeignOutside, IsForeignRefused, IsTextCause, LeadsTo, fates_of, is_stopped, parses_foreign, reads_foreign};
+ghost use Rattle.html_builder.specs.Handed.{AddsFates, AreSo, CostAtMost, EndsAtEof, EntersNone, GivesFates, Handed, HandsIn, HaveFates, IsBuildCause, IsForeignOutside, IsForeignRefused, IsTextCause, LeadsTo, fates_of, is_stopped, parses_foreign};
 ghost use Rattle.html_builder.specs.Outcome.{IsBounded, IsOutcome, most_entries};
 ghost use Rattle.html_builder.specs.Plain.{HavePlainFates};
-ghost use Rattle.html_builder.specs.Saying.{said_in};
+ghost use Rattle.html_builder.specs.Saying.{StaysHtml, is_steady, said_in, stays_html};
 
 use crate::context::Context;
 use crate::error::BuildError;
@@ -236,11 +236,20 @@ impl Builder {
         })
     }
 
-    /// Whether the text that follows is read as that of foreign content: the adjusted current node is one of foreign content.
-    pub fn reads_foreign(&self) -> bool
-        ensures value { result ≡ reads_foreign self.now }
+    /// Whether it is known that no text that follows leads into foreign content: none was made and none is the context; or the adjusted current node is none of
+    /// it, and code points close no element in the insertion mode.
+    #[tactic(auto, using(crate::proofs::Steady::stays_rules))]
+    pub fn stays_html(&self) -> bool
+        ensures value { result ≡ stays_html self.now }
+        ensures html { result ≡ true → StaysHtml self.now }
     {
-        self.construction.foreign_tag().is_some()
+        if !self.construction.history().foreign {
+            return true;
+        }
+        self.construction.laws();
+        !self.stopped
+            && is_steady(self.construction.mode())
+            && self.construction.foreign_tag().is_none()
     }
 
     /// The insertion mode.
@@ -482,6 +491,22 @@ impl Builder {
     {
         self.construction.into_parts()
     }
+}
+
+/// Whether in this mode a code point closes no element, and opens none but clones of formatting elements.
+fn is_steady(mode: Mode) -> bool
+    ensures value { result ≡ is_steady mode }
+{
+    !matches!(
+        mode,
+        Mode::Initial
+            | Mode::BeforeHtml
+            | Mode::BeforeHead
+            | Mode::InHead
+            | Mode::InHeadNoscript
+            | Mode::AfterHead
+            | Mode::InColumnGroup
+    )
 }
 
 /// The tree construction of a document, within limits, where there are any.

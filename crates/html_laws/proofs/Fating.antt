@@ -1,9 +1,7 @@
 -- How many tokens have a fate after each, and which wait.
-use Rattle.std.proofs.Common.{◌≡◌, ℕ, zero, suc, ◌+◌, ◌<◌, Bool, true, false, not, cond, List, [], ◌∷◌, ◌++◌, length, refl, sym, ◌∙◌, ap, subst, arith}
-use Rattle.std.specs.Prelude.{slice_get}
+use Rattle.std.proofs.Common.{◌≡◌, ◌+◌, Bool, true, false, not, cond, List, [], ◌∷◌, refl, sym, ◌∙◌, ap, subst, arith}
 use Rattle.std.proofs.lemmas.Bool.{false≢true}
 use Rattle.html_tokens.specs.declared.token.TokenKind.{TokenKind}
-use Rattle.html_ledger.specs.declared.fate.Fate.{Fate}
 use Rattle.html_ledger.specs.declared.symbol.Symbol.{Symbol}
 use Rattle.html_ledger.specs.declared.symbol.Symbol.TheVariants as symbol
 use Rattle.html_ledger.specs.Flags.{may_select}
@@ -20,9 +18,7 @@ use Rattle.html_modes.specs.RuleForms.{ending, over}
 use Rattle.html_modes.specs.Rules.{plan}
 use Rattle.html_modes.specs.RulesInTableText.{in_table_text}
 use Rattle.html_laws.specs.Likeness.{core}
-use Rattle.html_laws.specs.Outcomes.{IsOnce}
 use Rattle.html_laws.proofs.Counting.{IsGiven, due, extra, flat-extra, is_char, is_flat, runs-due, total}
-use Rattle.html_laws.proofs.Entering.{entries-once, entries-one}
 use Rattle.html_laws.proofs.Growing.{Grows, becomes-fates, fates, grows-same, grows-then, runs-fates}
 use Rattle.html_laws.proofs.Keeping.{keepless, runs-empty, runs-keepless}
 use Rattle.html_laws.proofs.Natives.{IsNative, native-becomes}
@@ -155,38 +151,3 @@ constructs-grows (t ∷ ts) a z g k c =
     let h = native-begun a g in
     let f = entries-taken t (begun a) c.0 c.1 h (waiting-begun a k) in
     grows-then (fates a) (fates c.0) (fates z) f.grows (constructs-grows ts c.0 z (entries-native (symbol_of t) t (begun a) c.0 c.1 h) f.waiting c.2)
-
-get-left : (xs ys : List Fate) (i : ℕ) → i < length xs → slice_get (xs ++ ys) i ≡ slice_get xs i
-get-left [] ys i h = absurd (omega (arith, h))
-get-left (x ∷ xs) ys zero h = refl
-get-left (x ∷ xs) ys (suc i) h = get-left xs ys i (omega (arith, h))
-
--- The fate of a token that is no code point is given in its call, and so is decided by the tokens up to it.
-pub fate-one : (xs : List TokenKind) (t : TokenKind) (ys ys' : List TokenKind) (a z a' z' : State) (n : ℕ) → IsOnce a.tree → IsNative a → IsNative a' → IsWaiting a → IsWaiting a' → core (begun a) ≡ core (begun a') → total a ≡ n
-    → is_char (symbol_of t) ≡ false → Constructs (xs ++ t ∷ ys) a z → Constructs (xs ++ t ∷ ys') a' z' → slice_get (fates z) (n + length xs) ≡ slice_get (fates z') (n + length xs)
-fate-one [] t ys ys' a z a' z' n o g g' k k' l m h c c' =
-    let b = native-begun a g in
-    let b' = native-begun a' g' in
-    let f = entries-taken t (begun a) c.0 c.1 b (waiting-begun a k) in
-    let f' = entries-taken t (begun a') c'.0 c'.1 b' (waiting-begun a' k') in
-    let e = entries-one (symbol_of t) t (begun a) c.0 c.1 o (begun a') c'.0 l c'.1 in
-    let s : fates c.0 ≡ fates c'.0 = ap (λ (v : State). fates v) e in
-    let r = constructs-grows ys c.0 z (entries-native (symbol_of t) t (begun a) c.0 c.1 b) f.waiting c.2 in
-    let r' = constructs-grows ys' c'.0 z' (entries-native (symbol_of t) t (begun a') c'.0 c'.1 b') f'.waiting c'.2 in
-    let q : n + 0 < length (fates c.0) = (let u = f.count in let v = ap length (f.none h) in omega (arith, u, v, m)) in
-    let q' : n + 0 < length (fates c'.0) = subst (λ v. n + 0 < length v) s q in
-    ap (λ v. slice_get v (n + 0)) r.1
-    ∙ get-left (fates c.0) r.0 (n + 0) q
-    ∙ ap (λ v. slice_get v (n + 0)) s
-    ∙ sym (get-left (fates c'.0) r'.0 (n + 0) q')
-    ∙ sym (ap (λ v. slice_get v (n + 0)) r'.1)
-fate-one (x ∷ xs) t ys ys' a z a' z' n o g g' k k' l m h c c' =
-    let b = native-begun a g in
-    let b' = native-begun a' g' in
-    let f = entries-taken x (begun a) c.0 c.1 b (waiting-begun a k) in
-    let f' = entries-taken x (begun a') c'.0 c'.1 b' (waiting-begun a' k') in
-    let e = entries-one (symbol_of x) x (begun a) c.0 c.1 o (begun a') c'.0 l c'.1 in
-    let i : (n + 1) + length xs ≡ n + suc (length xs) = omega arith in
-    subst (λ v. slice_get (fates z) v ≡ slice_get (fates z') v) i
-    (fate-one xs t ys ys' c.0 z c'.0 z' (n + 1) (entries-once (symbol_of x) x (begun a) c.0 c.1 o) (entries-native (symbol_of x) x (begun a) c.0 c.1 b) (entries-native (symbol_of x) x (begun a') c'.0 c'.1 b') f.waiting f'.waiting
-    (ap (λ v. core (begun v)) e) (let u = f.count in omega (arith, u, m)) h c.2 c'.2)

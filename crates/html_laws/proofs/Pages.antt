@@ -23,7 +23,7 @@ use Rattle.html_parser.specs.Start.{Start, parses, text_start}
 use Rattle.html_construction.proofs.Planned.{halves as both}
 use Rattle.html_laws.specs.Contents.{InputsHaveNoTemplateInItself, TreesHaveNoTemplateInItself}
 use Rattle.html_laws.specs.Elements.{InputsHaveOneBody, InputsHaveOneRoot, TreesHaveOneBody, TreesHaveOneRoot, count_of}
-use Rattle.html_laws.specs.OnePage.{InputsHaveOnePage, InputsHaveOneTree, IsOnePage, RefusesForeign}
+use Rattle.html_laws.specs.OnePage.{InputsHaveOnePage, InputsHaveOneTree, InputsHaveSameErrors, IsOnePage, RefusesForeign}
 use Rattle.html_laws.specs.Outcomes.{BeginAlike}
 use Rattle.html_laws.proofs.Bodies.{built-body}
 use Rattle.html_laws.proofs.Founding.{pages-root}
@@ -52,35 +52,37 @@ not-foreign s ys fs h c (inl k) =
     false≢true (sym (ap not f) ∙ none-at is_native fs k.at k.fate h k.fate_is)
 not-foreign s ys fs h c (inr k) = false≢true (sym c ∙ k)
 
-module _ (start : Start) (bytes : List ℕ) (r : RefusesForeign start) where
-  -- where foreign content is refused
-  abbrev built : (ts : List Token) (fs : List Fate) (t : Nodes) (b : IsBuiltByRules start.setting start.limits (parses start.foreign) (kinds ts) fs t) → IsBuiltByRules start.setting start.limits false (kinds ts) fs t
-  built ts fs t b = record { first = b.first; begins = b.begins; foreign_is = b.foreign_is ∙ ap parses r.refused; last = b.last; constructs = b.constructs; tree_is = b.tree_is; fates_are = b.fates_are }
-
-  headlines-one : (ts us : List Token) (fs gs : List Fate) (t u : Nodes) (root root' n n' steps steps' : ℕ) (errors errors' : List PageFault) → (p : Headline start bytes ts fs t root errors n steps)
-      → (q : Headline start bytes us gs u root' errors' n' steps') → BeginAlike start.setting p.built.first q.built.first → IsOnePage ts us fs gs t u
-  headlines-one ts us fs gs t u root root' n n' steps steps' errors errors' p q e =
-      let k = texts-one start.setting start.limits (decode bytes) (text_start start) ts us p.tokens_are.said q.tokens_are.said fs gs t u r.no_context p.tokens_are.are q.tokens_are.are
-      (p.tokens_are.by_fates (not-foreign start.setting (symbols (kinds ts)) fs (p.native r.refused r.no_context) r.no_context))
-      (q.tokens_are.by_fates (not-foreign start.setting (symbols (kinds us)) gs (q.native r.refused r.no_context) r.no_context))
-      (built ts fs t p.built) (built us gs u q.built) e in
-      record { same_tokens = k.0; outcome = k.1 }
+-- two answers for one input
+headlines-one : (start : Start) (bytes : List ℕ) (ts us : List Token) (fs gs : List Fate) (t u : Nodes) (root root' n n' steps steps' : ℕ) (errors errors' : List PageFault) → (p : Headline start bytes ts fs t root errors n steps)
+    → (q : Headline start bytes us gs u root' errors' n' steps') → BeginAlike start.setting p.built.first q.built.first → IsOnePage ts us fs gs t u × (p.faults.told ≡ q.faults.told)
+headlines-one start bytes ts us fs gs t u root root' n n' steps steps' errors errors' p q e =
+    let k = texts-one start.setting start.limits (parses start.foreign) (decode bytes) (text_start start) ts us p.tokens_are.said q.tokens_are.said fs gs t u p.tokens_are.are q.tokens_are.are
+    p.built q.built p.read q.read e in
+    (record { same_tokens = k.0; outcome = k.1 }, p.told.errors_of_text ∙ k.2 ∙ sym q.told.errors_of_text)
 
 pub inputs-page : InputsHaveOnePage
-inputs-page start bytes page page' r p q e =
-    headlines-one start bytes r page.tokens page'.tokens page.fates page'.fates page.arena page'.arena page.root page'.root page.n page'.n page.steps page'.steps page.errors.items page'.errors.items p q e
+inputs-page start bytes page page' p q e =
+    (headlines-one start bytes page.tokens page'.tokens page.fates page'.fates page.arena page'.arena page.root page'.root page.n page'.n page.steps page'.steps page.errors.items page'.errors.items p q e).0
+
+pub inputs-errors : InputsHaveSameErrors
+inputs-errors start bytes page page' p q e =
+    (headlines-one start bytes page.tokens page'.tokens page.fates page'.fates page.arena page'.arena page.root page'.root page.n page'.n page.steps page'.steps page.errors.items page'.errors.items p q e).1
 
 pub inputs-tree : InputsHaveOneTree
-inputs-tree start bytes tree tree' r p q e =
-    (headlines-one start bytes r p.tokens q.tokens p.fates q.fates tree.arena tree'.arena tree.root tree'.root tree.n tree'.n tree.steps tree'.steps tree.errors.items tree'.errors.items p.is q.is e).outcome.same_nodes
+inputs-tree start bytes tree tree' p q e =
+    (headlines-one start bytes p.tokens q.tokens p.fates q.fates tree.arena tree'.arena tree.root tree'.root tree.n tree'.n tree.steps tree'.steps tree.errors.items tree'.errors.items p.is q.is e).0.outcome.same_nodes
+
+-- what was built, where foreign content is refused
+abbrev built : (start : Start) (r : RefusesForeign start) (ts : List Token) (fs : List Fate) (t : Nodes) (b : IsBuiltByRules start.setting start.limits (parses start.foreign) (kinds ts) fs t) → IsBuiltByRules start.setting start.limits false (kinds ts) fs t
+built start r ts fs t b = record { first = b.first; begins = b.begins; foreign_is = b.foreign_is ∙ ap parses r.refused; last = b.last; constructs = b.constructs; tree_is = b.tree_is; fates_are = b.fates_are }
 
 pub inputs-root : InputsHaveOneRoot
 inputs-root start bytes page r p =
-    pages-root start.setting start.limits (kinds page.tokens) page.fates page.arena r.no_context (built start bytes r page.tokens page.fates page.arena p.built)
+    pages-root start.setting start.limits (kinds page.tokens) page.fates page.arena r.no_context (built start r page.tokens page.fates page.arena p.built)
 
 pub trees-root : TreesHaveOneRoot
 trees-root start bytes tree r p =
-    pages-root start.setting start.limits (kinds p.tokens) p.fates tree.arena r.no_context (built start bytes r p.tokens p.fates tree.arena p.is.built)
+    pages-root start.setting start.limits (kinds p.tokens) p.fates tree.arena r.no_context (built start r p.tokens p.fates tree.arena p.is.built)
 
 pub inputs-hosts : InputsHaveNoTemplateInItself
 inputs-hosts start bytes page p = pages-hosts start.setting start.limits (parses start.foreign) (kinds page.tokens) page.fates page.arena p.built
@@ -91,7 +93,7 @@ trees-hosts start bytes tree p = pages-hosts start.setting start.limits (parses 
 -- the bodies of what was built of an input
 headline-body : (start : Start) (bytes : List ℕ) (ts : List Token) (fs : List Fate) (t : Nodes) (root n steps : ℕ) (errors : List PageFault) → RefusesForeign start → Headline start bytes ts fs t root errors n steps → count_of tag.Body t.labels ≤ 1
 headline-body start bytes ts fs t root n steps errors r p =
-    let b = built start bytes r ts fs t p.built in
+    let b = built start r ts fs t p.built in
     built-body start.setting start.limits (kinds ts) fs t r.no_context b
     (built-reads start.setting start.limits (decode bytes) (text_start start) ts p.tokens_are.said fs t r.no_context p.tokens_are.are
     (p.tokens_are.by_fates (not-foreign start.setting (symbols (kinds ts)) fs (p.native r.refused r.no_context) r.no_context)) b)

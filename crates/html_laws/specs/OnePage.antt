@@ -23,12 +23,17 @@ pub record RefusesForeign (start : Start) : Type 0 where
   pub refused : start.foreign ≡ Refuse
   pub no_context : is_foreign_context start.setting ≡ false
 
--- Two pages of one input, where foreign content is refused and is not the context.
+-- Two pages of one input, whether foreign content is parsed or refused, whatever the context.
 abbrev pub InputsHaveOnePage : Type 0
-InputsHaveOnePage = (start : Start) (bytes : List ℕ) (page page' : Page) → RefusesForeign start → (p : IsPageOf start bytes page) → (q : IsPageOf start bytes page') → BeginAlike start.setting p.built.first q.built.first
+InputsHaveOnePage = (start : Start) (bytes : List ℕ) (page page' : Page) → (p : IsPageOf start bytes page) → (q : IsPageOf start bytes page') → BeginAlike start.setting p.built.first q.built.first
     → IsOnePage page.tokens page'.tokens page.fates page'.fates page.arena page'.arena
+
+-- The tokenizer tells the same errors of it, name and place.
+abbrev pub InputsHaveSameErrors : Type 0
+InputsHaveSameErrors = (start : Start) (bytes : List ℕ) (page page' : Page) → (one : IsPageOf start bytes page) → (other : IsPageOf start bytes page') → BeginAlike start.setting one.built.first other.built.first
+    → one.faults.told ≡ other.faults.told
 
 -- Two trees of one input, likewise.
 abbrev pub InputsHaveOneTree : Type 0
-InputsHaveOneTree = (start : Start) (bytes : List ℕ) (tree tree' : Tree) → RefusesForeign start → (p : IsTreeOf start bytes tree) → (q : IsTreeOf start bytes tree') → BeginAlike start.setting p.is.built.first q.is.built.first
+InputsHaveOneTree = (start : Start) (bytes : List ℕ) (tree tree' : Tree) → (p : IsTreeOf start bytes tree) → (q : IsTreeOf start bytes tree') → BeginAlike start.setting p.is.built.first q.is.built.first
     → AreSameNodes tree.arena tree'.arena

@@ -12,7 +12,7 @@ ghost use Rattle.html_laws.specs.Elements.{
   TreesHaveOneBody,
   TreesHaveOneRoot,
 };
-ghost use Rattle.html_laws.specs.OnePage.{InputsHaveOnePage, InputsHaveOneTree};
+ghost use Rattle.html_laws.specs.OnePage.{InputsHaveOnePage, InputsHaveOneTree, InputsHaveSameErrors};
 ghost use Rattle.html_laws.specs.Outcomes.{PagesHaveOneTree, PlansHaveOneEnd, TokensHaveOneEnd};
 
 /// A law: two runs of one plan for one token, and two runs of the rules over the same tokens, end alike, from states that differ in nothing but marks, counts
@@ -27,10 +27,11 @@ pub fn construction_has_one_outcome()
     ensures { PagesHaveOneTree }
 {}
 
-/// A law: an input has one list of tokens, one list of fates and one tree, marks and counts apart, however it was cut, where foreign content is refused and is
-/// not the context.
+/// A law: an input has one list of tokens, one list of fates, the same errors of the tokenizer, and one tree, marks and counts apart, however it was cut, whether
+/// foreign content is parsed or refused, in any context.
 pub fn parsing_has_one_outcome()
     ensures page { InputsHaveOnePage }
+    ensures errors { InputsHaveSameErrors }
     ensures tree { InputsHaveOneTree }
 {}
 

@@ -6,9 +6,9 @@ use Rattle.html_tokens.specs.Runs.{gave_all}
 use Rattle.html_tokens.specs.Stream.{Run, gave}
 use Rattle.html_tokens.specs.declared.token.Token.{Token}
 use Rattle.html_ledger.specs.Runs.{last_of}
-use Rattle.html_builder.specs.Saying.{HasSaid, said_in}
+use Rattle.html_builder.specs.Saying.{HasSaid, StaysHtml, said_in}
 use Rattle.html_builder.proofs.SayingOn.{one-said, text-said}
-use Rattle.html_builder.specs.Handed.{AddsFates, Handed, HandsIn, HaveFates, LeadsTo, fates_of, is_stopped as builder_stopped, parses_foreign, reads_foreign}
+use Rattle.html_builder.specs.Handed.{AddsFates, Handed, HandsIn, HaveFates, LeadsTo, fates_of, is_stopped as builder_stopped, parses_foreign}
 use Rattle.html_construction.specs.Built.{chars_of, symbols}
 use Rattle.html_ledger.specs.MayDrop.{MayBeForeign}
 use Rattle.html_ledger.specs.declared.setting.Setting.{Setting}
@@ -66,7 +66,7 @@ pub record HandsText (old new : Stages) (tokens : List Token) (text : List ℕ) 
   pub decoder : new.decoder ≡ old.decoder
   pub takes : HandsIn (chars_of text) old.builder new.builder
   pub leads : LeadsTo (chars_of text) old.builder new.builder
-  pub html : reads_foreign old.builder ≡ false
+  pub html : StaysHtml old.builder
   pub grows : AddsFates old.builder new.builder
   pub starts : new.kept.starts ≡ old.kept.starts ++ starts_of tokens
   pub tokens_are : old.kept.keeps_tokens ≡ true → new.kept.tokens ≡ old.kept.tokens ++ tokens

@@ -9,7 +9,8 @@ use Rattle.html_tokens.specs.declared.token.Token.{Token}
 use Rattle.html_tokens.specs.declared.tokenizer.Tokenizer.{Tokenizer}
 use Rattle.html_tokens.specs.declared.token.TextMode.{TextMode}
 use Rattle.html_tokens.specs.declared.token.TokenKind.TheVariants.{Char}
-use Rattle.html_builder.specs.Handed.{AddsFates, HandsIn, LeadsTo, is_stopped as builder_stopped, parses_foreign, reads_foreign}
+use Rattle.html_builder.specs.Saying.{StaysHtml}
+use Rattle.html_builder.specs.Handed.{AddsFates, HandsIn, LeadsTo, is_stopped as builder_stopped, parses_foreign}
 use Rattle.html_construction.specs.Built.{chars_of}
 use Rattle.html_parser.specs.Gathered.{Gathers, Gives, HasRest, IsAwaiting}
 use Rattle.html_parser.specs.Kinds.{starts_of}
@@ -160,7 +161,7 @@ behind_is whole items old more start s n e = take_rest whole start ∙ ap (λ x.
 pub joined_hands : (old new : Stages) (t : Tokenizer) (k : Kept) (first after whole : List ℕ) (Then : Run → Type 0) (token : Token) (c : ℕ) (g : Gathers t k new.kept first after Then)
     → token.kind ≡ Char c → first ≡ c ∷ [] → whole ≡ after → k.starts ≡ old.kept.starts ++ starts_of (token ∷ [])
     → (old.kept.keeps_tokens ≡ true → k.tokens ≡ old.kept.tokens ++ token ∷ []) → k.keeps_tokens ≡ old.kept.keeps_tokens → new.kept.keeps_tokens ≡ k.keeps_tokens
-    → new.decoder ≡ old.decoder → HandsIn (chars_of whole) old.builder new.builder → LeadsTo (chars_of whole) old.builder new.builder → reads_foreign old.builder ≡ false → AddsFates old.builder new.builder → builder_stopped new.builder ≡ builder_stopped old.builder
+    → new.decoder ≡ old.decoder → HandsIn (chars_of whole) old.builder new.builder → LeadsTo (chars_of whole) old.builder new.builder → StaysHtml old.builder → AddsFates old.builder new.builder → builder_stopped new.builder ≡ builder_stopped old.builder
     → parses_foreign new.builder ≡ parses_foreign old.builder → HandsText old new (token ∷ g.tokens) whole
 joined_hands old new t k first after whole Then token c g is one e s ks kept keeps decoder takes leads html grows building parses =
     let text : whole ≡ c ∷ g.text = e ∙ g.text_is ∙ ap (λ x. x ++ g.text) one in

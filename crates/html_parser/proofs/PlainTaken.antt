@@ -13,9 +13,9 @@ use Rattle.html_tokens.specs.Runs.{gave_all, plain_tokens}
 use Rattle.html_tokens.specs.Stream.{Run, fed, tokens_of}
 use Rattle.html_tokens.specs.declared.token.Token.{Token}
 use Rattle.html_tokens.specs.declared.tokenizer.Tokenizer.{Tokenizer}
-use Rattle.html_builder.specs.Handed.{AddsFates, HandsIn, HaveFates, Handed, IsTextCause, LeadsTo, fates_of, is_stopped as builder_stopped, parses_foreign, reads_foreign}
+use Rattle.html_builder.specs.Handed.{AddsFates, HandsIn, HaveFates, Handed, IsTextCause, LeadsTo, fates_of, is_stopped as builder_stopped, parses_foreign}
 use Rattle.html_builder.specs.Errors.{IsTextTold}
-use Rattle.html_builder.specs.Saying.{HasSaid}
+use Rattle.html_builder.specs.Saying.{HasSaid, StaysHtml}
 use Rattle.html_builder.specs.declared.error.BuildError.{BuildError}
 use Rattle.html_construction.specs.States.{State}
 use Rattle.html_builder.specs.declared.error.BuildError.TheVariants as build
@@ -110,7 +110,7 @@ pub record HandsPlain (old new : Stages) (piece : List ℕ) (place : ℕ) (text 
   pub given : (run : Run) → Fed old.tokenizer run → Fed new.tokenizer (gave_all (fed run text) (plain_tokens place text))
   pub takes : HandsIn (chars_of text) old.builder new.builder
   pub leads : LeadsTo (chars_of text) old.builder new.builder
-  pub html : reads_foreign old.builder ≡ false
+  pub html : StaysHtml old.builder
   pub grows : AddsFates old.builder new.builder
   pub starts : new.kept.starts ≡ old.kept.starts ++ starts_of (plain_tokens place text)
   pub tokens : old.kept.keeps_tokens ≡ true → new.kept.tokens ≡ old.kept.tokens ++ plain_tokens place text

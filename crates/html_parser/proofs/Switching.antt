@@ -1,5 +1,5 @@
 -- What tokens say of the text after them, as more tokens come.
-use Rattle.std.proofs.Common.{ℕ, zero, suc, ◌+◌, ◌-◌, ◌<◌, ◌≤◌, ◌≡◌, ◌∙◌, inl, inr, Bool, true, false, arith, List, [], ◌∷◌, ◌++◌, length, take, replicate, Option, Some, None, refl, sym, ap, subst, append_assoc, length-append}
+use Rattle.std.proofs.Common.{ℕ, zero, suc, ◌+◌, ◌-◌, ◌≤◌, ◌≡◌, ◌∙◌, inl, inr, Bool, true, false, arith, List, [], ◌∷◌, ◌++◌, length, take, replicate, Option, Some, None, refl, sym, ap, subst, append_assoc, length-append}
 use Rattle.std.specs.Prelude.{slice_get}
 use Rattle.std.proofs.lemmas.Bool.{cases_lt}
 use Rattle.html_arena.specs.declared.arena.Limits.{Limits}
@@ -12,12 +12,13 @@ use Rattle.html_ledger.specs.declared.setting.Setting.{Setting}
 use Rattle.html_ledger.specs.declared.symbol.Symbol.{Symbol}
 use Rattle.html_ledger.specs.MayDrop.{MayBeForeign}
 use Rattle.html_ledger.specs.Runs.{last_of}
-use Rattle.html_ledger.specs.Symbols.{symbol_of}
 use Rattle.html_construction.specs.Built.{chars_of, symbols}
+use Rattle.html_construction.proofs.Building.{symbols-append}
 use Rattle.html_builder.specs.Builders.{BuilderState}
 use Rattle.html_builder.specs.declared.context.Context.{Context}
 use Rattle.html_builder.specs.Handed.{Handed, HaveFates, reads_foreign}
 use Rattle.html_builder.specs.Saying.{HasSaid}
+use Rattle.html_builder.proofs.Saying.{get-front, get-within}
 use Rattle.html_builder.proofs.SayingOn.{begun-foreign, none-said as none-said-by}
 use Rattle.html_builder.specs.Switches.{switch_after, switch_by, switches_by}
 use Rattle.html_parser.specs.Said.{AreSaid, AreSaidByFates, MaySayAfter}
@@ -31,18 +32,6 @@ get-none (suc i) = refl
 
 some-none : {A B : Type 0} → (x : A) → Some x ≡ None → B
 some-none x e = absurd (let k = e in cc)
-
--- what a front has, all has
-get-front : {A : Type 0} → (xs ys : List A) (i : ℕ) (x : A) → slice_get xs i ≡ Some x → slice_get (xs ++ ys) i ≡ Some x
-get-front [] ys i x e = some-none x (sym e ∙ get-none i)
-get-front (y ∷ xs) ys zero x e = e
-get-front (y ∷ xs) ys (suc i) x e = get-front xs ys i x e
-
--- what all has within the front, the front has
-get-within : {A : Type 0} → (xs ys : List A) (i : ℕ) → i < length xs → slice_get (xs ++ ys) i ≡ slice_get xs i
-get-within [] ys i h = absurd (omega (arith, h))
-get-within (x ∷ xs) ys zero h = refl
-get-within (x ∷ xs) ys (suc i) h = let less : suc i < suc (length xs) = h in get-within xs ys i (omega (arith, less))
 
 get-behind : {A : Type 0} → (xs ys : List A) (i : ℕ) → slice_get (xs ++ ys) (length xs + i) ≡ slice_get ys i
 get-behind [] ys i = let e : 0 + i ≡ i = omega arith in ap (slice_get ys) e
@@ -73,10 +62,6 @@ same-some : {A : Type 0} → (x y : A) → Some x ≡ Some y → x ≡ y
 same-some x y e = cc
 
 -- OF TOKENS
-
-pub symbols-append : (ts us : List TokenKind) → symbols (ts ++ us) ≡ symbols ts ++ symbols us
-symbols-append [] us = refl
-symbols-append (t ∷ ts) us = ap (λ r. symbol_of t ∷ r) (symbols-append ts us)
 
 pub symbols-length : (ts : List TokenKind) → length (symbols ts) ≡ length ts
 symbols-length [] = refl

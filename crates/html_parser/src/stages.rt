@@ -6,11 +6,11 @@ ghost use Rattle.html_text.specs.Plain.{is_plain_byte};
 ghost use Rattle.html_arena.specs.declared.arena.Limits.{Limits as LimitsType};
 ghost use Rattle.html_builder.specs.Errors.{IsTextTold, IsTold};
 ghost use Rattle.html_construction.specs.Built.{chars_of};
-ghost use Rattle.html_builder.specs.Handed.{AddsFates, Handed, HandsIn, IsBuildCause, IsForeignRefused, IsTextCause, LeadsTo, fates_of, is_stopped as builder_stopped, parses_foreign, reads_foreign};
+ghost use Rattle.html_builder.specs.Handed.{AddsFates, Handed, HandsIn, IsBuildCause, IsForeignRefused, IsTextCause, LeadsTo, fates_of, is_stopped as builder_stopped, parses_foreign};
 ghost use Rattle.html_builder.specs.declared.error.BuildError.{BuildError as BuildErrorKind};
 ghost use Rattle.html_ledger.specs.declared.setting.Setting.{Setting};
 ghost use Rattle.html_tokens.specs.declared.token.TokenKind.{TokenKind};
-ghost use Rattle.html_builder.specs.Saying.{said_in};
+ghost use Rattle.html_builder.specs.Saying.{StaysHtml, said_in};
 ghost use Rattle.html_input.specs.Fed.{Fed as Decodes};
 ghost use Rattle.html_tokens.specs.Bare.{spelling};
 ghost use Rattle.html_tokens.specs.Given.{Awaits, Fed, fed_len, is_stopped as tokenizer_stopped, steps_taken};
@@ -214,9 +214,9 @@ impl<'a> Stages<'a> {
 
     /// Whether a plain text may be taken by itself.
     fn takes_plain(&self) -> bool
-        ensures html { result ≡ true → reads_foreign self.now.builder ≡ false }
+        ensures html { result ≡ true → StaysHtml self.now.builder }
     {
-        self.tokenizer.takes_plain() && !self.counts_steps() && !self.builder.reads_foreign()
+        self.tokenizer.takes_plain() && !self.counts_steps() && self.builder.stays_html()
     }
 
     /// Takes plain bytes by themselves, where that goes: how many of them, which may be none.
@@ -241,7 +241,7 @@ impl<'a> Stages<'a> {
 
     /// Takes a plain text by itself, where that goes: whether it was taken.
     fn take_text(&mut self, text: &PlainText<'_>) -> Result<bool, ParseError>
-        requires html { reads_foreign self.old.builder ≡ false }
+        requires html { StaysHtml self.old.builder }
         ensures reads { IfOk result (λ taken. (start : Start) (bytes : List ℕ) (run : Run) → IsRun start false self.old bytes run → HasRead start self.new (bytes ++ cond taken (encode_utf8_all text.now) [])) }
         ensures cause { IfErr result (λ e. (start : Start) (bytes : List ℕ) (run : Run) → IsRun start false self.old bytes run → IsFeedCause start (bytes ++ encode_utf8_all text.now) e) }
         ensures told { IfErr result (λ e. (start : Start) (bytes : List ℕ) (run : Run) → IsRun start false self.old bytes run → IsToldIn start.limits self.new.builder.page e) }
@@ -426,8 +426,8 @@ impl<'a> Stages<'a> {
         let _ = &self.kept;
     }
 
-    /// Hands on the plain text that comes next, if any, unless the tokens are to be counted for one by one, or are of foreign content: there a code point
-    /// may change how the text after it is read.
+    /// Hands on the plain text that comes next, if any, unless the tokens are to be counted for one by one, or text may lead into foreign content: then a
+    /// code point may change how the text after it is read.
     fn hand_text(&mut self) -> Result<(), ParseError>
         ensures further { OnOk result ((start : Start) (finished : Bool) (bytes : List ℕ) (run : Run) → IsRun start finished self.old bytes run → IsFurther start finished self.new bytes run.text) }
         ensures same { OnOk result (length self.old.kept.starts ≤ length self.new.kept.starts) }
@@ -437,7 +437,7 @@ impl<'a> Stages<'a> {
         ensures count { OnOk result (fed_len self.new.tokenizer ≤ fed_len self.old.tokenizer) }
         ensures one_by_one { counts_steps self.old.builder.page.tree.tree.limits ≡ true → self.new ≡ self.old }
     {
-        if !self.counts_steps() && !self.builder.reads_foreign() {
+        if !self.counts_steps() && self.builder.stays_html() {
             self.hand_run()?;
         }
         Ok(())
@@ -445,7 +445,7 @@ impl<'a> Stages<'a> {
 
     /// Hands on the plain text that comes next, if any.
     fn hand_run(&mut self) -> Result<(), ParseError>
-        requires html { reads_foreign self.old.builder ≡ false }
+        requires html { StaysHtml self.old.builder }
         ensures further { OnOk result ((start : Start) (finished : Bool) (bytes : List ℕ) (run : Run) → IsRun start finished self.old bytes run → IsFurther start finished self.new bytes run.text) }
         ensures same { OnOk result (length self.old.kept.starts ≤ length self.new.kept.starts) }
         ensures cause { IfErr result (λ e. (start : Start) (finished : Bool) (bytes : List ℕ) (run : Run) → IsRun start finished self.old bytes run → IsTokenCause start finished run.text e) }
@@ -511,16 +511,16 @@ impl<'a> Stages<'a> {
     }
 
     /// The code point of a token, where it is handed on together with the text behind it: where there are no limits, so that no token is to be told from the
-    /// next one, and not in foreign content, where a code point may change how the text after it is read.
+    /// next one, and no text leads into foreign content, where a code point may change how the text after it is read.
     fn joining(&self, token: &Token, is_over: bool) -> Option<char>
         ensures char { IfSome result (λ c. token.now.kind ≡ TokenKind.Char c) }
         ensures unlimited { IfSome result (λ c. self.now.builder.page.tree.tree.limits ≡ None) }
-        ensures html { IfSome result (λ c. reads_foreign self.now.builder ≡ false) }
+        ensures html { IfSome result (λ c. StaysHtml self.now.builder) }
         ensures in_time { IfSome result (λ c. is_over ≡ false) }
     {
         match token.kind {
             TokenKind::Char(c)
-                if !is_over && self.builder.limits().is_none() && !self.builder.reads_foreign() => {
+                if !is_over && self.builder.limits().is_none() && self.builder.stays_html() => {
                 Some(c)
             }
             _ => None,
@@ -532,7 +532,7 @@ impl<'a> Stages<'a> {
     fn hand_joined(&mut self, token: Token, c: char) -> Result<(), ParseError>
         requires char { token.kind ≡ TokenKind.Char c }
         requires unlimited { self.old.builder.page.tree.tree.limits ≡ None }
-        requires html { reads_foreign self.old.builder ≡ false }
+        requires html { StaysHtml self.old.builder }
         requires going { tokenizer_stopped self.old.tokenizer ≡ false }
         requires given { IsTokenizing self.old.tokenizer (self.old.kept.starts ++ starts_of (token ∷ [])) }
         ensures further { OnOk result ((start : Start) (finished : Bool) (bytes : List ℕ) (run : Run) → HasRest start finished self.old bytes run → Gives self.old.tokenizer token run

@@ -314,3 +314,25 @@ fn held_within_a_run(rt: HostRuntime) {
     let refused = Some(BuildError::HeldBudget { at: 9 });
     same(&rt, found, Ok((refused, Mode::InBody, true)));
 }
+
+/// Whether a builder knows that no text leads into foreign content.
+fn stays_html(builder: Result<Builder, BuildError>) -> Result<bool, BuildError> {
+    builder.map(|builder| builder.stays_html())
+}
+
+/// The builder of a fragment that parses foreign content, in such a context.
+fn foreign_fragment_in(alloc: Global, name: &str) -> Result<Builder, BuildError> {
+    let context = context(alloc, name)?;
+    Builder::foreign_fragment(alloc, &context, None)
+}
+
+#[test]
+fn text_of_foreign_content(rt: HostRuntime) {
+    let alloc = rt.alloc();
+    let found = (
+        stays_html(Builder::foreign_document(alloc, None)),
+        stays_html(foreign_fragment_in(alloc, "div")),
+        stays_html(foreign_fragment_in(alloc, "svg path")),
+    );
+    same(&rt, found, (Ok(true), Ok(true), Ok(false)));
+}
