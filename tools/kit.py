@@ -7,7 +7,7 @@ import shutil
 import sys
 
 # what the tools use of the insides of `rt`, beside what its commands promise
-INSIDES = "Crate.call Crate.ci Crate.prove Crate.stamp Crate.words KIT Kept.is_whole Kept.made checked free in_lanes main must_fail need processors read_edit unread rtlib.RATTLE rtlib.STALE rtlib.blanked.__wrapped__"
+INSIDES = "Crate.call Crate.ci Crate.prove Crate.stamp Crate.words KIT Kept.is_built Kept.is_untouched Kept.is_whole Kept.made checked free in_lanes main must_fail need processors read_edit unread rtlib.RATTLE rtlib.STALE rtlib.blanked.__wrapped__"
 INSIDES += " rtlib.crates_below rtlib.files_of rtlib.guarded rtlib.lock"
 
 

@@ -40,34 +40,36 @@ def is_proved(crate):
 
 def prove(crate, flags):
     """Proves a crate from nothing, as `rt ci` does, and builds its static library of that; returns the status."""
-    words, stamp = crate.words(flags, keeps=False), crate.stamp()
+    words = crate.words(flags, keeps=False)
     with tempfile.TemporaryDirectory(prefix="gate-checked-") as room:
         status = crate.prove(["check", *words, "-o", f"{room}/checked"])
         for it in CHECK_ALONE:
             at = words.index(it)
             del words[at : at + 2]
         words += ["--crate-checked", f"{room}/checked", "--toolchain", f"{rt.KIT}/toolchain", "--backend", "llvm", "-o", str(archive_of(crate))]
-        status = status or crate.call(rt.rtlib.RATTLE, "build", *words)
-    if not status and stamp == crate.stamp():
-        note_of(crate).write_text(note(crate))
-    return status
+        return status or crate.call(rt.rtlib.RATTLE, "build", *words)
 
 
 def build_what_is_proved():
-    """Has `rt ci` build each static library that it proves, and keep it with its note for later runs on this machine, as it keeps other libraries."""
-    of_rt, made, is_whole = rt.Crate.ci, rt.Kept.made, rt.Kept.is_whole
+    """Has `rt ci` build each static library that it proves, keep it for later runs on this machine, as it keeps other libraries, and note that it is of
+    the files that are there. The note is made anew for one that was kept: what it stands on may have other comments now, and be built alike."""
+    of_rt, made, is_whole, is_built = rt.Crate.ci, rt.Kept.made, rt.Kept.is_whole, rt.Kept.is_built
 
     def ci(crate, flags, tests):
         return prove(crate, flags) if crate.is_static and not tests else of_rt(crate, flags, tests)
 
     def made_of(kept, crate, tests):
-        both = [it.name for it in (archive_of(crate), note_of(crate)) if it.is_file()]
-        return both if crate.is_static and not tests else made(kept, crate, tests)
+        return [archive_of(crate).name] * archive_of(crate).is_file() if crate.is_static and not tests else made(kept, crate, tests)
 
     def is_whole_of(kept, crate, tests, files):
-        return len(files) == 2 if crate.is_static and not tests else is_whole(kept, crate, tests, files)
+        return len(files) == 1 if crate.is_static and not tests else is_whole(kept, crate, tests, files)
 
-    rt.Crate.ci, rt.Kept.made, rt.Kept.is_whole = ci, made_of, is_whole_of
+    def is_built_of(kept, crate):
+        is_built(kept, crate)
+        if crate.is_static and all(kept.is_untouched(it) for it in [crate, *crate.below()]):
+            note_of(crate).write_text(note(crate))
+
+    rt.Crate.ci, rt.Kept.made, rt.Kept.is_whole, rt.Kept.is_built = ci, made_of, is_whole_of, is_built_of
 
 
 if __name__ == "__main__":
