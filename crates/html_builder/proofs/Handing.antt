@@ -33,7 +33,8 @@ use Rattle.html_construction.specs.Weights.{weight}
 use Rattle.html_construction.specs.Works.{reach_of, span_of}
 use Rattle.html_modes.specs.Begun.{Gives, GivesIn, StaysOut, ignores_foreign}
 use Rattle.html_modes.proofs.Begun.{accepts-gives, founded-other, run-gives}
-use Rattle.html_modes.proofs.Constructing.{constructs-one, constructs-then}
+use Rattle.html_modes.proofs.Constructing.{constructs-one, constructs-then, each-then}
+use Rattle.html_modes.specs.Counting.{TakesEach}
 use Rattle.html_modes.specs.Dispatching.{Constructs, Entries, begun as begun_call}
 use Rattle.html_modes.specs.Entering.{Enters}
 use Rattle.html_modes.specs.Ranks.{top_rank}
@@ -42,7 +43,7 @@ use Rattle.html_modes.specs.declared.outcome.Foreign.{Foreign}
 use Rattle.html_modes.specs.declared.outcome.Foreign.TheVariants as foreign
 use Rattle.html_builder.specs.Builders.{BuilderState}
 use Rattle.html_builder.specs.Errors.{IsTextTold, IsTold, error_at}
-use Rattle.html_builder.specs.Handed.{AddsFates, AreSet, EntersNone, GivesFates, Handed, HandsIn, attribute_total, IsBuildCause, IsForeignOutside, IsTextCause, LeadsTo, Starts, fates_of, foreign_tag, given}
+use Rattle.html_builder.specs.Handed.{AddsFates, AreSet, CountsEach, EntersNone, GivesFates, Handed, HandsIn, attribute_total, IsBuildCause, IsForeignOutside, IsForeignRefused, IsNotForeign, IsTextCause, LeadsTo, Starts, fates_of, foreign_tag, given}
 use Rattle.html_builder.specs.Switches.{said_after, switch_after}
 use Rattle.html_builder.specs.declared.error.BuildError.{BuildError}
 use Rattle.html_builder.specs.declared.error.BuildError.TheVariants as error
@@ -167,6 +168,9 @@ handed-then xs ys u v w f g = λ s l ts h.
 
 pub leads-then : (xs ys : List ℕ) (u v w : BuilderState) → LeadsTo (chars_of xs) u v → LeadsTo (chars_of ys) v w → LeadsTo (chars_of (xs ++ ys)) u w
 leads-then xs ys u v w f g = subst (λ us. LeadsTo us u w) (sym (chars-append xs ys)) (constructs-then (chars_of xs) (chars_of ys) u.page v.page w.page f g)
+
+pub counts-then : (xs ys : List ℕ) (u v w : BuilderState) → CountsEach xs u v → CountsEach ys v w → CountsEach (xs ++ ys) u w
+counts-then xs ys u v w f g = each-then xs ys u.page v.page w.page f g
 
 pub added-none : (v : BuilderState) → AddsFates v v
 added-none v = λ s l ts h. ([], sym (append-nil (fates_of v)))
@@ -355,6 +359,9 @@ viewed-run cs u v w e f p r o q z k i m n g = subst (λ x. HandsIn (chars_of cs)
 pub viewed-leads : (us : List TokenKind) (u v w : BuilderState) → u ≡ v → Constructs us u.page w.page → LeadsTo us v w
 viewed-leads us u v w e h = subst (λ x. LeadsTo us x w) e h
 
+pub viewed-counts : (cs : List ℕ) (u v w : BuilderState) → u ≡ v → TakesEach cs u.page w.page → CountsEach cs v w
+viewed-counts cs u v w e h = subst (λ x. CountsEach cs x w) e h
+
 pub viewed-one : (t : TokenKind) (y : Symbol) (u v w : BuilderState) → u ≡ v → y ≡ symbol_of t → Entries y t (begun_call u.page) w.page → LeadsTo (t ∷ []) v w
 viewed-one t y u v w e i h = viewed-leads (t ∷ []) u v w e (constructs-one t u.page w.page (subst (λ z. Entries z t (begun_call u.page) w.page) i h))
 
@@ -384,6 +391,46 @@ refusal-outside m r at e q = subst (λ x. IsForeignOutside m x) (sym q) (by r)
     by arena.OutOfMemory = tt
     by arena.NodeBudget = tt
     by arena.HeldBudget = tt
+
+pub refusal-native : (r : ArenaError) (at : ℕ) (e : BuildError) → e ≡ error_at r at → IsNotForeign e
+refusal-native r at e q = subst IsNotForeign (sym q) (by r)
+  where
+    by : (r : ArenaError) → IsNotForeign (error_at r at)
+    by arena.OutOfMemory = tt
+    by arena.NodeBudget = tt
+    by arena.HeldBudget = tt
+
+-- ONE CODE POINT
+
+-- of one code point that much is taken
+pub front-one : (n c : ℕ) → 0 < n → take n (c ∷ []) ≡ c ∷ []
+front-one zero c h = absurd (omega (arith, h))
+front-one (suc zero) c h = refl
+front-one (suc (suc n)) c h = refl
+
+pub cause-one : (s : Setting) (l : Option Limits) (ts : List TokenKind) (fs : List Fate) (c at : ℕ) (t : TokenKind) (e : BuildError) → IsTextCause s l ts fs (c ∷ []) at e → IsBuildCause s l ts fs t at e
+cause-one s l ts fs c at t error.OutOfMemory h = tt
+cause-one s l ts fs c at t (error.NodeBudget place) h = (let a = h.0 in let b = h.1 in omega (arith, a, b), h.2)
+cause-one s l ts fs c at t (error.HeldBudget place) h = (let a = h.0 in let b = h.1 in omega (arith, a, b), h.2)
+cause-one s l ts fs c at t (error.ForeignContent name place) h = absurd h
+cause-one s l ts fs c at t error.BadContext h = h
+cause-one s l ts fs c at t error.Stopped h = h
+
+pub native-outside : (m : Mode) (e : BuildError) → IsNotForeign e → IsForeignOutside m e
+native-outside m (error.ForeignContent name place) h = absurd h
+native-outside m error.OutOfMemory h = tt
+native-outside m (error.NodeBudget place) h = tt
+native-outside m (error.HeldBudget place) h = tt
+native-outside m error.BadContext h = tt
+native-outside m error.Stopped h = tt
+
+pub native-refused : (b : BuilderState) (e : BuildError) → IsNotForeign e → IsForeignRefused b e
+native-refused b (error.ForeignContent name place) h = absurd h
+native-refused b error.OutOfMemory h = tt
+native-refused b (error.NodeBudget place) h = tt
+native-refused b (error.HeldBudget place) h = tt
+native-refused b error.BadContext h = tt
+native-refused b error.Stopped h = tt
 
 -- a builder that was stopped was not handed tokens alone
 pub going-not : (s : Setting) (l : Option Limits) (ts : List TokenKind) (u v : BuilderState) → u ≡ v → u.stopped ≡ true → Handed s l ts v → ⊥

@@ -1,4 +1,4 @@
--- Claimed, but for this crate's own functions: reads_foreign.
+-- Claimed, but for this crate's own functions: reads_foreign, IsNotForeign.
 -- What callers know of a builder: what it was begun with, the tokens handed in, and what became of them.
 use Rattle.std.specs.Prelude.{◌≡◌, ℕ, ◌+◌, ◌*◌, ◌<◌, ◌≤◌, Bool, false, List, [], ◌∷◌, ◌++◌, length, is_some, Option, None, Some}
 use Rattle.std.specs.List.{sum_by}
@@ -24,6 +24,7 @@ use Rattle.html_construction.specs.Weights.{weight}
 use Rattle.html_modes.specs.declared.outcome.Foreign.{Foreign}
 use Rattle.html_modes.specs.declared.outcome.Foreign.TheVariants.{Svg, Math}
 use Rattle.html_modes.specs.Begun.{Gives, StaysOut, ignores_foreign}
+use Rattle.html_modes.specs.Counting.{TakesEach}
 use Rattle.html_modes.specs.Dispatching.{Constructs}
 use Rattle.html_modes.specs.Ranks.{top_rank}
 use Rattle.html_modes.specs.Steps.{allowance, fee_of, turn_of}
@@ -96,6 +97,10 @@ HandsIn more a b = (s : Setting) (limits : Option Limits) (tokens : List TokenKi
 abbrev pub LeadsTo : List TokenKind → BuilderState → BuilderState → Type 0
 LeadsTo more a b = Constructs more a.page b.page
 
+-- And each of these code points counts what it counts alone.
+abbrev pub CountsEach : List ℕ → BuilderState → BuilderState → Type 0
+CountsEach text a b = TakesEach text a.page b.page
+
 -- Fates are only added.
 abbrev pub AddsFates : BuilderState → BuilderState → Type 0
 AddsFates a b = (s : Setting) (limits : Option Limits) (tokens : List TokenKind) → Handed s limits tokens a → (later : List Fate) × (fates_of b ≡ fates_of a ++ later)
@@ -135,6 +140,11 @@ Starts t _ = ⊥
 abbrev pub IsForeignRefused : BuilderState → BuildError → Type 0
 IsForeignRefused b (refusal.ForeignContent name place) = parses_foreign b ≡ false
 IsForeignRefused b _ = Unit {0}
+
+-- no foreign content is told
+abbrev pub IsNotForeign : BuildError → Type 0
+IsNotForeign (refusal.ForeignContent name place) = ⊥
+IsNotForeign _ = Unit {0}
 
 -- there are limits, of which this holds
 abbrev pub AreSo : Option Limits → (Limits → Type 0) → Type 0

@@ -19,7 +19,6 @@ ghost use Rattle.html_tree.specs.States.{document_state};
 ghost use Rattle.html_ledger.specs.MayDrop.{MayBeForeign};
 ghost use Rattle.html_ledger.specs.declared.setting.Setting.{Setting};
 ghost use Rattle.html_ledger.specs.declared.setting.Setting.TheVariants.{Document};
-ghost use Rattle.html_tokens.specs.declared.token.TokenKind.{TokenKind};
 ghost use Rattle.html_page.specs.Label.{Label};
 ghost use Rattle.html_page.specs.PageTokens.{page_kinds};
 ghost use Rattle.html_page.specs.Plain.{IsPlainPage};
@@ -27,7 +26,7 @@ ghost use Rattle.html_page.specs.Shows.{Shows};
 ghost use Rattle.html_builder.specs.Built.{IsBuiltByRules, IsTreeIn};
 ghost use Rattle.html_builder.specs.Contexts.{IsGood, IsGoodAnywhere, context_tag, setting_of};
 ghost use Rattle.html_builder.specs.Errors.{IsTextTold, IsTold};
-ghost use Rattle.html_builder.specs.Handed.{AddsFates, AreSo, CostAtMost, EndsAtEof, EntersNone, GivesFates, Handed, HandsIn, HaveFates, IsBuildCause, IsForeignOutside, IsForeignRefused, IsTextCause, LeadsTo, fates_of, is_stopped, parses_foreign};
+ghost use Rattle.html_builder.specs.Handed.{AddsFates, AreSo, CostAtMost, CountsEach, EndsAtEof, EntersNone, GivesFates, Handed, HandsIn, HaveFates, IsBuildCause, IsForeignOutside, IsForeignRefused, IsNotForeign, IsTextCause, LeadsTo, fates_of, is_stopped, parses_foreign};
 ghost use Rattle.html_builder.specs.Outcome.{IsBounded, IsOutcome, most_entries};
 ghost use Rattle.html_builder.specs.Plain.{HavePlainFates};
 ghost use Rattle.html_builder.specs.Saying.{StaysHtml, is_steady, said_in, stays_html};
@@ -40,7 +39,7 @@ use html_construction::{ArenaError, Construction, Mode};
 use html_ledger::{Fates, Symbol};
 use html_modes::{take, take_front, take_plain_front};
 use html_text::PlainText;
-use html_tokens::{TextMode, Token};
+use html_tokens::{TextMode, Token, TokenKind};
 use std::alloc::Global;
 use std::marker::Model;
 
@@ -286,6 +285,33 @@ impl Builder {
     pub fn process(&mut self, token: &Token) -> Result<Option<TextMode>, BuildError>
         ensures takes { OnOk result (HandsIn (token.now.kind ∷ []) self.old self.new) }
         ensures leads { OnOk result (LeadsTo (token.now.kind ∷ []) self.old self.new) }
+        ensures counts { OnOk result ((c : ℕ) → token.now.kind ≡ TokenKind.Char c → CountsEach (c ∷ []) self.old self.new) }
+        ensures grows { OnOk result (AddsFates self.old self.new) }
+        ensures gives { OnOk result (GivesFates self.old self.new) }
+        ensures said { IfOk result (λ m. m ≡ said_in token.now.kind self.new) }
+        ensures parses { OnOk result (parses_foreign self.new ≡ parses_foreign self.old) }
+        ensures cause { IfErr result (λ e. (s : Setting) (l : Option Limits) (tokens : List TokenKind) → Handed s l tokens self.old
+            → IsBuildCause s l tokens (fates_of self.old) token.now.kind token.now.span.start e) }
+        ensures foreign { IfErr result (λ e. (s : Setting) (l : Option Limits) (tokens : List TokenKind) → Handed s l tokens self.old → IsForeignOutside self.old.page.mode e) }
+        ensures refused { IfErr result (λ e. IsForeignRefused self.old e) }
+        ensures told { IfErr result (λ e. (s : Setting) (l : Option Limits) (tokens : List TokenKind) → Handed s l tokens self.old → IsTold l token.now.kind self.new.page e) }
+        ensures ok { OnOk result (is_stopped self.new ≡ false) }
+        ensures err { OnErr result (is_stopped self.new ≡ true) }
+        ensures stopped { (result ≡ Err BuildError.Stopped) ↔ (is_stopped self.old ≡ true) }
+    {
+        if let TokenKind::Char(c) = token.kind {
+            self.process_char(c, token.span.start)?;
+            return Ok(mode_said(&self.construction, Symbol::Char(c)));
+        }
+        self.process_other(token)
+    }
+
+    /// Takes the next token by the rules.
+    #[tactic(auto, using(crate::proofs::Handing::process_rules))]
+    #[inline(always)]
+    fn process_other(&mut self, token: &Token) -> Result<Option<TextMode>, BuildError>
+        ensures takes { OnOk result (HandsIn (token.now.kind ∷ []) self.old self.new) }
+        ensures leads { OnOk result (LeadsTo (token.now.kind ∷ []) self.old self.new) }
         ensures grows { OnOk result (AddsFates self.old self.new) }
         ensures gives { OnOk result (GivesFates self.old self.new) }
         ensures said { IfOk result (λ m. m ≡ said_in token.now.kind self.new) }
@@ -331,6 +357,7 @@ impl Builder {
     pub fn process_text(&mut self, text: &[char], start: u64) -> Result<(), BuildError>
         ensures takes { OnOk result (HandsIn (chars_of text.now) self.old self.new) }
         ensures leads { OnOk result (LeadsTo (chars_of text.now) self.old self.new) }
+        ensures counts { OnOk result (CountsEach text.now self.old self.new) }
         ensures grows { OnOk result (AddsFates self.old self.new) }
         ensures gives { OnOk result (GivesFates self.old self.new) }
         ensures enters { OnOk result (EntersNone self.old self.new) }
@@ -351,12 +378,35 @@ impl Builder {
         Ok(())
     }
 
+    /// Takes one code point.
+    #[tactic(auto, using(crate::proofs::Handing::text_rules))]
+    #[inline(never)]
+    fn process_char(&mut self, c: char, at: u64) -> Result<(), BuildError>
+        ensures takes { OnOk result (HandsIn (chars_of (c ∷ [])) self.old self.new) }
+        ensures leads { OnOk result (LeadsTo (chars_of (c ∷ [])) self.old self.new) }
+        ensures counts { OnOk result (CountsEach (c ∷ []) self.old self.new) }
+        ensures grows { OnOk result (AddsFates self.old self.new) }
+        ensures gives { OnOk result (GivesFates self.old self.new) }
+        ensures parses { OnOk result (parses_foreign self.new ≡ parses_foreign self.old) }
+        ensures cause { IfErr result (λ e. (s : Setting) (l : Option Limits) (tokens : List TokenKind) → Handed s l tokens self.old
+            → IsTextCause s l tokens (fates_of self.old) (c ∷ []) at e) }
+        ensures native { IfErr result (λ e. IsNotForeign e) }
+        ensures told { IfErr result (λ e. (s : Setting) (l : Option Limits) (tokens : List TokenKind) → Handed s l tokens self.old → IsTextTold l self.new.page e) }
+        ensures ok { OnOk result (is_stopped self.new ≡ false) }
+        ensures err { OnErr result (is_stopped self.new ≡ true) }
+        ensures stopped { (result ≡ Err BuildError.Stopped) ↔ (is_stopped self.old ≡ true) }
+    {
+        self.process_front(&[c], at)?;
+        Ok(())
+    }
+
     /// Takes a front of a text that isn't empty, and answers its length: at least one.
     #[tactic(auto, using(crate::proofs::Handing::text_rules))]
     fn process_front(&mut self, text: &[char], at: u64) -> Result<usize, BuildError>
         requires some { 0 < length text.now }
         ensures takes { IfOk result (λ n. HandsIn (chars_of (take n text.now)) self.old self.new) }
         ensures leads { IfOk result (λ n. LeadsTo (chars_of (take n text.now)) self.old self.new) }
+        ensures counts { IfOk result (λ n. CountsEach (take n text.now) self.old self.new) }
         ensures grows { OnOk result (AddsFates self.old self.new) }
         ensures gives { OnOk result (GivesFates self.old self.new) }
         ensures enters { OnOk result (EntersNone self.old self.new) }
@@ -364,6 +414,7 @@ impl Builder {
         ensures count { IfOk result (λ n. (0 < n) × (n ≤ length text.now)) }
         ensures cause { IfErr result (λ e. (s : Setting) (l : Option Limits) (tokens : List TokenKind) → Handed s l tokens self.old
             → IsTextCause s l tokens (fates_of self.old) (take 1 text.now) at e) }
+        ensures native { IfErr result (λ e. IsNotForeign e) }
         ensures told { IfErr result (λ e. (s : Setting) (l : Option Limits) (tokens : List TokenKind) → Handed s l tokens self.old → IsTextTold l self.new.page e) }
         ensures ready { OnOk result (is_stopped self.old ≡ false) }
         ensures ok { OnOk result (is_stopped self.new ≡ false) }
@@ -392,6 +443,7 @@ impl Builder {
     pub fn process_plain(&mut self, text: &PlainText<'_>, start: u64) -> Result<(), BuildError>
         ensures takes { OnOk result (HandsIn (chars_of text.now) self.old self.new) }
         ensures leads { OnOk result (LeadsTo (chars_of text.now) self.old self.new) }
+        ensures counts { OnOk result (CountsEach text.now self.old self.new) }
         ensures grows { OnOk result (AddsFates self.old self.new) }
         ensures gives { OnOk result (GivesFates self.old self.new) }
         ensures enters { OnOk result (EntersNone self.old self.new) }
@@ -418,6 +470,7 @@ impl Builder {
         requires some { 0 < length text.now }
         ensures takes { IfOk result (λ n. HandsIn (chars_of (take n text.now)) self.old self.new) }
         ensures leads { IfOk result (λ n. LeadsTo (chars_of (take n text.now)) self.old self.new) }
+        ensures counts { IfOk result (λ n. CountsEach (take n text.now) self.old self.new) }
         ensures grows { OnOk result (AddsFates self.old self.new) }
         ensures gives { OnOk result (GivesFates self.old self.new) }
         ensures enters { OnOk result (EntersNone self.old self.new) }

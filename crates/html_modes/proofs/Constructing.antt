@@ -1,13 +1,14 @@
 -- Tokens one after another; and text that is taken in one go, as its code points one by one.
-use Rattle.std.proofs.Common.{IsTrue, ℕ, zero, suc, ◌≡◌, ◌<◌, ◌≤◌, arith, take, ◌==◌, ◌&&◌, ◌||◌, Bool, true, false, not, cond, List, [], ◌∷◌, ◌++◌, length, map, Option, Some, None, refl, sym, ap, subst, ◌∙◌, inl, inr, append-nil}
+use Rattle.std.proofs.Common.{IsTrue, ℕ, zero, suc, ◌≡◌, ◌+◌, ◌-◌, ◌*◌, ◌<◌, ◌≤◌, arith, take, ◌==◌, ◌&&◌, ◌||◌, Bool, true, false, not, cond, List, [], ◌∷◌, ◌++◌, length, map, Option, Some, None, refl, sym, ap, subst, ◌∙◌, inl, inr, append-nil}
 use Rattle.std.specs.Prelude.{if◌then◌else◌}
 use Rattle.std.proofs.lemmas.Bool.{false≢true}
+use Rattle.std.proofs.lemmas.List.{length-take-le}
 use Rattle.std.specs.List.{list_all, list_any}
 use Rattle.html_names.specs.declared.tag.Tag.{Tag}
 use Rattle.html_tokens.specs.declared.token.TokenKind.{TokenKind}
 use Rattle.html_tokens.specs.declared.token.TokenKind.TheVariants as kind
 use Rattle.html_arena.specs.Siblings.{has, last_of}
-use Rattle.html_arena.specs.Tree.{Tree as Nodes, tag_at, texted_run}
+use Rattle.html_arena.specs.Tree.{Tree as Nodes, more, tag_at, texted_run}
 use Rattle.html_ledger.specs.declared.fate.Cause.TheVariants.{LeadingNewline, Null, PrologSpace}
 use Rattle.html_ledger.specs.declared.fate.Fate.TheVariants.{Text}
 use Rattle.html_ledger.specs.declared.history.History.{History}
@@ -22,10 +23,12 @@ use Rattle.html_open.specs.Entries.{nodes_of}
 use Rattle.html_open.specs.Lists.{above, up_to}
 use Rattle.html_open.specs.Marking.{bare}
 use Rattle.html_open.specs.Opened.{Open, open_at}
-use Rattle.html_open.specs.Reopening.{Reopened, closed, fresh, stands, with_clones}
+use Rattle.html_open.specs.Reopening.{Reopened, closed, fresh, look_steps, stands, with_clones}
 use Rattle.html_open.proofs.Keeps.{cases_bool, cases_eqb, eqb-self, has-append}
 use Rattle.html_open.proofs.Reopened.{split-above}
 use Rattle.html_tree.specs.Listing.{IsReopened}
+use Rattle.html_tree.specs.Steps.{CountsReopening, text_steps}
+use Rattle.html_tree.proofs.Counted.{more-more}
 use Rattle.html_tree.specs.Searching.{current_tag, tag_if}
 use Rattle.html_tree.specs.States.{State as Tree}
 use Rattle.html_tree.specs.Texts.{TextGoesOn, text_node, with_text, with_text_node}
@@ -38,6 +41,7 @@ use Rattle.html_construction.specs.Modes.{is_of_frames, is_of_selects}
 use Rattle.html_construction.specs.Plans.{Do, Over, Plan, Reconstruct, Runs, does, goes_by, reconstructs, stops}
 use Rattle.html_construction.specs.States.{State}
 use Rattle.html_construction.specs.Words.{Becomes, FramesetOff, InsertCharacter}
+use Rattle.html_modes.specs.Counting.{CountsBy, TakesEach, TakesOne, is_run_char}
 use Rattle.html_modes.specs.Dispatching.{Constructs, Entries, begun, last, settled}
 use Rattle.html_modes.specs.Fitting.{is_loose}
 use Rattle.html_modes.specs.Guards.{is_table_text, is_text, takes_runs}
@@ -46,6 +50,7 @@ use Rattle.html_modes.specs.Rules.{plan}
 use Rattle.html_modes.specs.RulesText.{text}
 use Rattle.html_modes.specs.Runs.{IsTextRun, flagged, texted}
 use Rattle.html_modes.specs.declared.outcome.Outcome.TheVariants.{Done}
+use Rattle.html_modes.proofs.Counting.{body-sum, look-alone, one-less, raw-sum}
 use Rattle.html_modes.proofs.Dispatching.{dispatched-outside, entry-dispatched, plan-InBody, plan-InCaption, plan-InCell, plan-Text}
 use Rattle.html_modes.proofs.Embedding.{around-none}
 use Rattle.html_modes.proofs.RulesText.{text_char-other}
@@ -133,20 +138,28 @@ again foster s l t e =
       tree_is = sym (ap (λ v. bare (with_clones t s foster v)) none);
     }
 
-pub reopened-again : (foster : Bool) (a b u : Tree) (t : Nodes) → IsReopened foster a b → u.stack ≡ b.stack → u.list ≡ b.list → u.tree ≡ bare t → IsReopened foster u u
-reopened-again foster a b u t r s l e =
+none-left : (foster : Bool) (a b u : Tree) → IsReopened foster a b → u.stack ≡ b.stack → u.list ≡ b.list → above (stands u.stack) u.list ≡ []
+none-left foster a b u r s l =
     let o : Open = open_at a.stack a.list r.old in
     let list : u.list ≡ up_to (stands a.stack) a.list ++ map Node (fresh r.old (length (closed o))) = l ∙ r.reopened.list_is in
     let stack : u.stack ≡ a.stack ++ fresh r.old (length (closed o)) = s ∙ r.reopened.stack_is in
-    let none : above (stands u.stack) u.list ≡ [] =
-    ap (λ v. above (stands v) u.list) stack ∙ ap (λ v. above (stands (a.stack ++ fresh r.old (length (closed o)))) v) list ∙ none-closed a.stack (fresh r.old (length (closed o))) a.list in
-    record {
-      old = t;
-      new = t;
-      old_is = sym e;
-      new_is = sym e;
-      reopened = again foster u.stack u.list t none;
-    }
+    ap (λ v. above (stands v) u.list) stack ∙ ap (λ v. above (stands (a.stack ++ fresh r.old (length (closed o)))) v) list ∙ none-closed a.stack (fresh r.old (length (closed o))) a.list
+
+reopened-again : (foster : Bool) (u : Tree) (k : ℕ) (t : Nodes) → above (stands u.stack) u.list ≡ [] → u.tree ≡ bare t → IsReopened foster u (record u { steps = k })
+reopened-again foster u k t none e = record {
+  old = t;
+  new = t;
+  old_is = sym e;
+  new_is = sym e;
+  reopened = again foster u.stack u.list t none;
+}
+
+counted-again : (foster : Bool) (u : Tree) (t : Nodes) → above (stands u.stack) u.list ≡ [] → u.tree ≡ bare t → CountsReopening foster u (record u { steps = more u.steps (look_steps u.list) })
+counted-again foster u t none e = record {
+  old = t;
+  old_is = sym e;
+  steps_are = ap (more u.steps) (sym (look-alone foster u.stack u.list t none));
+}
 
 -- WHAT STAYS TRUE FROM ONE CODE POINT TO THE NEXT
 
@@ -252,20 +265,22 @@ text-char c k a m n = plan-Text a.mode (Char c) (kind.Char c) (begun a) Over (te
     (text_char-other c (kind.Char c) (begun a) Over (texted (c ∷ []) k (begun a)) n
     (does InsertCharacter over (kind.Char c) (begun a) (texted (c ∷ []) k (begun a)) Over (texted (c ∷ []) k (begun a)) (record { state_is = refl }) (stops (kind.Char c) (texted (c ∷ []) k (begun a)) Over (texted (c ∷ []) k (begun a)) (own (texted (c ∷ []) k (begun a))))))
 
-pub text-chars : (cs : List ℕ) (c k : ℕ) (a b : State) → a.mode ≡ mode.Text → list_all is_not_null (c ∷ cs) ≡ true → must_drop a.ledger.history (Char c) ≡ None → foreign_tag a ≡ None → TextGoesOn a.tree a.fostering
-    → begun b ≡ begun (texted (c ∷ cs) k a) → Constructs (chars_of (c ∷ cs)) a b
-text-chars [] c k a b m v d n g e =
+text-chars : (cs : List ℕ) (c : ℕ) (a b : State) → a.mode ≡ mode.Text → list_all is_not_null (c ∷ cs) ≡ true → must_drop a.ledger.history (Char c) ≡ None → foreign_tag a ≡ None → TextGoesOn a.tree a.fostering
+    → begun b ≡ begun (texted (c ∷ cs) b.tree.steps a) → b.tree.steps ≡ more a.tree.steps (text_steps a.tree a.fostering (suc (length cs)) + suc (length cs)) → TakesEach (c ∷ cs) a b
+text-chars [] c a b m v d n g e q =
+    let z : State = texted (c ∷ []) b.tree.steps (begun a) in
+    (z, (char-entered c a z (ap takes_runs m) d n refl (text-char c b.tree.steps a m (not-null c (first-all is_not_null c [] v).0)), λ r. subst (λ f. CountsBy f (begun a) z) (sym (ap is_text m)) q), sym e)
+text-chars (d ∷ ds) c a b m v w n g e q =
+    let k : ℕ = more a.tree.steps (text_steps a.tree a.fostering 1 + 1) in
     let z : State = texted (c ∷ []) k (begun a) in
-    (z, char-entered c a z (ap takes_runs m) d n refl (text-char c k a m (not-null c (first-all is_not_null c [] v).0)), sym e)
-text-chars (d ∷ ds) c k a b m v w n g e =
-    let z : State = texted (c ∷ []) k (begun a) in
-    let next : begun (texted (c ∷ d ∷ ds) k a) ≡ begun (texted (d ∷ ds) k z) =
-    ap (λ (t : Nodes). begun (record a { tree = record a.tree { tree = t; steps = k }; ledger = given_run a.ledger (c ∷ d ∷ ds) (Text (text_node a.tree a.fostering)) })) (sym (g.text_same (c ∷ []) (d ∷ ds)))
-    ∙ ap (λ (x : ℕ). begun (record a { tree = record a.tree { tree = with_text (record a.tree { tree = with_text a.tree a.fostering (c ∷ []) }) a.fostering (d ∷ ds); steps = k }; ledger = given_run (given a.ledger (Char c) (Text (text_node a.tree a.fostering))) (d ∷ ds) (Text x) }))
+    let next : begun (texted (c ∷ d ∷ ds) b.tree.steps a) ≡ begun (texted (d ∷ ds) b.tree.steps z) =
+    ap (λ (t : Nodes). begun (record a { tree = record a.tree { tree = t; steps = b.tree.steps }; ledger = given_run a.ledger (c ∷ d ∷ ds) (Text (text_node a.tree a.fostering)) })) (sym (g.text_same (c ∷ []) (d ∷ ds)))
+    ∙ ap (λ (x : ℕ). begun (record a { tree = record a.tree { tree = with_text (record a.tree { tree = with_text a.tree a.fostering (c ∷ []) }) a.fostering (d ∷ ds); steps = b.tree.steps }; ledger = given_run (given a.ledger (Char c) (Text (text_node a.tree a.fostering))) (d ∷ ds) (Text x) }))
     (sym (g.node_same (c ∷ []))) in (
       z,
-      char-entered c a z (ap takes_runs m) w n refl (text-char c k a m (not-null c (first-all is_not_null c (d ∷ ds) v).0)),
-      text-chars ds d k z b m (first-all is_not_null c (d ∷ ds) v).1 (passes-next a.ledger.history c d (text_node a.tree a.fostering) w) (home-next c k (begun a) z g refl refl refl n) (goes-on-next c k a.tree a.fostering g) (e ∙ next),
+      (char-entered c a z (ap takes_runs m) w n refl (text-char c k a m (not-null c (first-all is_not_null c (d ∷ ds) v).0)), λ r. subst (λ f. CountsBy f (begun a) z) (sym (ap is_text m)) refl),
+      text-chars ds d z b m (first-all is_not_null c (d ∷ ds) v).1 (passes-next a.ledger.history c d (text_node a.tree a.fostering) w) (home-next c k (begun a) z g refl refl refl n) (goes-on-next c k a.tree a.fostering g) (e ∙ next)
+          (q ∙ raw-sum c k (length ds) a.tree a.fostering g),
     )
 
 -- IN THE BODY
@@ -317,32 +332,58 @@ by-body _ c a z r l h = absurd (false≢true r)
 body-char : (c k : ℕ) (a m : State) → (c == 0) ≡ false → takes_runs a.mode ≡ true → is_loose a.mode ≡ true → HasPointers a.tree m.tree → IsReopened a.fostering a.tree m.tree → Runs plan (plan a.mode (Char c)) (kind.Char c) (begun a) Over (flagged (c ∷ []) (texted (c ∷ []) k (moved (begun a) m)))
 body-char c k a m n r l w i = by-body a.mode c (begun a) (flagged (c ∷ []) (texted (c ∷ []) k (moved (begun a) m))) r l (in-body c (begun a) (flagged (c ∷ []) (texted (c ∷ []) k (moved (begun a) m))) n (body-arm c k (begun a) m w i))
 
+body-counts : (m : Mode) → takes_runs m ≡ true → is_loose m ≡ true → is_text m ≡ false
+body-counts mode.Text r l = absurd (false≢true l)
+body-counts _ r l = refl
+
+counts-body : (a m z : State) → takes_runs a.mode ≡ true → is_loose a.mode ≡ true → IsReopened a.fostering a.tree m.tree → CountsReopening a.fostering a.tree m.tree → z.tree.steps ≡ more m.tree.steps (text_steps m.tree a.fostering 1 + 1)
+    → CountsBy (is_text a.mode) a z
+counts-body a m z r l i j q = subst (λ f. CountsBy f a z) (sym (body-counts a.mode r l)) record {
+  middle = m.tree;
+  reopened = i;
+  first = j;
+  steps_are = q;
+}
+
 both-spaces : (x y o : Bool) → cond y (cond (x && true) o false) false ≡ cond (x && y) o false
 both-spaces true true o = refl
 both-spaces true false o = refl
 both-spaces false true o = refl
 both-spaces false false o = refl
 
-pub body-chars : (cs : List ℕ) (c k : ℕ) (a m b : State) → takes_runs a.mode ≡ true → is_loose a.mode ≡ true → list_all is_not_null (c ∷ cs) ≡ true → must_drop a.ledger.history (Char c) ≡ None → foreign_tag a ≡ None
-    → foreign_tag (moved a m) ≡ None → HasPointers a.tree m.tree → IsReopened a.fostering a.tree m.tree → TextGoesOn m.tree a.fostering
-    → begun b ≡ begun (flagged (c ∷ cs) (texted (c ∷ cs) k (moved a m))) → Constructs (chars_of (c ∷ cs)) a b
-body-chars [] c k a m b r l v w n o y i g e =
+body-chars : (cs : List ℕ) (c : ℕ) (a m b : State) → takes_runs a.mode ≡ true → is_loose a.mode ≡ true → list_all is_not_null (c ∷ cs) ≡ true → must_drop a.ledger.history (Char c) ≡ None → foreign_tag a ≡ None
+    → foreign_tag (moved a m) ≡ None → HasPointers a.tree m.tree → IsReopened a.fostering a.tree m.tree → CountsReopening a.fostering a.tree m.tree → TextGoesOn m.tree a.fostering
+    → begun b ≡ begun (flagged (c ∷ cs) (texted (c ∷ cs) b.tree.steps (moved a m)))
+    → b.tree.steps ≡ more m.tree.steps (text_steps m.tree a.fostering (suc (length cs)) + suc (length cs) + length cs * look_steps m.tree.list) → TakesEach (c ∷ cs) a b
+body-chars [] c a m b r l v w n o y i j g e q =
+    let z : State = flagged (c ∷ []) (texted (c ∷ []) b.tree.steps (moved (begun a) m)) in (
+      z,
+      (
+        char-entered c a z r w n refl (body-char c b.tree.steps a m (not-null c (first-all is_not_null c [] v).0) r l y i),
+        λ x. counts-body (begun a) m z r l i j (q ∙ ap (more m.tree.steps) (none-more (text_steps m.tree a.fostering 1) (look_steps m.tree.list))),
+      ),
+      sym e,
+    )
+  where
+    none-more : (t l : ℕ) → t + 1 + 0 * l ≡ t + 1
+    none-more t l = omega arith
+body-chars (d ∷ ds) c a m b r l v w n o y i j g e q =
+    let k : ℕ = more m.tree.steps (text_steps m.tree a.fostering 1 + 1) in
     let z : State = flagged (c ∷ []) (texted (c ∷ []) k (moved (begun a) m)) in
-    (z, char-entered c a z r w n refl (body-char c k a m (not-null c (first-all is_not_null c [] v).0) r l y i), sym e)
-body-chars (d ∷ ds) c k a m b r l v w n o y i g e =
-    let z : State = flagged (c ∷ []) (texted (c ∷ []) k (moved (begun a) m)) in
-    let t : Nodes = with_text_node m.tree a.fostering in
-    let still : IsReopened z.fostering z.tree z.tree = reopened-again a.fostering a.tree m.tree z.tree (texted_run t (text_node m.tree a.fostering) (c ∷ [])) i refl refl refl in
+    let t : Nodes = texted_run (with_text_node m.tree a.fostering) (text_node m.tree a.fostering) (c ∷ []) in
+    let none : above (stands z.tree.stack) z.tree.list ≡ [] = none-left a.fostering a.tree m.tree z.tree i refl refl in
+    let z' : State = record z { tree = record z.tree { steps = more k (look_steps m.tree.list) } } in
     let home : foreign_tag z ≡ None = home-next c k (moved (begun a) m) z g refl refl refl o in
-    let next : begun (flagged (c ∷ d ∷ ds) (texted (c ∷ d ∷ ds) k (moved a m))) ≡ begun (flagged (d ∷ ds) (texted (d ∷ ds) k (moved z z))) =
-    ap (λ (u : Nodes). begun (flagged (c ∷ d ∷ ds) (record a { tree = record m.tree { tree = u; steps = k }; stack = m.stack; ledger = given_run a.ledger (c ∷ d ∷ ds) (Text (text_node m.tree a.fostering)) }))) (sym (g.text_same (c ∷ []) (d ∷ ds)))
-    ∙ ap (λ (x : ℕ). begun (flagged (c ∷ d ∷ ds) (record a { tree = record m.tree { tree = with_text (record m.tree { tree = with_text m.tree a.fostering (c ∷ []) }) a.fostering (d ∷ ds); steps = k }; stack = m.stack; ledger = given_run (given a.ledger (Char c) (Text (text_node m.tree a.fostering))) (d ∷ ds) (Text x) })))
+    let next : begun (flagged (c ∷ d ∷ ds) (texted (c ∷ d ∷ ds) b.tree.steps (moved a m))) ≡ begun (flagged (d ∷ ds) (texted (d ∷ ds) b.tree.steps (moved z z'))) =
+    ap (λ (u : Nodes). begun (flagged (c ∷ d ∷ ds) (record a { tree = record m.tree { tree = u; steps = b.tree.steps }; stack = m.stack; ledger = given_run a.ledger (c ∷ d ∷ ds) (Text (text_node m.tree a.fostering)) }))) (sym (g.text_same (c ∷ []) (d ∷ ds)))
+    ∙ ap (λ (x : ℕ). begun (flagged (c ∷ d ∷ ds) (record a { tree = record m.tree { tree = with_text (record m.tree { tree = with_text m.tree a.fostering (c ∷ []) }) a.fostering (d ∷ ds); steps = b.tree.steps }; stack = m.stack; ledger = given_run (given a.ledger (Char c) (Text (text_node m.tree a.fostering))) (d ∷ ds) (Text x) })))
     (sym (g.node_same (c ∷ [])))
-    ∙ ap (λ (x : Bool). begun (record a { tree = record m.tree { tree = with_text (record m.tree { tree = with_text m.tree a.fostering (c ∷ []) }) a.fostering (d ∷ ds); steps = k }; stack = m.stack; ledger = given_run (given a.ledger (Char c) (Text (text_node m.tree a.fostering))) (d ∷ ds) (Text (text_node (record m.tree { tree = with_text m.tree a.fostering (c ∷ []) }) a.fostering)); frameset_ok = x }))
+    ∙ ap (λ (x : Bool). begun (record a { tree = record m.tree { tree = with_text (record m.tree { tree = with_text m.tree a.fostering (c ∷ []) }) a.fostering (d ∷ ds); steps = b.tree.steps }; stack = m.stack; ledger = given_run (given a.ledger (Char c) (Text (text_node m.tree a.fostering))) (d ∷ ds) (Text (text_node (record m.tree { tree = with_text m.tree a.fostering (c ∷ []) }) a.fostering)); frameset_ok = x }))
     (sym (both-spaces (is_space c) (list_all is_space (d ∷ ds)) a.frameset_ok)) in (
       z,
-      char-entered c a z r w n refl (body-char c k a m (not-null c (first-all is_not_null c (d ∷ ds) v).0) r l y i),
-      body-chars ds d k z z b r l (first-all is_not_null c (d ∷ ds) v).1 (passes-next a.ledger.history c d (text_node m.tree a.fostering) w) home home refl still (goes-on-next c k m.tree a.fostering g) (e ∙ next),
+      (char-entered c a z r w n refl (body-char c k a m (not-null c (first-all is_not_null c (d ∷ ds) v).0) r l y i), λ x. counts-body (begun a) m z r l i j refl),
+      body-chars ds d z z' b r l (first-all is_not_null c (d ∷ ds) v).1 (passes-next a.ledger.history c d (text_node m.tree a.fostering) w) home home refl (reopened-again a.fostering z.tree z'.tree.steps t none refl)
+          (counted-again a.fostering z.tree t none refl) (goes-on-next c z'.tree.steps m.tree a.fostering g) (e ∙ next) (q ∙ body-sum c z'.tree.steps (length ds) (look_steps m.tree.list) m.tree a.fostering g),
     )
 
 -- THE RUNS OF THE CODE
@@ -399,62 +440,62 @@ text-made cs m x y r i l q j =
     let t : y.tree ≡ u = j.tree_is ∙ ap (λ (v : Tree). record v { steps = y.tree.steps }) i.tree_is in
     q ∙ ap (λ (v : Tree). record x { tree = v }) t ∙ ap (λ (s : State). record s { tree = u }) r ∙ ap (λ (n : Entered). record m { tree = u; ledger = n }) l
 
-pub body-made : (cs : List ℕ) (a m x y b : State) (f : Bool) → m ≡ record a { tree = m.tree; stack = m.stack } → HasPointers a.tree m.tree → IsReopened a.fostering a.tree m.tree → (foreign_tag a ≡ None → foreign_tag m ≡ None)
-    → TextGoesOn m.tree m.fostering → x ≡ record m { tree = x.tree; ledger = x.ledger } → IsTree (record m.tree { tree = with_text m.tree m.fostering cs }) x
-    → x.ledger ≡ given_run m.ledger cs (Text (text_node m.tree m.fostering)) → y ≡ record x { tree = y.tree } → IsTree x.tree y → f ≡ list_all is_space cs → b ≡ record y { frameset_ok = cond f y.frameset_ok false } → IsTextRun cs a b
-body-made cs a m x y b f r w i h g s e l q j k z = record {
+pub body-made : (cs : List ℕ) (a m x y b : State) (f : Bool) → m ≡ record a { tree = m.tree; stack = m.stack } → HasPointers a.tree m.tree → IsReopened a.fostering a.tree m.tree → CountsReopening a.fostering a.tree m.tree
+    → (foreign_tag a ≡ None → foreign_tag m ≡ None) → TextGoesOn m.tree m.fostering → x ≡ record m { tree = x.tree; ledger = x.ledger } → IsTree (record m.tree { tree = with_text m.tree m.fostering cs }) x
+    → x.ledger ≡ given_run m.ledger cs (Text (text_node m.tree m.fostering)) → y ≡ record x { tree = y.tree } → IsTree x.tree y → f ≡ list_all is_space cs → b ≡ record y { frameset_ok = cond f y.frameset_ok false }
+    → b.tree.steps ≡ more m.tree.steps (text_steps m.tree a.fostering (length cs) + (length cs - 1) * look_steps m.tree.list) → IsTextRun cs a b
+body-made cs a m x y b f r w i c h g s e l q j k z n = record {
   middle = m;
   moved = record { rest = r; pointers = w };
   reopened = i;
+  first = c;
+  others = n;
   home = h;
   goes_on = subst (λ (v : Bool). TextGoesOn m.tree v) (ap (λ (v : State). v.fostering) r) g;
   result_is = ap begun (z ∙ run-result cs m x y f s e l q j k) ∙ ap (λ (n : ℕ). begun (flagged cs (texted cs n m))) (sym (ap (λ (v : State). v.tree.steps) z));
 }
 
--- steps are counted, and the call has a beginning
-pub run-later : (cs : List ℕ) (a n b d : State) → n ≡ begun a → IsTextRun cs n b → d ≡ record b { tree = d.tree } → IsTree b.tree d → IsTextRun cs (begun a) d
-run-later cs a n b d e h r i =
-    let k : IsTextRun cs (begun a) b = subst (λ (v : State). IsTextRun cs v b) e h in
-    record {
-      middle = k.middle;
-      moved = k.moved;
-      reopened = k.reopened;
-      home = k.home;
-      goes_on = k.goes_on;
-      result_is = ap begun (r ∙ ap (λ (v : Tree). record b { tree = v }) i.tree_is) ∙ ap (λ (v : State). record v { tree = record v.tree { steps = d.tree.steps } }) k.result_is;
-    }
-
--- a run in the mode text
-pub text-run : (n : ℕ) (run : List ℕ) (a b : State) → a.mode ≡ mode.Text → foreign_tag a ≡ None → 0 < n → n ≤ length run → may_text_run a.ledger.history run ≡ true → TextGoesOn a.tree a.fostering
-    → begun b ≡ begun (texted (take n run) b.tree.steps a) → Constructs (chars_of (take n run)) a b
-text-run n run a b m o p l e g q =
-    let s = split-may a.ledger.history n run p l e in
-    subst (λ cs. Constructs (chars_of cs) a b) (sym s.2) (text-chars s.1 s.0 b.tree.steps a b m s.3.0 s.3.1 o g (q ∙ ap (λ cs. begun (texted cs b.tree.steps a)) s.2))
-
--- a run in the body
-pub body-run : (n : ℕ) (run : List ℕ) (a b : State) → takes_runs a.mode ≡ true → is_loose a.mode ≡ true → foreign_tag a ≡ None → 0 < n → n ≤ length run → may_text_run a.ledger.history run ≡ true → IsTextRun (take n run) a b
-    → Constructs (chars_of (take n run)) a b
-body-run n run a b r l o p k e h =
-    let s = split-may a.ledger.history n run p k e in
-    subst (λ cs. Constructs (chars_of cs) a b) (sym s.2)
-    (body-chars s.1 s.0 b.tree.steps a h.middle b r l s.3.0 s.3.1 o (subst (λ (x : State). foreign_tag x ≡ None) h.moved.rest (h.home o)) h.moved.pointers h.reopened h.goes_on
-    (h.result_is ∙ ap (λ (x : State). begun (flagged (take n run) (texted (take n run) b.tree.steps x))) h.moved.rest ∙ ap (λ cs. begun (flagged cs (texted cs b.tree.steps (moved a h.middle)))) s.2))
-
--- the calls of a run, from the beginning of the call
-pub text-taken : (n : ℕ) (run : List ℕ) (a m x y : State) → m ≡ begun a → a.mode ≡ mode.Text → foreign_tag a ≡ None → 0 < n → n ≤ length run → IsTrue (may_text_run a.ledger.history run) → TextGoesOn m.tree m.fostering
-    → x ≡ record m { tree = x.tree; ledger = x.ledger } → IsTree (record m.tree { tree = with_text m.tree m.fostering (take n run) }) x → x.ledger ≡ given_run m.ledger (take n run) (Text (text_node m.tree m.fostering))
-    → y ≡ record x { tree = y.tree } → IsTree x.tree y → Constructs (chars_of (take n run)) a y
-text-taken n run a m x y e k o p l w g r i h q j =
-    text-run n run a y k o p l w (subst (λ (v : State). TextGoesOn v.tree v.fostering) e g) (ap begun (text-made (take n run) m x y r i h q j ∙ ap (λ (v : State). texted (take n run) y.tree.steps v) e))
-
-pub body-taken : (n : ℕ) (run : List ℕ) (a m x y : State) → m ≡ begun a → takes_runs a.mode ≡ true → is_loose a.mode ≡ true → foreign_tag a ≡ None → 0 < n → n ≤ length run → IsTrue (may_text_run a.ledger.history run)
-    → IsTextRun (take n run) m x → y ≡ record x { tree = y.tree } → IsTree x.tree y → Constructs (chars_of (take n run)) a y
-body-taken n run a m x y e r l o p k w h q j =
-    constructs-from (chars_of (take n run)) a (begun a) y refl (body-run n run (begun a) y r l o p k w (run-later (take n run) a m x y e h q j))
+-- the front of a run is as long as that
+first-of : (n : ℕ) (run cs : List ℕ) (c : ℕ) → n ≤ length run → take n run ≡ c ∷ cs → n ≡ suc (length cs)
+first-of n run cs c l e = sym (length-take-le n run l) ∙ ap length e
 
 text-mode : (m : Mode) → is_text m ≡ true → m ≡ mode.Text
 text-mode mode.Text e = refl
 text-mode _ e = absurd (false≢true e)
+
+-- a run in the mode text, from the beginning of the call, and then so many entries
+pub text-taken : (n : ℕ) (run : List ℕ) (a m x y : State) → m ≡ begun a → is_text a.mode ≡ true → foreign_tag a ≡ None → 0 < n → n ≤ length run → IsTrue (may_text_run a.ledger.history run) → TextGoesOn m.tree m.fostering
+    → x ≡ record m { tree = x.tree; ledger = x.ledger } → IsTree (record m.tree { tree = with_text m.tree m.fostering (take n run) }) x → x.ledger ≡ given_run m.ledger (take n run) (Text (text_node m.tree m.fostering))
+    → x.tree.steps ≡ more m.tree.steps (text_steps m.tree m.fostering n) → y ≡ record x { tree = y.tree } → IsTree x.tree y → y.tree.steps ≡ more x.tree.steps n → TakesEach (take n run) a y
+text-taken n run a m x y e k o p l w g r i h c q j d =
+    let s = split-may a.ledger.history n run p l w in
+    let result : begun y ≡ begun (texted (s.0 ∷ s.1) y.tree.steps a) =
+    ap begun (text-made (take n run) m x y r i h q j) ∙ ap (λ (v : State). begun (texted (take n run) y.tree.steps v)) e ∙ ap (λ cs. begun (texted cs y.tree.steps a)) s.2 in
+    let steps : y.tree.steps ≡ more a.tree.steps (text_steps a.tree a.fostering n + n) =
+    d ∙ ap (λ k. more k n) c ∙ more-more m.tree.steps (text_steps m.tree m.fostering n) n ∙ ap (λ (v : State). more v.tree.steps (text_steps v.tree v.fostering n + n)) e in
+    subst (λ cs. TakesEach cs a y) (sym s.2)
+    (text-chars s.1 s.0 a y (text-mode a.mode k) s.3.0 s.3.1 o (subst (λ (v : State). TextGoesOn v.tree v.fostering) e g) result (steps ∙ ap (λ i. more a.tree.steps (text_steps a.tree a.fostering i + i)) (first-of n run s.1 s.0 l s.2)))
+
+-- and a run in the body
+pub body-taken : (n : ℕ) (run : List ℕ) (a m x y : State) → m ≡ begun a → takes_runs a.mode ≡ true → is_loose a.mode ≡ true → foreign_tag a ≡ None → 0 < n → n ≤ length run → IsTrue (may_text_run a.ledger.history run)
+    → IsTextRun (take n run) m x → y ≡ record x { tree = y.tree } → IsTree x.tree y → y.tree.steps ≡ more x.tree.steps n → TakesEach (take n run) a y
+body-taken n run a m x y e r l o p k w f q j d =
+    let h : IsTextRun (take n run) (begun a) x = subst (λ (v : State). IsTextRun (take n run) v x) e f in
+    let s = split-may a.ledger.history n run p k w in
+    let t : Tree = h.middle.tree in
+    let result : begun y ≡ begun (flagged (s.0 ∷ s.1) (texted (s.0 ∷ s.1) y.tree.steps (moved a h.middle))) =
+    ap begun (q ∙ ap (λ (v : Tree). record x { tree = v }) j.tree_is) ∙ ap (λ (v : State). record v { tree = record v.tree { steps = y.tree.steps } }) h.result_is
+    ∙ ap (λ (v : State). begun (flagged (take n run) (texted (take n run) y.tree.steps v))) h.moved.rest ∙ ap (λ cs. begun (flagged cs (texted cs y.tree.steps (moved a h.middle)))) s.2 in
+    let counted : n ≡ suc (length s.1) = first-of n run s.1 s.0 k s.2 in
+    let before : x.tree.steps ≡ more t.steps (text_steps t a.fostering (suc (length s.1)) + length s.1 * look_steps t.list) =
+    h.others ∙ ap (λ cs. more t.steps (text_steps t a.fostering (length cs) + (length cs - 1) * look_steps t.list)) s.2 ∙ ap (λ i. more t.steps (text_steps t a.fostering (suc (length s.1)) + i * look_steps t.list)) (one-less (length s.1)) in
+    let steps : y.tree.steps ≡ more t.steps (text_steps t a.fostering (suc (length s.1)) + suc (length s.1) + length s.1 * look_steps t.list) =
+    d ∙ ap (more x.tree.steps) counted ∙ ap (λ i. more i (suc (length s.1))) before ∙ in-turn t.steps (text_steps t a.fostering (suc (length s.1))) (length s.1 * look_steps t.list) (suc (length s.1)) in
+    subst (λ cs. TakesEach cs a y) (sym s.2)
+    (body-chars s.1 s.0 a h.middle y r l s.3.0 s.3.1 o (subst (λ (x : State). foreign_tag x ≡ None) h.moved.rest (h.home o)) h.moved.pointers h.reopened h.first h.goes_on result steps)
+  where
+    in-turn : (s t l n : ℕ) → more (more s (t + l)) n ≡ more s (t + n + l)
+    in-turn s t l n = omega arith
 
 pub body-mode : (m : Mode) → takes_runs m ≡ true → is_text m ≡ false → is_loose m ≡ true
 body-mode mode.InBody r t = refl
@@ -463,11 +504,20 @@ body-mode mode.InCell r t = refl
 body-mode mode.Text r t = absurd (false≢true (sym t))
 body-mode _ r t = absurd (false≢true r)
 
-pub text-taken-in : (n : ℕ) (run : List ℕ) (a m x y : State) → m ≡ begun a → is_text a.mode ≡ true → foreign_tag a ≡ None → 0 < n → n ≤ length run → IsTrue (may_text_run a.ledger.history run) → TextGoesOn m.tree m.fostering
-    → x ≡ record m { tree = x.tree; ledger = x.ledger } → IsTree (record m.tree { tree = with_text m.tree m.fostering (take n run) }) x → x.ledger ≡ given_run m.ledger (take n run) (Text (text_node m.tree m.fostering))
-    → y ≡ record x { tree = y.tree } → IsTree x.tree y → Constructs (chars_of (take n run)) a y
-text-taken-in n run a m x y e k o p l w g r i h q j = text-taken n run a m x y e (text-mode a.mode k) o p l w g r i h q j
+-- one code point of a text, which begins no run
+pub char-taken : (text : List ℕ) (c : ℕ) (a b : State) → take 1 text ≡ c ∷ [] → false ≡ is_run_char a c → Entries (Char c) (kind.Char c) (begun a) b → TakesEach (take 1 text) a b
+char-taken text c a b e f h = subst (λ cs. TakesEach cs a b) (sym e) (b, (h, λ t. absurd (false≢true (f ∙ t))), refl)
 
--- one code point of a text
-pub char-taken : (text : List ℕ) (c : ℕ) (a b : State) → take 1 text ≡ c ∷ [] → Entries (Char c) (kind.Char c) (begun a) b → Constructs (chars_of (take 1 text)) a b
-char-taken text c a b e h = subst (λ cs. Constructs (chars_of cs) a b) (sym e) (constructs-one (kind.Char c) a b h)
+-- WHAT EACH TAKES
+
+pub each-constructs : (cs : List ℕ) (a z : State) → TakesEach cs a z → Constructs (chars_of cs) a z
+each-constructs [] a z h = h
+each-constructs (c ∷ cs) a z h = (h.0, h.1.0, each-constructs cs h.0 z h.2)
+
+each-from : (cs : List ℕ) (a b z : State) → begun a ≡ begun b → TakesEach cs b z → TakesEach cs a z
+each-from [] a b z e h = e ∙ h
+each-from (c ∷ cs) a b z e h = (h.0, subst (λ (x : State). TakesOne c x h.0) (sym e) h.1, h.2)
+
+pub each-then : (cs ds : List ℕ) (a b z : State) → TakesEach cs a b → TakesEach ds b z → TakesEach (cs ++ ds) a z
+each-then [] ds a b z h k = each-from ds a b z h k
+each-then (c ∷ cs) ds a b z h k = (h.0, h.1, each-then cs ds h.0 b z h.2 k)

@@ -43,4 +43,5 @@ pub mod RulesInTemplate
 pub mod RulesInitial
 pub mod RulesText
 pub mod Dispatching
+pub mod Counting
 pub mod Constructing

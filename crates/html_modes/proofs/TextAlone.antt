@@ -26,6 +26,7 @@ use Rattle.html_ledger.specs.declared.symbol.Symbol.{Symbol}
 use Rattle.html_modes.proofs.Current.{has-last}
 use Rattle.html_modes.proofs.Dispatching.{Way, dropped, handed, never-astray, planned, stayed, strayed, way}
 use Rattle.html_modes.proofs.Embedding.{opened-foreign, around-strict}
+use Rattle.html_modes.proofs.Constructing.{each-constructs}
 use Rattle.html_modes.proofs.Outside.{constructs-outside, over-done}
 use Rattle.html_modes.proofs.RawText.{adds-dropped, adds-inserted, alone-template, must-aside, open-aside, opened-dropped, opened-text, tag-named}
 use Rattle.html_modes.specs.Dispatching.{Constructs, Entries, begun, last, next, settled}
@@ -399,4 +400,4 @@ text-adds [] a z e = record {
 }
 text-adds (c ∷ cs) a z h = adds-then c cs a h.0 z (begun-adds c (kind.Char c) a h.0 refl h.1) (text-adds cs h.0 z h.2)
 
-pub ruleset run_texts = (text-adds, constructs-outside)
+pub ruleset run_texts = (text-adds, constructs-outside, each-constructs)

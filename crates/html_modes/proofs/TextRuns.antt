@@ -1,6 +1,6 @@
 -- What code points in a row make in the body of a plain page.
-use Rattle.std.proofs.Common.{◌≡◌, ℕ, ◌+◌, ◌-◌, ◌*◌, Bool, false, not, cond, ◌==◌, List, [], ◌∷◌, ◌++◌, map, drop, refl, sym, ◌∙◌, ap, subst}
-use Rattle.std.proofs.lemmas.List.{append_assoc}
+use Rattle.std.proofs.Common.{◌≡◌, ◌≤◌, ℕ, ◌+◌, ◌-◌, ◌*◌, Bool, false, not, cond, ◌==◌, List, [], ◌∷◌, ◌++◌, length, map, take, drop, refl, sym, ◌∙◌, ap, subst}
+use Rattle.std.proofs.lemmas.List.{append_assoc, length-take-le}
 use Rattle.html_tokens.specs.declared.token.TokenKind.TheVariants as kind
 use Rattle.html_ledger.specs.Entries.{Entries, given, given_run}
 use Rattle.html_ledger.specs.declared.fate.Fate.{Fate}
@@ -9,12 +9,10 @@ use Rattle.html_ledger.specs.declared.symbol.Symbol.TheVariants.{Char}
 use Rattle.html_tree.specs.Closing.{popped}
 use Rattle.html_tree.specs.OpenTags.{open_tags}
 use Rattle.html_tree.specs.States.{IsSound, State as Open}
-use Rattle.html_tree.specs.Steps.{CountsReopening, text_steps}
-use Rattle.html_tree.specs.Listing.{IsReopened}
+use Rattle.html_tree.specs.Steps.{text_steps}
 use Rattle.html_tree.proofs.Counted.{more-more}
 use Rattle.html_arena.specs.Tree.{more}
 use Rattle.html_open.specs.Reopening.{look_steps}
-use Rattle.html_modes.specs.Runs.{CountsRun}
 use Rattle.html_tree.specs.Texts.{text_node, with_text}
 use Rattle.html_construction.specs.declared.mode.Mode.{Mode}
 use Rattle.html_construction.specs.declared.mode.Mode.TheVariants.{InBody}
@@ -83,20 +81,16 @@ run-looked run a x b r e t = record {
 }
 
 -- the steps of text in a row
-pub run-counted : (n : ℕ) (a m x b : State) → m ≡ record a { tree = m.tree; stack = m.stack } → IsReopened a.fostering a.tree m.tree → CountsReopening a.fostering a.tree m.tree → (run : List ℕ)
-    → IsTree (record m.tree { tree = with_text m.tree m.fostering run }) x → x.tree.steps ≡ more m.tree.steps (text_steps m.tree m.fostering n)
-    → b.tree.steps ≡ more x.tree.steps ((n - 1) * look_steps x.tree.list) → CountsRun n a b
-run-counted n a m x b r i f run e k l =
+pub run-counted : (n : ℕ) (run : List ℕ) (a m x b : State) → n ≤ length run → m ≡ record a { tree = m.tree; stack = m.stack } → IsTree (record m.tree { tree = with_text m.tree m.fostering (take n run) }) x
+    → x.tree.steps ≡ more m.tree.steps (text_steps m.tree m.fostering n) → b.tree.steps ≡ more x.tree.steps ((n - 1) * look_steps x.tree.list)
+    → b.tree.steps ≡ more m.tree.steps (text_steps m.tree a.fostering (length (take n run)) + (length (take n run) - 1) * look_steps m.tree.list)
+run-counted n run a m x b w r e k l =
     let g : m.fostering ≡ a.fostering = ap (λ (z : State). z.fostering) r in
     let j : x.tree.list ≡ m.tree.list = ap (λ (z : Open). z.list) e.tree_is in
-    record {
-      middle = m.tree;
-      reopened = i;
-      first = f;
-      others = l ∙ ap (λ s. more s ((n - 1) * look_steps x.tree.list)) k ∙ more-more m.tree.steps (text_steps m.tree m.fostering n) ((n - 1) * look_steps x.tree.list)
-          ∙ ap (λ q. more m.tree.steps (text_steps m.tree m.fostering n + (n - 1) * look_steps q)) j
-          ∙ ap (λ h. more m.tree.steps (text_steps m.tree h n + (n - 1) * look_steps m.tree.list)) g;
-    }
+    l ∙ ap (λ s. more s ((n - 1) * look_steps x.tree.list)) k ∙ more-more m.tree.steps (text_steps m.tree m.fostering n) ((n - 1) * look_steps x.tree.list)
+    ∙ ap (λ q. more m.tree.steps (text_steps m.tree m.fostering n + (n - 1) * look_steps q)) j
+    ∙ ap (λ h. more m.tree.steps (text_steps m.tree h n + (n - 1) * look_steps m.tree.list)) g
+    ∙ ap (λ i. more m.tree.steps (text_steps m.tree a.fostering i + (i - 1) * look_steps m.tree.list)) (sym (length-take-le n run w))
 
 -- what has been seen stays so
 record HasPassed (e : Entries) : Type 0 where

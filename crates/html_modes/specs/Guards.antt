@@ -1,4 +1,4 @@
--- Claimed, but for this crate's own functions: takes_runs, is_root_end.
+-- Claimed, but for this crate's own functions: is_root_end.
 -- Modes and tokens as the guards tell them apart (13.2.6).
 use Rattle.std.specs.Prelude.{Bool, true, false}
 use Rattle.html_names.specs.declared.tag.Tag.TheVariants as tag

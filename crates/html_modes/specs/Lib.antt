@@ -1,5 +1,6 @@
 -- Claimed.
 pub mod Begun
+pub mod Counting
 pub mod Dispatching
 pub mod Entering
 pub mod Fitting

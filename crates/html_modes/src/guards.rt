@@ -12,6 +12,7 @@ ghost use Rattle.html_construction.specs.Foreign.{foreign_tag};
 ghost use Rattle.html_construction.specs.Plans.{Asks};
 ghost use Rattle.html_construction.specs.Words.{HasForm};
 ghost use Rattle.html_construction.specs.Modes.{is_of_column_groups, is_of_frames, is_of_selects};
+ghost use Rattle.html_modes.specs.Counting.{is_run_char};
 ghost use Rattle.html_modes.specs.Guards.{is_droppable, is_table_text, is_text, takes_runs};
 ghost use Rattle.html_ledger.specs.declared.symbol.Symbol.{Symbol as AnySymbol};
 
@@ -93,6 +94,7 @@ pub(crate) fn takes_run(page: &Construction, first: char) -> bool
     ensures doctype { result ≡ true → page.now.ledger.history.awaits_doctype ≡ false }
     ensures free { result ≡ true → IsTrue (is_free page.now.ledger.history (Symbol.Char first)) }
     ensures home { result ≡ true → foreign_tag page.now ≡ None }
+    ensures value { result ≡ is_run_char page.now first }
 {
     first != '\0'
         && takes_runs(page.mode())

@@ -7,6 +7,7 @@ ghost use Rattle.html_construction.specs.Begun.{IsFounded};
 ghost use Rattle.html_construction.specs.Built.{Accepts, AcceptsRun, chars_of};
 ghost use Rattle.html_construction.specs.Foreign.{foreign_tag};
 ghost use Rattle.html_modes.specs.Begun.{GivesIn, StaysOut};
+ghost use Rattle.html_modes.specs.Counting.{TakesEach};
 ghost use Rattle.html_modes.specs.Dispatching.{Constructs};
 ghost use Rattle.html_modes.specs.Entering.{Enters};
 ghost use Rattle.html_modes.specs.Fitting.{Fits, is_loose};
@@ -52,6 +53,7 @@ pub fn take_plain_front(
     ensures plain { IfOk result (λ n. list_all is_not_null (take n text.now) ≡ true → GoesOnText (take n text.now) page.old page.new) }
     ensures adds { IfOk result (λ n. AddsText (take n text.now) page.old page.new) }
     ensures constructs { IfOk result (λ n. Constructs (chars_of (take n text.now)) page.old page.new) }
+    ensures each { IfOk result (λ n. TakesEach (take n text.now) page.old page.new) }
     ensures refuses { IfErr result (λ e. RefusesAny e page.old page.new) }
 {
     let first = text.first();
@@ -81,7 +83,7 @@ fn take_plain(page: &mut Construction, text: &PlainText<'_>) -> Result<usize, Ar
     ensures lighter { OnOk result (weight page.new.stack + top_rank page.new.mode ≤ weight page.old.stack + top_rank page.old.mode) }
     ensures toils { OnOk result (Toils 0 page.old page.new) }
     ensures plain { IfOk result (λ n. GoesOnText (take n text.now) page.old page.new) }
-    ensures constructs { IfOk result (λ n. Constructs (chars_of (take n text.now)) page.old page.new) }
+    ensures each { IfOk result (λ n. TakesEach (take n text.now) page.old page.new) }
     ensures refuses { IfErr result (λ e. RefusesAny e page.old page.new) }
 {
     if is_text(page.mode()) {
@@ -108,7 +110,7 @@ fn take_text_plain(page: &mut Construction, text: &PlainText<'_>) -> Result<usiz
     ensures pays { OnOk result (Pays page.old page.new) }
     ensures lighter { OnOk result (weight page.new.stack + top_rank page.new.mode ≤ weight page.old.stack + top_rank page.old.mode) }
     ensures toils { OnOk result (Toils 0 page.old page.new) }
-    ensures constructs { IfOk result (λ n. Constructs (chars_of (take n text.now)) page.old page.new) }
+    ensures each { IfOk result (λ n. TakesEach (take n text.now) page.old page.new) }
     ensures refuses { IfErr result (λ e. RefusesAny e page.old page.new) }
 {
     page.begin_call();
@@ -135,7 +137,7 @@ fn take_body_plain(page: &mut Construction, text: &PlainText<'_>) -> Result<usiz
     ensures lighter { OnOk result (weight page.new.stack + top_rank page.new.mode ≤ weight page.old.stack + top_rank page.old.mode) }
     ensures toils { OnOk result (Toils 0 page.old page.new) }
     ensures plain { IfOk result (λ n. GoesOnText (take n text.now) page.old page.new) }
-    ensures constructs { IfOk result (λ n. Constructs (chars_of (take n text.now)) page.old page.new) }
+    ensures each { IfOk result (λ n. TakesEach (take n text.now) page.old page.new) }
     ensures refuses { IfErr result (λ e. RefusesAny e page.old page.new) }
 {
     page.begin_call();

@@ -7,6 +7,7 @@ ghost use Rattle.html_construction.specs.Begun.{IsFounded};
 ghost use Rattle.html_construction.specs.Built.{Accepts, AcceptsRun, chars_of};
 ghost use Rattle.html_construction.specs.Foreign.{foreign_tag};
 ghost use Rattle.html_modes.specs.Begun.{GivesIn, StaysOut};
+ghost use Rattle.html_modes.specs.Counting.{TakesEach};
 ghost use Rattle.html_modes.specs.Dispatching.{Constructs, Entries, begun};
 ghost use Rattle.html_modes.specs.Entering.{Enters};
 ghost use Rattle.html_modes.specs.Fitting.{Fits, is_loose};
@@ -53,15 +54,17 @@ pub fn take_front(
     ensures plain { IfOk result (λ n. list_all is_not_null (take n text.now) ≡ true → GoesOnText (take n text.now) page.old page.new) }
     ensures adds { IfOk result (λ n. AddsText (take n text.now) page.old page.new) }
     ensures constructs { IfOk result (λ n. Constructs (chars_of (take n text.now)) page.old page.new) }
+    ensures each { IfOk result (λ n. TakesEach (take n text.now) page.old page.new) }
     ensures refuses { IfErr result (λ e. RefusesAny e page.old page.new) }
 {
-    if takes_run(page, text[0]) {
+    let first = text[0];
+    if takes_run(page, first) {
         let end = null_index(text);
         let count = take_run(page, &text[..end])?;
         *entries = entries.saturating_add(count as u64);
         return Ok(count);
     }
-    take_char(page, text[0], entries)?;
+    take_char(page, first, entries)?;
     Ok(1)
 }
 
@@ -107,7 +110,7 @@ fn take_run(page: &mut Construction, run: &[char]) -> Result<usize, ArenaError>
     ensures toils { OnOk result (Toils 0 page.old page.new) }
     ensures plain { IfOk result (λ n. GoesOnText (take n run.now) page.old page.new) }
     ensures adds { IfOk result (λ n. AddsText (take n run.now) page.old page.new) }
-    ensures constructs { IfOk result (λ n. Constructs (chars_of (take n run.now)) page.old page.new) }
+    ensures each { IfOk result (λ n. TakesEach (take n run.now) page.old page.new) }
     ensures refuses { IfErr result (λ e. RefusesAny e page.old page.new) }
 {
     if is_text(page.mode()) {
@@ -134,7 +137,7 @@ fn take_text_run(page: &mut Construction, run: &[char]) -> Result<usize, ArenaEr
     ensures pays { OnOk result (Pays page.old page.new) }
     ensures lighter { OnOk result (weight page.new.stack + top_rank page.new.mode ≤ weight page.old.stack + top_rank page.old.mode) }
     ensures toils { OnOk result (Toils 0 page.old page.new) }
-    ensures constructs { IfOk result (λ n. Constructs (chars_of (take n run.now)) page.old page.new) }
+    ensures each { IfOk result (λ n. TakesEach (take n run.now) page.old page.new) }
     ensures refuses { IfErr result (λ e. RefusesAny e page.old page.new) }
 {
     page.begin_call();
@@ -161,7 +164,7 @@ fn take_body_run(page: &mut Construction, run: &[char]) -> Result<usize, ArenaEr
     ensures lighter { OnOk result (weight page.new.stack + top_rank page.new.mode ≤ weight page.old.stack + top_rank page.old.mode) }
     ensures toils { OnOk result (Toils 0 page.old page.new) }
     ensures plain { IfOk result (λ n. GoesOnText (take n run.now) page.old page.new) }
-    ensures constructs { IfOk result (λ n. Constructs (chars_of (take n run.now)) page.old page.new) }
+    ensures each { IfOk result (λ n. TakesEach (take n run.now) page.old page.new) }
     ensures refuses { IfErr result (λ e. RefusesAny e page.old page.new) }
 {
     page.begin_call();

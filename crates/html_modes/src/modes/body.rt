@@ -41,7 +41,7 @@ ghost use Rattle.html_modes.specs.Rules.{Follows};
 ghost use Rattle.html_modes.specs.RulesInBody.{in_body, in_body_char};
 ghost use Rattle.html_modes.specs.RulesInBodyStart.{in_body_start};
 ghost use Rattle.html_modes.specs.Plain.{IsPlainState, IsRunTurn, Turns, TurnsInBody};
-ghost use Rattle.html_modes.specs.Runs.{CountsRun, IsTextRun};
+ghost use Rattle.html_modes.specs.Runs.{IsTextRun};
 ghost use Rattle.html_modes.specs.Steps.{Falls, Grows, Steps, Worked, root_of, root_space};
 ghost use Rattle.html_tree.specs.Proper.{is_foreign_root};
 ghost use Rattle.html_modes.specs.declared.outcome.Outcome.TheVariants as outcome;
@@ -285,7 +285,6 @@ pub(crate) fn body_run(page: &mut Construction, run: &[char]) -> Result<usize, A
     ensures count { IfOk result (λ n. (0 < n) × (n ≤ length run.now)) }
     ensures grown { IfOk result (λ n. Grown n (length page.old.ledger.fates + 1) 0 1 0 page.old page.new) }
     ensures works { IfOk result (λ n. Works (n + 6) 1 (3 * n + 6) page.old page.new) }
-    ensures counted { IfOk result (λ n. CountsRun n page.old page.new) }
     ensures lighter { OnOk result (weight page.new.stack ≤ weight page.old.stack) }
     ensures opened { OnOk result (0 < length page.new.stack) }
     ensures plain { IfOk result (λ n. IsPlainState page.old → page.old.mode ≡ Mode.InBody → IsRunTurn (take n run.now) page.old page.new) }
@@ -314,7 +313,6 @@ pub(crate) fn body_plain(page: &mut Construction, text: &PlainText<'_>) -> Resul
     ensures count { IfOk result (λ n. (0 < n) × (n ≤ length text.now)) }
     ensures grown { IfOk result (λ n. Grown n (length page.old.ledger.fates + 1) 0 1 0 page.old page.new) }
     ensures works { IfOk result (λ n. Works (n + 6) 1 (3 * n + 6) page.old page.new) }
-    ensures counted { IfOk result (λ n. CountsRun n page.old page.new) }
     ensures lighter { OnOk result (weight page.new.stack ≤ weight page.old.stack) }
     ensures opened { OnOk result (0 < length page.new.stack) }
     ensures plain { IfOk result (λ n. IsPlainState page.old → page.old.mode ≡ Mode.InBody → IsRunTurn (take n text.now) page.old page.new) }

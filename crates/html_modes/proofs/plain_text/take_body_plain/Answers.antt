@@ -27,10 +27,10 @@ returns-clause-toils c =
     Toils-called c.in_ok-count.count c.args.page.now c.begin_call.new.self c.body_plain.new.page c.count_steps.new.self _ _ _ c.begin_call.ensures.rest c.in_ok-count.ensures.count.0 c.in_ok-count.ensures.grown
     c.in_ok-count.ensures.lighter (ap (λ (z : State). z.mode) c.in_ok-count.ensures.rest) c.count_steps.ensures.rest c.count_steps.ensures.grown c.in_ok-count.ensures.works c.count_steps.ensures.works
 
-pub returns-clause-constructs : goal.returns-clause-constructs
-returns-clause-constructs c =
+pub returns-clause-each : goal.returns-clause-each
+returns-clause-each c =
     body-taken c.in_ok-count.count c.args.text.now c.args.page.now c.begin_call.new.self c.body_plain.new.page c.count_steps.new.self c.begin_call.ensures.rest c.requires.mode c.requires.loose c.requires.home
-    c.in_ok-count.ensures.count.0 c.in_ok-count.ensures.count.1 c.requires.may c.in_ok-count.ensures.run c.count_steps.ensures.rest c.count_steps.ensures.same
+    c.in_ok-count.ensures.count.0 c.in_ok-count.ensures.count.1 c.requires.may c.in_ok-count.ensures.run c.count_steps.ensures.rest c.count_steps.ensures.same c.count_steps.ensures.counted
 
 pub returns-clause-takes : goal.returns-clause-takes
 returns-clause-takes c = λ h w. c.count_steps.ensures.keeps _ (c.in_ok-count.ensures.takes _ (c.begin_call.ensures.begins h w))

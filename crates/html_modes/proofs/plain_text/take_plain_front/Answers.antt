@@ -1,4 +1,4 @@
-use Rattle.std.proofs.Common.{ℕ, ◌==◌, ◌≡◌, ◌∷◌, [], List, Bool, true, false, not, ◌&&◌, ◌||◌, IsTrue, take, refl, sym, subst, ap}
+use Rattle.std.proofs.Common.{ℕ, ◌==◌, ◌≡◌, ◌∷◌, [], List, Bool, true, false, not, ◌&&◌, ◌||◌, IsTrue, take, refl, sym, ◌∙◌, subst, ap}
 use Rattle.std.specs.Prelude.{slice_get, Some}
 use Rattle.std.specs.List.{list_all}
 use Rattle.std.proofs.lemmas.Bool.{false≢true}
@@ -9,7 +9,7 @@ use Rattle.html_ledger.specs.Flags.{is_free, is_not_null, may_text_run}
 use Rattle.html_modes.specs.Plain.{GoesOnText}
 use Rattle.html_tokens.specs.declared.token.TokenKind.TheVariants as kind
 use Rattle.html_modes.proofs.Begun.{accepts-gives, run-gives}
-use Rattle.html_modes.proofs.Constructing.{char-taken}
+use Rattle.html_modes.proofs.Constructing.{char-taken, each-constructs}
 use Rattle.html_modes.proofs.Outside.{constructs-outside}
 use Rattle.html_modes.proofs.TextAlone.{text-adds}
 use Rattle.html_modes.proofs.plain_text.take_plain_front.Goals as goal
@@ -66,8 +66,13 @@ returns-clause-plain c = λ v.
     subst (λ run. GoesOnText run c.args.page.now c.take_char.new.page) (sym (first-taken c.args.text.now x c.first-first.ensures.first))
     (c.in_ok-take_char.ensures.plain (first-visible c.args.text.now x c.first-first.ensures.first (visible c.args.text.now c.first-first.ensures.plain)))
 
+pub returns-clause-each : goal.returns-clause-each
+returns-clause-each c =
+    char-taken c.args.text.now c.first-first.result c.args.page.now c.take_char.new.page (first-taken c.args.text.now c.first-first.result c.first-first.ensures.first)
+    (sym c.if-takes_run.false ∙ c.takes_run.ensures.value) c.in_ok-take_char.ensures.entries
+
 pub returns-clause-constructs : goal.returns-clause-constructs
-returns-clause-constructs c = char-taken c.args.text.now c.first-first.result c.args.page.now c.take_char.new.page (first-taken c.args.text.now c.first-first.result c.first-first.ensures.first) c.in_ok-take_char.ensures.entries
+returns-clause-constructs c = each-constructs (take 1 c.args.text.now) c.args.page.now c.take_char.new.page (returns-clause-each c)
 
 pub returns-clause-adds : goal.returns-clause-adds
 returns-clause-adds c = text-adds (take 1 c.args.text.now) c.args.page.now c.take_char.new.page (returns-clause-constructs c)
@@ -80,3 +85,8 @@ returns-clause-gives c = accepts-gives (kind.Char c.first-first.result) c.args.p
 
 pub returns-then-takes_run-clause-gives : goal.returns-then-takes_run-clause-gives
 returns-then-takes_run-clause-gives c = run-gives (take c.in_ok-count.count c.args.text.now) c.args.page.now c.take_plain.new.page c.in_ok-count.ensures.takes
+
+pub returns-then-takes_run-clause-out : goal.returns-then-takes_run-clause-out
+returns-then-takes_run-clause-out c =
+    let front = take c.in_ok-count.count c.args.text.now in
+    constructs-outside front c.args.page.now c.take_plain.new.page (each-constructs front c.args.page.now c.take_plain.new.page c.in_ok-count.ensures.each)

@@ -1,7 +1,7 @@
 use Rattle.std.proofs.Common.{refl, take, false, arith}
 use Rattle.html_construction.specs.Built.{chars_of}
 use Rattle.html_builder.specs.Handed.{fates_of}
-use Rattle.html_builder.proofs.Handing.{going-not, take-some, taken-enters, text-cause-at, text-told-at, viewed-added, viewed-enters, viewed-gives, viewed-leads, viewed-run}
+use Rattle.html_builder.proofs.Handing.{going-not, refusal-native, take-some, taken-enters, text-cause-at, text-told-at, viewed-added, viewed-counts, viewed-enters, viewed-gives, viewed-leads, viewed-run}
 use Rattle.html_builder.proofs.Saying.{viewed-parses}
 use Rattle.html_builder.proofs.builder.Builder.process_front.Goals as goal
 
@@ -18,6 +18,11 @@ pub returns-in-Ok-clause-leads : goal.returns-in-Ok-clause-leads
 returns-in-Ok-clause-leads c =
     viewed-leads (chars_of (take c.in-Ok.count c.args.text.now)) (record { page = c.self.inside.construction; entries = c.self.inside.entries; stopped = c.self.inside.stopped }) c.args.self.now (record { page = c.take_front.new.page; entries = c.take_front.new.entries; stopped = false }) c.self.view_is
     c.in-Ok.ensures.constructs
+
+pub returns-in-Ok-clause-counts : goal.returns-in-Ok-clause-counts
+returns-in-Ok-clause-counts c =
+    viewed-counts (take c.in-Ok.count c.args.text.now) (record { page = c.self.inside.construction; entries = c.self.inside.entries; stopped = c.self.inside.stopped }) c.args.self.now (record { page = c.take_front.new.page; entries = c.take_front.new.entries; stopped = false }) c.self.view_is
+    c.in-Ok.ensures.each
 
 pub returns-in-Ok-clause-grows : goal.returns-in-Ok-clause-grows
 returns-in-Ok-clause-grows c =
@@ -42,3 +47,6 @@ pub returns-in-Ok-clause-parses : goal.returns-in-Ok-clause-parses
 returns-in-Ok-clause-parses c =
     viewed-parses (record { page = c.self.inside.construction; entries = c.self.inside.entries; stopped = c.self.inside.stopped }) c.args.self.now (record { page = c.take_front.new.page; entries = c.take_front.new.entries; stopped = false }) c.self.view_is
     c.in-Ok.ensures.parses
+
+pub returns-in-Err-clause-native : goal.returns-in-Err-clause-native
+returns-in-Err-clause-native c = refusal-native c.in-Err.refusal c.args.at _ c.at.ensures.value

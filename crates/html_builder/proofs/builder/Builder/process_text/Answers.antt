@@ -5,8 +5,8 @@ use Rattle.std.proofs.lemmas.Result.{err_from_is_err_and}
 use Rattle.std.proofs.Math.Seq.{take-add, take-length}
 use Rattle.html_construction.specs.Built.{chars_of}
 use Rattle.html_builder.specs.Errors.{IsTextTold}
-use Rattle.html_builder.specs.Handed.{HandsIn, IsTextCause, LeadsTo, fates_of}
-use Rattle.html_builder.proofs.Handing.{added-then, enters-then, gives-then, handed-then, leads-then, take-one, text-cause-part}
+use Rattle.html_builder.specs.Handed.{CountsEach, HandsIn, IsTextCause, LeadsTo, fates_of}
+use Rattle.html_builder.proofs.Handing.{added-then, counts-then, enters-then, gives-then, handed-then, leads-then, take-one, text-cause-part}
 use Rattle.html_builder.proofs.builder.Builder.process_text.Goals as goal
 
 pub taking-preserved : goal.taking-preserved
@@ -22,6 +22,9 @@ taking-preserved c =
       leads = subst (λ cs. LeadsTo (chars_of cs) c.args.self.now c.process_front.new.self) (sym (take-add c.taking.taken c.in_ok-count.count c.args.text.now))
           (leads-then (take c.taking.taken c.args.text.now) (take c.in_ok-count.count (drop c.taking.taken c.args.text.now)) c.args.self.now c.taking.self c.process_front.new.self c.taking.invariant.leads
           (subst (λ cs. LeadsTo (chars_of (take c.in_ok-count.count cs)) c.taking.self c.process_front.new.self) (take_rest c.args.text.now c.taking.taken) c.in_ok-count.ensures.leads));
+      counts = subst (λ cs. CountsEach cs c.args.self.now c.process_front.new.self) (sym (take-add c.taking.taken c.in_ok-count.count c.args.text.now))
+          (counts-then (take c.taking.taken c.args.text.now) (take c.in_ok-count.count (drop c.taking.taken c.args.text.now)) c.args.self.now c.taking.self c.process_front.new.self c.taking.invariant.counts
+          (subst (λ cs. CountsEach (take c.in_ok-count.count cs) c.taking.self c.process_front.new.self) (take_rest c.args.text.now c.taking.taken) c.in_ok-count.ensures.counts));
       grows = added-then (take c.taking.taken c.args.text.now) c.args.self.now c.taking.self c.process_front.new.self c.taking.invariant.takes c.taking.invariant.grows c.in_ok-count.ensures.grows;
       gives = gives-then (take c.taking.taken c.args.text.now) c.args.self.now c.taking.self c.process_front.new.self c.taking.invariant.takes c.taking.invariant.enters c.taking.invariant.gives c.in_ok-count.ensures.gives;
       enters = enters-then c.args.self.now c.taking.self c.process_front.new.self c.taking.invariant.enters c.in_ok-count.ensures.enters;
@@ -40,6 +43,11 @@ pub returns-clause-leads : goal.returns-clause-leads
 returns-clause-leads c =
     let whole : c.taking.taken ≡ length c.args.text.now = grind (arith, common_steps) in
     subst (λ cs. LeadsTo (chars_of cs) c.args.self.now c.taking.self) (ap (λ n. take n c.args.text.now) whole ∙ take-length c.args.text.now) c.taking.invariant.leads
+
+pub returns-clause-counts : goal.returns-clause-counts
+returns-clause-counts c =
+    let whole : c.taking.taken ≡ length c.args.text.now = grind (arith, common_steps) in
+    subst (λ cs. CountsEach cs c.args.self.now c.taking.self) (ap (λ n. take n c.args.text.now) whole ∙ take-length c.args.text.now) c.taking.invariant.counts
 
 pub returns-in_err-count-clause-cause : goal.returns-in_err-count-clause-cause
 returns-in_err-count-clause-cause c =

@@ -36,16 +36,6 @@ returns-else-not-is_space_text-clause-works c =
     works-run c.in_ok-taken.taken (2 * (c.in_ok-taken.taken - 1)) c.args.page.now c.reconstruct.new.self c.insert_plain.new.self c.look_again.new.self (omega arith)
     c.in_ok-reconstruct.ensures.works c.in_ok-taken.ensures.works c.look_again.ensures.works
 
-pub returns-then-not-is_space_text-clause-counted : goal.returns-then-not-is_space_text-clause-counted
-returns-then-not-is_space_text-clause-counted c =
-    run-counted c.in_ok-taken.taken c.args.page.now c.reconstruct.new.self c.insert_plain.new.self c.frameset_off.new.self c.in_ok-reconstruct.ensures.rest c.in_ok-reconstruct.ensures.exact c.in_ok-reconstruct.ensures.counted
-    (take c.in_ok-taken.taken c.args.text.now) c.in_ok-taken.ensures.exact c.in_ok-taken.ensures.counted (ap (λ (z : State). z.tree.steps) c.frameset_off.ensures.rest ∙ c.look_again.ensures.counted)
-
-pub returns-else-not-is_space_text-clause-counted : goal.returns-else-not-is_space_text-clause-counted
-returns-else-not-is_space_text-clause-counted c =
-    run-counted c.in_ok-taken.taken c.args.page.now c.reconstruct.new.self c.insert_plain.new.self c.look_again.new.self c.in_ok-reconstruct.ensures.rest c.in_ok-reconstruct.ensures.exact c.in_ok-reconstruct.ensures.counted
-    (take c.in_ok-taken.taken c.args.text.now) c.in_ok-taken.ensures.exact c.in_ok-taken.ensures.counted c.look_again.ensures.counted
-
 pub returns-then-not-is_space_text-clause-takes : goal.returns-then-not-is_space_text-clause-takes
 returns-then-not-is_space_text-clause-takes c = λ h built.
     let after = with_tokens h (chars_of (take c.in_ok-taken.taken c.args.text.now)) in
@@ -58,12 +48,14 @@ returns-else-not-is_space_text-clause-takes c = λ h built.
 
 pub returns-then-not-is_space_text-clause-run : goal.returns-then-not-is_space_text-clause-run
 returns-then-not-is_space_text-clause-run c =
-    body-made (take c.in_ok-taken.taken c.args.text.now) c.args.page.now c.reconstruct.new.self c.insert_plain.new.self c.look_again.new.self c.frameset_off.new.self false c.in_ok-reconstruct.ensures.rest c.in_ok-reconstruct.ensures.pointers c.in_ok-reconstruct.ensures.exact
+    body-made (take c.in_ok-taken.taken c.args.text.now) c.args.page.now c.reconstruct.new.self c.insert_plain.new.self c.look_again.new.self c.frameset_off.new.self false c.in_ok-reconstruct.ensures.rest c.in_ok-reconstruct.ensures.pointers c.in_ok-reconstruct.ensures.exact c.in_ok-reconstruct.ensures.counted
     c.in_ok-reconstruct.ensures.home c.in_ok-taken.ensures.goes_on c.in_ok-taken.ensures.rest c.in_ok-taken.ensures.exact c.in_ok-taken.ensures.fate c.look_again.ensures.rest c.look_again.ensures.same
     (sym c.if-not-is_space_text.true ∙ c.is_space_text.ensures.value ∙ ap (λ (cs : List ℕ). list_all is_space cs) (c.as_str.ensures.code_points ∙ c.front.ensures)) c.frameset_off.ensures.rest
+    (run-counted c.in_ok-taken.taken c.args.text.now c.args.page.now c.reconstruct.new.self c.insert_plain.new.self c.frameset_off.new.self c.in_ok-taken.ensures.count.1 c.in_ok-reconstruct.ensures.rest c.in_ok-taken.ensures.exact c.in_ok-taken.ensures.counted (ap (λ (z : State). z.tree.steps) c.frameset_off.ensures.rest ∙ c.look_again.ensures.counted))
 
 pub returns-else-not-is_space_text-clause-run : goal.returns-else-not-is_space_text-clause-run
 returns-else-not-is_space_text-clause-run c =
-    body-made (take c.in_ok-taken.taken c.args.text.now) c.args.page.now c.reconstruct.new.self c.insert_plain.new.self c.look_again.new.self c.look_again.new.self true c.in_ok-reconstruct.ensures.rest c.in_ok-reconstruct.ensures.pointers c.in_ok-reconstruct.ensures.exact
+    body-made (take c.in_ok-taken.taken c.args.text.now) c.args.page.now c.reconstruct.new.self c.insert_plain.new.self c.look_again.new.self c.look_again.new.self true c.in_ok-reconstruct.ensures.rest c.in_ok-reconstruct.ensures.pointers c.in_ok-reconstruct.ensures.exact c.in_ok-reconstruct.ensures.counted
     c.in_ok-reconstruct.ensures.home c.in_ok-taken.ensures.goes_on c.in_ok-taken.ensures.rest c.in_ok-taken.ensures.exact c.in_ok-taken.ensures.fate c.look_again.ensures.rest c.look_again.ensures.same
     (sym c.if-not-is_space_text.false ∙ c.is_space_text.ensures.value ∙ ap (λ (cs : List ℕ). list_all is_space cs) (c.as_str.ensures.code_points ∙ c.front.ensures)) refl
+    (run-counted c.in_ok-taken.taken c.args.text.now c.args.page.now c.reconstruct.new.self c.insert_plain.new.self c.look_again.new.self c.in_ok-taken.ensures.count.1 c.in_ok-reconstruct.ensures.rest c.in_ok-taken.ensures.exact c.in_ok-taken.ensures.counted c.look_again.ensures.counted)

@@ -33,27 +33,19 @@ returns-else-not-are_spaces-clause-works c =
     works-run c.in_ok-count.count (2 * (c.in_ok-count.count - 1)) c.args.page.now c.reconstruct.new.self c.insert_run.new.self c.look_again.new.self (omega arith)
     c.in_ok-reconstruct.ensures.works c.in_ok-count.ensures.works c.look_again.ensures.works
 
-pub returns-then-not-are_spaces-clause-counted : goal.returns-then-not-are_spaces-clause-counted
-returns-then-not-are_spaces-clause-counted c =
-    run-counted c.in_ok-count.count c.args.page.now c.reconstruct.new.self c.insert_run.new.self c.frameset_off.new.self c.in_ok-reconstruct.ensures.rest c.in_ok-reconstruct.ensures.exact c.in_ok-reconstruct.ensures.counted
-    (take c.in_ok-count.count c.args.run.now) c.in_ok-count.ensures.exact c.in_ok-count.ensures.counted (ap (λ (z : State). z.tree.steps) c.frameset_off.ensures.rest ∙ c.look_again.ensures.counted)
-
-pub returns-else-not-are_spaces-clause-counted : goal.returns-else-not-are_spaces-clause-counted
-returns-else-not-are_spaces-clause-counted c =
-    run-counted c.in_ok-count.count c.args.page.now c.reconstruct.new.self c.insert_run.new.self c.look_again.new.self c.in_ok-reconstruct.ensures.rest c.in_ok-reconstruct.ensures.exact c.in_ok-reconstruct.ensures.counted
-    (take c.in_ok-count.count c.args.run.now) c.in_ok-count.ensures.exact c.in_ok-count.ensures.counted c.look_again.ensures.counted
-
 pub returns-then-not-are_spaces-clause-run : goal.returns-then-not-are_spaces-clause-run
 returns-then-not-are_spaces-clause-run c =
-    body-made (take c.in_ok-count.count c.args.run.now) c.args.page.now c.reconstruct.new.self c.insert_run.new.self c.look_again.new.self c.frameset_off.new.self false c.in_ok-reconstruct.ensures.rest c.in_ok-reconstruct.ensures.pointers c.in_ok-reconstruct.ensures.exact
+    body-made (take c.in_ok-count.count c.args.run.now) c.args.page.now c.reconstruct.new.self c.insert_run.new.self c.look_again.new.self c.frameset_off.new.self false c.in_ok-reconstruct.ensures.rest c.in_ok-reconstruct.ensures.pointers c.in_ok-reconstruct.ensures.exact c.in_ok-reconstruct.ensures.counted
     c.in_ok-reconstruct.ensures.home c.in_ok-count.ensures.goes_on c.in_ok-count.ensures.rest c.in_ok-count.ensures.exact c.in_ok-count.ensures.fate c.look_again.ensures.rest c.look_again.ensures.same
     (sym c.if-not-are_spaces.true ∙ c.are_spaces.ensures.value) c.frameset_off.ensures.rest
+    (run-counted c.in_ok-count.count c.args.run.now c.args.page.now c.reconstruct.new.self c.insert_run.new.self c.frameset_off.new.self c.in_ok-count.ensures.count.1 c.in_ok-reconstruct.ensures.rest c.in_ok-count.ensures.exact c.in_ok-count.ensures.counted (ap (λ (z : State). z.tree.steps) c.frameset_off.ensures.rest ∙ c.look_again.ensures.counted))
 
 pub returns-else-not-are_spaces-clause-run : goal.returns-else-not-are_spaces-clause-run
 returns-else-not-are_spaces-clause-run c =
-    body-made (take c.in_ok-count.count c.args.run.now) c.args.page.now c.reconstruct.new.self c.insert_run.new.self c.look_again.new.self c.look_again.new.self true c.in_ok-reconstruct.ensures.rest c.in_ok-reconstruct.ensures.pointers c.in_ok-reconstruct.ensures.exact
+    body-made (take c.in_ok-count.count c.args.run.now) c.args.page.now c.reconstruct.new.self c.insert_run.new.self c.look_again.new.self c.look_again.new.self true c.in_ok-reconstruct.ensures.rest c.in_ok-reconstruct.ensures.pointers c.in_ok-reconstruct.ensures.exact c.in_ok-reconstruct.ensures.counted
     c.in_ok-reconstruct.ensures.home c.in_ok-count.ensures.goes_on c.in_ok-count.ensures.rest c.in_ok-count.ensures.exact c.in_ok-count.ensures.fate c.look_again.ensures.rest c.look_again.ensures.same
     (sym c.if-not-are_spaces.false ∙ c.are_spaces.ensures.value) refl
+    (run-counted c.in_ok-count.count c.args.run.now c.args.page.now c.reconstruct.new.self c.insert_run.new.self c.look_again.new.self c.in_ok-count.ensures.count.1 c.in_ok-reconstruct.ensures.rest c.in_ok-count.ensures.exact c.in_ok-count.ensures.counted c.look_again.ensures.counted)
 
 pub returns-then-not-are_spaces-clause-takes : goal.returns-then-not-are_spaces-clause-takes
 returns-then-not-are_spaces-clause-takes c = λ h w. c.frameset_off.ensures.keeps _ (c.look_again.ensures.keeps _ (c.in_ok-count.ensures.takes h (c.in_ok-reconstruct.ensures.keeps h w)))
