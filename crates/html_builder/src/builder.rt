@@ -402,6 +402,7 @@ impl Builder {
 
     /// Takes a front of a text that isn't empty, and answers its length: at least one.
     #[tactic(auto, using(crate::proofs::Handing::text_rules))]
+    #[inline(always)]
     fn process_front(&mut self, text: &[char], at: u64) -> Result<usize, BuildError>
         requires some { 0 < length text.now }
         ensures takes { IfOk result (λ n. HandsIn (chars_of (take n text.now)) self.old self.new) }
